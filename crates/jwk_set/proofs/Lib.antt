@@ -1,0 +1,4 @@
+pub mod ElementFacts
+pub mod ItemFacts
+pub mod PlainFacts
+pub mod TreeFacts

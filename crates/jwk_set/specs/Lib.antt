@@ -1,0 +1,4 @@
+pub mod Element
+pub mod Forms
+pub mod Json
+pub mod Trees
