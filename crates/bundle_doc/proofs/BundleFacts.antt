@@ -1,0 +1,132 @@
+-- A set has one rising list, an object means one bundle, and a canonical text is read as its bundle.
+use Rattle.std.proofs.Common.{◌≡◌, ◌≢◌, ℕ, suc, ◌+◌, ◌^◌, ◌<◌, ◌≤◌, ◌⊎◌, ◌↔◌, inl, inr, List, [], ◌∷◌, ◌++◌, length, Bool, true, false, max, Option, Some, None, IfSome, Less, Greater, Equal, Ordering, codes, decimal, refl, sym, ap, ap₂, ◌∙◌, subst, arith, append-nil, append_assoc}
+use Rattle.std.specs.Ordering.{nat_cmp, ordering_reverse}
+use Rattle.std.specs.Cmp.Lexicographic.{slice_cmp}
+use Rattle.std.specs.List.{AllByRecursion}
+use Rattle.std.specs.List.Sorted.{IsStrictlySortedBy}
+use Rattle.std.proofs.lemmas.Cmp.{nat_list_cmp_total, tied_itself}
+use Rattle.serde_json.specs.Data.{Data, null, number, unsigned, string, array, object, Items, no_items, item, Members, no_members, member, depth, items_depth, members_depth}
+use Rattle.serde_json.specs.Find.{get, get_member}
+use Rattle.serde_json.specs.Read.{read, max_depth}
+use Rattle.serde_json.specs.Written.{compact_text}
+use Rattle.jwk_set.specs.Json.{IsJson, IsPlain, ArePlain, HasPlainMembers, IsBelowNames}
+use Rattle.jwk_set.specs.Element.{IsElement, IsAuthority, tree_of}
+use Rattle.jwk_set.specs.declared.authority.Authority.{Authority}
+use Rattle.jwk_set.proofs.ElementFacts.{one_authority, IsPlain-tree_of, depth-tree_of, form_of}
+use Rattle.jwk_set.proofs.TreeFacts.{IsElement-tree_of}
+use Rattle.jwk_set.proofs.PlainFacts.{IsJson-compact_text, read-compact_text}
+use Rattle.bundle_doc.specs.Bundle.{Bundle, Has, authority_text, text_cmp, IsBundle, Says, HasNumber, HasKeys, Means, trees, with_number, document_tree, canonical_text}
+
+-- ---- a set has one rising list
+
+-- the authority is below each of these
+abbrev Below : Authority → List Authority → Type 0
+Below a others = AllByRecursion (λ b. text_cmp a b ≡ Less) others
+
+below_has : (a b : Authority) (others : List Authority) → Below a others → Has others b → text_cmp a b ≡ Less
+below_has a b [] h has = absurd has
+below_has a b (c ∷ others) h (inl e) = subst (λ x. text_cmp a x ≡ Less) (sym e) h.0
+below_has a b (c ∷ others) h (inr has) = below_has a b others h.1 has
+
+not_below_itself : (a : Authority) → text_cmp a a ≡ Less → ⊥
+not_below_itself a h = let same = tied_itself nat_list_cmp_total (authority_text a) in cc
+
+not_both : (a b : Authority) → text_cmp a b ≡ Less → text_cmp b a ≡ Less → ⊥
+not_both a b p q = let back = nat_list_cmp_total.antisymm (authority_text a) (authority_text b) in ?
+
+-- the first of a rising list is the first of any other with the same members
+same_first : (a b : Authority) (others more : List Authority) → Below a others → Below b more → Has (b ∷ more) a → Has (a ∷ others) b → a ≡ b
+same_first a b others more p q (inl e) there = e
+same_first a b others more p q (inr here) (inl e) = sym e
+same_first a b others more p q (inr here) (inr there) = absurd (not_both a b (below_has a b others p there) (below_has b a more q here))
+
+not_again : (a : Authority) (others : List Authority) → Below a others → Has others a → ⊥
+not_again a others h has = not_below_itself a (below_has a a others h has)
+
+tail_has : (a x : Authority) (others more : List Authority) → Below a others → ((y : Authority) → Has (a ∷ others) y → Has (a ∷ more) y) → Has others x → Has more x
+tail_has a x others more below all has = elim (all x (inr has)) [
+  | inl e ↦ absurd (not_again a others below (subst (Has others) e has))
+  | inr there ↦ there
+]
+
+pub rising_same : (xs ys : List Authority) → IsStrictlySortedBy text_cmp xs → IsStrictlySortedBy text_cmp ys → ((a : Authority) → Has xs a → Has ys a) → ((a : Authority) → Has ys a → Has xs a) → xs ≡ ys
+unfolding IsStrictlySortedBy
+rising_same [] [] p q there back = refl
+rising_same [] (y ∷ ys) p q there back = absurd (back y (inl refl))
+rising_same (x ∷ xs) [] p q there back = absurd (there x (inl refl))
+rising_same (x ∷ xs) (y ∷ ys) p q there back =
+    let first : x ≡ y = same_first x y xs ys p.0 q.0 (there x (inl refl)) (back y (inl refl)) in
+    let forward : (a : Authority) → Has (x ∷ xs) a → Has (x ∷ ys) a = λ a h. subst (λ z. Has (z ∷ ys) a) (sym first) (there a h) in
+    let backward : (a : Authority) → Has (x ∷ ys) a → Has (x ∷ xs) a = λ a h. back a (subst (λ z. Has (z ∷ ys) a) first h) in
+    let below : Below x ys = subst (λ z. Below z ys) (sym first) q.0 in
+    ap₂ (λ a l. a ∷ l) first
+    (rising_same xs ys p.1 q.1 (λ a. tail_has x a xs ys p.0 forward) (λ a. tail_has x a ys xs below backward))
+
+-- ---- an object means one bundle
+
+one_number : (tree : Data) (name : List ℕ) (m n : Option ℕ) → HasNumber tree name m → HasNumber tree name n → m ≡ n
+one_number tree name None None p q = refl
+one_number tree name None (Some n) (inl p) q = absurd (cc)
+one_number tree name None (Some n) (inr p) q = absurd (cc)
+one_number tree name (Some m) None p (inl q) = absurd (cc)
+one_number tree name (Some m) None p (inr q) = absurd (cc)
+one_number tree name (Some m) (Some n) p q = cc
+
+one_array : (tree : Data) (k l : Items) → HasKeys tree k → HasKeys tree l → k ≡ l
+one_array tree k l p q = cc
+
+pub one_meaning : (tree : Data) (b c : Bundle) → Means tree b → Means tree c → b ≡ c
+one_meaning tree b c p q =
+    let keys : p.keys ≡ q.keys = one_array tree p.keys q.keys p.has_keys q.has_keys in
+    let there : (a : Authority) → Has b.authorities a → Has c.authorities a = λ a h. (q.authorities a).1 (subst (λ k. Says k a) keys ((p.authorities a).0 h)) in
+    let back : (a : Authority) → Has c.authorities a → Has b.authorities a = λ a h. (p.authorities a).1 (subst (λ k. Says k a) (sym keys) ((q.authorities a).0 h)) in
+    let authorities : b.authorities ≡ c.authorities = rising_same b.authorities c.authorities p.is.rising q.is.rising there back in
+    let ranks : b.rank ≡ c.rank = one_number tree (codes "spiffe_sequence") b.rank c.rank p.rank q.rank in
+    let hints : b.hint ≡ c.hint = one_number tree (codes "spiffe_refresh_hint") b.hint c.hint p.hint q.hint in
+    cc
+
+-- ---- the canonical text means the bundle
+
+says_trees : (xs : List Authority) → AllByRecursion IsAuthority xs → (a : Authority) → Has xs a ↔ Says (trees xs) a
+says_trees [] h a = (λ x. x, λ x. x)
+says_trees (x ∷ xs) h a =
+    let rest = says_trees xs h.1 a in (
+      λ has. elim has [ inl e ↦ inl (subst (λ y. IsElement (tree_of x) y) (sym e) (IsElement-tree_of x h.0)) | inr later ↦ inr (rest.0 later) ],
+      λ says. elim says [ inl is ↦ inl (one_authority (tree_of x) a x is (IsElement-tree_of x h.0)) | inr later ↦ inr (rest.1 later) ],
+    )
+
+rank_there : (rank hint : Option ℕ) (items : Items) → HasNumber (object (member (codes "keys") (array items) (with_number (codes "spiffe_refresh_hint") hint (with_number (codes "spiffe_sequence") rank no_members)))) (codes "spiffe_sequence") rank
+rank_there None None items = inl refl
+rank_there None (Some h) items = inl refl
+rank_there (Some r) None items = refl
+rank_there (Some r) (Some h) items = refl
+
+hint_there : (rank hint : Option ℕ) (items : Items) → HasNumber (object (member (codes "keys") (array items) (with_number (codes "spiffe_refresh_hint") hint (with_number (codes "spiffe_sequence") rank no_members)))) (codes "spiffe_refresh_hint") hint
+hint_there None None items = inl refl
+hint_there (Some r) None items = refl
+hint_there None (Some h) items = inl refl
+hint_there (Some r) (Some h) items = refl
+
+keys_there : (rank hint : Option ℕ) (items : Items) → HasKeys (object (member (codes "keys") (array items) (with_number (codes "spiffe_refresh_hint") hint (with_number (codes "spiffe_sequence") rank no_members)))) items
+keys_there None None items = refl
+keys_there None (Some h) items = refl
+keys_there (Some r) None items = refl
+keys_there (Some r) (Some h) items = refl
+
+pub Means-document_tree : (b : Bundle) → IsBundle b → Means (document_tree b) b
+Means-document_tree b h = record {
+  keys = trees b.authorities;
+  has_keys = keys_there b.rank b.hint (trees b.authorities);
+  authorities = says_trees b.authorities h.forms;
+  rank = rank_there b.rank b.hint (trees b.authorities);
+  hint = hint_there b.rank b.hint (trees b.authorities);
+  is = h;
+}
+
+ArePlain-trees : (xs : List Authority) → AllByRecursion IsAuthority xs → ArePlain (trees xs)
+ArePlain-trees [] h = tt
+ArePlain-trees (x ∷ xs) h = (IsPlain-tree_of x h.0, ArePlain-trees xs h.1)
+
+shallow_trees : (xs : List Authority) → items_depth (trees xs) ≤ 2
+shallow_trees [] = omega arith
+shallow_trees (x ∷ xs) = omega (arith, depth-tree_of x, shallow_trees xs)

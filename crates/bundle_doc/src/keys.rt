@@ -1,0 +1,2 @@
+// The authorities of the array `keys`, gathered under their canonical texts.
+pub struct KeyTexts(u8);

@@ -1,0 +1,9 @@
+#![tactic(auto)]
+
+//! Bundle documents (SPIFFE Trust Domain and Bundle, section 4): what one says, its canonical text and its id.
+mod document;
+mod error;
+mod keys;
+
+pub use document::{DocId, Document, MAX_DOCUMENT_BYTES};
+pub use error::DocError;

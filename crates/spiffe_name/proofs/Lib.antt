@@ -1,0 +1,4 @@
+pub mod Slashes
+pub mod Faults
+pub mod Paths
+pub mod Ids

@@ -1,0 +1,9 @@
+use Rattle.spiffe_name.proofs.Faults.{one_domain_error}
+use Rattle.spiffe_name.proofs.Ids.{one_id_error}
+use Rattle.spiffe_name.proofs.laws.one_cause.Goals as goal
+
+pub returns-clause-domain : goal.returns-clause-domain
+returns-clause-domain c = one_domain_error
+
+pub returns-clause-id : goal.returns-clause-id
+returns-clause-id c = one_id_error

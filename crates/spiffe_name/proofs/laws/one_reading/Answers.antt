@@ -1,0 +1,5 @@
+use Rattle.spiffe_name.proofs.Ids.{one_value}
+use Rattle.spiffe_name.proofs.laws.one_reading.Goals as goal
+
+pub returns : goal.returns
+returns c = one_value

@@ -1,0 +1,4 @@
+pub mod Bytes
+pub mod NameError
+pub mod SpiffeId
+pub mod TrustDomain

@@ -1,0 +1,159 @@
+//! Trust domain names.
+ghost use Rattle.std.specs.Prelude.{◌≡◌, ◌≢◌, ℕ, ◌≤◌, List, Some, refl, IfOk, IfErr, MatchResult, IsOkUnless, MatchOption, bytes_eq, string_bytes, length};
+ghost use Rattle.std.proofs.Common.{rules};
+ghost use Rattle.std.specs.Ordering.{nat_cmp};
+ghost use Rattle.std.specs.Hash as written;
+ghost use Rattle.std.specs.Cmp.{partial_equiv_from_equiv};
+ghost use Rattle.std.specs.Cmp.Lexicographic.{pointwise, slice_cmp, nat_list_eq_equiv, nat_list_cmp_total, texts_ties, texts_po};
+ghost use Rattle.std.specs.Cmp.Rules.{hashing};
+ghost use Rattle.std.specs.List.{AllPass};
+ghost use Rattle.spiffe_name.specs.Bytes.{is_domain_byte, FirstFails};
+ghost use Rattle.spiffe_name.specs.NameError.{place_of};
+ghost use Rattle.spiffe_name.specs.TrustDomain.{IsDomainText, RefusesDomain};
+
+use crate::error::NameError;
+use std::alloc::{AllocError, Global};
+use std::cmp::Ordering;
+use std::hash::{Hash, Hasher};
+use std::marker::Model;
+
+/// The most bytes that a trust domain name has (SPIFFE-ID, section 2.3).
+pub const MAX_DOMAIN_BYTES: usize = 255;
+
+/// A trust domain name: 1 to 255 bytes, each `a-z`, `0-9`, `.`, `-` or `_` (SPIFFE-ID, sections 2.1
+/// and 2.3).
+///
+/// Names are equal exactly when their bytes are, and are ordered by them.
+#[derive(Debug, Drop)]
+pub struct TrustDomain {
+    text: String,
+}
+
+impl Model for TrustDomain {
+    ghost Value = { List ℕ };
+
+    ghost view = { λ domain. string_bytes domain.text };
+
+    ghost invariant = { λ domain. IsDomainText (string_bytes domain.text) };
+}
+
+impl TrustDomain {
+    /// Reads a name, which is then the text.
+    ///
+    /// Of an empty text the error is `Empty`, of more than 255 bytes `TooLong`, and else `BadDomainByte`
+    /// at the first wrong byte. `NoMemory` comes only for a text that is a name.
+    pub fn read(alloc: Global, text: &str) -> Result<TrustDomain, NameError>
+        ensures answer { MatchResult result
+            (λ domain. (domain ≡ text.now) × IsDomainText text.now)
+            (λ error. RefusesDomain text.now error) }
+        ensures complete { IsDomainText text.now → IsOkUnless result NameError.NoMemory }
+    {
+        check_domain(text.as_bytes())?;
+        Ok(TrustDomain::copied(alloc, text)?)
+    }
+
+    /// The name's bytes, as text.
+    pub fn as_str(&self) -> &str
+        ensures text { result.now ≡ self.now }
+        ensures valid { IsDomainText self.now }
+    {
+        self.text.as_str()
+    }
+
+    /// An equal name. The one error is that there is no memory.
+    pub fn try_clone(&self, alloc: Global) -> Result<TrustDomain, AllocError>
+        ensures { IfOk result (λ domain. domain ≡ self.now) }
+    {
+        TrustDomain::copied(alloc, self.as_str())
+    }
+
+    /// A name of its own for a text that is known to be one.
+    pub(crate) fn copied(alloc: Global, text: &str) -> Result<TrustDomain, AllocError>
+        requires { IsDomainText text.now }
+        ensures { IfOk result (λ domain. domain ≡ text.now) }
+    {
+        Ok(TrustDomain {
+            text: String::from_str(alloc, text)?,
+        })
+    }
+}
+
+impl PartialEq for TrustDomain {
+    ghost eq = { λ a b. bytes_eq a b };
+
+    ghost laws = { partial_equiv_from_equiv nat_list_eq_equiv };
+
+    fn eq(&self, other: &TrustDomain) -> bool {
+        self.as_str() == other.as_str()
+    }
+}
+
+impl Eq for TrustDomain {
+    ghost laws = { nat_list_eq_equiv };
+}
+
+impl PartialOrd for TrustDomain {
+    ghost partial_cmp = { λ a b. Some (slice_cmp nat_cmp a b) };
+
+    ghost laws = { texts_po };
+
+    fn partial_cmp(&self, other: &TrustDomain) -> Option<Ordering> {
+        Some(self.cmp(other))
+    }
+}
+
+impl Ord for TrustDomain {
+    ghost cmp = { λ a b. slice_cmp nat_cmp a b };
+
+    ghost total = { nat_list_cmp_total };
+
+    ghost matches_partial_cmp = { λ a b. refl };
+
+    ghost matches_eq = { λ a b. texts_ties a b };
+
+    fn cmp(&self, other: &TrustDomain) -> Ordering {
+        self.as_str().cmp(other.as_str())
+    }
+}
+
+impl Hash for TrustDomain {
+    ghost hash_input = { λ domain. written.str domain };
+
+    ghost respects_eq = { Prim.search (hashing, rules) };
+
+    fn hash<H: Hasher>(&self, state: &mut H) {
+        self.as_str().hash(state);
+    }
+}
+
+/// Whether a trust domain name may have the byte.
+fn is_domain_byte(byte: u8) -> bool
+    ensures { result ≡ is_domain_byte byte }
+{
+    matches!(byte, b'a'..=b'z' | b'0'..=b'9' | b'.' | b'-' | b'_')
+}
+
+/// Where the first byte is that a trust domain name doesn't have.
+fn first_bad_byte(text: &[u8]) -> Option<usize>
+    ensures { MatchOption result (AllPass is_domain_byte text.now) (FirstFails is_domain_byte text.now) }
+{
+    text.iter().position(|byte| !is_domain_byte(*byte))
+}
+
+/// The first cause for which the text is no trust domain name.
+pub(crate) fn check_domain(text: &[u8]) -> Result<(), NameError>
+    ensures answer { MatchResult result (λ _. IsDomainText text.now) (RefusesDomain text.now) }
+    ensures cause { IfErr result (λ error. error ≢ NameError.NoMemory) }
+    ensures within { IfErr result (λ error. place_of error ≤ length text.now) }
+{
+    if text.is_empty() {
+        return Err(NameError::Empty);
+    }
+    if text.len() > MAX_DOMAIN_BYTES {
+        return Err(NameError::TooLong);
+    }
+    match first_bad_byte(text) {
+        Some(place) => Err(NameError::BadDomainByte(place)),
+        None => Ok(()),
+    }
+}
