@@ -15,7 +15,9 @@ use Rattle.jwk_set.specs.declared.authority.Authority.{Authority}
 use Rattle.jwk_set.proofs.ElementFacts.{one_authority, IsPlain-tree_of, depth-tree_of, form_of}
 use Rattle.jwk_set.proofs.TreeFacts.{IsElement-tree_of}
 use Rattle.jwk_set.proofs.PlainFacts.{IsJson-compact_text, read-compact_text}
-use Rattle.bundle_doc.specs.Bundle.{Bundle, Has, authority_text, text_cmp, IsBundle, Says, HasNumber, HasKeys, Means, trees, with_number, document_tree, canonical_text}
+use Rattle.std.specs.Str.{IsUtf8}
+use Rattle.json.proofs.Printed.Utf8.{are_ascii, IsUtf8-are_ascii}
+use Rattle.bundle_doc.specs.Bundle.{Bundle, Has, authority_text, text_cmp, IsBundle, Says, HasNumber, HasKeys, Means, trees, with_number, document_tree, canonical_text, Fits, IsDocument}
 
 -- ---- a set has one rising list
 
@@ -32,7 +34,7 @@ not_below_itself : (a : Authority) → text_cmp a a ≡ Less → ⊥
 not_below_itself a h = let same = tied_itself nat_list_cmp_total (authority_text a) in cc
 
 not_both : (a b : Authority) → text_cmp a b ≡ Less → text_cmp b a ≡ Less → ⊥
-not_both a b p q = let back = nat_list_cmp_total.antisymm (authority_text a) (authority_text b) in ?
+not_both a b p q = let above : text_cmp a b ≡ Greater = nat_list_cmp_total.antisymm (authority_text a) (authority_text b) ∙ ap ordering_reverse q in cc
 
 -- the first of a rising list is the first of any other with the same members
 same_first : (a b : Authority) (others more : List Authority) → Below a others → Below b more → Has (b ∷ more) a → Has (a ∷ others) b → a ≡ b
@@ -75,6 +77,13 @@ one_number tree name (Some m) (Some n) p q = cc
 one_array : (tree : Data) (k l : Items) → HasKeys tree k → HasKeys tree l → k ≡ l
 one_array tree k l p q = cc
 
+bundle : List Authority → Option ℕ → Option ℕ → Bundle
+bundle authorities rank hint = record { authorities = authorities; rank = rank; hint = hint }
+
+same_bundle : (b c : Bundle) → b.authorities ≡ c.authorities → b.rank ≡ c.rank → b.hint ≡ c.hint → b ≡ c
+unfolding bundle
+same_bundle b c authorities ranks hints = let same : bundle b.authorities b.rank b.hint ≡ bundle c.authorities c.rank c.hint = cc in same
+
 pub one_meaning : (tree : Data) (b c : Bundle) → Means tree b → Means tree c → b ≡ c
 one_meaning tree b c p q =
     let keys : p.keys ≡ q.keys = one_array tree p.keys q.keys p.has_keys q.has_keys in
@@ -83,7 +92,7 @@ one_meaning tree b c p q =
     let authorities : b.authorities ≡ c.authorities = rising_same b.authorities c.authorities p.is.rising q.is.rising there back in
     let ranks : b.rank ≡ c.rank = one_number tree (codes "spiffe_sequence") b.rank c.rank p.rank q.rank in
     let hints : b.hint ≡ c.hint = one_number tree (codes "spiffe_refresh_hint") b.hint c.hint p.hint q.hint in
-    cc
+    same_bundle b c authorities ranks hints
 
 -- ---- the canonical text means the bundle
 
@@ -103,8 +112,8 @@ rank_there (Some r) (Some h) items = refl
 
 hint_there : (rank hint : Option ℕ) (items : Items) → HasNumber (object (member (codes "keys") (array items) (with_number (codes "spiffe_refresh_hint") hint (with_number (codes "spiffe_sequence") rank no_members)))) (codes "spiffe_refresh_hint") hint
 hint_there None None items = inl refl
-hint_there (Some r) None items = refl
-hint_there None (Some h) items = inl refl
+hint_there (Some r) None items = inl refl
+hint_there None (Some h) items = refl
 hint_there (Some r) (Some h) items = refl
 
 keys_there : (rank hint : Option ℕ) (items : Items) → HasKeys (object (member (codes "keys") (array items) (with_number (codes "spiffe_refresh_hint") hint (with_number (codes "spiffe_sequence") rank no_members)))) items
@@ -130,3 +139,52 @@ ArePlain-trees (x ∷ xs) h = (IsPlain-tree_of x h.0, ArePlain-trees xs h.1)
 shallow_trees : (xs : List Authority) → items_depth (trees xs) ≤ 2
 shallow_trees [] = omega arith
 shallow_trees (x ∷ xs) = omega (arith, depth-tree_of x, shallow_trees xs)
+
+ascii : (t : List ℕ) → are_ascii t ≡ true → IsUtf8 t
+ascii = IsUtf8-are_ascii
+
+plain_members : (xs : List Authority) (rank hint : Option ℕ) → ArePlain (trees xs) → IfSome rank (λ n. n < 2 ^ 64) → IfSome hint (λ n. n < 2 ^ 64)
+    → HasPlainMembers (member (codes "keys") (array (trees xs)) (with_number (codes "spiffe_refresh_hint") hint (with_number (codes "spiffe_sequence") rank no_members)))
+plain_members xs None None h r k = (ascii (codes "keys") refl, h, tt, tt)
+plain_members xs (Some n) None h r k = (ascii (codes "keys") refl, h, (refl, tt), (ascii (codes "spiffe_sequence") refl, r, tt, tt))
+plain_members xs None (Some m) h r k = (ascii (codes "keys") refl, h, (refl, tt), (ascii (codes "spiffe_refresh_hint") refl, k, tt, tt))
+plain_members xs (Some n) (Some m) h r k =
+    (ascii (codes "keys") refl, h, (refl, (refl, tt)), (ascii (codes "spiffe_refresh_hint") refl, k, (refl, tt), (ascii (codes "spiffe_sequence") refl, r, tt, tt)))
+
+IsPlain-document_tree : (b : Bundle) → IsBundle b → IsPlain (document_tree b)
+IsPlain-document_tree b h = plain_members b.authorities b.rank b.hint (ArePlain-trees b.authorities h.forms) h.rank h.hint
+
+shallow : (xs : List Authority) (rank hint : Option ℕ) → depth (object (member (codes "keys") (array (trees xs)) (with_number (codes "spiffe_refresh_hint") hint (with_number (codes "spiffe_sequence") rank no_members)))) ≤ 4
+shallow xs None None = omega (arith, shallow_trees xs)
+shallow xs (Some n) None = omega (arith, shallow_trees xs)
+shallow xs None (Some m) = omega (arith, shallow_trees xs)
+shallow xs (Some n) (Some m) = omega (arith, shallow_trees xs)
+
+pub IsJson-canonical_text : (b : Bundle) → IsBundle b → IsJson (canonical_text b) (document_tree b)
+IsJson-canonical_text b h = IsJson-compact_text (document_tree b) (IsPlain-document_tree b h) (omega (arith, shallow b.authorities b.rank b.hint))
+
+-- bundles of one canonical text are one
+pub one_text : (b c : Bundle) → IsBundle b → IsBundle c → canonical_text b ≡ canonical_text c → b ≡ c
+one_text b c p q e =
+    let trees_same : Some (document_tree b) ≡ Some (document_tree c) = sym (IsJson-canonical_text b p).1 ∙ ap read e ∙ (IsJson-canonical_text c q).1 in
+    let tree_same : document_tree b ≡ document_tree c = cc in
+    one_meaning (document_tree b) b c (Means-document_tree b p) (subst (λ t. Means t c) (sym tree_same) (Means-document_tree c q))
+
+-- a canonical text within the limit is a document of its bundle
+pub IsDocument-canonical_text : (b : Bundle) → IsBundle b → Fits b → IsDocument (canonical_text b) b
+IsDocument-canonical_text b h fits = record { tree = document_tree b; json = IsJson-canonical_text b h; means = Means-document_tree b h; short = fits; fits = fits }
+
+-- authorities of one text are one
+pub one_authority_text : (a b : Authority) → IsAuthority a → IsAuthority b → authority_text a ≡ authority_text b → a ≡ b
+one_authority_text a b p q e =
+    let deep : (x : Authority) → depth (tree_of x) ≤ max_depth = λ x. omega (arith, depth-tree_of x) in
+    let trees_same : Some (tree_of a) ≡ Some (tree_of b) = sym (read-compact_text (tree_of a) (IsPlain-tree_of a p) (deep a)) ∙ ap read e ∙ read-compact_text (tree_of b) (IsPlain-tree_of b q) (deep b) in
+    let tree_same : tree_of a ≡ tree_of b = cc in
+    one_authority (tree_of a) a b (IsElement-tree_of a p) (subst (λ t. IsElement t b) (sym tree_same) (IsElement-tree_of b q))
+
+-- bytes are a document of one bundle
+pub one_document : (bytes : List ℕ) (b c : Bundle) → IsDocument bytes b → IsDocument bytes c → b ≡ c
+one_document bytes b c p q =
+    let trees_same : Some p.tree ≡ Some q.tree = sym p.json.1 ∙ q.json.1 in
+    let tree_same : p.tree ≡ q.tree = cc in
+    one_meaning p.tree b c p.means (subst (λ t. Means t c) (sym tree_same) q.means)

@@ -1,1 +1,4 @@
 pub mod BundleFacts
+pub mod EntryFacts
+pub mod BuildFacts
+pub mod RefusalFacts

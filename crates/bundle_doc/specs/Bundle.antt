@@ -1,5 +1,6 @@
 -- What a bundle document says (SPIFFE Trust Domain and Bundle, section 4), and the one text that stands for it.
-use Rattle.std.specs.Prelude.{◌≡◌, ℕ, ◌^◌, ◌<◌, ◌≤◌, ◌↔◌, ◌⊎◌, ◌++◌, List, [], ◌∷◌, length, codes, Option, Some, None, IfSome}
+use Rattle.std.specs.Prelude.{◌≡◌, ℕ, ◌^◌, ◌<◌, ◌≤◌, ◌↔◌, ◌⊎◌, ◌++◌, List, [], ◌∷◌, length, map, Any, codes, Option, Some, None, IfSome, Bool}
+use Rattle.std.specs.Str.{bytes_eq}
 use Rattle.std.specs.declared.cmp.Ordering.{Ordering}
 use Rattle.std.specs.Ordering.{nat_cmp}
 use Rattle.std.specs.Cmp.Lexicographic.{slice_cmp}
@@ -7,12 +8,14 @@ use Rattle.std.specs.List.{AllByRecursion}
 use Rattle.std.specs.List.Sorted.{IsStrictlySortedBy}
 use Rattle.serde_json.specs.Data.{Data, null, number, unsigned, array, object, Items, no_items, item, Members, no_members, member}
 use Rattle.serde_json.specs.Find.{get}
+use Rattle.serde_json.specs.View.{items_of}
 use Rattle.serde_json.specs.Written.{compact_text}
 use Rattle.sha2.specs.Sha256.{sha256}
 use Rattle.jwk_set.specs.Json.{IsJson}
-use Rattle.jwk_set.specs.Element.{IsElement, IsAuthority, tree_of}
+use Rattle.jwk_set.specs.Element.{IsElement, IsAuthority, tree_of, key_id_of}
+use Rattle.jwk_set.specs.declared.authority.KeyId.{KeyId}
 use Rattle.jwk_set.specs.declared.authority.Authority.{Authority}
-use Rattle.bundle_doc.specs.declared.TheConstants.{MAX_DOCUMENT_BYTES}
+use Rattle.bundle_doc.specs.declared.document.TheConstants.{MAX_DOCUMENT_BYTES}
 
 -- A document's meaning: a set of authorities, a rank (its sequence number) and a refresh hint in seconds. The set is
 -- kept as the list of its members that rises by their texts.
@@ -63,11 +66,14 @@ pub record Means (tree : Data) (b : Bundle) : Type 0 where
   pub hint : HasNumber tree (codes "spiffe_refresh_hint") b.hint
   pub is : IsBundle b
 
+-- an X.509 authority has the key id
+abbrev pub HasKeyId : List Authority → KeyId → Type 0
+HasKeyId authorities key = Any (λ a. key_id_of a ≡ Some key) authorities
+
 -- ---- the canonical text
 
 abbrev pub trees : List Authority → Items
-trees [] = no_items
-trees (a ∷ others) = item (tree_of a) (trees others)
+trees authorities = items_of (map tree_of authorities)
 
 abbrev pub with_number : List ℕ → Option ℕ → Members → Members
 with_number name None others = others
@@ -101,3 +107,7 @@ pub record IsKept (b : Bundle) (canonical : List ℕ) : Type 0 where
   pub is : IsBundle b
   pub text : canonical ≡ canonical_text b
   pub fits : Fits b
+
+-- the canonical texts are the same
+abbrev pub same_text : Bundle → Bundle → Bool
+same_text b c = bytes_eq (canonical_text b) (canonical_text c)

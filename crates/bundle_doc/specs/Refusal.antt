@@ -4,7 +4,8 @@ use Rattle.serde_json.specs.Data.{Data, Items}
 use Rattle.serde_json.specs.Find.{as_object}
 use Rattle.jwk_set.specs.Json.{IsJson}
 use Rattle.bundle_doc.specs.Bundle.{Bundle, HasNumber, HasKeys, Means, canonical_text}
-use Rattle.bundle_doc.specs.declared.TheConstants.{MAX_DOCUMENT_BYTES}
+use Rattle.bundle_doc.specs.Entries.{IsBundleOf}
+use Rattle.bundle_doc.specs.declared.document.TheConstants.{MAX_DOCUMENT_BYTES}
 use Rattle.bundle_doc.specs.declared.error.DocError.{DocError}
 use Rattle.bundle_doc.specs.declared.error.DocError.TheVariants.{TooLong, NotJson, NotObject, NoKeys, BadSequence, BadRefreshHint, CanonicalTooLong, NoMemory}
 
@@ -37,3 +38,9 @@ RefusesBytes bytes TooLong = MAX_DOCUMENT_BYTES < length bytes
 RefusesBytes bytes NotJson = (length bytes ≤ MAX_DOCUMENT_BYTES) × ((tree : Data) → IsJson bytes tree → ⊥)
 RefusesBytes bytes NoMemory = Unit {0}
 RefusesBytes bytes e = RefusesJson bytes e
+
+-- why a bundle of these elements and numbers is not built
+abbrev pub IsBuildFault : Items → Option ℕ → Option ℕ → DocError → Type 0
+IsBuildFault elements rank hint CanonicalTooLong = (b : Bundle) × IsBundleOf elements rank hint b × (MAX_DOCUMENT_BYTES < length (canonical_text b))
+IsBuildFault elements rank hint NoMemory = Unit {0}
+IsBuildFault elements rank hint e = ⊥

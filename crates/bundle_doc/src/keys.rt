@@ -1,2 +1,69 @@
-// The authorities of the array `keys`, gathered under their canonical texts.
-pub struct KeyTexts(u8);
+// The authorities that the elements of `keys` say, gathered under their texts: so they are in order, and each once.
+ghost use Rattle.std.specs.Prelude.{◌≡◌, ◌++◌, IfOk, OnOk, not, string_bytes};
+ghost use Rattle.std.specs.List.Sorted.{IsStrictlySortedBy};
+ghost use Rattle.serde_json.specs.View.{view, items_view};
+ghost use Rattle.serde_json.specs.Written.{comma_if};
+ghost use Rattle.bundle_doc.specs.Bundle.{text_cmp};
+ghost use Rattle.bundle_doc.specs.Entries.{AddsElement, AreEntries, IsGathered, authorities_of, keys_text};
+
+use jwk_set::{Authority, read_element};
+use serde_json::Value;
+use std::alloc::{AllocError, Global};
+use std::collections::BTreeMap;
+
+pub(crate) fn gather(
+    alloc: Global,
+    elements: &[Value],
+) -> Result<BTreeMap<String, Authority>, AllocError>
+    ensures { IfOk result (λ m. IsGathered (items_view elements.now) m.entries) }
+{
+    let mut found = BTreeMap::new(alloc);
+    for element in elements {
+        add_element(alloc, &mut found, element)?;
+    }
+    Ok(found)
+}
+
+fn add_element(
+    alloc: Global,
+    found: &mut BTreeMap<String, Authority>,
+    element: &Value,
+) -> Result<(), AllocError>
+    ensures { OnOk result (AddsElement found.old.entries found.new.entries (view element.now)) }
+{
+    let Some(authority) = read_element(alloc, element)? else {
+        return Ok(());
+    };
+    let text = authority.to_value(alloc)?.to_string(alloc)?;
+    found.insert(text, authority)?;
+    Ok(())
+}
+
+/// The authorities in order, and the canonical text up to the end of `keys`.
+pub(crate) fn write_keys(
+    alloc: Global,
+    found: BTreeMap<String, Authority>,
+) -> Result<(Vec<Authority>, String), AllocError>
+    requires { AreEntries found.entries }
+    ensures authorities { IfOk result (λ r. r.0.items ≡ authorities_of found.entries) }
+    ensures text { IfOk result (λ r. string_bytes r.1 ≡ keys_text (authorities_of found.entries)) }
+    ensures rising { IfOk result (λ r. IsStrictlySortedBy text_cmp r.0.items) }
+{
+    let mut authorities = Vec::new(alloc);
+    let mut out = String::from_str(alloc, "{\"keys\":[")?;
+    for (text, authority) in found {
+        write_key(&mut out, !authorities.is_empty(), text.as_str())?;
+        authorities.push(authority)?;
+    }
+    out.push(']')?;
+    Ok((authorities, out))
+}
+
+fn write_key(out: &mut String, later: bool, text: &str) -> Result<(), AllocError>
+    ensures { OnOk result (string_bytes out.new ≡ string_bytes out.old ++ (comma_if later ++ text.now)) }
+{
+    if later {
+        out.push(',')?;
+    }
+    out.push_str(text)
+}

@@ -4,6 +4,8 @@
 mod document;
 mod error;
 mod keys;
+pub mod laws;
+mod numbers;
 
 pub use document::{DocId, Document, MAX_DOCUMENT_BYTES};
 pub use error::DocError;

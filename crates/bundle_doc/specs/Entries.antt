@@ -1,0 +1,61 @@
+-- The authorities of a document under their texts, while it is read.
+use Rattle.std.specs.Prelude.{◌≡◌, ℕ, ◌++◌, ◌↔◌, ◌⊎◌, List, [], false, map, Option, Some, None, IfSome, ◌<◌, ◌^◌, String, string_bytes, codes, decimal}
+use Rattle.std.specs.declared.alloc.Global.{Global}
+use Rattle.std.specs.List.{AllByRecursion}
+use Rattle.serde_json.specs.Data.{Data, Items, Members, number, unsigned, put}
+use Rattle.serde_json.specs.Written.{items_text}
+use Rattle.jwk_set.specs.Element.{IsElement, IsAuthority}
+use Rattle.jwk_set.specs.declared.authority.Authority.{Authority}
+use Rattle.bundle_doc.specs.Bundle.{Bundle, Has, Says, IsBundle, authority_text, trees}
+
+abbrev pub Entry : Type 0
+Entry = String Global × Authority
+
+-- an authority under its text
+abbrev pub IsEntry : Entry → Type 0
+IsEntry e = (string_bytes e.0 ≡ authority_text e.1) × IsAuthority e.1
+
+abbrev pub AreEntries : List Entry → Type 0
+AreEntries = AllByRecursion IsEntry
+
+abbrev pub authorities_of : List Entry → List Authority
+authorities_of es = map (λ e. e.1) es
+
+-- what the element says was added, and nothing else
+pub record AddsElement (old new : List Entry) (element : Data) : Type 0 where
+  pub entries : AreEntries old → AreEntries new
+  pub authorities : AreEntries old → (a : Authority) → Has (authorities_of new) a ↔ (IsElement element a ⊎ Has (authorities_of old) a)
+
+-- the entries are those that the elements say
+pub record IsGathered (elements : Items) (es : List Entry) : Type 0 where
+  pub entries : AreEntries es
+  pub authorities : (a : Authority) → Has (authorities_of es) a ↔ Says elements a
+
+-- a number, where there is one, has 64 bits
+abbrev pub FitsWord : Option ℕ → Type 0
+FitsWord o = IfSome o (λ n. n < 2 ^ 64)
+
+-- the bundle has what the elements say, and these numbers
+pub record IsBundleOf (elements : Items) (rank hint : Option ℕ) (b : Bundle) : Type 0 where
+  pub authorities : (a : Authority) → Has b.authorities a ↔ Says elements a
+  pub same_rank : b.rank ≡ rank
+  pub same_hint : b.hint ≡ hint
+  pub is : IsBundle b
+
+-- the canonical text up to the end of `keys`
+abbrev pub keys_text : List Authority → List ℕ
+keys_text authorities = codes "{\"keys\":[" ++ items_text false (trees authorities)
+
+-- a number behind its label, where there is one
+abbrev pub number_part : List ℕ → Option ℕ → List ℕ
+number_part label None = []
+number_part label (Some n) = label ++ decimal n
+
+-- the canonical text behind `keys`
+abbrev pub numbers_text : Option ℕ → Option ℕ → List ℕ
+numbers_text hint rank = number_part (codes ",\"spiffe_refresh_hint\":") hint ++ (number_part (codes ",\"spiffe_sequence\":") rank ++ codes "}")
+
+-- the member is put in where there is a number
+abbrev pub put_some : List ℕ → Option ℕ → Members → Members
+put_some name None others = others
+put_some name (Some n) others = put name (number (unsigned n)) others

@@ -1,0 +1,49 @@
+// The two numbers of a document: its rank and its refresh hint.
+ghost use Rattle.std.specs.Prelude.{◌≡◌, ◌++◌, IfSome, OnOk, string_bytes};
+ghost use Rattle.jwk_set.specs.Forms.{Finds};
+ghost use Rattle.serde_json.specs.View.{view};
+ghost use Rattle.bundle_doc.specs.Bundle.{HasNumber};
+ghost use Rattle.bundle_doc.specs.Entries.{FitsWord, number_part, numbers_text};
+
+use serde_json::Value;
+use std::alloc::AllocError;
+use std::fmt::Write;
+
+/// The number of a member, which may be absent: `None` where it is neither a whole number nor absent.
+pub(crate) fn read_number(value: &Value, name: &str) -> Option<Option<u64>>
+    ensures number { Finds result (HasNumber (view value.now) name.now) }
+    ensures fits { IfSome result FitsWord }
+{
+    let Some(found) = value.get(name) else {
+        return Some(None);
+    };
+    if found.is_null() {
+        return Some(None);
+    }
+    match found.as_u64() {
+        Some(number) => Some(Some(number)),
+        None => None,
+    }
+}
+
+/// Writes the canonical text behind `keys`.
+pub(crate) fn write_numbers(
+    out: &mut String,
+    hint: Option<u64>,
+    rank: Option<u64>,
+) -> Result<(), AllocError>
+    ensures { OnOk result (string_bytes out.new ≡ string_bytes out.old ++ numbers_text hint rank) }
+{
+    write_number(out, ",\"spiffe_refresh_hint\":", hint)?;
+    write_number(out, ",\"spiffe_sequence\":", rank)?;
+    out.push('}')
+}
+
+fn write_number(out: &mut String, label: &str, number: Option<u64>) -> Result<(), AllocError>
+    ensures { OnOk result (string_bytes out.new ≡ string_bytes out.old ++ number_part label.now number) }
+{
+    match number {
+        Some(number) => write!(out, "{label}{number}"),
+        None => Ok(()),
+    }
+}
