@@ -1,0 +1,13 @@
+use Rattle.std.proofs.Common.{refl}
+use Rattle.std.proofs.lemmas.Result.{err_from_is_err_and}
+use Rattle.fedbundle.proofs.canon.run_canon.Goals as goal
+
+pub returns-in_err-document : goal.returns-in_err-document
+returns-in_err-document g c =
+    let exit = err_from_is_err_and c.from_residual-in_err-document.result c.from_residual-in_err-document.ensures.1 in
+    rw (exit.1, exit.2) record {
+      bytes = c.in_ok-bytes.bytes.items;
+      read = c.in_ok-bytes.ensures.bytes;
+      cause = rw c.as_slice.ensures.value at c.in_err-document.ensures;
+      unwritten = refl;
+    }

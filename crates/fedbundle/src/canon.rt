@@ -1,0 +1,79 @@
+// `canon`: a bundle document as it was fetched, printed in its canonical form with its ids.
+ghost use Rattle.std.specs.Prelude.{◌≡◌, ◌++◌, IfOk, OnOk, MatchResult};
+ghost use Rattle.fedbundle.specs.Canon.{EndsCanon, PrintsCanon, canon_text, digest_line, key_line, keys_text};
+ghost use Rattle.jwk_set.specs.Element.{key_id_of};
+
+use crate::error::CommandError;
+use bundle_doc::{Document, MAX_DOCUMENT_BYTES};
+use jwk_set::Authority;
+use receipt_core::{Sink, Source, read_up_to, write_all};
+use spiffe_name::TrustDomain;
+use std::alloc::{AllocError, Global};
+
+/// Reads a bundle document of the domain and writes its canonical text, a line `id` with its document id, and for
+/// each X.509 authority a line `key` with its key id, in the order of the canonical text.
+///
+/// It reads at most one byte more than a document may have. Nothing is written before the whole text is made.
+///
+/// # Errors
+/// `Document` where the bytes are no document, `NoMemory` where memory ran out: then nothing was written. `Io` where
+/// the source failed, and nothing was written, or where the sink failed, which then holds a beginning of the text.
+pub fn run_canon<R: Source, W: Sink>(
+    alloc: Global,
+    domain: &TrustDomain,
+    source: &mut R,
+    sink: &mut W,
+) -> Result<(), CommandError>
+    ensures { MatchResult result
+        (λ _. PrintsCanon (R.remaining source.old) (R.remaining source.new) domain.now (W.contents sink.old) (W.contents sink.new))
+        (EndsCanon (R.remaining source.old) (R.remaining source.new) domain.now (W.contents sink.old) (W.contents sink.new) (R.has_failed source.new) (W.has_failed sink.new)) }
+{
+    let bytes = read_up_to(alloc, source, MAX_DOCUMENT_BYTES + 1)?;
+    let document = Document::read(alloc, bytes.as_slice())?;
+    let text = render(alloc, domain, &document)?;
+    write_all(sink, text.as_slice())?;
+    Ok(())
+}
+
+fn render(
+    alloc: Global,
+    domain: &TrustDomain,
+    document: &Document,
+) -> Result<Vec<u8>, AllocError>
+    ensures { IfOk result (λ text. text.items ≡ canon_text domain.now document.now) }
+{
+    let mut out = Vec::from_slice(alloc, document.canonical())?;
+    out.push(b'\n')?;
+    push_digest(&mut out, b"id ", &document.id(domain).0)?;
+    push_keys(&mut out, document.authorities())?;
+    Ok(out)
+}
+
+fn push_keys(out: &mut Vec<u8>, authorities: &[Authority]) -> Result<(), AllocError>
+    ensures { OnOk result (out.new.items ≡ out.old.items ++ keys_text authorities.now) }
+{
+    for authority in authorities {
+        push_key(out, authority)?;
+    }
+    Ok(())
+}
+
+fn push_key(out: &mut Vec<u8>, authority: &Authority) -> Result<(), AllocError>
+    ensures { OnOk result (out.new.items ≡ out.old.items ++ key_line (key_id_of authority.now)) }
+{
+    match authority.key_id() {
+        Some(key) => push_digest(out, b"key ", &key.0),
+        None => Ok(()),
+    }
+}
+
+fn push_digest(out: &mut Vec<u8>, label: &[u8], digest: &[u8; 32]) -> Result<(), AllocError>
+    ensures { OnOk result (out.new.items ≡ out.old.items ++ digest_line label.now digest.now) }
+{
+    let mut text = [0; 64];
+    let _ = hex::encode_to_slice(digest.as_slice(), &mut text);
+    out.extend_from_slice(label)?;
+    out.extend_from_slice(&text)?;
+    out.push(b'\n')?;
+    Ok(())
+}

@@ -1,0 +1,10 @@
+#![tactic(auto)]
+
+//! The command's functions, each over a source and a sink: the program hands them its standard streams.
+mod canon;
+mod error;
+mod fault;
+
+pub use canon::run_canon;
+pub use error::{CommandError, status};
+pub use fault::write_fault;

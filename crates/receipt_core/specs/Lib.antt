@@ -1,0 +1,4 @@
+pub mod Device
+pub mod Adaptor
+pub mod Memory
+pub mod Fuse
