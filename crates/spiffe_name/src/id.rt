@@ -8,7 +8,6 @@ ghost use Rattle.std.specs.Cmp.Lexicographic.{slice_cmp, nat_list_eq_equiv, nat_
 ghost use Rattle.std.specs.Cmp.Rules.{hashing};
 ghost use Rattle.std.specs.List.{AllPass};
 ghost use Rattle.spiffe_name.specs.Bytes.{is_segment_byte, FirstFails, EmptyOrSlash, SplitsAtSlash};
-ghost use Rattle.spiffe_name.specs.TrustDomain.{IsDomainText, RefusesDomain};
 ghost use Rattle.spiffe_name.specs.SpiffeId.{Id, IsId, IsIdText, RefusesId, IsPath, IsSegment, FirstFault, FaultInSegment, is_empty_or_modifier, scheme};
 
 use crate::domain::{TrustDomain, check_domain};

@@ -1,5 +1,5 @@
 //! What holds of every text. No call does any work.
-ghost use Rattle.std.specs.Prelude.{◌≡◌, ◌↔◌, ℕ, List, IsTrue, bytes_eq};
+ghost use Rattle.std.specs.Prelude.{◌≡◌, ℕ, List};
 ghost use Rattle.spiffe_name.specs.TrustDomain.{RefusesDomain};
 ghost use Rattle.spiffe_name.specs.SpiffeId.{Id, IsId, RefusesId};
 ghost use Rattle.spiffe_name.specs.declared.error.NameError.{NameError};
