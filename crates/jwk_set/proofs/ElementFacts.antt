@@ -1,19 +1,17 @@
 -- An element says at most one authority, and what is written for an authority is plain.
-use Rattle.std.proofs.Common.{◌≡◌, ℕ, ◌<◌, ◌≤◌, List, Bool, true, codes, Some, refl, sym, ap, ap₂, ◌∙◌, arith, subst}
-use Rattle.std.specs.List.{AllPass}
-use Rattle.std.specs.Str.{IsUtf8, IsAscii}
+use Rattle.std.proofs.Common.{◌≡◌, ℕ, ◌<◌, ◌≤◌, List, true, codes, refl, ap, ap₂, arith}
+use Rattle.std.specs.Str.{IsUtf8}
 use Rattle.std.proofs.lemmas.Str.{IsUtf8-from_ascii}
 use Rattle.base64.specs.Engines.{standard}
 use Rattle.base64.specs.GeneralPurpose.{IsBytes, decode_of, encode_of}
 use Rattle.base64.proofs.EngineFacts.{decode_of-encode_of, IsAscii-encode_of}
-use Rattle.serde_json.specs.Data.{Data, string, array, no_items, item, Members, no_members, member, depth}
+use Rattle.serde_json.specs.Data.{Data, depth}
 use Rattle.json.proofs.Printed.Utf8.{are_ascii, IsUtf8-are_ascii}
 use Rattle.std.proofs.lemmas.Str.Ascii.{IsAscii-from_all}
 use Rattle.std.proofs.lemmas.Bool.Decides.{nat_tests}
-use Rattle.serde_json.specs.Find.{get}
-use Rattle.jwk_set.specs.Forms.{IsUrlText, IsNonEmptyText, IsCertificate, is_url_symbol}
-use Rattle.jwk_set.specs.Element.{HasText, HasKey, HasCertificate, IsKey, IsElement, IsAuthority, tree_of, text_member}
-use Rattle.jwk_set.specs.Json.{IsPlain, IsBelowNames, HasPlainMembers}
+use Rattle.jwk_set.specs.Forms.{IsUrlText, is_url_symbol}
+use Rattle.jwk_set.specs.Element.{HasText, HasKey, HasCertificate, IsElement, IsAuthority, tree_of}
+use Rattle.jwk_set.specs.Json.{IsPlain}
 use Rattle.jwk_set.specs.declared.authority.PublicKey.{PublicKey}
 use Rattle.jwk_set.specs.declared.authority.PublicKey.TheVariants.{Rsa, Ec}
 use Rattle.jwk_set.specs.declared.authority.Authority.{Authority}
@@ -65,36 +63,120 @@ ascii : (t : List ℕ) → are_ascii t ≡ true → IsUtf8 t
 ascii = IsUtf8-are_ascii
 
 pub IsPlain-tree_of : (a : Authority) → IsAuthority a → IsPlain (tree_of a)
-IsPlain-tree_of (X509 (Rsa n e) der) h =
-    (ascii (codes "e") refl, url_text e h.0.1, (refl, (refl, (refl, (refl, tt)))),
-    (ascii (codes "kty") refl, ascii (codes "RSA") refl, (refl, (refl, (refl, tt))),
-    (ascii (codes "n") refl, url_text n h.0.0, (refl, (refl, tt)),
-    (ascii (codes "use") refl, ascii (codes "x509-svid") refl, (refl, tt),
-    (ascii (codes "x5c") refl, (base64_text der, tt), tt,
-    tt)))))
-IsPlain-tree_of (X509 (Ec crv x y) der) h =
-    (ascii (codes "crv") refl, h.0.0.utf8, (refl, (refl, (refl, (refl, (refl, tt))))),
-    (ascii (codes "kty") refl, ascii (codes "EC") refl, (refl, (refl, (refl, (refl, tt)))),
-    (ascii (codes "use") refl, ascii (codes "x509-svid") refl, (refl, (refl, (refl, tt))),
-    (ascii (codes "x") refl, url_text x h.0.1, (refl, (refl, tt)),
-    (ascii (codes "x5c") refl, (base64_text der, tt), (refl, tt),
-    (ascii (codes "y") refl, url_text y h.0.2, tt,
-    tt))))))
-IsPlain-tree_of (Jwt kid (Rsa n e)) h =
-    (ascii (codes "e") refl, url_text e h.1.1, (refl, (refl, (refl, (refl, tt)))),
-    (ascii (codes "kid") refl, h.0.utf8, (refl, (refl, (refl, tt))),
-    (ascii (codes "kty") refl, ascii (codes "RSA") refl, (refl, (refl, tt)),
-    (ascii (codes "n") refl, url_text n h.1.0, (refl, tt),
-    (ascii (codes "use") refl, ascii (codes "jwt-svid") refl, tt,
-    tt)))))
-IsPlain-tree_of (Jwt kid (Ec crv x y)) h =
-    (ascii (codes "crv") refl, h.1.0.utf8, (refl, (refl, (refl, (refl, (refl, tt))))),
-    (ascii (codes "kid") refl, h.0.utf8, (refl, (refl, (refl, (refl, tt)))),
-    (ascii (codes "kty") refl, ascii (codes "EC") refl, (refl, (refl, (refl, tt))),
-    (ascii (codes "use") refl, ascii (codes "jwt-svid") refl, (refl, (refl, tt)),
-    (ascii (codes "x") refl, url_text x h.1.1, (refl, tt),
-    (ascii (codes "y") refl, url_text y h.1.2, tt,
-    tt))))))
+IsPlain-tree_of (X509 (Rsa n e) der) h = (
+  ascii (codes "e") refl,
+  url_text e h.0.1,
+  (refl, (refl, (refl, (refl, tt)))),
+  (
+    ascii (codes "kty") refl,
+    ascii (codes "RSA") refl,
+    (refl, (refl, (refl, tt))),
+    (
+      ascii (codes "n") refl,
+      url_text n h.0.0,
+      (refl, (refl, tt)),
+      (
+        ascii (codes "use") refl,
+        ascii (codes "x509-svid") refl,
+        (refl, tt),
+        (
+          ascii (codes "x5c") refl,
+          (base64_text der, tt),
+          tt,
+          tt,
+        ),
+      ),
+    ),
+  ),
+)
+IsPlain-tree_of (X509 (Ec crv x y) der) h = (
+  ascii (codes "crv") refl,
+  h.0.0.utf8,
+  (refl, (refl, (refl, (refl, (refl, tt))))),
+  (
+    ascii (codes "kty") refl,
+    ascii (codes "EC") refl,
+    (refl, (refl, (refl, (refl, tt)))),
+    (
+      ascii (codes "use") refl,
+      ascii (codes "x509-svid") refl,
+      (refl, (refl, (refl, tt))),
+      (
+        ascii (codes "x") refl,
+        url_text x h.0.1,
+        (refl, (refl, tt)),
+        (
+          ascii (codes "x5c") refl,
+          (base64_text der, tt),
+          (refl, tt),
+          (
+            ascii (codes "y") refl,
+            url_text y h.0.2,
+            tt,
+            tt,
+          ),
+        ),
+      ),
+    ),
+  ),
+)
+IsPlain-tree_of (Jwt kid (Rsa n e)) h = (
+  ascii (codes "e") refl,
+  url_text e h.1.1,
+  (refl, (refl, (refl, (refl, tt)))),
+  (
+    ascii (codes "kid") refl,
+    h.0.utf8,
+    (refl, (refl, (refl, tt))),
+    (
+      ascii (codes "kty") refl,
+      ascii (codes "RSA") refl,
+      (refl, (refl, tt)),
+      (
+        ascii (codes "n") refl,
+        url_text n h.1.0,
+        (refl, tt),
+        (
+          ascii (codes "use") refl,
+          ascii (codes "jwt-svid") refl,
+          tt,
+          tt,
+        ),
+      ),
+    ),
+  ),
+)
+IsPlain-tree_of (Jwt kid (Ec crv x y)) h = (
+  ascii (codes "crv") refl,
+  h.1.0.utf8,
+  (refl, (refl, (refl, (refl, (refl, tt))))),
+  (
+    ascii (codes "kid") refl,
+    h.0.utf8,
+    (refl, (refl, (refl, (refl, tt)))),
+    (
+      ascii (codes "kty") refl,
+      ascii (codes "EC") refl,
+      (refl, (refl, (refl, tt))),
+      (
+        ascii (codes "use") refl,
+        ascii (codes "jwt-svid") refl,
+        (refl, (refl, tt)),
+        (
+          ascii (codes "x") refl,
+          url_text x h.1.1,
+          (refl, tt),
+          (
+            ascii (codes "y") refl,
+            url_text y h.1.2,
+            tt,
+            tt,
+          ),
+        ),
+      ),
+    ),
+  ),
+)
 
 pub depth-tree_of : (a : Authority) → depth (tree_of a) ≤ 2
 depth-tree_of (X509 (Rsa n e) der) = omega arith

@@ -1,9 +1,8 @@
 -- The element that is written for an authority.
-use Rattle.std.proofs.Common.{◌≡◌, ◌∙◌, ap, refl}
+use Rattle.std.proofs.Common.{◌≡◌, refl}
 use Rattle.serde_json.specs.Data.{object, no_members}
 use Rattle.jwk_set.specs.Element.{IsElement, IsAuthority, tree_of}
 use Rattle.jwk_set.specs.Trees.{with_authority}
-use Rattle.jwk_set.specs.declared.authority.PublicKey.{PublicKey}
 use Rattle.jwk_set.specs.declared.authority.PublicKey.TheVariants.{Rsa, Ec}
 use Rattle.jwk_set.specs.declared.authority.Authority.{Authority}
 use Rattle.jwk_set.specs.declared.authority.Authority.TheVariants.{X509, Jwt}

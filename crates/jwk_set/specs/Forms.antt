@@ -1,5 +1,5 @@
 -- The forms of an authority's members.
-use Rattle.std.specs.Prelude.{◌≡◌, ◌≢◌, ℕ, ◌%◌, ◌<◌, ◌&&◌, ◌||◌, ◌==◌, nat_le, List, [], length, Bool, Option, Some, None}
+use Rattle.std.specs.Prelude.{◌≢◌, ℕ, ◌%◌, ◌<◌, ◌&&◌, ◌||◌, ◌==◌, nat_le, List, [], length, Bool, Option, Some, None}
 use Rattle.std.specs.List.{AllPass}
 use Rattle.std.specs.Str.{IsUtf8}
 use Rattle.base64.specs.GeneralPurpose.{IsBytes}

@@ -1,5 +1,12 @@
 // What one element of a JWK Set says: a public key in the role that SPIFFE gives it.
-ghost use Rattle.std.specs.Prelude.{◌≡◌, IfOk, map};
+ghost use Rattle.std.specs.Prelude.{◌≡◌, IfOk, OnOk, codes, map};
+ghost use Rattle.serde_json.specs.Data.{string, array, item, no_items, put, no_members};
+ghost use Rattle.serde_json.specs.View.{view, members_view};
+ghost use Rattle.base64.specs.Engines.{standard};
+ghost use Rattle.base64.specs.GeneralPurpose.{encode_of};
+ghost use Rattle.jwk_set.specs.Element.{IsElement, IsKey, IsAuthority, tree_of, key_id_of};
+ghost use Rattle.jwk_set.specs.Forms.{IsCertificate};
+ghost use Rattle.jwk_set.specs.Trees.{with_key, with_authority};
 
 use crate::forms::{Certificate, NonEmptyText, UrlText};
 use serde_json::{Map, Value};
@@ -7,12 +14,17 @@ use sha2::{Digest, Sha256};
 use std::alloc::{AllocError, Global};
 use std::collections::BTreeMap;
 
-/// A public key (RFC 7518, sections 6.2.1 and 6.3.1), each member as it was written.
-#[derive(Debug, Drop)]
+/// The public key of an authority (RFC 7517, section 4.1), each member as it was written. Nothing is decoded: keys are
+/// equal exactly when their members are equal texts.
+#[derive(Debug, PartialEq, Eq, Drop)]
 pub enum PublicKey {
-    /// `kty` is `RSA`: the modulus `n` and the exponent `e`.
-    Rsa { n: UrlText, e: UrlText },
-    /// `kty` is `EC`: the curve `crv` and the coordinates `x` and `y`.
+    /// `kty` is `RSA`: the modulus `n` and the exponent `e` (RFC 7518, section 6.3.1).
+    Rsa {
+        n: UrlText,
+        e: UrlText,
+    },
+    /// `kty` is `EC`: the name of the curve, `crv`, and the coordinates `x` and `y` (RFC 7518, section 6.2.1). Any name
+    /// counts as a curve's.
     Ec {
         crv: NonEmptyText,
         x: UrlText,
@@ -20,21 +32,24 @@ pub enum PublicKey {
     },
 }
 
-/// A key that a trust domain vouches with (SPIFFE Trust Domain and Bundle, section 4.2).
-#[derive(Debug, Drop)]
+/// A key that a trust domain vouches with (SPIFFE Trust Domain and Bundle, section 4.2). Authorities are equal exactly
+/// when they have one role, equal keys and the same certificate or key identifier.
+#[derive(Debug, PartialEq, Eq, Drop)]
 pub enum Authority {
-    /// `use` is `x509-svid`: it signs X.509-SVIDs, and its certificate is the one text of `x5c`.
+    /// `use` is `x509-svid`: it signs X.509-SVIDs, and `der` is its certificate, the one text of `x5c`
+    /// (RFC 7517, section 4.7).
     X509 { key: PublicKey, der: Certificate },
-    /// `use` is `jwt-svid`: it signs JWT-SVIDs under the key identifier `kid`.
+    /// `use` is `jwt-svid`: it signs JWT-SVIDs under the key identifier `kid` (RFC 7517, section 4.5).
     Jwt { kid: NonEmptyText, key: PublicKey },
 }
 
-/// The SHA-256 of an X.509 authority's certificate (FIPS 180-4).
+/// The SHA-256 of an X.509 authority's certificate, of its DER bytes as they are (FIPS 180-4, section 6.2). Key ids are
+/// ordered by their bytes.
 #[derive(Clone, Copy, Debug, PartialEq, Eq, PartialOrd, Ord, Hash)]
 pub struct KeyId(pub [u8; 32]);
 
 impl PublicKey {
-    /// A copy.
+    /// A key that is equal to this one.
     ///
     /// # Errors
     /// Memory ran out.
@@ -56,10 +71,8 @@ impl PublicKey {
 }
 
 impl Authority {
-    ghost use Rattle.serde_json.specs.View.{view};
-    ghost use Rattle.jwk_set.specs.Element.{IsElement, tree_of, key_id_of};
-
-    /// The element that says just this, without any other member.
+    /// The element that says just this authority: `use`, `kty`, the members of its key, and `x5c` or `kid`. No other
+    /// member stands in it, and what [`read_element`](crate::read_element) reads from it is this authority.
     ///
     /// # Errors
     /// Memory ran out.
@@ -70,7 +83,8 @@ impl Authority {
         Ok(Value::Object(members_of(alloc, self)?))
     }
 
-    /// The id of the key with which an endpoint can be authenticated: none for a JWT authority.
+    /// The id of the key with which an endpoint can be authenticated, so the one of an X.509 authority. A JWT authority
+    /// has none.
     pub fn key_id(&self) -> Option<KeyId>
         ensures { result ≡ key_id_of self.now }
     {
@@ -80,7 +94,7 @@ impl Authority {
         }
     }
 
-    /// A copy.
+    /// An authority that is equal to this one.
     ///
     /// # Errors
     /// Memory ran out.
@@ -99,15 +113,6 @@ impl Authority {
         }
     }
 }
-
-ghost use Rattle.std.specs.Prelude.{OnOk, codes};
-ghost use Rattle.serde_json.specs.Data.{string, array, item, no_items, put, no_members};
-ghost use Rattle.serde_json.specs.View.{members_view};
-ghost use Rattle.base64.specs.Engines.{standard};
-ghost use Rattle.base64.specs.GeneralPurpose.{encode_of};
-ghost use Rattle.jwk_set.specs.Element.{IsKey, IsAuthority};
-ghost use Rattle.jwk_set.specs.Forms.{IsCertificate};
-ghost use Rattle.jwk_set.specs.Trees.{with_key, with_authority};
 
 fn members_of(alloc: Global, authority: &Authority) -> Result<Map<String, Value>, AllocError>
     ensures members { IfOk result (λ m. members_view m.entries ≡ with_authority authority.now no_members) }
@@ -161,7 +166,7 @@ fn put_certificate(
 ) -> Result<(), AllocError>
     ensures members { OnOk result (members_view members.new.entries
         ≡ put (codes "x5c") (array (item (string (encode_of standard der.now)) no_items))
-            (members_view members.old.entries)) }
+        (members_view members.old.entries)) }
     ensures form { OnOk result (IsCertificate der.now) }
 {
     let text = Value::String(der.encode(alloc)?);

@@ -1,6 +1,7 @@
 // Reading an element of `keys`: the authority that it says, where it says one.
-ghost use Rattle.std.specs.Prelude.{◌≡◌, ◌↔◌, IsTrue, IfOk, codes, option_map, option_and_then};
-ghost use Rattle.serde_json.specs.Find.{get, as_str};
+ghost use Rattle.std.specs.Prelude.{◌≡◌, ◌↔◌, IsTrue, IfOk, Some, [], ◌∷◌, codes, option_map};
+ghost use Rattle.serde_json.specs.Data.{array, item, string, no_items};
+ghost use Rattle.serde_json.specs.Find.{get};
 ghost use Rattle.serde_json.specs.View.{view};
 ghost use Rattle.jwk_set.specs.Forms.{Finds, IsUrlText, IsNonEmptyText, IsCertificate};
 ghost use Rattle.jwk_set.specs.Element.{HasText, HasCertificate, HasKey, IsKey, IsElement};
@@ -10,9 +11,15 @@ use crate::forms::{Certificate, NonEmptyText, UrlText};
 use serde_json::Value;
 use std::alloc::{AllocError, Global};
 
-/// The authority that an element of `keys` says. An element that says none, as one of another use or key type, or
-/// one that lacks a member in its form, is no fault: the answer is `None`, and the other elements count all the same
-/// (SPIFFE Trust Domain and Bundle, section 4.2).
+/// The authority that an element of `keys` says (SPIFFE Trust Domain and Bundle, section 4.2).
+///
+/// An X.509 authority has `use` `x509-svid`, a public key, and as `x5c` an array of exactly one text, the padded base64
+/// of at least one byte. A JWT authority has `use` `jwt-svid`, a public key, and as `kid` a text that is not empty. The
+/// public key is `kty` `RSA` with `n` and `e`, or `kty` `EC` with `crv`, `x` and `y`. All other members count for
+/// nothing, also a `kid` beside `x509-svid` and an `x5c` beside `jwt-svid`.
+///
+/// An element that says no authority, as one of another use or key type, one that lacks a member in its form, or a value
+/// that is no object, is no fault: the answer is `None`, and the other elements of `keys` count all the same.
 ///
 /// # Errors
 /// Memory ran out.
@@ -104,11 +111,7 @@ fn read_certificate(alloc: Global, element: &Value) -> Result<Option<Certificate
     }
 }
 
-fn read_url_text(
-    alloc: Global,
-    element: &Value,
-    name: &str,
-) -> Result<Option<UrlText>, AllocError>
+fn read_url_text(alloc: Global, element: &Value, name: &str) -> Result<Option<UrlText>, AllocError>
     ensures { IfOk result (λ o. Finds o (λ text. HasText (view element.now) name.now text × IsUrlText text)) }
 {
     match text_of(element, name) {
@@ -144,9 +147,6 @@ fn text_of<'a>(element: &'a Value, name: &str) -> Option<&'a str>
 {
     element.get(name)?.as_str()
 }
-
-ghost use Rattle.serde_json.specs.Data.{array, item, string, no_items};
-ghost use Rattle.std.specs.Prelude.{Some, ◌∷◌, []};
 
 fn only_text<'a>(element: &'a Value, name: &str) -> Option<&'a str>
     ensures { Finds (option_map (λ text. text.now) result)

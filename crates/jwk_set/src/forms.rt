@@ -1,5 +1,9 @@
 // The forms of an authority's members, each a type of its own: a value that exists is in its form.
-ghost use Rattle.std.specs.Prelude.{◌≡◌, ℕ, List, ◌↔◌, IsTrue, IfOk};
+ghost use Rattle.std.specs.Prelude.{◌≡◌, ℕ, List, ◌↔◌, IsTrue, IfOk, nat_eq, string_bytes};
+ghost use Rattle.std.specs.Cmp.{partial_equiv_from_equiv};
+ghost use Rattle.std.specs.Cmp.Lexicographic.{pointwise, nat_list_eq_equiv};
+ghost use Rattle.base64.specs.Engines.{standard};
+ghost use Rattle.base64.specs.GeneralPurpose.{encode_of};
 ghost use Rattle.jwk_set.specs.Forms.{Finds, IsUrlText, IsNonEmptyText, IsCertificate, is_url_symbol as url_symbol};
 
 use base64::DecodeAllocError;
@@ -7,17 +11,15 @@ use base64::engine::general_purpose::STANDARD;
 use std::alloc::{AllocError, Global};
 use std::marker::Model;
 
-/// A text in the alphabet of base64url without padding, as `n`, `e`, `x` and `y` are written
-/// (RFC 7518, sections 6.2.1 and 6.3.1; RFC 4648, section 5). It is kept as it was written, and nothing is decoded.
+/// A text in the form of base64url without padding, as `n`, `e`, `x` and `y` are written (RFC 7518, sections 6.2.1 and
+/// 6.3.1; RFC 4648, section 5): it is not empty, each byte is `A-Z`, `a-z`, `0-9`, `-` or `_`, and its length modulo 4
+/// is not 1. It is kept as it was written, and nothing is decoded, so texts are equal exactly when their bytes are.
 #[derive(Debug, Drop)]
 pub struct UrlText {
     text: String,
 }
 
 impl Model for UrlText {
-    ghost use Rattle.std.specs.Prelude.{ℕ, List, string_bytes};
-    ghost use Rattle.jwk_set.specs.Forms.{IsUrlText};
-
     ghost Value = { List ℕ };
 
     ghost view = { λ a. string_bytes a.text };
@@ -26,7 +28,7 @@ impl Model for UrlText {
 }
 
 impl UrlText {
-    /// The text, where it has that form.
+    /// The text, where it has the form of this type, and else `None`.
     ///
     /// # Errors
     /// Memory ran out.
@@ -36,7 +38,9 @@ impl UrlText {
         if !is_url_text(text.as_bytes()) {
             return Ok(None);
         }
-        Ok(Some(UrlText { text: String::from_str(alloc, text)? }))
+        Ok(Some(UrlText {
+            text: String::from_str(alloc, text)?,
+        }))
     }
 
     /// The text as it was written.
@@ -47,28 +51,41 @@ impl UrlText {
         self.text.as_str()
     }
 
-    /// A copy.
+    /// A text that is equal to this one.
     ///
     /// # Errors
     /// Memory ran out.
     pub fn try_clone(&self, alloc: Global) -> Result<UrlText, AllocError>
         ensures { IfOk result (λ t. t ≡ self.now) }
     {
-        Ok(UrlText { text: String::from_str(alloc, self.text.as_str())? })
+        Ok(UrlText {
+            text: String::from_str(alloc, self.text.as_str())?,
+        })
     }
 }
 
-/// A text that is not empty: a curve's name (`crv`, RFC 7518, section 6.2.1.1) or a key identifier
-/// (`kid`, RFC 7517, section 4.5).
+impl PartialEq for UrlText {
+    ghost eq = { pointwise nat_eq };
+
+    ghost laws = { partial_equiv_from_equiv nat_list_eq_equiv };
+
+    fn eq(&self, other: &UrlText) -> bool {
+        self.as_str() == other.as_str()
+    }
+}
+
+impl Eq for UrlText {
+    ghost laws = { nat_list_eq_equiv };
+}
+
+/// A text that is not empty: a curve's name (`crv`, RFC 7518, section 6.2.1.1) or a key identifier (`kid`, RFC 7517,
+/// section 4.5). Texts are equal exactly when their bytes are.
 #[derive(Debug, Drop)]
 pub struct NonEmptyText {
     text: String,
 }
 
 impl Model for NonEmptyText {
-    ghost use Rattle.std.specs.Prelude.{ℕ, List, string_bytes};
-    ghost use Rattle.jwk_set.specs.Forms.{IsNonEmptyText};
-
     ghost Value = { List ℕ };
 
     ghost view = { λ a. string_bytes a.text };
@@ -77,7 +94,7 @@ impl Model for NonEmptyText {
 }
 
 impl NonEmptyText {
-    /// The text, where it is not empty.
+    /// The text, where it is not empty, and else `None`.
     ///
     /// # Errors
     /// Memory ran out.
@@ -87,7 +104,9 @@ impl NonEmptyText {
         if text.is_empty() {
             return Ok(None);
         }
-        Ok(Some(NonEmptyText { text: String::from_str(alloc, text)? }))
+        Ok(Some(NonEmptyText {
+            text: String::from_str(alloc, text)?,
+        }))
     }
 
     /// The text as it was written.
@@ -98,27 +117,41 @@ impl NonEmptyText {
         self.text.as_str()
     }
 
-    /// A copy.
+    /// A text that is equal to this one.
     ///
     /// # Errors
     /// Memory ran out.
     pub fn try_clone(&self, alloc: Global) -> Result<NonEmptyText, AllocError>
         ensures { IfOk result (λ t. t ≡ self.now) }
     {
-        Ok(NonEmptyText { text: String::from_str(alloc, self.text.as_str())? })
+        Ok(NonEmptyText {
+            text: String::from_str(alloc, self.text.as_str())?,
+        })
     }
 }
 
-/// The bytes of a certificate (RFC 7517, section 4.7), at least one. They are opaque here: nothing in them is looked at.
+impl PartialEq for NonEmptyText {
+    ghost eq = { pointwise nat_eq };
+
+    ghost laws = { partial_equiv_from_equiv nat_list_eq_equiv };
+
+    fn eq(&self, other: &NonEmptyText) -> bool {
+        self.as_str() == other.as_str()
+    }
+}
+
+impl Eq for NonEmptyText {
+    ghost laws = { nat_list_eq_equiv };
+}
+
+/// The DER bytes of a certificate (RFC 7517, section 4.7), at least one. They are opaque here: nothing in them is looked
+/// at, and certificates are equal exactly when their bytes are.
 #[derive(Debug, Drop)]
 pub struct Certificate {
     der: Vec<u8>,
 }
 
 impl Model for Certificate {
-    ghost use Rattle.std.specs.Prelude.{ℕ, List};
-    ghost use Rattle.jwk_set.specs.Forms.{IsCertificate};
-
     ghost Value = { List ℕ };
 
     ghost view = { λ a. a.der.items };
@@ -127,11 +160,8 @@ impl Model for Certificate {
 }
 
 impl Certificate {
-    ghost use Rattle.base64.specs.Engines.{standard};
-    ghost use Rattle.base64.specs.GeneralPurpose.{encode_of};
-    ghost use Rattle.std.specs.Prelude.{string_bytes};
-
-    /// The certificate that the text is the base64 of (RFC 4648, section 4: padded, unused bits zero), where it is.
+    /// The certificate that the text is the base64 of (RFC 4648, section 4), and `None` where it is none: padding stands
+    /// where it is due, the unused bits are zero, and at least one byte is encoded.
     ///
     /// # Errors
     /// Memory ran out.
@@ -165,15 +195,31 @@ impl Certificate {
         self.der.as_slice()
     }
 
-    /// A copy.
+    /// A certificate that is equal to this one.
     ///
     /// # Errors
     /// Memory ran out.
     pub fn try_clone(&self, alloc: Global) -> Result<Certificate, AllocError>
         ensures { IfOk result (λ t. t ≡ self.now) }
     {
-        Ok(Certificate { der: Vec::from_slice(alloc, self.der.as_slice())? })
+        Ok(Certificate {
+            der: Vec::from_slice(alloc, self.der.as_slice())?,
+        })
     }
+}
+
+impl PartialEq for Certificate {
+    ghost eq = { pointwise nat_eq };
+
+    ghost laws = { partial_equiv_from_equiv nat_list_eq_equiv };
+
+    fn eq(&self, other: &Certificate) -> bool {
+        self.as_bytes() == other.as_bytes()
+    }
+}
+
+impl Eq for Certificate {
+    ghost laws = { nat_list_eq_equiv };
 }
 
 fn is_url_text(text: &[u8]) -> bool

@@ -14,12 +14,10 @@ pub fn elements()
     ensures reads_back { (a : Authority) → IsAuthority a → IsElement (tree_of a) a }
     ensures plain { (a : Authority) → IsAuthority a → IsPlain (tree_of a) }
     ensures shallow { (a : Authority) → depth (tree_of a) ≤ 2 }
-{
-}
+{}
 
 /// The compact text of a plain value is a JSON text of that value and of no other.
 pub fn compact_texts()
     ensures reads_back { (value : Data) → IsPlain value → depth value ≤ max_depth → IsJson (compact_text value) value }
     ensures no_float { (value : Data) → IsPlain value → has_float value ≡ false }
-{
-}
+{}

@@ -9,3 +9,6 @@ pub mod laws;
 pub use authority::{Authority, KeyId, PublicKey};
 pub use element::read_element;
 pub use forms::{Certificate, NonEmptyText, UrlText};
+
+#[cfg(test)]
+mod tests;
