@@ -1,2 +1,3 @@
 pub mod Canon
+pub mod Fault
 pub mod Status

@@ -35,11 +35,7 @@ pub fn run_canon<R: Source, W: Sink>(
     Ok(())
 }
 
-fn render(
-    alloc: Global,
-    domain: &TrustDomain,
-    document: &Document,
-) -> Result<Vec<u8>, AllocError>
+fn render(alloc: Global, domain: &TrustDomain, document: &Document) -> Result<Vec<u8>, AllocError>
     ensures { IfOk result (λ text. text.items ≡ canon_text domain.now document.now) }
 {
     let mut out = Vec::from_slice(alloc, document.canonical())?;

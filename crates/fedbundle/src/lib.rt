@@ -4,6 +4,8 @@
 mod canon;
 mod error;
 mod fault;
+#[cfg(test)]
+mod tests;
 
 pub use canon::run_canon;
 pub use error::{CommandError, status};
