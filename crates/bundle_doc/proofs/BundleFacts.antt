@@ -1,18 +1,15 @@
 -- A set has one rising list, an object means one bundle, and a canonical text is read as its bundle.
-use Rattle.std.proofs.Common.{◌≡◌, ◌≢◌, ℕ, suc, ◌+◌, ◌^◌, ◌<◌, ◌≤◌, ◌⊎◌, ◌↔◌, inl, inr, List, [], ◌∷◌, ◌++◌, length, Bool, true, false, max, Option, Some, None, IfSome, Less, Greater, Equal, Ordering, codes, decimal, refl, sym, ap, ap₂, ◌∙◌, subst, arith, append-nil, append_assoc}
-use Rattle.std.specs.Ordering.{nat_cmp, ordering_reverse}
-use Rattle.std.specs.Cmp.Lexicographic.{slice_cmp}
+use Rattle.std.proofs.Common.{◌≡◌, ℕ, ◌^◌, ◌<◌, ◌≤◌, ◌↔◌, inl, inr, List, [], ◌∷◌, true, Option, Some, None, IfSome, Less, Greater, codes, refl, sym, ap, ap₂, ◌∙◌, subst, arith}
+use Rattle.std.specs.Ordering.{ordering_reverse}
 use Rattle.std.specs.List.{AllByRecursion}
 use Rattle.std.specs.List.Sorted.{IsStrictlySortedBy}
 use Rattle.std.proofs.lemmas.Cmp.{nat_list_cmp_total, tied_itself}
-use Rattle.serde_json.specs.Data.{Data, null, number, unsigned, string, array, object, Items, no_items, item, Members, no_members, member, depth, items_depth, members_depth}
-use Rattle.serde_json.specs.Find.{get, get_member}
+use Rattle.serde_json.specs.Data.{Data, array, object, Items, no_members, member, depth, items_depth}
 use Rattle.serde_json.specs.Read.{read, max_depth}
-use Rattle.serde_json.specs.Written.{compact_text}
-use Rattle.jwk_set.specs.Json.{IsJson, IsPlain, ArePlain, HasPlainMembers, IsBelowNames}
+use Rattle.jwk_set.specs.Json.{IsJson, IsPlain, ArePlain, HasPlainMembers}
 use Rattle.jwk_set.specs.Element.{IsElement, IsAuthority, tree_of}
 use Rattle.jwk_set.specs.declared.authority.Authority.{Authority}
-use Rattle.jwk_set.proofs.ElementFacts.{one_authority, IsPlain-tree_of, depth-tree_of, form_of}
+use Rattle.jwk_set.proofs.ElementFacts.{one_authority, IsPlain-tree_of, depth-tree_of}
 use Rattle.jwk_set.proofs.TreeFacts.{IsElement-tree_of}
 use Rattle.jwk_set.proofs.PlainFacts.{IsJson-compact_text, read-compact_text}
 use Rattle.std.specs.Str.{IsUtf8}

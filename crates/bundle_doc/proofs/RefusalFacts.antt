@@ -1,8 +1,8 @@
 -- What is refused is no document.
-use Rattle.std.proofs.Common.{◌≡◌, ℕ, ◌<◌, ◌≤◌, List, length, Option, Some, None, codes, refl, sym, ap, ◌∙◌, subst, arith}
+use Rattle.std.proofs.Common.{◌≡◌, ℕ, ◌<◌, List, length, Some, None, refl, sym, ◌∙◌, subst, arith}
 use Rattle.serde_json.specs.Data.{Data, null, boolean, number, string, array, object}
-use Rattle.serde_json.specs.Find.{get, as_object}
-use Rattle.bundle_doc.specs.Bundle.{Bundle, HasKeys, Means, Fits, IsDocument, canonical_text}
+use Rattle.serde_json.specs.Find.{as_object}
+use Rattle.bundle_doc.specs.Bundle.{Bundle, Means, Fits, IsDocument, canonical_text}
 use Rattle.bundle_doc.specs.Refusal.{RefusesTree, RefusesJson, RefusesBytes}
 use Rattle.bundle_doc.specs.declared.document.TheConstants.{MAX_DOCUMENT_BYTES}
 use Rattle.bundle_doc.specs.declared.error.DocError.{DocError}

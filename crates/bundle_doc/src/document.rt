@@ -1,32 +1,43 @@
 // A bundle document: its authorities, rank and hint, and the one text that stands for them.
-ghost use Rattle.std.specs.Prelude.{◌≡◌, ◌↔◌, IsTrue, IfOk, OnOk, MatchResult, map, option_map};
-ghost use Rattle.serde_json.specs.View.{view, items_view, members_view};
-ghost use Rattle.jwk_set.specs.Element.{tree_of};
-ghost use Rattle.jwk_set.specs.Forms.{Finds};
-ghost use Rattle.bundle_doc.specs.Bundle.{Fits, HasKeys, HasKeyId, IsBundle, IsDocument, Means, canonical_text, doc_id_of, document_tree};
-ghost use Rattle.bundle_doc.specs.Entries.{FitsWord, IsBundleOf, put_some};
+ghost use Rattle.std.specs.Prelude.{◌≡◌, ◌↔◌, IsTrue, IfOk, MatchResult};
+ghost use Rattle.serde_json.specs.View.{view, items_view};
+ghost use Rattle.bundle_doc.specs.Bundle.{Fits, HasKeyId, IsBundle, IsDocument, Means, canonical_text, doc_id_of, document_tree};
+ghost use Rattle.bundle_doc.specs.Entries.{FitsWord, IsBundleOf};
 ghost use Rattle.bundle_doc.specs.Refusal.{IsBuildFault, RefusesBytes, RefusesTree};
 
+use crate::authorities::{copies_of, has_key_id, values_of};
 use crate::error::DocError;
-use crate::keys::{gather, write_keys};
-use crate::numbers::{read_number, write_numbers};
+use crate::keys::{elements_of, gather, write_keys};
+use crate::numbers::{put_number, read_number, write_numbers};
 use jwk_set::{Authority, KeyId};
-use serde_json::{Map, Value};
+use serde_json::Value;
 use sha2::{Digest, Sha256};
 use spiffe_name::TrustDomain;
 use std::alloc::{AllocError, Global};
 use std::collections::BTreeMap;
 use std::marker::Model;
+use std::{fmt, str};
 
 /// The most bytes of a document as it is fetched, and of its canonical text.
 pub const MAX_DOCUMENT_BYTES: usize = 1_048_576;
 
-/// The SHA-256 of a domain's name, a line feed and a document's canonical text (FIPS 180-4).
+/// The id of a document as one of a trust domain: the SHA-256 (FIPS 180-4, section 6.2) of the domain's name, a line
+/// feed and the document's canonical text. Ids are ordered by their bytes, and print as 64 lower-case hexadecimal digits.
 #[derive(Clone, Copy, Debug, PartialEq, Eq, PartialOrd, Ord, Hash)]
 pub struct DocId(pub [u8; 32]);
 
-/// A bundle document (SPIFFE Trust Domain and Bundle, section 4): a set of authorities, a rank and a refresh hint.
-/// It keeps its canonical text.
+/// A bundle document (SPIFFE Trust Domain and Bundle, section 4): a set of authorities, a rank, which is its sequence
+/// number, and a refresh hint.
+///
+/// A document is its meaning: two of them are equal exactly when they have the same authorities, rank and hint, whatever
+/// the order of the elements that they were read from, how often an element came, and which other members stood there.
+/// So each has one canonical text, which it keeps: compact JSON with the names of each object in the order of their
+/// bytes, with no member that says nothing, and the authorities in the order of their own texts' bytes, each once. A
+/// canonical text is read as the document that it stands for.
+///
+/// Reading holds, beside the text that is read, at most three more forms of it: the tree that `serde_json` builds, the
+/// different authorities under their texts, and the canonical text. The document keeps its authorities and its canonical
+/// text. The work grows as n log n in the number n of elements.
 #[derive(Debug, Drop)]
 pub struct Document {
     authorities: Vec<Authority>,
@@ -37,22 +48,26 @@ pub struct Document {
 
 impl Model for Document {
     ghost use Rattle.bundle_doc.specs.Bundle.{Bundle, IsKept};
+    ghost use Rattle.std.specs.Prelude.{string_bytes};
 
     ghost Value = { Bundle };
 
     ghost view = { λ a. record { authorities = a.authorities.items; rank = a.rank; hint = a.hint } };
 
-    ghost use Rattle.std.specs.Prelude.{string_bytes};
-
     ghost invariant = { λ a. IsKept (record { authorities = a.authorities.items; rank = a.rank; hint = a.hint }) (string_bytes a.canonical) };
 }
 
 impl Document {
-    /// The document of a text (RFC 8259, RFC 7517).
+    /// The document that a text says, in JSON (RFC 8259): of members with one name the last counts, and arrays and
+    /// objects may nest 127 levels deep.
     ///
     /// # Errors
-    /// The first of `B1` to `B6` whose cause stands in the bytes; `B8` where memory ran out. A text within the limit
-    /// never has a longer canonical text.
+    /// The first that holds of
+    /// - [`DocError::TooLong`]: the text has more than [`MAX_DOCUMENT_BYTES`] bytes,
+    /// - [`DocError::NotJson`]: it is no JSON text, or nests deeper,
+    /// - the refusals of [`Document::from_value`] for its value.
+    ///
+    /// Where memory ran out it is [`DocError::NoMemory`], whatever else holds.
     pub fn read(alloc: Global, bytes: &[u8]) -> Result<Document, DocError>
         ensures { MatchResult result (IsDocument bytes.now) (RefusesBytes bytes.now) }
     {
@@ -66,10 +81,21 @@ impl Document {
         }
     }
 
-    /// The document of a JSON value.
+    /// The document that a JSON value says: an object whose member `keys` is an array (RFC 7517, section 5.1), with a
+    /// whole number as `spiffe_sequence` and as `spiffe_refresh_hint`, or `null` or nothing in their place (SPIFFE Trust
+    /// Domain and Bundle, section 4.1). An element of `keys` that says no authority is passed over
+    /// ([`read_element`](jwk_set::read_element)), and so is every other member.
     ///
     /// # Errors
-    /// The first of `B3` to `B7` whose cause stands in the value; `B8` where memory ran out.
+    /// The first that holds of
+    /// - [`DocError::NotObject`]: the value is no object,
+    /// - [`DocError::NoKeys`]: it has no member `keys` that is an array,
+    /// - [`DocError::BadSequence`]: `spiffe_sequence` is something else than above, as -1, 1.0 or a text,
+    /// - [`DocError::BadRefreshHint`]: the same of `spiffe_refresh_hint`,
+    /// - [`DocError::CanonicalTooLong`]: the canonical text would have more than [`MAX_DOCUMENT_BYTES`] bytes. A value
+    ///   read from a text within that limit never comes to this.
+    ///
+    /// Where memory ran out it is [`DocError::NoMemory`], whatever else holds.
     pub fn from_value(alloc: Global, value: &Value) -> Result<Document, DocError>
         ensures { MatchResult result (λ d. Means (view value.now) d × Fits d) (RefusesTree (view value.now)) }
     {
@@ -88,7 +114,8 @@ impl Document {
         build(alloc, elements, rank, hint)
     }
 
-    /// The object that says just what the document says, its names in order.
+    /// The JSON value of the canonical text: an object that says just what the document says. [`Document::from_value`]
+    /// reads it as an equal document.
     ///
     /// # Errors
     /// Memory ran out.
@@ -103,6 +130,15 @@ impl Document {
         Ok(Value::Object(members))
     }
 
+    /// The canonical text, of at most [`MAX_DOCUMENT_BYTES`] bytes.
+    pub fn canonical(&self) -> &[u8]
+        ensures text { result.now ≡ canonical_text self.now }
+        ensures form { IsBundle self.now }
+        ensures fits { Fits self.now }
+    {
+        self.canonical.as_bytes()
+    }
+
     /// The id of the document as one of this domain.
     pub fn id(&self, domain: &TrustDomain) -> DocId
         ensures { result.0 ≡ doc_id_of domain.now self.now }
@@ -114,15 +150,37 @@ impl Document {
         DocId(hasher.finalize())
     }
 
-    /// Whether the key is that of an X.509 authority of the document: a JWT authority authenticates no endpoint
-    /// (SPIFFE Federation, section 5.2).
+    /// The sequence number, `spiffe_sequence` (SPIFFE Trust Domain and Bundle, section 4.1.1), where there is one.
+    pub fn rank(&self) -> Option<u64>
+        ensures { result ≡ self.now.rank }
+    {
+        self.rank
+    }
+
+    /// The refresh hint, `spiffe_refresh_hint` (SPIFFE Trust Domain and Bundle, section 4.1.2), in seconds, where there
+    /// is one.
+    pub fn hint(&self) -> Option<u64>
+        ensures { result ≡ self.now.hint }
+    {
+        self.hint
+    }
+
+    /// The authorities, each once, in the order of their texts in the canonical text.
+    pub fn authorities(&self) -> &[Authority]
+        ensures { result.now ≡ self.now.authorities }
+    {
+        self.authorities.as_slice()
+    }
+
+    /// Whether the key is that of an X.509 authority of the document. A JWT authority has no key id, since it
+    /// authenticates no endpoint (SPIFFE Federation, section 5.2).
     pub fn has_key(&self, key: &KeyId) -> bool
         ensures { IsTrue result ↔ HasKeyId self.now.authorities key.now }
     {
         has_key_id(self.authorities.as_slice(), key)
     }
 
-    /// A copy.
+    /// A document that is equal to this one.
     ///
     /// # Errors
     /// Memory ran out.
@@ -136,36 +194,6 @@ impl Document {
             canonical: String::from_str(alloc, self.canonical.as_str())?,
         })
     }
-
-    /// The canonical text.
-    pub fn canonical(&self) -> &[u8]
-        ensures text { result.now ≡ canonical_text self.now }
-        ensures form { IsBundle self.now }
-        ensures fits { Fits self.now }
-    {
-        self.canonical.as_bytes()
-    }
-
-    /// The sequence number (`spiffe_sequence`), where there is one.
-    pub fn rank(&self) -> Option<u64>
-        ensures { result ≡ self.now.rank }
-    {
-        self.rank
-    }
-
-    /// The refresh hint (`spiffe_refresh_hint`) in seconds, where there is one.
-    pub fn hint(&self) -> Option<u64>
-        ensures { result ≡ self.now.hint }
-    {
-        self.hint
-    }
-
-    /// The authorities, each once, in the order of their canonical texts.
-    pub fn authorities(&self) -> &[Authority]
-        ensures { result.now ≡ self.now.authorities }
-    {
-        self.authorities.as_slice()
-    }
 }
 
 impl PartialEq for Document {
@@ -178,7 +206,7 @@ impl PartialEq for Document {
 
     ghost laws = { on_per canonical_text (partial_equiv_from_equiv nat_list_eq_equiv) };
 
-    /// Whether both mean the same: it compares the canonical texts.
+    /// Whether both mean the same, told by their canonical texts.
     fn eq(&self, other: &Document) -> bool
         ensures text { result ≡ same_text self.now other.now }
         ensures meaning { IsTrue result ↔ (self.now ≡ other.now) }
@@ -195,12 +223,20 @@ impl Eq for Document {
     ghost laws = { on_equiv canonical_text nat_list_eq_equiv };
 }
 
-fn elements_of(value: &Value) -> Option<&Vec<Value>>
-    ensures { Finds (option_map (λ v. items_view v.now.items) result) (HasKeys (view value.now)) }
-{
-    value.get("keys")?.as_array()
+impl fmt::Display for DocId {
+    ghost use Rattle.std.specs.Prelude.{Some};
+    ghost use Rattle.hex.specs.Hex.{encode_lower};
+
+    ghost output = { λ id. Some (encode_lower id.0) };
+
+    fn fmt<W: fmt::Write>(&self, f: &mut fmt::Formatter<W>) -> fmt::Result {
+        let mut digits = [0; 64];
+        hex::encode_to_slice(self.0, &mut digits).map_err(|_| fmt::Error)?;
+        f.write_str(str::from_utf8(&digits).map_err(|_| fmt::Error)?)
+    }
 }
 
+/// The document of these elements and numbers.
 fn build(
     alloc: Global,
     elements: &[Value],
@@ -224,46 +260,4 @@ fn build(
         hint,
         canonical,
     })
-}
-
-fn has_key_id(authorities: &[Authority], key: &KeyId) -> bool
-    ensures { IsTrue result ↔ HasKeyId authorities.now key.now }
-{
-    authorities
-        .iter()
-        .any(|authority| authority.key_id() == Some(*key))
-}
-
-fn copies_of(alloc: Global, authorities: &[Authority]) -> Result<Vec<Authority>, AllocError>
-    ensures { IfOk result (λ v. v.items ≡ authorities.now) }
-{
-    let mut copies = Vec::with_capacity(alloc, authorities.len())?;
-    for authority in authorities {
-        copies.push(authority.try_clone(alloc)?)?;
-    }
-    Ok(copies)
-}
-
-fn values_of(alloc: Global, authorities: &[Authority]) -> Result<Vec<Value>, AllocError>
-    ensures { IfOk result (λ v. map view v.items ≡ map tree_of authorities.now) }
-{
-    let mut values = Vec::with_capacity(alloc, authorities.len())?;
-    for authority in authorities {
-        values.push(authority.to_value(alloc)?)?;
-    }
-    Ok(values)
-}
-
-fn put_number(
-    alloc: Global,
-    members: &mut Map<String, Value>,
-    name: &str,
-    number: Option<u64>,
-) -> Result<(), AllocError>
-    ensures { OnOk result (members_view members.new.entries ≡ put_some name.now number (members_view members.old.entries)) }
-{
-    match number {
-        Some(number) => serde_json::put(members, alloc, name, Value::from(number)),
-        None => Ok(()),
-    }
 }

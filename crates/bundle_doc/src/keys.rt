@@ -1,9 +1,11 @@
-// The authorities that the elements of `keys` say, gathered under their texts: so they are in order, and each once.
-ghost use Rattle.std.specs.Prelude.{◌≡◌, ◌++◌, IfOk, OnOk, not, string_bytes};
+// The elements of `keys`, and the authorities that they say, gathered under their texts: so these are in order, and each
+// is there once.
+ghost use Rattle.std.specs.Prelude.{◌≡◌, ◌++◌, IfOk, OnOk, not, option_map, string_bytes};
 ghost use Rattle.std.specs.List.Sorted.{IsStrictlySortedBy};
 ghost use Rattle.serde_json.specs.View.{view, items_view};
 ghost use Rattle.serde_json.specs.Written.{comma_if};
-ghost use Rattle.bundle_doc.specs.Bundle.{text_cmp};
+ghost use Rattle.jwk_set.specs.Forms.{Finds};
+ghost use Rattle.bundle_doc.specs.Bundle.{HasKeys, text_cmp};
 ghost use Rattle.bundle_doc.specs.Entries.{AddsElement, AreEntries, IsGathered, authorities_of, keys_text};
 
 use jwk_set::{Authority, read_element};
@@ -11,6 +13,14 @@ use serde_json::Value;
 use std::alloc::{AllocError, Global};
 use std::collections::BTreeMap;
 
+/// The elements of `keys`, where it is an array.
+pub(crate) fn elements_of(value: &Value) -> Option<&Vec<Value>>
+    ensures { Finds (option_map (λ v. items_view v.now.items) result) (HasKeys (view value.now)) }
+{
+    value.get("keys")?.as_array()
+}
+
+/// The authorities that the elements say, each under its text.
 pub(crate) fn gather(
     alloc: Global,
     elements: &[Value],

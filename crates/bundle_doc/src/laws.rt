@@ -12,5 +12,4 @@ pub fn documents()
     ensures none { (bytes : List ℕ) (e : DocError) (b : Bundle) → RefusesBytes bytes e → (e ≡ NoMemory → ⊥) → IsDocument bytes b → ⊥ }
     ensures one_text { (b c : Bundle) → IsBundle b → IsBundle c → canonical_text b ≡ canonical_text c → b ≡ c }
     ensures reads_back { (b : Bundle) → IsBundle b → Fits b → IsDocument (canonical_text b) b }
-{
-}
+{}

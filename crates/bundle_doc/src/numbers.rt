@@ -1,12 +1,12 @@
 // The two numbers of a document: its rank and its refresh hint.
 ghost use Rattle.std.specs.Prelude.{◌≡◌, ◌++◌, IfSome, OnOk, string_bytes};
 ghost use Rattle.jwk_set.specs.Forms.{Finds};
-ghost use Rattle.serde_json.specs.View.{view};
+ghost use Rattle.serde_json.specs.View.{view, members_view};
 ghost use Rattle.bundle_doc.specs.Bundle.{HasNumber};
-ghost use Rattle.bundle_doc.specs.Entries.{FitsWord, number_part, numbers_text};
+ghost use Rattle.bundle_doc.specs.Entries.{FitsWord, number_part, numbers_text, put_some};
 
-use serde_json::Value;
-use std::alloc::AllocError;
+use serde_json::{Map, Value};
+use std::alloc::{AllocError, Global};
 use std::fmt::Write;
 
 /// The number of a member, which may be absent: `None` where it is neither a whole number nor absent.
@@ -23,6 +23,21 @@ pub(crate) fn read_number(value: &Value, name: &str) -> Option<Option<u64>>
     match found.as_u64() {
         Some(number) => Some(Some(number)),
         None => None,
+    }
+}
+
+/// Puts the member in where there is a number.
+pub(crate) fn put_number(
+    alloc: Global,
+    members: &mut Map<String, Value>,
+    name: &str,
+    number: Option<u64>,
+) -> Result<(), AllocError>
+    ensures { OnOk result (members_view members.new.entries ≡ put_some name.now number (members_view members.old.entries)) }
+{
+    match number {
+        Some(number) => serde_json::put(members, alloc, name, Value::from(number)),
+        None => Ok(()),
     }
 }
 

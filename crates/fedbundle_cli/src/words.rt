@@ -3,19 +3,18 @@ use clap::error::ErrorKind;
 use clap::{Arg, ArgAction, Command};
 use fedbundle::CommandError;
 use std::alloc::{AllocError, Global};
-use std::env;
-use std::io;
 use std::rt::Env;
+use std::{env, io};
 
 /// What the words ask for.
-pub enum Call<'a> {
+pub(crate) enum Call<'a> {
     /// Print a bundle document of this domain in its canonical form.
     Canon { domain: &'a str },
 }
 
 /// Why the program stops.
 #[derive(Drop)]
-pub enum Stop {
+pub(crate) enum Stop {
     /// The words are none that the command has, or ask for its help or version.
     Words(clap::Error),
     /// A word is no text, or the subcommand or an option is missing.
@@ -46,7 +45,7 @@ impl From<clap::Error> for Stop {
 }
 
 /// The words that the program was started with, without its own name.
-pub fn of_process<R: Env + AllocGlobal>(rt: &R) -> Result<Vec<String>, Stop> {
+pub(crate) fn of_process<R: Env + AllocGlobal>(rt: &R) -> Result<Vec<String>, Stop> {
     match env::args(rt) {
         Ok(words) => Ok(words.skip(1).collect(rt.alloc())?),
         Err(error) if error.kind() == io::ErrorKind::OutOfMemory => {
@@ -57,7 +56,7 @@ pub fn of_process<R: Env + AllocGlobal>(rt: &R) -> Result<Vec<String>, Stop> {
 }
 
 /// What the words ask for.
-pub fn read_call<'a>(alloc: Global, words: &'a [String]) -> Result<Call<'a>, Stop> {
+pub(crate) fn read_call<'a>(alloc: Global, words: &'a [String]) -> Result<Call<'a>, Stop> {
     let matches = command(alloc)?.try_get_matches_from(words)?;
     let Some((_, canon)) = matches.subcommand() else {
         return Err(Stop::Usage);

@@ -1,4 +1,4 @@
-use Rattle.std.proofs.Common.{◌≡◌, ◌∙◌, ℕ, length, string_bytes}
+use Rattle.std.proofs.Common.{◌≡◌, ◌∙◌, length, string_bytes}
 use Rattle.serde_json.specs.View.{items_view}
 use Rattle.bundle_doc.proofs.BuildFacts.{IsBuilt, IsBundleOf-built, IsKept-built, fits-built, too_long-built}
 use Rattle.bundle_doc.proofs.document.build.Goals as goal

@@ -7,5 +7,5 @@ use Rattle.bundle_doc.proofs.keys.gather.Given as goal
 abbrev pub invariant-loop-element : goal.invariant-loop-element
 invariant-loop-element l = record {
   entries : AreEntries l.found.entries;
-  authorities : Gathers l.found.entries (items_view (drop l.element-index l.elements)) (items_view l.elements)
+  authorities : Gathers l.found.entries (items_view (drop l.element-index l.elements)) (items_view l.elements);
 }

@@ -1,4 +1,4 @@
-use Rattle.std.proofs.Common.{◌≡◌, ◌++◌, ◌∷◌, [], ◌==◌, not, refl, sym, ap, ◌∙◌, subst, vec_len, string_bytes, lit<}
+use Rattle.std.proofs.Common.{◌≡◌, ◌++◌, ◌==◌, not, refl, sym, ap, ◌∙◌, subst, vec_len, string_bytes, lit<}
 use Rattle.std.specs.List.Sorted.{IsStrictlySortedBy}
 use Rattle.serde_json.specs.Written.{comma_if}
 use Rattle.bundle_doc.specs.Bundle.{text_cmp}
@@ -16,7 +16,7 @@ loop-text-init c = record {
 pub loop-text-preserved : goal.loop-text-preserved
 loop-text-preserved c =
     let text : string_bytes c.write_key.new.out ≡ string_bytes c.loop-text.out ++ (comma_if (not (vec_len c.loop-text.authorities == 0)) ++ string_bytes c.in-Some.text) =
-        rw (← c.is_empty.ensures, ← c.as_str.ensures.value) c.in_ok-write_key.ensures in
+    rw (← c.is_empty.ensures, ← c.as_str.ensures.value) c.in_ok-write_key.ensures in
     Writes-next (c.in-Some.text, c.in-Some.authority) c.loop-text.text-iterator c.next.new.self c.loop-text.authorities.items c.push.new.self.items
     (vec_len c.loop-text.authorities) (vec_len c.push.new.self) (string_bytes c.loop-text.out) (string_bytes c.write_key.new.out) c.into_iter-text-iterator.result
     c.loop-text.invariant c.in-Some.ensures.steps c.in_ok-push.ensures.items c.in_ok-push.ensures.len text
