@@ -1,0 +1,11 @@
+pub mod Counts
+pub mod Links
+pub mod Listings
+pub mod Spread
+pub mod Following
+pub mod Withdrawing
+pub mod Falling
+pub mod Closing
+pub mod Growing
+pub mod Showing
+pub mod Least

@@ -1,0 +1,118 @@
+-- What is shown of a settled index
+use Rattle.std.proofs.Common.{◌≡◌, ◌≢◌, ℕ, ◌+◌, ◌-◌, ◌<◌, ◌≤◌, inl, inr, true, false, ◌&&◌, List, length, get_or, eqb, arith, sym, ap, ◌∙◌}
+use Rattle.std.specs.Prelude.{not, Contains, AllPairs}
+use Rattle.std.specs.List.{list_any}
+use Rattle.std.proofs.lemmas.Bool.{cases_Bool, eq-eqb, eqb-true, and_parts, and_from, both_ways, false_from_ne_true, not-true}
+use Rattle.std.proofs.lemmas.List.{get_or_default}
+use Rattle.std.proofs.lemmas.List.Folds.{Any-from_list_any, list_any_at}
+use Rattle.wait_index.specs.declared.edges.Edge.{Edge}
+use Rattle.wait_index.specs.Edge.{edge_at, from_at, to_at}
+use Rattle.wait_index.specs.Listing.{holds, IsListing}
+use Rattle.wait_index.specs.Net.{Net, is_closed, IsOpen, ListsReached, has_wait, is_among, is_open_among, visits_of}
+use Rattle.wait_index.specs.Tally.{Tally, is_marked_in, is_open_in}
+use Rattle.wait_index.specs.Step.{is_before}
+use Rattle.wait_index.specs.Fall.{IsSettled}
+use Rattle.wait_index.proofs.Counts.{count_by-count_below, count_below-same}
+use Rattle.wait_index.proofs.Listings.{placed-from_holds, holds-from_placed}
+use Rattle.wait_index.proofs.Following.{Follows-offered}
+use Rattle.wait_index.proofs.Closing.{before_all, open-from_offer, marked-from_reached}
+use Rattle.wait_index.proofs.Growing.{within-from_flag}
+
+-- listed is held
+
+module _ (items places : List ℕ) (h : IsListing items places) where
+  pub contains-from_holds : (n : ℕ) → holds places n ≡ true → Contains items n
+  contains-from_holds n e =
+      let place = placed-from_holds places n e in
+      let at : get_or places n 0 ≡ (get_or places n 0 - 1) + 1 = omega (arith, place) in
+      let within = h.placed_within n (get_or places n 0 - 1) at in
+      (get_or places n 0 - 1, within, get_or_default items (get_or places n 0 - 1) n 0 within ∙ h.placed n (get_or places n 0 - 1) at)
+
+  pub holds-from_contains : (n : ℕ) → Contains items n → holds places n ≡ true
+  holds-from_contains n c =
+      let item : get_or items c.0 0 ≡ n = get_or_default items c.0 0 n c.1 ∙ c.2 in
+      holds-from_placed places n (omega (arith, ap (λ k. get_or places k 0) (sym item), h.listed c.0 c.1))
+
+  pub listed-once : AllPairs ◌≢◌ items
+  listed-once i j d l within e =
+      let a = get_or_default items i d 0 (omega (arith, l, within)) in
+      let b = get_or_default items j d 0 within in
+      omega (arith, l, ap (λ k. get_or places k 0) (sym a ∙ e ∙ b), h.listed i (omega (arith, l, within)), h.listed j within)
+
+  pub is_among-holds : (n : ℕ) → is_among items n ≡ holds places n
+  is_among-holds n =
+      elim (cases_Bool (holds places n)) [
+        | inl e ↦
+            let c = contains-from_holds n e in
+            list_any_at (λ m. eqb m n) items c.0 n c.1 (eq-eqb (get_or items c.0 n) n c.2) ∙ sym e
+        | inr e ↦
+            false_from_ne_true (is_among items n) (λ t.
+            let a = Any-from_list_any (λ m. eqb m n) items t in
+            both_ways (holds places n) e (holds-from_contains n (a.0, a.2, get_or_default items a.0 n a.1 a.2 ∙ a.3 ∙ eqb-true a.1 n a.4))) ∙ sym e
+      ]
+
+module _ (net : Net) (t : Tally) (h : IsSettled net t) (queue : IsListing t.touched t.touched_places) (labels : (i : ℕ) → i < length net.offers → to_at net.offers i < length net.closed) where
+  pub lists-reached : ListsReached net t.marked
+  lists-reached =
+      let listing = h.follows.steady.listing in
+      record {
+        reached = λ n c. h.follows.steady.sound n (holds-from_contains t.marked t.places listing n c);
+        all = λ n r. contains-from_holds t.marked t.places listing n (marked-from_reached net t h queue labels n r);
+        once = listed-once t.marked t.places listing;
+      }
+
+  pub open-shown : (l : ℕ) → l < length net.closed → is_open_in t l ≡ true → IsOpen net l
+  open-shown l within o =
+      let b = Follows-offered net (length t.marked) t h.follows l within (h.follows.steady.open_supported l o) in
+      record { not_closed = h.follows.steady.open_not_closed l o; offered = (b.0, b.1, b.2, h.follows.steady.sound b.1 b.3) }
+
+  pub open-from_shown : (l : ℕ) → l < length net.closed → IsOpen net l → is_open_in t l ≡ true
+  open-from_shown l within o =
+      open-from_offer net t h queue o.offered.0 o.offered.1 l o.offered.2 (marked-from_reached net t h queue labels o.offered.1 o.offered.3) within o.not_closed
+
+  among : (n : ℕ) → is_among t.marked n ≡ is_marked_in t n
+  among = is_among-holds t.marked t.places h.follows.steady.listing
+
+  open_among : (l : ℕ) → is_open_among net t.marked l ≡ is_open_in t l
+  open_among l =
+      elim (cases_Bool (is_open_in t l)) [
+        | inl o ↦
+            let within : l < length net.closed = omega (arith, within-from_flag t.opened l o, h.follows.steady.sizes.opened) in
+            let b = Follows-offered net (length t.marked) t h.follows l within (h.follows.steady.open_supported l o) in
+            let here : (eqb (to_at net.offers b.0) l && is_among t.marked (from_at net.offers b.0)) ≡ true =
+            and_from (eqb (to_at net.offers b.0) l) (is_among t.marked (from_at net.offers b.0)) (eq-eqb (to_at net.offers b.0) l b.2.to) (among (from_at net.offers b.0) ∙ ap (is_marked_in t) b.2.from ∙ b.3)
+            in
+            and_from (not (is_closed net l)) (list_any (λ (e : Edge). eqb e.to l && is_among t.marked e.from) net.offers)
+            (ap not (h.follows.steady.open_not_closed l o))
+            (list_any_at (λ (e : Edge). eqb e.to l && is_among t.marked e.from) net.offers b.0 (record { from = 0; to = 0 }) b.2.within here)
+            ∙ sym o
+        | inr o ↦
+            false_from_ne_true (is_open_among net t.marked l) (λ e.
+            let parts = and_parts (not (is_closed net l)) (list_any (λ (e : Edge). eqb e.to l && is_among t.marked e.from) net.offers) e in
+            let a = Any-from_list_any (λ (e : Edge). eqb e.to l && is_among t.marked e.from) net.offers parts.1 in
+            let tests = and_parts (eqb a.1.to l) (is_among t.marked a.1.from) a.4 in
+            let item : edge_at net.offers a.0 ≡ a.1 = get_or_default net.offers a.0 (record { from = 0; to = 0 }) a.1 a.2 ∙ a.3 in
+            let to : to_at net.offers a.0 ≡ l = ap (λ (x : Edge). x.to) item ∙ eqb-true a.1.to l tests.0 in
+            let from : from_at net.offers a.0 ≡ a.1.from = ap (λ (x : Edge). x.from) item in
+            both_ways (is_open_in t l) o
+            (open-from_offer net t h queue a.0 a.1.from l (record { within = a.2; from = from; to = to }) (sym (among a.1.from) ∙ tests.1) (omega (arith, labels a.0 a.2, to)) (not-true (is_closed net l) parts.0))) ∙ sym o
+      ]
+
+  pub visits-shown : t.visits ≡ visits_of net t.marked
+  visits-shown =
+      omega (
+        arith,
+        h.follows.counted.visits,
+        count_by-count_below (λ (e : Edge). is_among t.marked e.from) net.offers (record { from = 0; to = 0 }),
+        count_by-count_below (λ (e : Edge). is_open_among net t.marked e.from) net.waits (record { from = 0; to = 0 }),
+        count_below-same (λ i. is_among t.marked (from_at net.offers i)) (λ i. is_before t (length t.marked) (from_at net.offers i)) (length net.offers) (λ i a. among (from_at net.offers i) ∙ sym (before_all t h.follows.steady.listing (from_at net.offers i))),
+        count_below-same (λ i. is_open_among net t.marked (from_at net.waits i)) (λ i. is_open_in t (from_at net.waits i)) (length net.waits) (λ i a. open_among (from_at net.waits i)),
+      )
+
+-- no wait edge leads to a node that is not there
+pub has_wait-past : (net : Net) (node : ℕ) → ((i : ℕ) → i < length net.waits → to_at net.waits i < length net.roots) → length net.roots ≤ node → has_wait net node ≡ false
+has_wait-past net node nodes l =
+    false_from_ne_true (has_wait net node) (λ e.
+    let a = Any-from_list_any (λ (w : Edge). eqb w.to node) net.waits e in
+    let item : edge_at net.waits a.0 ≡ a.1 = get_or_default net.waits a.0 (record { from = 0; to = 0 }) a.1 a.2 ∙ a.3 in
+    omega (arith, l, nodes a.0 a.2, ap (λ (x : Edge). x.to) item, eqb-true a.1.to node a.4))

@@ -1,0 +1,21 @@
+use Rattle.std.proofs.Common.{◌≡◌, ◌+◌, [], ◌∷◌, ◌++◌, length, arith}
+use Rattle.std.proofs.lemmas.List.{length-set}
+use Rattle.wait_index.proofs.Listings.{fewer, IsListing-insert}
+use Rattle.wait_index.proofs.label_set.LabelSet.insert.Goals as goal
+
+pub push_reserved-requires : goal.push_reserved-requires
+push_reserved-requires c =
+    let s = c.args.self.now in
+    omega (arith, s.items.ok.0, fewer s.items.items s.places.items c.args.label s.listed c.requires.label c.requires.absent, s.roomy)
+
+pub invariant_of-self-clause-listed : goal.invariant_of-self-clause-listed
+invariant_of-self-clause-listed c =
+    let s = c.args.self.now in
+    let items : c.push_reserved.new.self.items ≡ s.items.items ++ c.args.label ∷ [] = cc in
+    let len : c.len.result ≡ length s.items.items + 1 = omega (arith, c.len.ensures, c.push_reserved.ensures.len, s.items.ok.0) in
+    rw (items, len) (IsListing-insert s.items.items s.places.items c.args.label s.listed c.requires.label c.requires.absent)
+
+pub invariant_of-self-clause-roomy : goal.invariant_of-self-clause-roomy
+invariant_of-self-clause-roomy c =
+    let s = c.args.self.now in
+    omega (arith, length-set s.places.items c.args.label c.len.result, c.push_reserved.ensures.capacity, s.roomy)

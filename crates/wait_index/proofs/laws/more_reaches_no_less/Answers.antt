@@ -1,0 +1,5 @@
+use Rattle.wait_index.proofs.Growing.{reached-more}
+use Rattle.wait_index.proofs.laws.more_reaches_no_less.Goals as goal
+
+pub returns : goal.returns
+returns c = reached-more

@@ -1,0 +1,12 @@
+pub mod Edge
+pub mod Net
+pub mod Index
+pub mod Room
+pub mod Shape
+pub mod Capacity
+pub mod Count
+pub mod Listing
+pub mod Tally
+pub mod Step
+pub mod Fall
+pub mod Keep

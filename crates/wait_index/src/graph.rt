@@ -1,0 +1,127 @@
+//! The nodes, labels and edges of an index.
+ghost use Rattle.std.specs.Prelude.{◌≡◌, ℕ, ◌+◌, ◌<◌, ◌≤◌, true, false, [], ◌∷◌, ◌++◌, length, OnOk, IsOk, vec_capacity};
+ghost use Rattle.wait_index.specs.Shape.{IsShaped};
+
+use crate::edges::{Edge, Edges};
+use std::alloc::{AllocError, Global};
+
+/// Which nodes are roots, which labels are closed, and the edges.
+#[derive(Drop)]
+pub(crate) struct Graph {
+    pub(crate) roots: Vec<bool>,
+    pub(crate) closed: Vec<bool>,
+    pub(crate) offers: Edges,
+    pub(crate) waits: Edges,
+    ghost shaped: { IsShaped roots.items closed.items offers.edges.items offers.newest.items waits.edges.items waits.newest.items },
+}
+
+impl Graph {
+    ghost use Rattle.wait_index.specs.Capacity.{graph_capacity};
+    ghost use Rattle.wait_index.specs.Net.{with_node, with_label, with_offer, with_wait, with_root, with_closed, has_wait};
+    ghost use Rattle.wait_index.specs.Tally.{net_of};
+
+    pub(crate) fn new(alloc: Global) -> Self
+        ensures { net_of result ≡ record { roots = []; closed = []; offers = []; waits = [] } }
+    {
+        Graph {
+            roots: Vec::new(alloc),
+            closed: Vec::new(alloc),
+            offers: Edges::new(alloc),
+            waits: Edges::new(alloc),
+        }
+    }
+
+    /// Makes room for so many nodes, labels and edges of each kind more.
+    pub(crate) fn try_reserve(
+        &mut self,
+        nodes: usize,
+        labels: usize,
+        edges: usize,
+    ) -> Result<(), AllocError>
+        ensures net { net_of self.new ≡ net_of self.old }
+        ensures nodes { OnOk result (length self.new.roots.items + nodes ≤ (graph_capacity self.new).nodes) }
+        ensures labels { OnOk result (length self.new.closed.items + labels ≤ (graph_capacity self.new).labels) }
+        ensures offers { OnOk result (length self.new.offers.edges.items + edges ≤ (graph_capacity self.new).offers) }
+        ensures waits { OnOk result (length self.new.waits.edges.items + edges ≤ (graph_capacity self.new).waits) }
+        ensures nodes_kept { (graph_capacity self.old).nodes ≤ (graph_capacity self.new).nodes }
+        ensures labels_kept { (graph_capacity self.old).labels ≤ (graph_capacity self.new).labels }
+        ensures offers_kept { (graph_capacity self.old).offers ≤ (graph_capacity self.new).offers }
+        ensures waits_kept { (graph_capacity self.old).waits ≤ (graph_capacity self.new).waits }
+    {
+        self.roots.try_reserve(nodes)?;
+        self.closed.try_reserve(labels)?;
+        self.offers.try_reserve(nodes, edges)?;
+        self.waits.try_reserve(labels, edges)?;
+        Ok(())
+    }
+
+    /// Adds a node that is no root and has no edge.
+    pub(crate) fn add_node(&mut self)
+        requires { length self.old.roots.items < (graph_capacity self.old).nodes }
+        ensures net { net_of self.new ≡ with_node (net_of self.old) }
+        ensures capacity { graph_capacity self.new ≡ graph_capacity self.old }
+    {
+        self.roots.push_reserved(false);
+        self.offers.add_owner();
+    }
+
+    /// Adds a label that has no edge.
+    pub(crate) fn add_label(&mut self, closed: bool)
+        requires { length self.old.closed.items < (graph_capacity self.old).labels }
+        ensures net { net_of self.new ≡ with_label (net_of self.old) closed }
+        ensures capacity { graph_capacity self.new ≡ graph_capacity self.old }
+    {
+        self.closed.push_reserved(closed);
+        self.waits.add_owner();
+    }
+
+    pub(crate) fn label_count(&self) -> usize
+        ensures { result ≡ length self.now.closed.items }
+    {
+        self.closed.len()
+    }
+
+    pub(crate) fn add_offer(&mut self, node: usize, label: usize)
+        requires node { node < length self.old.roots.items }
+        requires label { label < length self.old.closed.items }
+        requires room { length self.old.offers.edges.items < (graph_capacity self.old).offers }
+        ensures net { net_of self.new ≡ with_offer (net_of self.old) node label }
+        ensures capacity { graph_capacity self.new ≡ graph_capacity self.old }
+    {
+        self.offers.add(Edge {
+            from: node,
+            to: label,
+        });
+    }
+
+    pub(crate) fn add_wait(&mut self, label: usize, node: usize)
+        requires label { label < length self.old.closed.items }
+        requires node { node < length self.old.roots.items }
+        requires once { has_wait (net_of self.old) node ≡ false }
+        requires room { length self.old.waits.edges.items < (graph_capacity self.old).waits }
+        ensures net { net_of self.new ≡ with_wait (net_of self.old) label node }
+        ensures capacity { graph_capacity self.new ≡ graph_capacity self.old }
+    {
+        self.waits.add(Edge {
+            from: label,
+            to: node,
+        });
+    }
+
+    /// Makes the node a root.
+    pub(crate) fn add_root(&mut self, node: usize)
+        requires { node < length self.old.roots.items }
+        ensures net { net_of self.new ≡ with_root (net_of self.old) node }
+        ensures capacity { graph_capacity self.new ≡ graph_capacity self.old }
+    {
+        self.roots[node] = true;
+    }
+
+    pub(crate) fn close(&mut self, label: usize)
+        requires { label < length self.old.closed.items }
+        ensures net { net_of self.new ≡ with_closed (net_of self.old) label }
+        ensures capacity { graph_capacity self.new ≡ graph_capacity self.old }
+    {
+        self.closed[label] = true;
+    }
+}

@@ -1,0 +1,91 @@
+//! A set of nodes in the order in which they were put in.
+ghost use Rattle.std.specs.Prelude.{◌≡◌, ℕ, ◌+◌, ◌<◌, ◌≤◌, ◌==◌, ◌&&◌, not, true, false, [], ◌∷◌, ◌++◌, length, slice_set, OnOk, vec_capacity};
+ghost use Rattle.wait_index.specs.Listing.{IsListing, holds};
+
+use crate::number::NodeNo;
+use std::alloc::{AllocError, Global};
+
+/// The place of a node is its index in the list plus 1, or 0 where it is not in the set. There is room in the
+/// list for each node.
+#[derive(Drop)]
+pub(crate) struct NodeSet {
+    pub(crate) items: Vec<NodeNo>,
+    pub(crate) places: Vec<usize>,
+    ghost listed: { IsListing items.items places.items },
+    ghost roomy: { length places.items ≤ vec_capacity items },
+}
+
+impl NodeSet {
+    pub(crate) fn new(alloc: Global) -> Self
+        ensures items { result.items.items ≡ [] }
+        ensures places { result.places.items ≡ [] }
+    {
+        NodeSet {
+            items: Vec::new(alloc),
+            places: Vec::new(alloc),
+        }
+    }
+
+    /// Makes room for so many nodes more.
+    pub(crate) fn try_reserve(&mut self, nodes: usize) -> Result<(), AllocError>
+        ensures items { self.new.items.items ≡ self.old.items.items }
+        ensures places { self.new.places.items ≡ self.old.places.items }
+        ensures items_room { OnOk result (length self.new.places.items + nodes ≤ vec_capacity self.new.items) }
+        ensures places_room { OnOk result (length self.new.places.items + nodes ≤ vec_capacity self.new.places) }
+        ensures items_kept { vec_capacity self.old.items ≤ vec_capacity self.new.items }
+        ensures places_kept { vec_capacity self.old.places ≤ vec_capacity self.new.places }
+    {
+        self.places.try_reserve(nodes)?;
+        let unlisted = self.places.len() - self.items.len();
+        self.items.try_reserve(unlisted + nodes)?;
+        Ok(())
+    }
+
+    /// Adds a node that is not in the set.
+    pub(crate) fn add_node(&mut self)
+        requires items_room { length self.old.places.items < vec_capacity self.old.items }
+        requires places_room { length self.old.places.items < vec_capacity self.old.places }
+        ensures items { self.new.items.items ≡ self.old.items.items }
+        ensures places { self.new.places.items ≡ self.old.places.items ++ 0 ∷ [] }
+        ensures items_room { vec_capacity self.new.items ≡ vec_capacity self.old.items }
+        ensures places_room { vec_capacity self.new.places ≡ vec_capacity self.old.places }
+    {
+        self.places.push_reserved(0);
+    }
+
+    pub(crate) fn holds(&self, node: usize) -> bool
+        requires { node < length self.now.places.items }
+        ensures { result ≡ holds self.now.places.items node }
+    {
+        self.places[node] > 0
+    }
+
+    /// Puts a node that is not in the set at the end of the list.
+    pub(crate) fn insert(&mut self, node: usize)
+        requires node { node < length self.old.places.items }
+        requires absent { holds self.old.places.items node ≡ false }
+        ensures items { self.new.items.items ≡ self.old.items.items ++ node ∷ [] }
+        ensures places { self.new.places.items ≡ slice_set self.old.places.items node (length self.old.items.items + 1) }
+        ensures items_room { vec_capacity self.new.items ≡ vec_capacity self.old.items }
+        ensures places_room { vec_capacity self.new.places ≡ vec_capacity self.old.places }
+    {
+        self.items.push_reserved(NodeNo::new(node));
+        self.places[node] = self.items.len();
+    }
+
+    /// Takes a node out of the set. The last one of the list takes its place.
+    pub(crate) fn remove(&mut self, node: usize)
+        requires node { node < length self.old.places.items }
+        requires present { holds self.old.places.items node ≡ true }
+        ensures held { (n : ℕ) → holds self.new.places.items n ≡ (holds self.old.places.items n && not (n == node)) }
+        ensures size { length self.new.places.items ≡ length self.old.places.items }
+        ensures items_room { vec_capacity self.new.items ≡ vec_capacity self.old.items }
+        ensures places_room { vec_capacity self.new.places ≡ vec_capacity self.old.places }
+    {
+        let index = self.places[node] - 1;
+        let last = self.items[self.items.len() - 1];
+        self.places[last.index()] = index + 1;
+        self.places[node] = 0;
+        let _ = self.items.swap_remove(index);
+    }
+}

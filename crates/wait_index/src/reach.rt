@@ -1,0 +1,263 @@
+//! The index as its callers see it.
+ghost use Rattle.std.specs.Prelude.{◌≡◌, ℕ, ◌+◌, ◌-◌, ◌*◌, ◌<◌, ◌≤◌, ◌↔◌, true, false, [], Bool, length, take, max, IsTrue, IsOk, OnOk, OnErr, Contains};
+
+use crate::graph::Graph;
+use crate::marks::Marks;
+use crate::number::{LabelNo, NodeNo};
+use crate::room::Room;
+use std::alloc::{AllocError, Global};
+use std::marker::Model;
+
+/// Memory ran out.
+pub type NoMemory = AllocError;
+
+/// The number of edges that an index holds at most.
+const MOST_EDGES: usize = 0x7fff_ffff_ffff_ffff;
+
+/// An index of nodes and labels that says which nodes are reached.
+///
+/// A node offers labels and awaits at most one. Reached are the roots and, where a reached node offers a label
+/// that is not closed, each node that awaits the label. The reached nodes are marked at all times.
+#[derive(Drop)]
+pub struct Reach {
+    graph: Graph,
+    marks: Marks,
+    room: Room,
+}
+
+impl Model for Reach {
+    ghost use Rattle.wait_index.specs.Index.{Index};
+
+    ghost Value = { Index };
+
+    ghost use Rattle.wait_index.specs.Keep.{index_of, IsKept};
+
+    ghost view = { λ r. index_of r.graph r.marks r.room };
+
+    ghost invariant = { λ r. IsKept r.graph r.marks r.room };
+}
+
+impl Reach {
+    ghost use Rattle.wait_index.specs.Net.{with_node, with_label, with_offer, with_wait, with_root, with_closed, has_wait, is_closed, IsReached, IsOpen, ListsReached, visits_of, HasReachOf, edges_at};
+
+    /// An index without nodes, labels and room.
+    pub fn new(alloc: Global) -> Self
+        ensures net { result.net ≡ record { roots = []; closed = []; offers = []; waits = [] } }
+        ensures marked { result.marked ≡ [] }
+        ensures room { result.room ≡ record { nodes = 0; labels = 0; edges = 0 } }
+    {
+        Reach {
+            graph: Graph::new(alloc),
+            marks: Marks::new(alloc),
+            room: Room {
+                nodes: 0,
+                labels: 0,
+                edges: 0,
+            },
+        }
+    }
+
+    /// Makes room for so many nodes, labels and edges more. A refusal leaves all as it was.
+    pub fn try_reserve(&mut self, nodes: usize, labels: usize, edges: usize) -> Result<(), NoMemory>
+        ensures net { self.new.net ≡ self.old.net }
+        ensures marked { self.new.marked ≡ self.old.marked }
+        ensures ok { OnOk result (self.new.room ≡ record {
+          nodes = max self.old.room.nodes nodes;
+          labels = max self.old.room.labels labels;
+          edges = max self.old.room.edges edges;
+        }) }
+        ensures err { OnErr result (self.new.room ≡ self.old.room) }
+
+        // It is refused only where there was not so much room already.
+        ensures within { nodes ≤ self.old.room.nodes → labels ≤ self.old.room.labels → edges ≤ self.old.room.edges → IsOk result }
+    {
+        if self.room.covers(nodes, labels, edges) {
+            return Ok(());
+        }
+        let most = MOST_EDGES - self.graph.offers.edges.len() - self.graph.waits.edges.len();
+        if edges > most {
+            return Err(AllocError);
+        }
+        self.graph.try_reserve(nodes, labels, edges)?;
+        self.marks.try_reserve(nodes, labels)?;
+        self.room = self.room.at_least(nodes, labels, edges);
+        Ok(())
+    }
+
+    /// How many nodes, labels and edges more there is room for.
+    pub fn room(&self) -> (usize, usize, usize)
+        ensures nodes { result.0 ≡ self.now.room.nodes }
+        ensures labels { result.1 ≡ self.now.room.labels }
+        ensures edges { result.2 ≡ self.now.room.edges }
+    {
+        (self.room.nodes, self.room.labels, self.room.edges)
+    }
+
+    /// Adds a node that is no root and has no edge. There is room for it (`room`).
+    pub fn add_node(&mut self) -> NodeNo
+        requires { 0 < self.old.room.nodes }
+        ensures number { result ≡ length self.old.net.roots }
+        ensures net { self.new.net ≡ with_node self.old.net }
+        ensures awaits { has_wait self.new.net result ≡ false }
+        ensures marked { self.new.marked ≡ self.old.marked }
+        ensures room { self.new.room ≡ record self.old.room { nodes = self.old.room.nodes - 1 } }
+    {
+        let node = NodeNo::new(self.graph.roots.len());
+        self.graph.add_node();
+        self.marks.add_node();
+        self.room.nodes -= 1;
+        node
+    }
+
+    /// Adds a label that has no edge. There is room for it (`room`).
+    pub fn add_label(&mut self) -> LabelNo
+        requires { 0 < self.old.room.labels }
+        ensures number { result ≡ length self.old.net.closed }
+        ensures net { self.new.net ≡ with_label self.old.net false }
+        ensures marked { self.new.marked ≡ self.old.marked }
+        ensures room { self.new.room ≡ record self.old.room { labels = self.old.room.labels - 1 } }
+    {
+        let label = LabelNo::new(self.graph.closed.len());
+        self.graph.add_label(false);
+        self.marks.add_label();
+        self.room.labels -= 1;
+        label
+    }
+
+    /// Adds a label that is closed from the start: it is never open. There is room for it (`room`).
+    pub fn add_closed_label(&mut self) -> LabelNo
+        requires { 0 < self.old.room.labels }
+        ensures number { result ≡ length self.old.net.closed }
+        ensures net { self.new.net ≡ with_label self.old.net true }
+        ensures marked { self.new.marked ≡ self.old.marked }
+        ensures room { self.new.room ≡ record self.old.room { labels = self.old.room.labels - 1 } }
+    {
+        let label = LabelNo::new(self.graph.closed.len());
+        self.graph.add_label(true);
+        self.marks.add_label();
+        self.room.labels -= 1;
+        label
+    }
+
+    /// The node offers the label from now on. There is room for an edge (`room`), and both are of this index.
+    pub fn add_offer(&mut self, node: NodeNo, label: LabelNo)
+        requires room { 0 < self.old.room.edges }
+        requires node { node < length self.old.net.roots }
+        requires label { label < length self.old.net.closed }
+        ensures net { self.new.net ≡ with_offer self.old.net node label }
+        ensures marked { ListsReached self.new.net self.new.marked }
+        ensures front { take (length self.old.marked) self.new.marked ≡ self.old.marked }
+        ensures room { self.new.room ≡ record self.old.room { edges = self.old.room.edges - 1 } }
+    {
+        self.room.edges -= 1;
+        self.marks
+            .add_offer(&mut self.graph, node.index(), label.index());
+    }
+
+    /// The node awaits the label from now on. It awaited none before (`awaits`), there is room for an edge
+    /// (`room`), and both are of this index.
+    pub fn add_wait(&mut self, label: LabelNo, node: NodeNo)
+        requires room { 0 < self.old.room.edges }
+        requires label { label < length self.old.net.closed }
+        requires node { node < length self.old.net.roots }
+        requires once { has_wait self.old.net node ≡ false }
+        ensures net { self.new.net ≡ with_wait self.old.net label node }
+        ensures marked { ListsReached self.new.net self.new.marked }
+        ensures front { take (length self.old.marked) self.new.marked ≡ self.old.marked }
+        ensures room { self.new.room ≡ record self.old.room { edges = self.old.room.edges - 1 } }
+    {
+        self.room.edges -= 1;
+        self.marks
+            .add_wait(&mut self.graph, label.index(), node.index());
+    }
+
+    /// Makes the node, which is of this index, a root: it is marked from now on.
+    pub fn mark(&mut self, node: NodeNo)
+        requires { node < length self.old.net.roots }
+        ensures net { self.new.net ≡ with_root self.old.net node }
+        ensures marked { ListsReached self.new.net self.new.marked }
+        ensures front { take (length self.old.marked) self.new.marked ≡ self.old.marked }
+        ensures room { self.new.room ≡ self.old.room }
+    {
+        self.marks.add_root(&mut self.graph, node.index());
+    }
+
+    /// Closes the label for good, and answers its turns, each of which looked at one edge: 0 where it was closed
+    /// already. The order of the marked nodes may change.
+    pub fn close_label(&mut self, label: LabelNo) -> usize
+        requires { label < length self.old.net.closed }
+        ensures net { self.new.net ≡ with_closed self.old.net label }
+        ensures marked { ListsReached self.new.net self.new.marked }
+        ensures room { self.new.room ≡ self.old.room }
+
+        // Some turns took an edge back, the others followed one again.
+        ensures turns { (taken again : ℕ) × (result ≡ taken + again)
+            × (visits_of self.old.net self.old.marked + again ≡ visits_of self.new.net self.new.marked + taken) }
+
+        // Each looked at an edge at a label that the label leads to.
+        ensures near { (labels : ℕ → Bool) → HasReachOf self.old.net label labels
+            → result ≤ 2 * edges_at self.old.net labels }
+        ensures closed { is_closed self.old.net label ≡ true → result ≡ 0 }
+    {
+        self.marks.close(&mut self.graph, label.index())
+    }
+
+    /// Whether the node is reached.
+    pub fn is_marked(&self, node: NodeNo) -> bool
+        requires { node < length self.now.net.roots }
+        ensures reached { IsTrue result ↔ IsReached self.now.net node }
+        ensures listed { IsTrue result ↔ Contains self.now.marked node }
+    {
+        self.marks.marked.holds(node.index())
+    }
+
+    /// Whether the label is not closed and a marked node offers it.
+    pub fn is_open(&self, label: LabelNo) -> bool
+        requires { label < length self.now.net.closed }
+        ensures { IsTrue result ↔ IsOpen self.now.net label }
+    {
+        self.marks.opened[label.index()]
+    }
+
+    /// Whether a wait edge leads to the node. It looks at each wait edge.
+    pub fn awaits(&self, node: NodeNo) -> bool
+        ensures { result ≡ has_wait self.now.net node }
+    {
+        self.graph.waits.has_edge_to(node.index())
+    }
+
+    /// The turns so far: one more for each edge that was followed, one less for each that a close took back.
+    pub fn visits(&self) -> usize
+        ensures { result ≡ visits_of self.now.net self.now.marked }
+    {
+        self.marks.visits
+    }
+
+    /// How many nodes, offer edges and wait edges there are.
+    pub fn counts(&self) -> (usize, usize, usize)
+        ensures nodes { result.0 ≡ length self.now.net.roots }
+        ensures offers { result.1 ≡ length self.now.net.offers }
+        ensures waits { result.2 ≡ length self.now.net.waits }
+    {
+        (
+            self.graph.roots.len(),
+            self.graph.offers.edges.len(),
+            self.graph.waits.edges.len(),
+        )
+    }
+
+    /// How many labels there are.
+    pub fn label_count(&self) -> usize
+        ensures { result ≡ length self.now.net.closed }
+    {
+        self.graph.label_count()
+    }
+
+    /// The marked nodes, each once, in the order in which they were marked, which a close may change.
+    pub fn marked(&self) -> &[NodeNo]
+        ensures nodes { result.now ≡ self.now.marked }
+        ensures reached { ListsReached self.now.net result.now }
+    {
+        &self.marks.marked.items
+    }
+}
