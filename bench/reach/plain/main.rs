@@ -31,10 +31,16 @@ impl Reach {
         }
         self.nodes[node as usize].marked = true;
         self.stack.push(node);
-        while let Some(node) = self.stack.pop() {
-            for i in 0..self.nodes[node as usize].offers.len() {
-                let label = self.nodes[node as usize].offers[i];
-                self.follow(label);
+        self.drain();
+    }
+
+    fn release(&mut self, label: u32) {
+        for i in 0..self.labels[label as usize].waiting.len() {
+            let next = self.labels[label as usize].waiting[i];
+            self.visits += 1;
+            if !self.nodes[next as usize].marked {
+                self.nodes[next as usize].marked = true;
+                self.stack.push(next);
             }
         }
     }
@@ -46,14 +52,7 @@ impl Reach {
         if l.marked_offers > 1 || l.closed {
             return;
         }
-        for i in 0..self.labels[label as usize].waiting.len() {
-            let next = self.labels[label as usize].waiting[i];
-            self.visits += 1;
-            if !self.nodes[next as usize].marked {
-                self.nodes[next as usize].marked = true;
-                self.stack.push(next);
-            }
-        }
+        self.release(label);
     }
 
     fn add_node(&mut self) -> u32 {
@@ -137,14 +136,7 @@ impl Reach {
             if l.closed || l.marked_offers == 0 {
                 continue;
             }
-            for i in 0..self.labels[label as usize].waiting.len() {
-                let next = self.labels[label as usize].waiting[i];
-                self.visits += 1;
-                if !self.nodes[next as usize].marked {
-                    self.nodes[next as usize].marked = true;
-                    self.stack.push(next);
-                }
-            }
+            self.release(label);
         }
         self.drain();
         turns + self.visits - before

@@ -93,7 +93,7 @@ impl Document {
     /// - [`DocError::BadSequence`]: `spiffe_sequence` is something else than above, as -1, 1.0 or a text,
     /// - [`DocError::BadRefreshHint`]: the same of `spiffe_refresh_hint`,
     /// - [`DocError::CanonicalTooLong`]: the canonical text would have more than [`MAX_DOCUMENT_BYTES`] bytes. A value
-    ///   read from a text within that limit never comes to this.
+    ///   read from a text within that limit is not expected to come to this, which no clause says.
     ///
     /// Where memory ran out it is [`DocError::NoMemory`], whatever else holds.
     pub fn from_value(alloc: Global, value: &Value) -> Result<Document, DocError>
