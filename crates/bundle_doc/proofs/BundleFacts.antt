@@ -148,7 +148,7 @@ plain_members xs None (Some m) h r k = (ascii (codes "keys") refl, h, (refl, tt)
 plain_members xs (Some n) (Some m) h r k =
     (ascii (codes "keys") refl, h, (refl, (refl, tt)), (ascii (codes "spiffe_refresh_hint") refl, k, (refl, tt), (ascii (codes "spiffe_sequence") refl, r, tt, tt)))
 
-IsPlain-document_tree : (b : Bundle) → IsBundle b → IsPlain (document_tree b)
+pub IsPlain-document_tree : (b : Bundle) → IsBundle b → IsPlain (document_tree b)
 IsPlain-document_tree b h = plain_members b.authorities b.rank b.hint (ArePlain-trees b.authorities h.forms) h.rank h.hint
 
 shallow : (xs : List Authority) (rank hint : Option ℕ) → depth (object (member (codes "keys") (array (trees xs)) (with_number (codes "spiffe_refresh_hint") hint (with_number (codes "spiffe_sequence") rank no_members)))) ≤ 4
@@ -157,8 +157,11 @@ shallow xs (Some n) None = omega (arith, shallow_trees xs)
 shallow xs None (Some m) = omega (arith, shallow_trees xs)
 shallow xs (Some n) (Some m) = omega (arith, shallow_trees xs)
 
+pub depth-document_tree : (b : Bundle) → depth (document_tree b) ≤ 4
+depth-document_tree b = shallow b.authorities b.rank b.hint
+
 pub IsJson-canonical_text : (b : Bundle) → IsBundle b → IsJson (canonical_text b) (document_tree b)
-IsJson-canonical_text b h = IsJson-compact_text (document_tree b) (IsPlain-document_tree b h) (omega (arith, shallow b.authorities b.rank b.hint))
+IsJson-canonical_text b h = IsJson-compact_text (document_tree b) (IsPlain-document_tree b h) (omega (arith, depth-document_tree b))
 
 -- bundles of one canonical text are one
 pub one_text : (b c : Bundle) → IsBundle b → IsBundle c → canonical_text b ≡ canonical_text c → b ≡ c

@@ -15,7 +15,6 @@ use Rattle.jwk_set.specs.Json.{IsJson}
 use Rattle.jwk_set.specs.Element.{IsElement, IsAuthority, tree_of, key_id_of}
 use Rattle.jwk_set.specs.declared.authority.KeyId.{KeyId}
 use Rattle.jwk_set.specs.declared.authority.Authority.{Authority}
-use Rattle.bundle_doc.specs.declared.document.TheConstants.{MAX_DOCUMENT_BYTES}
 
 -- A document's meaning: a set of authorities, a rank (its sequence number) and a refresh hint in seconds. The set is
 -- kept as the list of its members that rises by their texts.
@@ -90,16 +89,20 @@ canonical_text b = compact_text (document_tree b)
 abbrev pub doc_id_of : List ℕ → Bundle → List ℕ
 doc_id_of domain b = sha256 (domain ++ 10 ∷ [] ++ canonical_text b)
 
+-- the most bytes of a document, and of its canonical text: 1 MiB
+abbrev pub document_limit : ℕ
+document_limit = 1048576
+
 -- the canonical text is within the limit
 abbrev pub Fits : Bundle → Type 0
-Fits b = length (canonical_text b) ≤ MAX_DOCUMENT_BYTES
+Fits b = length (canonical_text b) ≤ document_limit
 
 -- the bytes are a document of this meaning
 pub record IsDocument (bytes : List ℕ) (b : Bundle) : Type 0 where
   pub tree : Data
   pub json : IsJson bytes tree
   pub means : Means tree b
-  pub short : length bytes ≤ MAX_DOCUMENT_BYTES
+  pub short : length bytes ≤ document_limit
   pub fits : Fits b
 
 -- a document in memory: a bundle beside its canonical text

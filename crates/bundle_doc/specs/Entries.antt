@@ -1,12 +1,13 @@
 -- The authorities of a document under their texts, while it is read.
-use Rattle.std.specs.Prelude.{◌≡◌, ℕ, ◌++◌, ◌↔◌, ◌⊎◌, List, [], false, map, Option, Some, None, IfSome, ◌<◌, ◌^◌, String, string_bytes, codes, decimal}
+use Rattle.std.specs.Prelude.{◌≡◌, ℕ, ◌++◌, ◌↔◌, ◌⊎◌, List, [], false, map, Option, Some, None, IfSome, ◌<◌, ◌≤◌, ◌^◌, String, length, string_bytes, codes, decimal}
 use Rattle.std.specs.declared.alloc.Global.{Global}
 use Rattle.std.specs.List.{AllByRecursion}
 use Rattle.serde_json.specs.Data.{Data, Items, Members, number, unsigned, put}
 use Rattle.serde_json.specs.Written.{items_text}
+use Rattle.jwk_set.specs.Json.{IsJson}
 use Rattle.jwk_set.specs.Element.{IsElement, IsAuthority}
 use Rattle.jwk_set.specs.declared.authority.Authority.{Authority}
-use Rattle.bundle_doc.specs.Bundle.{Bundle, Has, Says, IsBundle, authority_text, trees}
+use Rattle.bundle_doc.specs.Bundle.{Bundle, Has, HasKeys, HasNumber, Says, IsBundle, authority_text, document_limit, trees}
 
 abbrev pub Entry : Type 0
 Entry = String Global × Authority
@@ -35,9 +36,26 @@ pub record IsGathered (elements : Items) (es : List Entry) : Type 0 where
 abbrev pub FitsWord : Option ℕ → Type 0
 FitsWord o = IfSome o (λ n. n < 2 ^ 64)
 
--- the bundle has what the elements say, and these numbers
-pub record IsBundleOf (elements : Items) (rank hint : Option ℕ) (b : Bundle) : Type 0 where
-  pub authorities : (a : Authority) → Has b.authorities a ↔ Says elements a
+-- what the value says of a document
+pub record IsContents (tree : Data) (es : List Entry) (rank hint : Option ℕ) : Type 0 where
+  pub keys : Items
+  pub has_keys : HasKeys tree keys
+  pub gathered : IsGathered keys es
+  pub has_rank : HasNumber tree (codes "spiffe_sequence") rank
+  pub has_hint : HasNumber tree (codes "spiffe_refresh_hint") hint
+  pub rank_fits : FitsWord rank
+  pub hint_fits : FitsWord hint
+
+-- what the bytes say of a document
+pub record IsContentsOfText (bytes : List ℕ) (es : List Entry) (rank hint : Option ℕ) : Type 0 where
+  pub short : length bytes ≤ document_limit
+  pub tree : Data
+  pub json : IsJson bytes tree
+  pub contents : IsContents tree es rank hint
+
+-- the bundle has these authorities and these numbers
+pub record IsBundleOf (es : List Entry) (rank hint : Option ℕ) (b : Bundle) : Type 0 where
+  pub authorities : b.authorities ≡ authorities_of es
   pub same_rank : b.rank ≡ rank
   pub same_hint : b.hint ≡ hint
   pub is : IsBundle b

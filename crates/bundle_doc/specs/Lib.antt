@@ -1,3 +1,6 @@
+-- what a caller cites
 pub mod Bundle
-pub mod Entries
 pub mod Refusal
+-- for private clauses
+pub mod Entries
+pub mod CanonicalReader

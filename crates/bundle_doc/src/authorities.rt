@@ -1,4 +1,4 @@
-// What is asked and made of a document's list of authorities.
+//! What is asked and made of a document's list of authorities.
 ghost use Rattle.std.specs.Prelude.{◌≡◌, ◌↔◌, IsTrue, IfOk, map};
 ghost use Rattle.serde_json.specs.View.{view};
 ghost use Rattle.jwk_set.specs.Element.{tree_of};

@@ -1,14 +1,16 @@
-// A bundle document: its authorities, rank and hint, and the one text that stands for them.
-ghost use Rattle.std.specs.Prelude.{◌≡◌, ◌↔◌, IsTrue, IfOk, MatchResult};
-ghost use Rattle.serde_json.specs.View.{view, items_view};
-ghost use Rattle.bundle_doc.specs.Bundle.{Fits, HasKeyId, IsBundle, IsDocument, Means, canonical_text, doc_id_of, document_tree};
-ghost use Rattle.bundle_doc.specs.Entries.{FitsWord, IsBundleOf};
+//! A bundle document: its authorities, rank and hint, and the one text that stands for them.
+ghost use Rattle.std.specs.Prelude.{◌≡◌, ◌↔◌, IsTrue, IfOk, IfSome, MatchResult};
+ghost use Rattle.serde_json.specs.View.{view};
+ghost use Rattle.bundle_doc.specs.Bundle.{Fits, HasKeyId, IsBundle, IsDocument, IsKept, Means, canonical_text, doc_id_of, document_tree};
+ghost use Rattle.bundle_doc.specs.Entries.{AreEntries, FitsWord, IsBundleOf};
 ghost use Rattle.bundle_doc.specs.Refusal.{IsBuildFault, RefusesBytes, RefusesTree};
 
 use crate::authorities::{copies_of, has_key_id, values_of};
+use crate::canonical_reader::read_parts;
+use crate::contents::Contents;
+use crate::elements::write_elements;
 use crate::error::DocError;
-use crate::keys::{elements_of, gather, write_keys};
-use crate::numbers::{put_number, read_number, write_numbers};
+use crate::numbers::{put_number, write_numbers};
 use jwk_set::{Authority, KeyId};
 use serde_json::Value;
 use sha2::{Digest, Sha256};
@@ -21,23 +23,30 @@ use std::{fmt, str};
 /// The most bytes of a document as it is fetched, and of its canonical text.
 pub const MAX_DOCUMENT_BYTES: usize = 1_048_576;
 
-/// The id of a document as one of a trust domain: the SHA-256 (FIPS 180-4, section 6.2) of the domain's name, a line
-/// feed and the document's canonical text. Ids are ordered by their bytes, and print as 64 lower-case hexadecimal digits.
+/// The id of a document as one of a trust domain: the SHA-256 (FIPS 180-4, section 6.2) of the
+/// domain's name, a line feed and the document's canonical text. Ids are ordered by their bytes,
+/// and print as 64 lower-case hexadecimal digits.
 #[derive(Clone, Copy, Debug, PartialEq, Eq, PartialOrd, Ord, Hash)]
 pub struct DocId(pub [u8; 32]);
 
-/// A bundle document (SPIFFE Trust Domain and Bundle, section 4): a set of authorities, a rank, which is its sequence
-/// number, and a refresh hint.
+/// A bundle document (SPIFFE Trust Domain and Bundle, section 4): a set of authorities, a rank,
+/// which is its sequence number, and a refresh hint.
 ///
-/// A document is its meaning: two of them are equal exactly when they have the same authorities, rank and hint, whatever
-/// the order of the elements that they were read from, how often an element came, and which other members stood there.
-/// So each has one canonical text, which it keeps: compact JSON with the names of each object in the order of their
-/// bytes, with no member that says nothing, and the authorities in the order of their own texts' bytes, each once. A
-/// canonical text is read as the document that it stands for.
+/// A document is its meaning: two of them are equal exactly when they have the same authorities,
+/// rank and hint, whatever the order of the elements that they were read from, how often an element
+/// came, and which other members stood there. So each has one canonical text, which it keeps:
+/// compact JSON with the names of each object in the order of their bytes, with no member that says
+/// nothing, and the authorities in the order of their own texts' bytes, each once. A canonical text
+/// is read as the document that it stands for.
 ///
-/// Reading holds, beside the text that is read, at most three more forms of it: the tree that `serde_json` builds, the
-/// different authorities under their texts, and the canonical text. The document keeps its authorities and its canonical
-/// text. The work grows as n log n in the number n of elements.
+/// # Memory and work
+/// No clause speaks of these; the figures are measured. A document keeps its authorities and its
+/// canonical text, which is made with its length. What reading takes beside these is mostly the
+/// tree that `serde_json` builds of the whole text, with some allocations for each object in it. So
+/// a text of 1 MiB takes some 6 MB where it is one large certificate, some 25 MB where it is many
+/// small authorities, and 135 MB, the most that was seen, where it is nothing but elements
+/// `{"":0}`. The tree is given up before the canonical text is written. The work grows as n log n
+/// in the number n of elements.
 #[derive(Debug, Drop)]
 pub struct Document {
     authorities: Vec<Authority>,
@@ -58,8 +67,8 @@ impl Model for Document {
 }
 
 impl Document {
-    /// The document that a text says, in JSON (RFC 8259): of members with one name the last counts, and arrays and
-    /// objects may nest 127 levels deep.
+    /// The document that a text says, in JSON (RFC 8259): of members with one name the last counts,
+    /// and arrays and objects may nest 127 levels deep.
     ///
     /// # Errors
     /// The first that holds of
@@ -67,60 +76,87 @@ impl Document {
     /// - [`DocError::NotJson`]: it is no JSON text, or nests deeper,
     /// - the refusals of [`Document::from_value`] for its value.
     ///
-    /// Where memory ran out it is [`DocError::NoMemory`], whatever else holds.
+    /// Where memory ran out it is [`DocError::NoMemory`], which never comes for a text that is too
+    /// long.
     pub fn read(alloc: Global, bytes: &[u8]) -> Result<Document, DocError>
         ensures { MatchResult result (IsDocument bytes.now) (RefusesBytes bytes.now) }
     {
         if bytes.len() > MAX_DOCUMENT_BYTES {
             return Err(DocError::TooLong);
         }
-        match Value::from_slice(alloc, bytes) {
-            Ok(value) => Document::from_value(alloc, &value),
-            Err(error) if error.is_memory() => Err(DocError::NoMemory),
-            Err(_) => Err(DocError::NotJson),
+        if let Some(document) = Document::read_canonical(alloc, bytes)? {
+            return Ok(document);
         }
+        build(alloc, Contents::read(alloc, bytes)?)
     }
 
-    /// The document that a JSON value says: an object whose member `keys` is an array (RFC 7517, section 5.1), with a
-    /// whole number as `spiffe_sequence` and as `spiffe_refresh_hint`, or `null` or nothing in their place (SPIFFE Trust
-    /// Domain and Bundle, section 4.1). An element of `keys` that says no authority is passed over
-    /// ([`read_element`](jwk_set::read_element)), and so is every other member.
+    /// The document that a canonical text stands for, read with no JSON tree between, so in a
+    /// fraction of the time that the tree takes. `None` says nothing of the bytes: they may be no
+    /// canonical text, or one that only [`Document::read`] takes, as one with an escape in a
+    /// string.
+    ///
+    /// # Errors
+    /// Memory ran out.
+    pub fn read_canonical(alloc: Global, bytes: &[u8]) -> Result<Option<Document>, AllocError>
+        ensures { IfOk result (λ o. IfSome o (λ d. IsKept d bytes.now)) }
+    {
+        let text = match str::from_utf8(bytes) {
+            Ok(text) if text.len() <= MAX_DOCUMENT_BYTES => text,
+            _ => return Ok(None),
+        };
+        let Some(parts) = read_parts(alloc, text)? else {
+            return Ok(None);
+        };
+        Ok(Some(Document {
+            authorities: parts.authorities,
+            rank: parts.rank,
+            hint: parts.hint,
+            canonical: String::from_str(alloc, text)?,
+        }))
+    }
+
+    /// The document that a JSON value says: an object whose member `keys` is an array (RFC 7517,
+    /// section 5.1), with a whole number as `spiffe_sequence` and as `spiffe_refresh_hint`, or
+    /// `null` or nothing in their place (SPIFFE Trust Domain and Bundle, section 4.1). An element
+    /// of `keys` that says no authority is passed over ([`read_element`](jwk_set::read_element)),
+    /// and so is every other member.
     ///
     /// # Errors
     /// The first that holds of
     /// - [`DocError::NotObject`]: the value is no object,
     /// - [`DocError::NoKeys`]: it has no member `keys` that is an array,
-    /// - [`DocError::BadSequence`]: `spiffe_sequence` is something else than above, as -1, 1.0 or a text,
+    /// - [`DocError::BadSequence`]: `spiffe_sequence` is something else than above, as -1, 1.0 or a
+    ///   text,
     /// - [`DocError::BadRefreshHint`]: the same of `spiffe_refresh_hint`,
-    /// - [`DocError::CanonicalTooLong`]: the canonical text would have more than [`MAX_DOCUMENT_BYTES`] bytes. A value
-    ///   read from a text within that limit is not expected to come to this, which no clause says.
+    /// - [`DocError::CanonicalTooLong`]: the canonical text would have more than
+    ///   [`MAX_DOCUMENT_BYTES`] bytes. A value read from a text within that limit is not expected
+    ///   to come to this, which no clause says.
     ///
-    /// Where memory ran out it is [`DocError::NoMemory`], whatever else holds.
+    /// Where memory ran out it is [`DocError::NoMemory`]. That comes only for an object that has
+    /// `keys` and both numbers as above.
     pub fn from_value(alloc: Global, value: &Value) -> Result<Document, DocError>
-        ensures { MatchResult result (λ d. Means (view value.now) d × Fits d) (RefusesTree (view value.now)) }
+        ensures { MatchResult result (λ d. Means (view value.now) d × Fits d)
+            (RefusesTree (view value.now)) }
     {
-        if !value.is_object() {
-            return Err(DocError::NotObject);
-        }
-        let Some(elements) = elements_of(value) else {
-            return Err(DocError::NoKeys);
-        };
-        let Some(rank) = read_number(value, "spiffe_sequence") else {
-            return Err(DocError::BadSequence);
-        };
-        let Some(hint) = read_number(value, "spiffe_refresh_hint") else {
-            return Err(DocError::BadRefreshHint);
-        };
-        build(alloc, elements, rank, hint)
+        build(alloc, Contents::of(alloc, value)?)
     }
 
-    /// The JSON value of the canonical text: an object that says just what the document says. [`Document::from_value`]
-    /// reads it as an equal document.
+    /// The JSON value of the canonical text: an object that says just what the document says, and
+    /// that [`Document::from_value`] reads as an equal document.
     ///
     /// # Errors
     /// Memory ran out.
     pub fn to_value(&self, alloc: Global) -> Result<Value, AllocError>
-        ensures { IfOk result (λ v. view v ≡ document_tree self.now) }
+        ensures tree { IfOk result (λ v. view v ≡ document_tree self.now) }
+        ensures reads_back { IfOk result (λ v. Means (view v) self.now) }
+    {
+        let value = self.tree(alloc)?;
+        Ok(value)
+    }
+
+    fn tree(&self, alloc: Global) -> Result<Value, AllocError>
+        ensures tree { IfOk result (λ v. view v ≡ document_tree self.now) }
+        ensures form { IsBundle self.now }
     {
         let elements = Value::Array(values_of(alloc, self.authorities.as_slice())?);
         let mut members = BTreeMap::new(alloc);
@@ -150,15 +186,16 @@ impl Document {
         DocId(hasher.finalize())
     }
 
-    /// The sequence number, `spiffe_sequence` (SPIFFE Trust Domain and Bundle, section 4.1.1), where there is one.
+    /// The sequence number, `spiffe_sequence` (SPIFFE Trust Domain and Bundle, section 4.1.1),
+    /// where there is one.
     pub fn rank(&self) -> Option<u64>
         ensures { result ≡ self.now.rank }
     {
         self.rank
     }
 
-    /// The refresh hint, `spiffe_refresh_hint` (SPIFFE Trust Domain and Bundle, section 4.1.2), in seconds, where there
-    /// is one.
+    /// The refresh hint, `spiffe_refresh_hint` (SPIFFE Trust Domain and Bundle, section 4.1.2), in
+    /// seconds, where there is one.
     pub fn hint(&self) -> Option<u64>
         ensures { result ≡ self.now.hint }
     {
@@ -172,8 +209,8 @@ impl Document {
         self.authorities.as_slice()
     }
 
-    /// Whether the key is that of an X.509 authority of the document. A JWT authority has no key id, since it
-    /// authenticates no endpoint (SPIFFE Federation, section 5.2).
+    /// Whether the key is that of an X.509 authority of the document. A JWT authority has no key
+    /// id, since it authenticates no endpoint (SPIFFE Federation, section 5.2).
     pub fn has_key(&self, key: &KeyId) -> bool
         ensures { IsTrue result ↔ HasKeyId self.now.authorities key.now }
     {
@@ -236,21 +273,18 @@ impl fmt::Display for DocId {
     }
 }
 
-/// The document of these elements and numbers.
-fn build(
-    alloc: Global,
-    elements: &[Value],
-    rank: Option<u64>,
-    hint: Option<u64>,
-) -> Result<Document, DocError>
-    requires rank_fits { FitsWord rank }
-    requires hint_fits { FitsWord hint }
-    ensures { MatchResult result (λ d. IsBundleOf (items_view elements.now) rank hint d × Fits d)
-        (IsBuildFault (items_view elements.now) rank hint) }
+/// The document of these contents.
+fn build(alloc: Global, contents: Contents) -> Result<Document, DocError>
+    requires entries { AreEntries contents.found.entries }
+    requires rank_fits { FitsWord contents.rank }
+    requires hint_fits { FitsWord contents.hint }
+    ensures { MatchResult result
+        (λ d. IsBundleOf contents.found.entries contents.rank contents.hint d × Fits d)
+        (IsBuildFault contents.found.entries contents.rank contents.hint) }
 {
-    let found = gather(alloc, elements)?;
-    let (authorities, mut canonical) = write_keys(alloc, found)?;
-    write_numbers(&mut canonical, hint, rank)?;
+    let Contents { found, rank, hint } = contents;
+    let (authorities, mut canonical) = write_elements(alloc, found)?;
+    write_numbers(&mut canonical, rank, hint)?;
     if canonical.len() > MAX_DOCUMENT_BYTES {
         return Err(DocError::CanonicalTooLong);
     }

@@ -1,12 +1,13 @@
-// Why bytes or a JSON value are no document.
+//! Why bytes or a JSON value are no document.
 ghost use Rattle.bundle_doc.specs.declared.error.DocError.TheVariants.{NoMemory};
 ghost use Rattle.std.specs.Prelude.{◌≡◌};
 
 use std::alloc::{AllocError, AllocFailed};
 use thiserror::Error;
 
-/// Why something is no document. Of several causes the first of this list is answered, but for want of memory,
-/// which may come at any time.
+/// Why something is no document. Of several causes the first of this list is answered. Want of
+/// memory can come in place of each that is found out after memory was first wanted: of a text
+/// behind `TooLong`, of a JSON value behind `BadRefreshHint`.
 #[derive(Clone, Copy, Debug, PartialEq, Eq, Error)]
 pub enum DocError {
     /// More bytes than `MAX_DOCUMENT_BYTES`.

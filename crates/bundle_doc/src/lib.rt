@@ -1,15 +1,21 @@
 #![tactic(auto)]
 
-//! Bundle documents (SPIFFE Trust Domain and Bundle, section 4): what one says, its canonical text and its id.
+//! Bundle documents (SPIFFE Trust Domain and Bundle, section 4): what one says, its canonical text
+//! and its id.
 mod authorities;
+mod canonical_authority;
+mod canonical_reader;
+mod contents;
 mod document;
+mod elements;
 mod error;
-mod keys;
 pub mod laws;
 mod numbers;
 
 pub use document::{DocId, Document, MAX_DOCUMENT_BYTES};
 pub use error::DocError;
 
+#[cfg(test)]
+mod canonical_tests;
 #[cfg(test)]
 mod tests;

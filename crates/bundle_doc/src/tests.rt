@@ -254,44 +254,6 @@ fn usual_server_bundle(rt: HostRuntime) -> Result<(), Fail> {
     is_written(&rt, alloc, &document)
 }
 
-/// The certificate of a JWT authority counts for nothing.
-#[test]
-fn jwt_authority(rt: HostRuntime) -> Result<(), Fail> {
-    let document = reads(
-        &rt,
-        rt.alloc(),
-        r#"{"keys":[{"e":"AQAB","kid":"k","kty":"RSA","n":"AQAB","use":"jwt-svid","x5c":["YWJj"]}]}"#,
-        r#"{"keys":[{"e":"AQAB","kid":"k","kty":"RSA","n":"AQAB","use":"jwt-svid"}]}"#,
-    )?;
-    assert!(rt; !document.has_key(&key_of(ABC_KEY)?));
-    assert_eq!(rt; document.rank(), None);
-    assert_eq!(rt; document.hint(), None);
-    Ok(())
-}
-
-/// An element that says no authority is passed over.
-#[test]
-fn ignored_elements(rt: HostRuntime) -> Result<(), Fail> {
-    let alloc = rt.alloc();
-    for (from, to) in [
-        ("[\"YWJj\"]", "[\"YWJj\",\"YWJj\"]"),
-        ("x509-svid", "other"),
-        ("RSA", "OKP"),
-        (ABC, "7"),
-        ("x509-svid", "jwt-svid"),
-        ("YWJj", ""),
-        ("YWJj", "YWJ"),
-        ("YWJj", "aGVsbG9="),
-        ("\"n\":\"AQAB\"", "\"n\":\"AQABA\""),
-        ("\"e\":\"AQAB\"", "\"e\":\"AQ==\""),
-    ] {
-        let element = ABC.replace(alloc, from, to)?;
-        let text = object_of(alloc, "", &[element.as_str()], "")?;
-        reads(&rt, alloc, text.as_str(), NO_KEYS)?;
-    }
-    Ok(())
-}
-
 /// Of doubled names the last counts, and names and texts are what their escapes stand for.
 #[test]
 fn spellings(rt: HostRuntime) -> Result<(), Fail> {
@@ -330,74 +292,31 @@ fn spellings(rt: HostRuntime) -> Result<(), Fail> {
     Ok(())
 }
 
-#[test]
-fn no_json(rt: HostRuntime) -> Result<(), Fail> {
-    let alloc = rt.alloc();
-    for text in [
-        "",
-        "{\"keys\":[",
-        "{\"keys\":[]}x",
-        "{\"keys\":[],}",
-        "\u{feff}{\"keys\":[]}",
-        "{\"keys\":[],\"m\":\"\n\"}",
-        r#"{"keys":[],"m":"\ud800"}"#,
-        r#"{"keys":[],"m":"\udc00\ud800"}"#,
-        r#"{"keys":[],"m":1e999}"#,
-        r#"{"keys":[],"spiffe_sequence":01}"#,
-    ] {
-        refuses(&rt, alloc, text.as_bytes(), "B2 NotJson")?;
-    }
-    refuses(&rt, alloc, b"{\"keys\":[],\"m\":\"\xff\"}", "B2 NotJson")?;
-    refuses(
-        &rt,
-        alloc,
-        b"{\"keys\":[],\"m\":\"\xed\xa0\x80\"}",
-        "B2 NotJson",
-    )?;
-    refuses(&rt, alloc, b"{\"keys\":[]}\xc3", "B2 NotJson")
-}
-
-/// The first cause counts.
+/// What the reader of JSON refuses, and the first of several causes.
 #[test]
 fn no_documents(rt: HostRuntime) -> Result<(), Fail> {
-    for (text, cause) in [
-        ("[]", "B3 NotObject"),
-        ("null", "B3 NotObject"),
-        (r#""keys""#, "B3 NotObject"),
-        ("{}", "B4 NoKeys"),
-        (r#"{"keys":{}}"#, "B4 NoKeys"),
-        (r#"{"keys":null}"#, "B4 NoKeys"),
-        (r#"{"Keys":[]}"#, "B4 NoKeys"),
-        (r#"{"keys":[],"keys":{}}"#, "B4 NoKeys"),
-        (r#"{"keys":7,"spiffe_sequence":-1}"#, "B4 NoKeys"),
+    for (bytes, cause) in [
+        (b"{\"keys\":[]}x".as_slice(), "B2 NotJson"),
+        (b"\xef\xbb\xbf{\"keys\":[]}", "B2 NotJson"),
+        (b"{\"keys\":[],\"m\":\"\\ud800\"}", "B2 NotJson"),
+        (b"{\"keys\":[],\"m\":\"\xed\xa0\x80\"}", "B2 NotJson"),
+        (b"{\"keys\":[],\"m\":1e999}", "B2 NotJson"),
+        (b"[]", "B3 NotObject"),
+        (b"{\"keys\":null,\"spiffe_sequence\":-1}", "B4 NoKeys"),
         (
-            r#"{"keys":[],"spiffe_sequence":18446744073709551616}"#,
-            "B5 BadSequence",
-        ),
-        (r#"{"keys":[],"spiffe_sequence":-1}"#, "B5 BadSequence"),
-        (r#"{"keys":[],"spiffe_sequence":-0}"#, "B5 BadSequence"),
-        (r#"{"keys":[],"spiffe_sequence":1.0}"#, "B5 BadSequence"),
-        (r#"{"keys":[],"spiffe_sequence":1e0}"#, "B5 BadSequence"),
-        (r#"{"keys":[],"spiffe_sequence":"1"}"#, "B5 BadSequence"),
-        (r#"{"keys":[],"spiffe_sequence":false}"#, "B5 BadSequence"),
-        (
-            r#"{"keys":[],"spiffe_sequence":1,"spiffe_sequence":{}}"#,
+            b"{\"keys\":[],\"spiffe_refresh_hint\":-1,\"spiffe_sequence\":-0}",
             "B5 BadSequence",
         ),
         (
-            r#"{"keys":[],"spiffe_refresh_hint":-1,"spiffe_sequence":-1}"#,
+            b"{\"keys\":[],\"spiffe_sequence\":18446744073709551616}",
             "B5 BadSequence",
         ),
         (
-            r#"{"keys":[],"spiffe_refresh_hint":-1}"#,
-            "B6 BadRefreshHint",
-        ),
-        (
-            r#"{"keys":[],"spiffe_refresh_hint":[],"spiffe_sequence":1}"#,
+            b"{\"keys\":[],\"spiffe_refresh_hint\":1.0}",
             "B6 BadRefreshHint",
         ),
     ] {
-        refuses(&rt, rt.alloc(), text.as_bytes(), cause)?;
+        refuses(&rt, rt.alloc(), bytes, cause)?;
     }
     Ok(())
 }
@@ -473,27 +392,22 @@ fn numbered(alloc: Global, numbers: &[u32]) -> Result<String, AllocError> {
     Ok(text)
 }
 
-/// Ten thousand elements in order, in reverse order, and all the same.
+/// A thousand elements in reverse order, and all the same.
 #[test]
 fn many_elements(rt: HostRuntime) -> Result<(), Fail> {
     let alloc = rt.alloc();
     let mut numbers = Vec::new(alloc);
-    for number in 0..10_000 {
+    for number in 0..1_000 {
         numbers.push(number)?;
     }
     let rising = numbered(alloc, numbers.as_slice())?;
-    let document = reads(&rt, alloc, rising.as_str(), rising.as_str())?;
-    assert_eq!(rt; document.authorities().len(), 10_000);
     numbers.reverse();
     let falling = numbered(alloc, numbers.as_slice())?;
-    reads(&rt, alloc, falling.as_str(), rising.as_str())?;
-    let same = numbered(alloc, [7; 10_000].as_slice())?;
-    reads(
-        &rt,
-        alloc,
-        same.as_str(),
-        numbered(alloc, [7].as_slice())?.as_str(),
-    )?;
+    let document = reads(&rt, alloc, falling.as_str(), rising.as_str())?;
+    assert_eq!(rt; document.authorities().len(), 1_000);
+    let same = numbered(alloc, [7; 1_000].as_slice())?;
+    let one = numbered(alloc, [7].as_slice())?;
+    reads(&rt, alloc, same.as_str(), one.as_str())?;
     Ok(())
 }
 

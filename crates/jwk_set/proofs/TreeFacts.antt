@@ -1,18 +1,16 @@
--- The element that is written for an authority.
-use Rattle.std.proofs.Common.{◌≡◌, refl}
-use Rattle.serde_json.specs.Data.{object, no_members}
-use Rattle.jwk_set.specs.Element.{IsElement, IsAuthority, tree_of}
-use Rattle.jwk_set.specs.Trees.{with_authority}
+-- The element that is written for an authority, and its text.
+use Rattle.std.proofs.Common.{◌≡◌, [], ◌∷◌, ◌++◌, refl, ap, ap₂, ◌∙◌}
+use Rattle.json.specs.Token.{begin_object}
+use Rattle.json.specs.Print.{print}
+use Rattle.json.specs.Tree.{json_tokens}
+use Rattle.json.specs.Written.{Written}
+use Rattle.serde_json.specs.Written.{outline, compact_text}
+use Rattle.serde_json.proofs.Texts.{print-outline}
+use Rattle.jwk_set.specs.Element.{IsElement, IsAuthority, tree_of, text_of}
+use Rattle.jwk_set.specs.Written.{Adds, member_tokens}
 use Rattle.jwk_set.specs.declared.authority.PublicKey.TheVariants.{Rsa, Ec}
 use Rattle.jwk_set.specs.declared.authority.Authority.{Authority}
 use Rattle.jwk_set.specs.declared.authority.Authority.TheVariants.{X509, Jwt}
-
--- the members stand in the order of their names
-pub object-with_authority : (a : Authority) → object (with_authority a no_members) ≡ tree_of a
-object-with_authority (X509 (Rsa n e) der) = refl
-object-with_authority (X509 (Ec crv x y) der) = refl
-object-with_authority (Jwt kid (Rsa n e)) = refl
-object-with_authority (Jwt kid (Ec crv x y)) = refl
 
 -- what is written is read back
 pub IsElement-tree_of : (a : Authority) → IsAuthority a → IsElement (tree_of a) a
@@ -20,3 +18,16 @@ IsElement-tree_of (X509 (Rsa n e) der) h = (refl, (refl, refl, refl), refl, h)
 IsElement-tree_of (X509 (Ec crv x y) der) h = (refl, (refl, refl, refl, refl), refl, h)
 IsElement-tree_of (Jwt kid (Rsa n e)) h = (refl, (refl, refl, refl), refl, h)
 IsElement-tree_of (Jwt kid (Ec crv x y)) h = (refl, (refl, refl, refl, refl), refl, h)
+
+-- ---- its text
+
+-- the tokens are those of the element
+tokens-tree_of : (a : Authority) → begin_object ∷ member_tokens a ≡ json_tokens (outline (tree_of a))
+tokens-tree_of (X509 (Rsa n e) der) = refl
+tokens-tree_of (X509 (Ec crv x y) der) = refl
+tokens-tree_of (Jwt kid (Rsa n e)) = refl
+tokens-tree_of (Jwt kid (Ec crv x y)) = refl
+
+pub print-text_of : (a : Authority) (opened new : Written) → opened.before ≡ [] → opened.tokens ≡ begin_object ∷ [] → Adds opened new (member_tokens a) → new.before ++ print new.tokens ≡ text_of a
+print-text_of a opened new empty begun adds =
+    ap₂ (λ b ts. b ++ print ts) (adds.before ∙ empty) (adds.tokens ∙ ap (λ ts. ts ++ member_tokens a) begun ∙ tokens-tree_of a) ∙ print-outline (tree_of a)

@@ -1,9 +1,10 @@
 -- What an element of a JWK Set says (RFC 7517, RFC 7518, SPIFFE Trust Domain and Bundle).
-use Rattle.std.specs.Prelude.{◌≡◌, ℕ, List, codes, Option, Some, None}
+use Rattle.std.specs.Prelude.{◌≡◌, ◌⊎◌, ℕ, List, codes, Option, Some, None}
 use Rattle.base64.specs.Engines.{standard}
 use Rattle.base64.specs.GeneralPurpose.{encode_of}
-use Rattle.serde_json.specs.Data.{Data, string, array, object, no_items, item, Members, no_members, member}
+use Rattle.serde_json.specs.Data.{Data, string, array, object, no_items, item, Members, no_members, put}
 use Rattle.serde_json.specs.Find.{get}
+use Rattle.serde_json.specs.Written.{compact_text}
 use Rattle.sha2.specs.Sha256.{sha256}
 use Rattle.jwk_set.specs.Forms.{IsUrlText, IsNonEmptyText, IsCertificate}
 use Rattle.jwk_set.specs.declared.authority.PublicKey.{PublicKey}
@@ -41,22 +42,34 @@ abbrev pub IsElement : Data → Authority → Type 0
 IsElement element (X509 key der) = HasText element (codes "use") (codes "x509-svid") × HasKey element key × HasCertificate element der × IsAuthority (X509 key der)
 IsElement element (Jwt kid key) = HasText element (codes "use") (codes "jwt-svid") × HasKey element key × HasText element (codes "kid") kid × IsAuthority (Jwt kid key)
 
+-- the element has one of the two types of key, and one of the two roles
+abbrev pub HasKeyType : Data → Type 0
+HasKeyType element = HasText element (codes "kty") (codes "RSA") ⊎ HasText element (codes "kty") (codes "EC")
+
+pub record HasKind (element : Data) : Type 0 where
+  pub role : HasText element (codes "use") (codes "x509-svid") ⊎ HasText element (codes "use") (codes "jwt-svid")
+  pub key_type : HasKeyType element
+
 -- the SHA-256 of an X.509 authority's certificate
 abbrev pub key_id_of : Authority → Option KeyId
 key_id_of (X509 key der) = Some (record { 0 = sha256 der })
 key_id_of (Jwt kid key) = None
 
--- a text member before the others
-abbrev pub text_member : List ℕ → List ℕ → Members → Members
-text_member name text others = member name (string text) others
+-- ---- the element that is written
 
--- the element with no other member, its names in the order of their bytes
+-- what a key and an authority put into an object
+abbrev pub with_key : PublicKey → Members → Members
+with_key (Rsa n e) ms = put (codes "e") (string e) (put (codes "n") (string n) (put (codes "kty") (string (codes "RSA")) ms))
+with_key (Ec crv x y) ms = put (codes "y") (string y) (put (codes "x") (string x) (put (codes "crv") (string crv) (put (codes "kty") (string (codes "EC")) ms)))
+
+abbrev pub with_authority : Authority → Members → Members
+with_authority (X509 key der) ms = put (codes "x5c") (array (item (string (encode_of standard der)) no_items)) (put (codes "use") (string (codes "x509-svid")) (with_key key ms))
+with_authority (Jwt kid key) ms = put (codes "kid") (string kid) (put (codes "use") (string (codes "jwt-svid")) (with_key key ms))
+
+-- the element with these members and no other; an object keeps its names in the order of their bytes
 abbrev pub tree_of : Authority → Data
-tree_of (X509 (Rsa n e) der) =
-    object (text_member (codes "e") e (text_member (codes "kty") (codes "RSA") (text_member (codes "n") n (text_member (codes "use") (codes "x509-svid") (member (codes "x5c") (array (item (string (encode_of standard der)) no_items)) no_members)))))
-tree_of (X509 (Ec crv x y) der) =
-    object (text_member (codes "crv") crv (text_member (codes "kty") (codes "EC") (text_member (codes "use") (codes "x509-svid") (text_member (codes "x") x (member (codes "x5c") (array (item (string (encode_of standard der)) no_items)) (text_member (codes "y") y no_members))))))
-tree_of (Jwt kid (Rsa n e)) =
-    object (text_member (codes "e") e (text_member (codes "kid") kid (text_member (codes "kty") (codes "RSA") (text_member (codes "n") n (text_member (codes "use") (codes "jwt-svid") no_members)))))
-tree_of (Jwt kid (Ec crv x y)) =
-    object (text_member (codes "crv") crv (text_member (codes "kid") kid (text_member (codes "kty") (codes "EC") (text_member (codes "use") (codes "jwt-svid") (text_member (codes "x") x (text_member (codes "y") y no_members))))))
+tree_of a = object (with_authority a no_members)
+
+-- its text, with no space
+abbrev pub text_of : Authority → List ℕ
+text_of a = compact_text (tree_of a)

@@ -1,5 +1,5 @@
 -- JSON texts (RFC 8259), as the bytes of this repository's formats are read and written.
-use Rattle.std.specs.Prelude.{◌≡◌, ℕ, ◌^◌, ◌<◌, List, Some, ⊤}
+use Rattle.std.specs.Prelude.{◌≡◌, ℕ, ◌^◌, ◌<◌, ◌||◌, ◌==◌, nat_lt, not, List, Bool, Some, ⊤}
 use Rattle.std.specs.Ordering.{nat_cmp}
 use Rattle.std.specs.declared.cmp.Ordering.TheVariants.{Less}
 use Rattle.std.specs.Cmp.Lexicographic.{slice_cmp}
@@ -39,3 +39,7 @@ abbrev mutual
   pub HasPlainMembers : Members → Type 0
   HasPlainMembers no_members = ⊤
   HasPlainMembers (member name d ms) = IsUtf8 name × IsPlain d × IsBelowNames name ms × HasPlainMembers ms
+
+-- a byte that stands for itself in a string (RFC 8259, section 7): no quotation mark, no backslash, no control
+abbrev pub is_unescaped : ℕ → Bool
+is_unescaped b = not ((b == 34) || (b == 92) || nat_lt b 32)

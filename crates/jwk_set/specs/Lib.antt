@@ -1,4 +1,6 @@
+-- what a caller cites
 pub mod Element
 pub mod Forms
 pub mod Json
-pub mod Trees
+-- for private clauses
+pub mod Written

@@ -1,21 +1,22 @@
-// What one element of a JWK Set says: a public key in the role that SPIFFE gives it.
-ghost use Rattle.std.specs.Prelude.{◌≡◌, IfOk, OnOk, codes, map};
+//! What one element of a JWK Set says: a public key in the role that SPIFFE gives it.
+ghost use Rattle.std.specs.Prelude.{◌≡◌, IfOk, OnOk, codes, map, string_bytes};
 ghost use Rattle.serde_json.specs.Data.{string, array, item, no_items, put, no_members};
 ghost use Rattle.serde_json.specs.View.{view, members_view};
 ghost use Rattle.base64.specs.Engines.{standard};
 ghost use Rattle.base64.specs.GeneralPurpose.{encode_of};
-ghost use Rattle.jwk_set.specs.Element.{IsElement, IsKey, IsAuthority, tree_of, key_id_of};
+ghost use Rattle.jwk_set.specs.Element.{IsElement, IsKey, IsAuthority, key_id_of, text_of, tree_of, with_authority, with_key};
 ghost use Rattle.jwk_set.specs.Forms.{IsCertificate};
-ghost use Rattle.jwk_set.specs.Trees.{with_key, with_authority};
 
 use crate::forms::{Certificate, NonEmptyText, UrlText};
+use crate::text::write_text;
 use serde_json::{Map, Value};
 use sha2::{Digest, Sha256};
 use std::alloc::{AllocError, Global};
 use std::collections::BTreeMap;
+use std::{fmt, str};
 
-/// The public key of an authority (RFC 7517, section 4.1), each member as it was written. Nothing is decoded: keys are
-/// equal exactly when their members are equal texts.
+/// The public key of an authority (RFC 7517, section 4.1), each member as it was written. Nothing
+/// is decoded: keys are equal exactly when their members are equal texts.
 #[derive(Debug, PartialEq, Eq, Drop)]
 pub enum PublicKey {
     /// `kty` is `RSA`: the modulus `n` and the exponent `e` (RFC 7518, section 6.3.1).
@@ -23,8 +24,8 @@ pub enum PublicKey {
         n: UrlText,
         e: UrlText,
     },
-    /// `kty` is `EC`: the name of the curve, `crv`, and the coordinates `x` and `y` (RFC 7518, section 6.2.1). Any name
-    /// counts as a curve's.
+    /// `kty` is `EC`: the name of the curve, `crv`, and the coordinates `x` and `y` (RFC 7518,
+    /// section 6.2.1). Any name counts as a curve's.
     Ec {
         crv: NonEmptyText,
         x: UrlText,
@@ -32,19 +33,21 @@ pub enum PublicKey {
     },
 }
 
-/// A key that a trust domain vouches with (SPIFFE Trust Domain and Bundle, section 4.2). Authorities are equal exactly
-/// when they have one role, equal keys and the same certificate or key identifier.
+/// A key that a trust domain vouches with (SPIFFE Trust Domain and Bundle, section 4.2).
+/// Authorities are equal exactly when they have one role, equal keys and the same certificate or
+/// key identifier.
 #[derive(Debug, PartialEq, Eq, Drop)]
 pub enum Authority {
-    /// `use` is `x509-svid`: it signs X.509-SVIDs, and `der` is its certificate, the one text of `x5c`
-    /// (RFC 7517, section 4.7).
+    /// `use` is `x509-svid`: it signs X.509-SVIDs, and `der` is its certificate, the one text of
+    /// `x5c` (RFC 7517, section 4.7).
     X509 { key: PublicKey, der: Certificate },
-    /// `use` is `jwt-svid`: it signs JWT-SVIDs under the key identifier `kid` (RFC 7517, section 4.5).
+    /// `use` is `jwt-svid`: it signs JWT-SVIDs under the key identifier `kid` (RFC 7517, section
+    /// 4.5).
     Jwt { kid: NonEmptyText, key: PublicKey },
 }
 
-/// The SHA-256 of an X.509 authority's certificate, of its DER bytes as they are (FIPS 180-4, section 6.2). Key ids are
-/// ordered by their bytes.
+/// The SHA-256 of an X.509 authority's certificate, of its DER bytes as they are (FIPS 180-4,
+/// section 6.2). Key ids are ordered by their bytes, and print as 64 lower-case hexadecimal digits.
 #[derive(Clone, Copy, Debug, PartialEq, Eq, PartialOrd, Ord, Hash)]
 pub struct KeyId(pub [u8; 32]);
 
@@ -71,8 +74,9 @@ impl PublicKey {
 }
 
 impl Authority {
-    /// The element that says just this authority: `use`, `kty`, the members of its key, and `x5c` or `kid`. No other
-    /// member stands in it, and what [`read_element`](crate::read_element) reads from it is this authority.
+    /// The element that says just this authority: `use`, `kty`, the members of its key, and `x5c`
+    /// or `kid`. No other member stands in it, and what [`read_element`](crate::read_element) reads
+    /// from it is this authority.
     ///
     /// # Errors
     /// Memory ran out.
@@ -83,8 +87,18 @@ impl Authority {
         Ok(Value::Object(members_of(alloc, self)?))
     }
 
-    /// The id of the key with which an endpoint can be authenticated, so the one of an X.509 authority. A JWT authority
-    /// has none.
+    /// The compact text of [`to_value`](Authority::to_value)'s element, written without that value.
+    ///
+    /// # Errors
+    /// Memory ran out.
+    pub fn to_text(&self, alloc: Global) -> Result<String, AllocError>
+        ensures { IfOk result (λ t. string_bytes t ≡ text_of self.now) }
+    {
+        write_text(alloc, self)
+    }
+
+    /// The id of the key with which an endpoint can be authenticated, so the one of an X.509
+    /// authority. A JWT authority has none.
     pub fn key_id(&self) -> Option<KeyId>
         ensures { result ≡ key_id_of self.now }
     {
@@ -114,8 +128,22 @@ impl Authority {
     }
 }
 
+impl fmt::Display for KeyId {
+    ghost use Rattle.std.specs.Prelude.{Some};
+    ghost use Rattle.hex.specs.Hex.{encode_lower};
+
+    ghost output = { λ id. Some (encode_lower id.0) };
+
+    fn fmt<W: fmt::Write>(&self, f: &mut fmt::Formatter<W>) -> fmt::Result {
+        let mut digits = [0; 64];
+        hex::encode_to_slice(self.0, &mut digits).map_err(|_| fmt::Error)?;
+        f.write_str(str::from_utf8(&digits).map_err(|_| fmt::Error)?)
+    }
+}
+
 fn members_of(alloc: Global, authority: &Authority) -> Result<Map<String, Value>, AllocError>
-    ensures members { IfOk result (λ m. members_view m.entries ≡ with_authority authority.now no_members) }
+    ensures members { IfOk result (λ m. members_view m.entries
+        ≡ with_authority authority.now no_members) }
     ensures form { OnOk result (IsAuthority authority.now) }
 {
     let mut members = BTreeMap::new(alloc);

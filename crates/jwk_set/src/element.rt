@@ -1,10 +1,10 @@
-// Reading an element of `keys`: the authority that it says, where it says one.
-ghost use Rattle.std.specs.Prelude.{◌≡◌, ◌↔◌, IsTrue, IfOk, Some, [], ◌∷◌, codes, option_map};
+//! Reading an element of `keys`: the authority that it says, where it says one.
+ghost use Rattle.std.specs.Prelude.{◌≡◌, ◌↔◌, IsTrue, IfOk, MatchResult, Some, [], ◌∷◌, codes, option_map};
 ghost use Rattle.serde_json.specs.Data.{array, item, string, no_items};
 ghost use Rattle.serde_json.specs.Find.{get};
 ghost use Rattle.serde_json.specs.View.{view};
 ghost use Rattle.jwk_set.specs.Forms.{Finds, IsUrlText, IsNonEmptyText, IsCertificate};
-ghost use Rattle.jwk_set.specs.Element.{HasText, HasCertificate, HasKey, IsKey, IsElement};
+ghost use Rattle.jwk_set.specs.Element.{HasText, HasCertificate, HasKey, HasKeyType, HasKind, IsKey, IsElement};
 
 use crate::authority::{Authority, PublicKey};
 use crate::forms::{Certificate, NonEmptyText, UrlText};
@@ -13,18 +13,23 @@ use std::alloc::{AllocError, Global};
 
 /// The authority that an element of `keys` says (SPIFFE Trust Domain and Bundle, section 4.2).
 ///
-/// An X.509 authority has `use` `x509-svid`, a public key, and as `x5c` an array of exactly one text, the padded base64
-/// of at least one byte. A JWT authority has `use` `jwt-svid`, a public key, and as `kid` a text that is not empty. The
-/// public key is `kty` `RSA` with `n` and `e`, or `kty` `EC` with `crv`, `x` and `y`. All other members count for
-/// nothing, also a `kid` beside `x509-svid` and an `x5c` beside `jwt-svid`.
+/// The member `use` decides the role. With `x509-svid` the element says an X.509 authority, whose
+/// certificate is the one text in the array `x5c`, in padded base64. With `jwt-svid` it says a JWT
+/// authority, named by `kid`. In both roles `kty` decides which members are the public key: `n` and
+/// `e` with `RSA`, or `crv`, `x` and `y` with `EC`. Each of these is a text in its form:
+/// [`UrlText`], [`NonEmptyText`] or [`Certificate`]. What else stands in the element is not looked
+/// at, so a `kid` in the first role, or an `x5c` in the second, changes nothing.
 ///
-/// An element that says no authority, as one of another use or key type, one that lacks a member in its form, or a value
-/// that is no object, is no fault: the answer is `None`, and the other elements of `keys` count all the same.
+/// Where one of these is missing or malformed, or the value is no object at all, the element says
+/// no authority. That is no fault: the answer is `None`, and the caller goes on to the next
+/// element.
 ///
 /// # Errors
-/// Memory ran out.
+/// Memory ran out, which comes only for an element whose `use` and `kty` are among those named
+/// above.
 pub fn read_element(alloc: Global, element: &Value) -> Result<Option<Authority>, AllocError>
-    ensures { IfOk result (λ o. Finds o (IsElement (view element.now))) }
+    ensures { MatchResult result (λ o. Finds o (IsElement (view element.now)))
+        (λ _. HasKind (view element.now)) }
 {
     if has_text(element, "use", "x509-svid") {
         read_x509(alloc, element)
@@ -37,7 +42,8 @@ pub fn read_element(alloc: Global, element: &Value) -> Result<Option<Authority>,
 
 fn read_x509(alloc: Global, element: &Value) -> Result<Option<Authority>, AllocError>
     requires { HasText (view element.now) (codes "use") (codes "x509-svid") }
-    ensures { IfOk result (λ o. Finds o (IsElement (view element.now))) }
+    ensures { MatchResult result (λ o. Finds o (IsElement (view element.now)))
+        (λ _. HasKeyType (view element.now)) }
 {
     let Some(key) = read_key(alloc, element)? else {
         return Ok(None);
@@ -50,7 +56,8 @@ fn read_x509(alloc: Global, element: &Value) -> Result<Option<Authority>, AllocE
 
 fn read_jwt(alloc: Global, element: &Value) -> Result<Option<Authority>, AllocError>
     requires { HasText (view element.now) (codes "use") (codes "jwt-svid") }
-    ensures { IfOk result (λ o. Finds o (IsElement (view element.now))) }
+    ensures { MatchResult result (λ o. Finds o (IsElement (view element.now)))
+        (λ _. HasKeyType (view element.now)) }
 {
     let Some(key) = read_key(alloc, element)? else {
         return Ok(None);
@@ -62,7 +69,8 @@ fn read_jwt(alloc: Global, element: &Value) -> Result<Option<Authority>, AllocEr
 }
 
 fn read_key(alloc: Global, element: &Value) -> Result<Option<PublicKey>, AllocError>
-    ensures { IfOk result (λ o. Finds o (λ key. HasKey (view element.now) key × IsKey key)) }
+    ensures { MatchResult result (λ o. Finds o (λ key. HasKey (view element.now) key × IsKey key))
+        (λ _. HasKeyType (view element.now)) }
 {
     if has_text(element, "kty", "RSA") {
         read_rsa(alloc, element)
@@ -103,7 +111,8 @@ fn read_ec(alloc: Global, element: &Value) -> Result<Option<PublicKey>, AllocErr
 }
 
 fn read_certificate(alloc: Global, element: &Value) -> Result<Option<Certificate>, AllocError>
-    ensures { IfOk result (λ o. Finds o (λ der. HasCertificate (view element.now) der × IsCertificate der)) }
+    ensures { IfOk result (λ o. Finds o (λ der. HasCertificate (view element.now) der
+        × IsCertificate der)) }
 {
     match only_text(element, "x5c") {
         Some(text) => Certificate::decode(alloc, text),
@@ -112,7 +121,8 @@ fn read_certificate(alloc: Global, element: &Value) -> Result<Option<Certificate
 }
 
 fn read_url_text(alloc: Global, element: &Value, name: &str) -> Result<Option<UrlText>, AllocError>
-    ensures { IfOk result (λ o. Finds o (λ text. HasText (view element.now) name.now text × IsUrlText text)) }
+    ensures { IfOk result (λ o. Finds o (λ text. HasText (view element.now) name.now text
+        × IsUrlText text)) }
 {
     match text_of(element, name) {
         Some(text) => UrlText::read(alloc, text),
@@ -125,7 +135,8 @@ fn read_non_empty_text(
     element: &Value,
     name: &str,
 ) -> Result<Option<NonEmptyText>, AllocError>
-    ensures { IfOk result (λ o. Finds o (λ text. HasText (view element.now) name.now text × IsNonEmptyText text)) }
+    ensures { IfOk result (λ o. Finds o (λ text. HasText (view element.now) name.now text
+        × IsNonEmptyText text)) }
 {
     match text_of(element, name) {
         Some(text) => NonEmptyText::read(alloc, text),

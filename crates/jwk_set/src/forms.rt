@@ -1,4 +1,4 @@
-// The forms of an authority's members, each a type of its own: a value that exists is in its form.
+//! The forms of an authority's members, each a type of its own: a value that exists is in its form.
 ghost use Rattle.std.specs.Prelude.{◌≡◌, ℕ, List, ◌↔◌, IsTrue, IfOk, nat_eq, string_bytes};
 ghost use Rattle.std.specs.Cmp.{partial_equiv_from_equiv};
 ghost use Rattle.std.specs.Cmp.Lexicographic.{pointwise, nat_list_eq_equiv};
@@ -11,9 +11,10 @@ use base64::engine::general_purpose::STANDARD;
 use std::alloc::{AllocError, Global};
 use std::marker::Model;
 
-/// A text in the form of base64url without padding, as `n`, `e`, `x` and `y` are written (RFC 7518, sections 6.2.1 and
-/// 6.3.1; RFC 4648, section 5): it is not empty, each byte is `A-Z`, `a-z`, `0-9`, `-` or `_`, and its length modulo 4
-/// is not 1. It is kept as it was written, and nothing is decoded, so texts are equal exactly when their bytes are.
+/// A text in the form of base64url without padding, as `n`, `e`, `x` and `y` are written (RFC 7518,
+/// sections 6.2.1 and 6.3.1; RFC 4648, section 5): some letters, digits, hyphens and low lines, in
+/// such a number that no symbol is left over behind the groups of four. It is kept as it was
+/// written, and nothing is decoded, so texts are equal exactly when their bytes are.
 #[derive(Debug, Drop)]
 pub struct UrlText {
     text: String,
@@ -78,8 +79,8 @@ impl Eq for UrlText {
     ghost laws = { nat_list_eq_equiv };
 }
 
-/// A text that is not empty: a curve's name (`crv`, RFC 7518, section 6.2.1.1) or a key identifier (`kid`, RFC 7517,
-/// section 4.5). Texts are equal exactly when their bytes are.
+/// A text that is not empty: a curve's name (`crv`, RFC 7518, section 6.2.1.1) or a key identifier
+/// (`kid`, RFC 7517, section 4.5). Texts are equal exactly when their bytes are.
 #[derive(Debug, Drop)]
 pub struct NonEmptyText {
     text: String,
@@ -144,8 +145,8 @@ impl Eq for NonEmptyText {
     ghost laws = { nat_list_eq_equiv };
 }
 
-/// The DER bytes of a certificate (RFC 7517, section 4.7), at least one. They are opaque here: nothing in them is looked
-/// at, and certificates are equal exactly when their bytes are.
+/// The DER bytes of a certificate (RFC 7517, section 4.7), at least one. They are opaque here:
+/// nothing in them is looked at, and certificates are equal exactly when their bytes are.
 #[derive(Debug, Drop)]
 pub struct Certificate {
     der: Vec<u8>,
@@ -160,13 +161,15 @@ impl Model for Certificate {
 }
 
 impl Certificate {
-    /// The certificate that the text is the base64 of (RFC 4648, section 4), and `None` where it is none: padding stands
-    /// where it is due, the unused bits are zero, and at least one byte is encoded.
+    /// The certificate that the text is the base64 of (RFC 4648, section 4), and `None` where it is
+    /// none: padding stands where it is due, the unused bits are zero, and at least one byte is
+    /// encoded.
     ///
     /// # Errors
     /// Memory ran out.
     pub fn decode(alloc: Global, text: &str) -> Result<Option<Certificate>, AllocError>
-        ensures { IfOk result (λ o. Finds o (λ der. (text.now ≡ encode_of standard der) × IsCertificate der)) }
+        ensures { IfOk result (λ o. Finds o (λ der. (text.now ≡ encode_of standard der)
+            × IsCertificate der)) }
     {
         match STANDARD.decode(alloc, text.as_bytes()) {
             Ok(der) if der.is_empty() => Ok(None),

@@ -1,10 +1,12 @@
 #![tactic(auto)]
 
-//! The keys of a JWK Set (RFC 7517) that a SPIFFE trust bundle can trust: elements, authorities and key ids.
+//! The keys of a JWK Set (RFC 7517) that a SPIFFE trust bundle can trust: elements, authorities and
+//! key ids.
 mod authority;
 mod element;
 mod forms;
 pub mod laws;
+mod text;
 
 pub use authority::{Authority, KeyId, PublicKey};
 pub use element::read_element;

@@ -1,6 +1,7 @@
 -- Bytes of names, and where a text first has a wrong one.
-use Rattle.std.specs.Prelude.{◌≡◌, ℕ, ◌<◌, Bool, false, ◌&&◌, ◌||◌, ◌==◌, nat_le, not, List, [], ◌∷◌, ◌++◌, length, take, slice_index}
+use Rattle.std.specs.Prelude.{◌≡◌, ℕ, ◌<◌, Bool, false, ◌&&◌, ◌||◌, ◌==◌, nat_le, nat_lt, not, List, [], ◌∷◌, ◌++◌, length, take, slice_index}
 use Rattle.std.specs.List.{AllPass}
+use Rattle.std.specs.Str.{IsUtf8}
 
 -- a to z
 abbrev pub is_lowercase : ℕ → Bool
@@ -44,3 +45,17 @@ pub record SplitsAtSlash (text front rest : List ℕ) : Type 0 where
   pub whole : text ≡ front ++ rest
   pub no_slash : AllPass is_not_slash front
   pub slash : EmptyOrSlash rest
+
+-- the printable bytes of ASCII, without the space
+abbrev pub is_printable : ℕ → Bool
+is_printable b = nat_le 33 b && nat_le b 126
+
+-- no quotation mark, no backslash and no control character
+abbrev pub is_unescaped : ℕ → Bool
+is_unescaped b = not ((b == 34) || (b == 92) || nat_lt b 32)
+
+-- A text that can stand between quotation marks as it is, as in a JSON string (RFC 8259, section 7).
+pub record IsPlainText (text : List ℕ) : Type 0 where
+  pub printable : AllPass is_printable text
+  pub unescaped : AllPass is_unescaped text
+  pub utf8 : IsUtf8 text

@@ -20,10 +20,10 @@ use std::marker::Model;
 /// The most bytes that a trust domain name has (SPIFFE-ID, section 2.3).
 pub const MAX_DOMAIN_BYTES: usize = 255;
 
-/// A trust domain name: 1 to 255 bytes, each `a-z`, `0-9`, `.`, `-` or `_` (SPIFFE-ID, sections 2.1
-/// and 2.3).
+/// The name of a trust domain, in lower-case letters, digits, full stops, hyphens and low lines: at
+/// least one of these, and no more than 255 (SPIFFE-ID, sections 2.1 and 2.3).
 ///
-/// Names are equal exactly when their bytes are, and are ordered by them.
+/// A name is its bytes: by these it is compared, ordered and hashed.
 #[derive(Debug, Drop)]
 pub struct TrustDomain {
     text: String,
@@ -40,8 +40,11 @@ impl Model for TrustDomain {
 impl TrustDomain {
     /// Reads a name, which is then the text.
     ///
-    /// Of an empty text the error is `Empty`, of more than 255 bytes `TooLong`, and else `BadDomainByte`
-    /// at the first wrong byte. `NoMemory` comes only for a text that is a name.
+    /// # Errors
+    /// - [`NameError::Empty`]: the text is empty,
+    /// - [`NameError::TooLong`]: it has more than [`MAX_DOMAIN_BYTES`] bytes,
+    /// - [`NameError::BadDomainByte`]: else, where its first wrong byte is,
+    /// - [`NameError::NoMemory`]: memory ran out, for a text that is a name.
     pub fn read(alloc: Global, text: &str) -> Result<TrustDomain, NameError>
         ensures answer { MatchResult result
             (λ domain. (domain ≡ text.now) × IsDomainText text.now)
@@ -60,7 +63,10 @@ impl TrustDomain {
         self.text.as_str()
     }
 
-    /// An equal name. The one error is that there is no memory.
+    /// A name that is equal to this one.
+    ///
+    /// # Errors
+    /// Memory ran out.
     pub fn try_clone(&self, alloc: Global) -> Result<TrustDomain, AllocError>
         ensures { IfOk result (λ domain. domain ≡ self.now) }
     {
@@ -135,7 +141,8 @@ fn is_domain_byte(byte: u8) -> bool
 
 /// Where the first byte is that a trust domain name doesn't have.
 fn first_bad_byte(text: &[u8]) -> Option<usize>
-    ensures { MatchOption result (AllPass is_domain_byte text.now) (FirstFails is_domain_byte text.now) }
+    ensures { MatchOption result (AllPass is_domain_byte text.now)
+        (FirstFails is_domain_byte text.now) }
 {
     text.iter().position(|byte| !is_domain_byte(*byte))
 }

@@ -21,7 +21,8 @@ pub enum NameError {
     /// A trust domain name has a byte other than `a-z`, `0-9`, `.`, `-` and `_`, first here.
     #[error("N4 BadDomainByte at {0}")]
     BadDomainByte(usize),
-    /// A path has a byte here that no segment has, or a segment that begins here is empty, `.` or `..`.
+    /// A path has a byte here that no segment has, or a segment that begins here is empty, `.` or
+    /// `..`.
     #[error("N5 BadPath at {0}")]
     BadPath(usize),
     /// A growth was refused. The text is a name.

@@ -20,12 +20,13 @@ use std::marker::Model;
 /// The most bytes that a SPIFFE ID has (SPIFFE-ID, section 2.3).
 pub const MAX_ID_BYTES: usize = 2048;
 
-/// A SPIFFE ID: `spiffe://`, a trust domain name and a path, which is empty or a list of `/segment`
-/// (SPIFFE-ID, section 2). It has at most 2,048 bytes. A segment isn't empty, has only `a-z`, `A-Z`,
-/// `0-9`, `.`, `-` and `_`, and is neither `.` nor `..`.
+/// A SPIFFE ID (SPIFFE-ID, section 2): behind `spiffe://` stands the name of a trust domain, and
+/// behind that a path, if any, in which each slash opens a segment. The whole has no more than
+/// 2,048 bytes. Segments consist of letters, digits, full stops, hyphens and low lines; the empty
+/// one and the relative ones `.` and `..` don't occur.
 ///
-/// The standard has readers that take the scheme and the trust domain in any case; here both are read in
-/// lower case only. IDs are equal exactly when their bytes are, and are ordered by them.
+/// The standard has readers that take the scheme and the trust domain in any case; here both are
+/// read in lower case only. An ID is its bytes: by these it is compared, ordered and hashed.
 #[derive(Debug, Drop)]
 pub struct SpiffeId {
     text: String,
@@ -43,16 +44,24 @@ impl Model for SpiffeId {
 impl SpiffeId {
     /// Reads an ID, which is then the text.
     ///
-    /// The error is the first of these. Of an empty text it is `Empty`, of more than 2,048 bytes `TooLong`,
-    /// without `spiffe://` at the start `BadScheme`. Then what stands up to the next slash or the end is to
-    /// be a trust domain name: `Empty`, `TooLong` or `BadDomainByte` at its first wrong byte. Then come the
-    /// path's segments from the left: `BadPath` at a segment's first wrong byte, and else at the start of an
-    /// empty, `.` or `..` segment. `NoMemory` comes only for a text that is an ID.
+    /// # Errors
+    /// The first that holds of
+    /// - [`NameError::Empty`]: the text is empty,
+    /// - [`NameError::TooLong`]: it has more than [`MAX_ID_BYTES`] bytes,
+    /// - [`NameError::BadScheme`]: it doesn't begin with `spiffe://`,
+    /// - [`NameError::Empty`], [`NameError::TooLong`], [`NameError::BadDomainByte`]: what stands
+    ///   from there up to the next slash or the end is no trust domain name,
+    /// - [`NameError::BadPath`]: of the segments, from the left, one has a wrong byte, or is empty,
+    ///   `.` or `..`; its place is that byte, or else the segment's start.
+    ///
+    /// Where memory ran out it is [`NameError::NoMemory`], which comes only for a text that is an
+    /// ID.
     pub fn read(alloc: Global, text: &str) -> Result<SpiffeId, NameError>
         ensures answer { MatchResult result
             (λ id. (id.text ≡ text.now) × IsId id)
             (RefusesId text.now) }
-        ensures complete { (domain path : List ℕ) → IsIdText text.now domain path → IsOkUnless result NameError.NoMemory }
+        ensures complete { (domain path : List ℕ) → IsIdText text.now domain path
+            → IsOkUnless result NameError.NoMemory }
     {
         let domain = check_id(text)?;
         let domain = TrustDomain::copied(alloc, domain)?;
@@ -83,7 +92,10 @@ impl SpiffeId {
         &self.as_str()[start..]
     }
 
-    /// An equal ID. The one error is that there is no memory.
+    /// An ID that is equal to this one.
+    ///
+    /// # Errors
+    /// Memory ran out.
     pub fn try_clone(&self, alloc: Global) -> Result<SpiffeId, AllocError>
         ensures { IfOk result (λ id. id ≡ self.now) }
     {
@@ -162,7 +174,8 @@ fn is_segment_byte(byte: u8) -> bool
 
 /// Where the first byte is that no segment has.
 fn first_bad_byte(segment: &[u8]) -> Option<usize>
-    ensures { MatchOption result (AllPass is_segment_byte segment.now) (FirstFails is_segment_byte segment.now) }
+    ensures { MatchOption result (AllPass is_segment_byte segment.now)
+        (FirstFails is_segment_byte segment.now) }
 {
     segment.iter().position(|byte| !is_segment_byte(*byte))
 }

@@ -4,11 +4,11 @@ use Rattle.serde_json.specs.View.{view}
 use Rattle.serde_json.proofs.Views.{view-Object}
 use Rattle.serde_json.specs.declared.value.Value.{Object}
 use Rattle.jwk_set.specs.Element.{IsElement, tree_of}
-use Rattle.jwk_set.proofs.TreeFacts.{object-with_authority, IsElement-tree_of}
+use Rattle.jwk_set.proofs.TreeFacts.{IsElement-tree_of}
 use Rattle.jwk_set.proofs.authority.Authority.to_value.Goals as goal
 
 written : (c : goal.In_ok-members_of) → view (Object c.in_ok-members_of.field-0) ≡ tree_of c.args.self.now
-written c = view-Object c.in_ok-members_of.field-0 ∙ ap object c.in_ok-members_of.ensures.members ∙ object-with_authority c.args.self.now
+written c = view-Object c.in_ok-members_of.field-0 ∙ ap object c.in_ok-members_of.ensures.members
 
 pub returns-clause-tree : goal.returns-clause-tree
 returns-clause-tree c = written c

@@ -1,0 +1,56 @@
+//! What a text or a JSON value says of a document, before it is one.
+ghost use Rattle.std.specs.Prelude.{◌≤◌, MatchResult, length};
+ghost use Rattle.serde_json.specs.View.{view};
+ghost use Rattle.bundle_doc.specs.Bundle.{document_limit};
+ghost use Rattle.bundle_doc.specs.Entries.{IsContents, IsContentsOfText};
+ghost use Rattle.bundle_doc.specs.Refusal.{RefusesBytes, RefusesTree};
+
+use crate::elements::{elements_of, gather};
+use crate::error::DocError;
+use crate::numbers::read_number;
+use jwk_set::Authority;
+use serde_json::Value;
+use std::alloc::Global;
+use std::collections::BTreeMap;
+
+/// Each authority under its text, and the two numbers.
+#[derive(Drop)]
+pub(crate) struct Contents {
+    pub(crate) found: BTreeMap<String, Authority>,
+    pub(crate) rank: Option<u64>,
+    pub(crate) hint: Option<u64>,
+}
+
+impl Contents {
+    /// What a text says. The tree that it is read into is given up with this call.
+    pub(crate) fn read(alloc: Global, bytes: &[u8]) -> Result<Contents, DocError>
+        requires { length bytes.now ≤ document_limit }
+        ensures { MatchResult result
+            (λ p. IsContentsOfText bytes.now p.found.entries p.rank p.hint)
+            (RefusesBytes bytes.now) }
+    {
+        match Value::from_slice(alloc, bytes) {
+            Ok(value) => Contents::of(alloc, &value),
+            Err(error) if error.is_memory() => Err(DocError::NoMemory),
+            Err(_) => Err(DocError::NotJson),
+        }
+    }
+
+    /// What a JSON value says.
+    pub(crate) fn of(alloc: Global, value: &Value) -> Result<Contents, DocError>
+        ensures { MatchResult result
+            (λ p. IsContents (view value.now) p.found.entries p.rank p.hint)
+            (RefusesTree (view value.now)) }
+    {
+        if !value.is_object() {
+            return Err(DocError::NotObject);
+        }
+        let Some(elements) = elements_of(value) else {
+            return Err(DocError::NoKeys);
+        };
+        let rank = read_number(value, "spiffe_sequence", DocError::BadSequence)?;
+        let hint = read_number(value, "spiffe_refresh_hint", DocError::BadRefreshHint)?;
+        let found = gather(alloc, elements)?;
+        Ok(Contents { found, rank, hint })
+    }
+}
