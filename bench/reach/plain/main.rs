@@ -1,145 +1,174 @@
-// The same net in plain Rust: vectors of edges for each node and label, and a stack. It prints the same line.
+// The same net in plain Rust: a vector of edges for each node and each label. It keeps what the index keeps (the marked
+// nodes in a list, each with its place in it, the supporters of each label, the visits), and prints the same line.
 use std::env;
 use std::time::Instant;
 
 #[derive(Default, Clone)]
 struct Label {
-    waiting: Vec<u32>,
-    marked_offers: u32,
+    waiting: Vec<usize>,
+    supporters: usize,
     closed: bool,
+    open: bool,
+    touched: bool,
 }
 
-#[derive(Default, Clone)]
+const UNMARKED: usize = usize::MAX;
+
+#[derive(Clone)]
 struct Node {
-    offers: Vec<u32>,
-    awaits: Option<u32>,
+    offers: Vec<usize>,
+    awaits: Option<usize>,
     root: bool,
-    marked: bool,
+    place: usize,
 }
 
 struct Reach {
     nodes: Vec<Node>,
     labels: Vec<Label>,
-    stack: Vec<u32>,
+    marked: Vec<usize>,
+    touched: Vec<usize>,
     visits: usize,
+    edges: (usize, usize),
 }
 
 impl Reach {
-    fn mark(&mut self, node: u32) {
-        if self.nodes[node as usize].marked {
-            return;
-        }
-        self.nodes[node as usize].marked = true;
-        self.stack.push(node);
-        self.drain();
+    fn add_node(&mut self) -> usize {
+        self.nodes.push(Node {
+            offers: Vec::new(),
+            awaits: None,
+            root: false,
+            place: UNMARKED,
+        });
+        self.nodes.len() - 1
     }
 
-    fn release(&mut self, label: u32) {
-        for i in 0..self.labels[label as usize].waiting.len() {
-            let next = self.labels[label as usize].waiting[i];
-            self.visits += 1;
-            if !self.nodes[next as usize].marked {
-                self.nodes[next as usize].marked = true;
-                self.stack.push(next);
-            }
-        }
-    }
-
-    fn follow(&mut self, label: u32) {
-        self.visits += 1;
-        let l = &mut self.labels[label as usize];
-        l.marked_offers += 1;
-        if l.marked_offers > 1 || l.closed {
-            return;
-        }
-        self.release(label);
-    }
-
-    fn add_node(&mut self) -> u32 {
-        self.nodes.push(Node::default());
-        (self.nodes.len() - 1) as u32
-    }
-
-    fn offer(&mut self, node: u32, label: usize) {
+    fn offer(&mut self, node: usize, label: usize) {
         if label >= self.labels.len() {
             return;
         }
-        self.nodes[node as usize].offers.push(label as u32);
-        if self.nodes[node as usize].marked {
-            self.follow(label as u32);
-            self.drain();
+        self.nodes[node].offers.push(label);
+        self.edges.0 += 1;
+        if self.nodes[node].place != UNMARKED {
+            let cursor = self.marked.len();
+            self.follow(label);
+            self.spread(cursor);
         }
     }
 
-    fn wait(&mut self, label: usize, node: u32) {
+    fn wait(&mut self, label: usize, node: usize) {
         if label >= self.labels.len() {
             return;
         }
-        self.nodes[node as usize].awaits = Some(label as u32);
+        assert!(self.nodes[node].awaits.is_none());
+        self.nodes[node].awaits = Some(label);
         self.labels[label].waiting.push(node);
-        if self.labels[label].marked_offers > 0 && !self.labels[label].closed {
+        self.edges.1 += 1;
+        if self.labels[label].open {
             self.visits += 1;
+            let cursor = self.marked.len();
             self.mark(node);
+            self.spread(cursor);
         }
     }
 
-    fn drain(&mut self) {
-        while let Some(node) = self.stack.pop() {
-            for i in 0..self.nodes[node as usize].offers.len() {
-                let label = self.nodes[node as usize].offers[i];
-                self.follow(label);
-            }
+    fn add_root(&mut self, node: usize) {
+        self.nodes[node].root = true;
+        let cursor = self.marked.len();
+        self.mark(node);
+        self.spread(cursor);
+    }
+
+    fn mark(&mut self, node: usize) {
+        if self.nodes[node].place == UNMARKED {
+            self.nodes[node].place = self.marked.len();
+            self.marked.push(node);
         }
     }
 
-    fn close(&mut self, label: u32) -> usize {
-        let mut turns = 0;
-        if self.labels[label as usize].closed {
-            return 0;
+    fn unmark(&mut self, node: usize) {
+        let place = self.nodes[node].place;
+        self.marked.swap_remove(place);
+        if let Some(&moved) = self.marked.get(place) {
+            self.nodes[moved].place = place;
         }
-        let open = self.labels[label as usize].marked_offers > 0;
-        self.labels[label as usize].closed = true;
-        if !open {
-            return 0;
+        self.nodes[node].place = UNMARKED;
+    }
+
+    fn follow(&mut self, label: usize) {
+        self.visits += 1;
+        self.labels[label].supporters += 1;
+        self.settle(label);
+    }
+
+    fn settle(&mut self, label: usize) {
+        let l = &mut self.labels[label];
+        if l.supporters == 0 || l.closed || l.open {
+            return;
         }
-        let mut touched = vec![label];
-        let mut is_touched = vec![false; self.labels.len()];
-        is_touched[label as usize] = true;
-        let mut place = 0;
-        while place < touched.len() {
-            let label = touched[place];
-            place += 1;
-            for i in 0..self.labels[label as usize].waiting.len() {
-                let node = self.labels[label as usize].waiting[i] as usize;
-                turns += 1;
-                self.visits -= 1;
-                if self.nodes[node].root || !self.nodes[node].marked {
-                    continue;
-                }
-                self.nodes[node].marked = false;
-                for j in 0..self.nodes[node].offers.len() {
-                    let offered = self.nodes[node].offers[j];
-                    turns += 1;
-                    self.visits -= 1;
-                    let l = &mut self.labels[offered as usize];
-                    l.marked_offers -= 1;
-                    if !l.closed && !is_touched[offered as usize] {
-                        is_touched[offered as usize] = true;
-                        touched.push(offered);
-                    }
-                }
+        l.open = true;
+        for i in 0..self.labels[label].waiting.len() {
+            self.visits += 1;
+            self.mark(self.labels[label].waiting[i]);
+        }
+    }
+
+    fn spread(&mut self, mut cursor: usize) {
+        while cursor < self.marked.len() {
+            let node = self.marked[cursor];
+            for i in 0..self.nodes[node].offers.len() {
+                self.follow(self.nodes[node].offers[i]);
             }
+            cursor += 1;
+        }
+    }
+
+    fn touch(&mut self, label: usize) {
+        let l = &mut self.labels[label];
+        if l.open && !l.touched {
+            l.touched = true;
+            self.touched.push(label);
+        }
+    }
+
+    fn close(&mut self, label: usize) -> usize {
+        if !self.labels[label].open {
+            self.labels[label].closed = true;
+            return 0;
         }
         let before = self.visits;
-        for label in touched {
-            let l = &self.labels[label as usize];
-            if l.closed || l.marked_offers == 0 {
+        self.touch(label);
+        let mut index = 0;
+        while index < self.touched.len() {
+            self.take_back(self.touched[index]);
+            index += 1;
+        }
+        let between = self.visits;
+        self.labels[label].closed = true;
+        let cursor = self.marked.len();
+        while let Some(label) = self.touched.pop() {
+            self.labels[label].touched = false;
+            self.settle(label);
+        }
+        self.spread(cursor);
+        (before - between) + (self.visits - between)
+    }
+
+    fn take_back(&mut self, label: usize) {
+        self.labels[label].open = false;
+        for i in 0..self.labels[label].waiting.len() {
+            let node = self.labels[label].waiting[i];
+            self.visits -= 1;
+            if self.nodes[node].root {
                 continue;
             }
-            self.release(label);
+            self.unmark(node);
+            for j in 0..self.nodes[node].offers.len() {
+                let offered = self.nodes[node].offers[j];
+                self.visits -= 1;
+                self.labels[offered].supporters -= 1;
+                self.touch(offered);
+            }
         }
-        self.drain();
-        turns + self.visits - before
     }
 }
 
@@ -151,8 +180,10 @@ fn main() {
     let mut reach = Reach {
         nodes: Vec::with_capacity(nodes),
         labels: vec![Label::default(); nodes],
-        stack: Vec::with_capacity(nodes),
+        marked: Vec::with_capacity(nodes),
+        touched: Vec::with_capacity(nodes),
         visits: 0,
+        edges: (0, 0),
     };
     let mut random = 1u64;
     for place in 0..nodes {
@@ -176,6 +207,7 @@ fn main() {
         }
     }
     let built = started.elapsed().as_nanos();
+    let (offers, waits) = reach.edges;
     let started = Instant::now();
     let roots = match shape {
         "reversed" => nodes - 1..nodes,
@@ -183,13 +215,17 @@ fn main() {
         _ => 0..1,
     };
     for root in roots {
-        reach.nodes[root].root = true;
-        reach.mark(root as u32);
+        reach.add_root(root);
     }
     let marked = started.elapsed().as_nanos();
     let visits = reach.visits;
     let started = Instant::now();
-    let turns = reach.close(0);
+    let closes = match shape {
+        "star" => nodes,
+        "random" => 8,
+        _ => 1,
+    };
+    let turns: usize = (0..closes).map(|label| reach.close(label)).sum();
     let closed = started.elapsed().as_nanos();
-    println!("{shape} {nodes} {visits} {built} {marked} {turns} {closed}");
+    println!("{built} {offers} {waits} {marked} {visits} {closed} {turns}");
 }

@@ -1,16 +1,19 @@
 -- How a label is closed
-use Rattle.std.proofs.Common.{◌≡◌, ◌≢◌, ℕ, ◌+◌, ◌-◌, ◌<◌, ◌≤◌, ◌⊎◌, inl, inr, Bool, true, false, ◌&&◌, [], ◌∷◌, ◌++◌, length, get_or, set, eqb, ltb, leb, arith, refl, sym, ap, ◌∙◌, subst}
-use Rattle.std.proofs.lemmas.Bool.{cases_Bool, cases_eq, cases_lt, eq-eqb, eqb-true, or_cases, and_parts, and_from, and_left, le-leb, both_ways}
-use Rattle.std.proofs.lemmas.List.{length-set, get_or_past}
+use Rattle.std.proofs.Common.{◌≡◌, ◌≢◌, ℕ, ◌+◌, ◌-◌, ◌*◌, ◌<◌, ◌≤◌, ◌⊎◌, inl, inr, Bool, true, false, ◌&&◌, [], ◌∷◌, ◌++◌, length, get_or, set, eqb, ltb, leb, arith, refl, sym, ap, ◌∙◌, subst}
+use Rattle.std.specs.Prelude.{not}
+use Rattle.std.specs.List.{list_any}
+use Rattle.std.proofs.lemmas.Bool.{cases_Bool, cases_eq, cases_lt, eq-eqb, eqb-true, or_cases, and_parts, and_from, and_left, le-leb, both_ways, false_from_ne_true, not-true}
+use Rattle.std.proofs.lemmas.List.{length-set, get_or_past, get_or_default}
+use Rattle.std.proofs.lemmas.List.Folds.{Any-from_list_any, list_any_at}
 use Rattle.wait_index.specs.declared.edges.Edge.{Edge}
-use Rattle.wait_index.specs.Count.{count_below}
-use Rattle.wait_index.specs.Edge.{from_at, to_at, IsEdge}
-use Rattle.wait_index.specs.Listing.{holds, IsListing}
-use Rattle.wait_index.specs.Net.{Net, is_root, is_closed, IsReached, root, step, HasReachOf, edges_at, with_closed}
-use Rattle.wait_index.specs.Tally.{Tally, is_marked_in, is_touched_in, is_open_in, support_in}
-use Rattle.wait_index.specs.Step.{is_before, Follows}
-use Rattle.wait_index.specs.Fall.{StillFollowed, IsFalling, HasFallen, IsSettled}
-use Rattle.wait_index.proofs.Counts.{bit-le, bit-true, bit-false, count_by-count_below, count_below-at, count_below-some, count_below-cover, count_below-mono, count_below-same}
+use Rattle.wait_index.specs.Inside.Count.{bit, count_below}
+use Rattle.wait_index.specs.Edge.{edge_at, from_at, to_at, IsEdge}
+use Rattle.wait_index.specs.Inside.Listing.{holds, IsListing}
+use Rattle.wait_index.specs.Net.{Net, is_root, is_closed, IsReached, root, step, IsOpen, IsTakenBack, itself, beyond, AreTakenBack, ClosesIn, falls_with, edges_taken_back, HasReachOf, edges_at, with_closed}
+use Rattle.wait_index.specs.Inside.Tally.{Tally, is_marked_in, is_touched_in, is_open_in, support_in}
+use Rattle.wait_index.specs.Inside.Step.{is_before, Follows}
+use Rattle.wait_index.specs.Inside.Fall.{StillFollowed, IsFalling, HasFallen, IsSettled}
+use Rattle.wait_index.proofs.Counts.{bit-le, bit-true, bit-false, count_by-count_below, count_below-at, count_below-some, count_below-add, count_below-gap, count_below-mono, count_below-same}
 use Rattle.wait_index.proofs.Listings.{placed-from_holds, holds-from_placed, holds-insert}
 use Rattle.wait_index.proofs.Following.{flag-here, flag-other, Follows-offered}
 use Rattle.wait_index.proofs.Falling.{WaitsOnce}
@@ -28,6 +31,68 @@ before_all t h n =
 
 count_marked : (net : Net) (t : Tally) → IsListing t.marked t.places → count_below (λ i. is_before t (length t.marked) (from_at net.offers i)) (length net.offers) ≡ count_below (λ i. is_marked_in t (from_at net.offers i)) (length net.offers)
 count_marked net t h = count_below-same (λ i. is_before t (length t.marked) (from_at net.offers i)) (λ i. is_marked_in t (from_at net.offers i)) (length net.offers) (λ i a. before_all t h (from_at net.offers i))
+
+-- what is taken back was open
+pub taken-open : (net : Net) (label l : ℕ) → IsTakenBack net label l → IsOpen net l
+taken-open net label l (itself o) = o
+taken-open net label l (beyond {here = here} {node = node} {i = i} {j = j} b w r e c) =
+    let o = taken-open net label here b in
+    record { not_closed = c; offered = (j, node, e, step o.offered.3 o.offered.2 o.not_closed w) }
+
+-- what is taken back is in the reach of the label
+pub taken-near : (net : Net) (label : ℕ) (labels : ℕ → Bool) → HasReachOf net label labels → (l : ℕ) → IsTakenBack net label l → labels l ≡ true
+taken-near net label labels h l (itself o) = h.has
+taken-near net label labels h l (beyond {here = here} {node = node} {i = i} {j = j} b w r e c) = h.goes_on here node l i j (taken-near net label labels h here b) w e
+
+-- what is taken back is at labels of the reach
+pub taken-few : (net : Net) (label : ℕ) (taken labels : ℕ → Bool) → AreTakenBack net label taken → HasReachOf net label labels → edges_taken_back net taken ≤ edges_at net labels
+taken-few net label taken labels a h =
+    omega (
+      arith,
+      count_by-count_below (λ (e : Edge). falls_with net taken e.from) net.offers (record { from = 0; to = 0 }),
+      count_by-count_below (λ (e : Edge). taken e.from) net.waits (record { from = 0; to = 0 }),
+      count_by-count_below (λ (e : Edge). labels e.to) net.offers (record { from = 0; to = 0 }),
+      count_by-count_below (λ (e : Edge). labels e.from) net.waits (record { from = 0; to = 0 }),
+      count_below-mono (λ i. falls_with net taken (from_at net.offers i)) (λ i. labels (to_at net.offers i)) (length net.offers)
+          (λ i b e.
+          let parts = and_parts (not (is_root net (from_at net.offers i))) (list_any (λ (w : Edge). eqb w.to (from_at net.offers i) && taken w.from) net.waits) e in
+          let c = Any-from_list_any (λ (w : Edge). eqb w.to (from_at net.offers i) && taken w.from) net.waits parts.1 in
+          let tests = and_parts (eqb c.1.to (from_at net.offers i)) (taken c.1.from) c.4 in
+          let item : edge_at net.waits c.0 ≡ c.1 = get_or_default net.waits c.0 (record { from = 0; to = 0 }) c.1 c.2 ∙ c.3 in
+          h.goes_on c.1.from (from_at net.offers i) (to_at net.offers i) c.0 i (taken-near net label labels h c.1.from (a.only c.1.from tests.1))
+          (record { within = c.2; from = ap (λ (x : Edge). x.from) item; to = ap (λ (x : Edge). x.to) item ∙ eqb-true c.1.to (from_at net.offers i) tests.0 })
+          (record { within = b; from = refl; to = refl })),
+      count_below-mono (λ i. taken (from_at net.waits i)) (λ i. labels (from_at net.waits i)) (length net.waits) (λ i b e. taken-near net label labels h (from_at net.waits i) (a.only (from_at net.waits i) e)),
+    )
+
+-- where the label is not open nothing is taken back
+pub none-taken : (net : Net) (label : ℕ) → (IsOpen net label → ⊥) → AreTakenBack net label (λ l. false)
+none-taken net label shut = record {
+  only = λ l e. absurd (both_ways false refl e);
+  all = λ l b. absurd (none l b);
+}
+  where
+    none : (l : ℕ) → IsTakenBack net label l → ⊥
+    none l (itself o) = shut o
+    none l (beyond {here = here} b w r e c) = none here b
+
+pub none-edges : (net : Net) → edges_taken_back net (λ l. false) ≡ 0
+none-edges net =
+    omega (
+      arith,
+      count_by-count_below (λ (e : Edge). falls_with net (λ l. false) e.from) net.offers (record { from = 0; to = 0 }),
+      count_by-count_below (λ (e : Edge). false) net.waits (record { from = 0; to = 0 }),
+      count_below-gap (λ i. falls_with net (λ l. false) (from_at net.offers i)) 0 (length net.offers) (omega arith) (λ i a b. none (from_at net.offers i)),
+      count_below-gap (λ i. false) 0 (length net.waits) (omega arith) (λ i a b. refl),
+    )
+  where
+    none : (n : ℕ) → falls_with net (λ l. false) n ≡ false
+    none n =
+        false_from_ne_true (falls_with net (λ l. false) n) (λ e.
+        let parts = and_parts (not (is_root net n)) (list_any (λ (w : Edge). eqb w.to n && false) net.waits) e in
+        let a = Any-from_list_any (λ (w : Edge). eqb w.to n && false) net.waits parts.1 in
+        let tests = and_parts (eqb a.1.to n) false a.4 in
+        both_ways false refl tests.1)
 
 -- In a settled index
 
@@ -67,6 +132,15 @@ module _ (net : Net) (t : Tally) (h : IsSettled net t) (queue : IsListing t.touc
       let opened = open-from_offer net t h queue i node label e (marked-from_reached node r) (label_in i node label e) c in
       inr (j, record { within = w.within; by = inl (ap (is_open_in t) w.from ∙ opened) }, w.to)
 
+  pub open-shown : (l : ℕ) → l < length net.closed → is_open_in t l ≡ true → IsOpen net l
+  open-shown l within o =
+      let b = Follows-offered net (length t.marked) t h.follows l within (h.follows.steady.open_supported l o) in
+      record { not_closed = h.follows.steady.open_not_closed l o; offered = (b.0, b.1, b.2, h.follows.steady.sound b.1 b.3) }
+
+  pub open-from_shown : (l : ℕ) → IsOpen net l → is_open_in t l ≡ true
+  open-from_shown l o =
+      open-from_offer net t h queue o.offered.0 o.offered.1 l o.offered.2 (marked-from_reached o.offered.1 o.offered.3) (label_in o.offered.0 o.offered.1 l o.offered.2) o.not_closed
+
   -- an open label is touched: the fall begins
   pub IsFalling-touched : (label : ℕ) (new : Tally) → is_open_in t label ≡ true → label < length net.closed → new ≡ record t { touched = t.touched ++ label ∷ []; touched_places = set t.touched_places label (length t.touched + 1) } → IsListing new.touched new.touched_places → IsFalling net new 0 0 0
   IsFalling-touched label new o l is next =
@@ -105,10 +179,13 @@ module _ (net : Net) (t : Tally) (h : IsSettled net t) (queue : IsListing t.touc
         lost = λ n r m. absurd (both_ways (is_marked_in t n) m (marked-from_reached n r));
         shut = λ n i r a b d.
             inl (open-from_offer net t h queue i n (to_at net.offers i) (record { within = a; from = b; to = refl }) (marked-from_reached n r) (labels i a) d);
-        near = λ set_of r k a.
+        near = λ k a.
             elim (or_cases (holds t.touched_places k) (eqb k label) (sym (holds-insert t.touched_places label (length t.touched + 1) (omega (arith, l, steady.sizes.touched)) (omega arith) k) ∙ a)) [
               | inl b ↦ absurd (none_touched net t h queue k b)
-              | inr b ↦ ap set_of (eqb-true k label b ∙ sym (ap (λ xs. get_or xs 0 0) one)) ∙ r.has
+              | inr b ↦
+                  let first : get_or (t.touched ++ label ∷ []) 0 0 ≡ label = ap (λ xs. get_or xs 0 0) one in
+                  let itself_first : IsTakenBack net (get_or (t.touched ++ label ∷ []) 0 0) (get_or (t.touched ++ label ∷ []) 0 0) = itself (subst (IsOpen net) (sym first) (open-shown label l o)) in
+                  subst (IsTakenBack net (get_or (t.touched ++ label ∷ []) 0 0)) (first ∙ sym (eqb-true k label b)) itself_first
             ];
         done = λ k a. absurd (omega (arith, a));
         todo = λ k a b.
@@ -156,59 +233,126 @@ module _ (net : Net) (t : Tally) (h : IsSettled net t) (queue : IsListing t.touc
         let parts = and_parts (is_marked_in now (from_at net.offers i.0)) (eqb (to_at net.offers i.0) l) i.2 in
         (i.0, from_at net.offers i.0, record { within = i.1; from = refl; to = eqb-true (to_at net.offers i.0) l parts.1 }, parts.0)
 
-    pub visits_fall : now.visits ≤ t.visits
-    visits_fall =
-        omega (
-          arith,
-          f.falling.counted.visits,
-          visits_within now f.falling.sound (λ l o. let b = offered_now l o in (b.0, b.1, b.2, f.falling.sound b.1 b.3, f.falling.open_not_closed l o)),
-        )
+    touched-taken : (l : ℕ) → is_touched_in now l ≡ true → IsTakenBack net label l
+    touched-taken l a = subst (λ x. IsTakenBack net x l) f.first (f.falling.near l a)
 
-    -- what was taken back is at labels of the reach
-    pub visits_near : (set_of : ℕ → Bool) → HasReachOf net label set_of → t.visits ≤ now.visits + edges_at net set_of
-    visits_near set_of r =
-        let first : HasReachOf net (get_or now.touched 0 0) set_of = subst (λ x. HasReachOf net x set_of) (sym f.first) r in
-        let offers = count_below-cover (λ i. is_marked_in t (from_at net.offers i)) (λ i. is_marked_in now (from_at net.offers i)) (λ i. set_of (to_at net.offers i)) (length net.offers)
-        (λ i a. elim (cases_Bool (is_marked_in t (from_at net.offers i))) [
-          | inl b ↦
-              elim (cases_Bool (is_marked_in now (from_at net.offers i))) [
-                | inl d ↦ omega (arith, bit-le (is_marked_in t (from_at net.offers i)), bit-true (is_marked_in now (from_at net.offers i)) d)
-                | inr d ↦
-                    let w = f.falling.lost (from_at net.offers i) (h.follows.steady.sound (from_at net.offers i) b) d in
-                    let there = first.goes_on (from_at net.waits w.0) (from_at net.offers i) (to_at net.offers i) w.0 i (f.falling.near set_of first (from_at net.waits w.0) w.3) (record { within = w.1; from = refl; to = w.2 }) (record { within = a; from = refl; to = refl }) in
-                    omega (arith, bit-le (is_marked_in t (from_at net.offers i)), bit-true (set_of (to_at net.offers i)) there)
+    opened_before : (l : ℕ) → is_open_in now l ≡ true → is_open_in t l ≡ true
+    opened_before l o =
+        let b = offered_now l o in
+        open-from_offer net t h queue b.0 b.1 l b.2 (marked-from_reached b.1 (f.falling.sound b.1 b.3)) (open_within l o) (f.falling.open_not_closed l o)
+
+    -- an open label stays so or is touched, and no other is either
+    open_bit : (l : ℕ) → l < length net.closed → bit (is_open_in t l) ≡ bit (is_open_in now l) + bit (is_touched_in now l)
+    open_bit l within =
+        elim (cases_Bool (is_touched_in now l)) [
+          | inl a ↦
+              let shut : is_open_in now l ≡ false = false_from_ne_true (is_open_in now l) (λ o. untouched-from_open l o a) in
+              omega (arith, bit-true (is_touched_in now l) a, bit-false (is_open_in now l) shut, bit-true (is_open_in t l) (open-from_shown l (taken-open net label l (touched-taken l a))))
+          | inr a ↦
+              elim (cases_Bool (is_open_in t l)) [
+                | inl o ↦
+                    let b = Follows-offered net (length t.marked) t h.follows l within (h.follows.steady.open_supported l o) in
+                    let still : (is_open_in now (to_at net.offers b.0) ≡ true) ⊎ (is_touched_in now (to_at net.offers b.0) ≡ true) =
+                    f.falling.shut b.1 b.0 (h.follows.steady.sound b.1 b.3) b.2.within b.2.from (ap (is_closed net) b.2.to ∙ h.follows.steady.open_not_closed l o)
+                    in
+                    elim still [
+                      | inl d ↦ omega (arith, bit-false (is_touched_in now l) a, bit-true (is_open_in t l) o, bit-true (is_open_in now l) (ap (is_open_in now) (sym b.2.to) ∙ d))
+                      | inr d ↦ absurd (both_ways (is_touched_in now l) a (ap (is_touched_in now) (sym b.2.to) ∙ d))
+                    ]
+                | inr o ↦
+                    let shut : is_open_in now l ≡ false = false_from_ne_true (is_open_in now l) (λ d. both_ways (is_open_in t l) o (opened_before l d)) in
+                    omega (arith, bit-false (is_touched_in now l) a, bit-false (is_open_in t l) o, bit-false (is_open_in now l) shut)
               ]
-          | inr b ↦ omega (arith, bit-false (is_marked_in t (from_at net.offers i)) b)
-        ])
-        in
-        let waits = count_below-cover (λ i. is_open_in t (from_at net.waits i)) (λ i. is_open_in now (from_at net.waits i)) (λ i. set_of (from_at net.waits i)) (length net.waits)
-        (λ i a. elim (cases_Bool (is_open_in t (from_at net.waits i))) [
-          | inl b ↦
-              let within : from_at net.waits i < length net.closed =
-              elim (cases_lt (from_at net.waits i) (length t.opened)) [
-                | inl d ↦ omega (arith, d, h.follows.steady.sizes.opened)
-                | inr d ↦ absurd (both_ways (is_open_in t (from_at net.waits i)) (get_or_past t.opened (from_at net.waits i) false d) b)
-              ]
-              in
-              let o = Follows-offered net (length t.marked) t h.follows (from_at net.waits i) within (h.follows.steady.open_supported (from_at net.waits i) b) in
-              let not_closed : is_closed net (to_at net.offers o.0) ≡ false = ap (is_closed net) o.2.to ∙ h.follows.steady.open_not_closed (from_at net.waits i) b in
-              elim (f.falling.shut o.1 o.0 (h.follows.steady.sound o.1 o.3) o.2.within o.2.from not_closed) [
-                | inl d ↦ omega (arith, bit-le (is_open_in t (from_at net.waits i)), bit-true (is_open_in now (from_at net.waits i)) (ap (is_open_in now) (sym o.2.to) ∙ d))
-                | inr d ↦ omega (arith, bit-le (is_open_in t (from_at net.waits i)), bit-true (set_of (from_at net.waits i)) (ap set_of (sym o.2.to) ∙ f.falling.near set_of first (to_at net.offers o.0) d))
-              ]
-          | inr b ↦ omega (arith, bit-false (is_open_in t (from_at net.waits i)) b)
-        ])
-        in
-        omega (
-          arith,
-          offers,
-          waits,
-          count_marked net t h.follows.steady.listing,
-          h.follows.counted.visits,
-          f.falling.counted.visits,
-          count_by-count_below (λ (e : Edge). set_of e.to) net.offers (record { from = 0; to = 0 }),
-          count_by-count_below (λ (e : Edge). set_of e.from) net.waits (record { from = 0; to = 0 }),
-        )
+        ]
+
+    -- the wait edge of a node that falls
+
+    module _ (once : WaitsOnce net) where
+      falls-from : (i : ℕ) → i < length net.waits → is_root net (to_at net.waits i) ≡ false → is_touched_in now (from_at net.waits i) ≡ true → falls_with net (is_touched_in now) (to_at net.waits i) ≡ true
+      falls-from i within r a =
+          and_from (not (is_root net (to_at net.waits i))) (list_any (λ (e : Edge). eqb e.to (to_at net.waits i) && is_touched_in now e.from) net.waits)
+          (ap not r)
+          (list_any_at (λ (e : Edge). eqb e.to (to_at net.waits i) && is_touched_in now e.from) net.waits i (record { from = 0; to = 0 }) within (and_from (eqb (to_at net.waits i) (to_at net.waits i)) (is_touched_in now (from_at net.waits i)) (eq-eqb (to_at net.waits i) (to_at net.waits i) refl) a))
+
+      falls-wait : (n : ℕ) → falls_with net (is_touched_in now) n ≡ true → (is_root net n ≡ false) × ((i : ℕ) × (i < length net.waits) × (to_at net.waits i ≡ n) × (is_touched_in now (from_at net.waits i) ≡ true))
+      falls-wait n e =
+          let parts = and_parts (not (is_root net n)) (list_any (λ (e : Edge). eqb e.to n && is_touched_in now e.from) net.waits) e in
+          let a = Any-from_list_any (λ (e : Edge). eqb e.to n && is_touched_in now e.from) net.waits parts.1 in
+          let tests = and_parts (eqb a.1.to n) (is_touched_in now a.1.from) a.4 in
+          let item : edge_at net.waits a.0 ≡ a.1 = get_or_default net.waits a.0 (record { from = 0; to = 0 }) a.1 a.2 ∙ a.3 in (
+            not-true (is_root net n) parts.0,
+            (a.0, a.2, ap (λ (x : Edge). x.to) item ∙ eqb-true a.1.to n tests.0, ap (λ (x : Edge). is_touched_in now x.from) item ∙ tests.1),
+          )
+
+      -- a marked node stays so or falls, and no other does either
+      marked_bit : (n : ℕ) → bit (is_marked_in t n) ≡ bit (is_marked_in now n) + bit (falls_with net (is_touched_in now) n)
+      marked_bit n =
+          elim (cases_Bool (falls_with net (is_touched_in now) n)) [
+            | inl e ↦
+                let fall = falls-wait n e in
+                let w = fall.1 in
+                let out : is_marked_in now n ≡ false =
+                false_from_ne_true (is_marked_in now n) (λ m.
+                elim (f.falling.grounded n m) [
+                  | inl r ↦ both_ways (is_root net n) fall.0 r
+                  | inr g ↦
+                      let same : g.0 ≡ w.0 = once g.0 w.0 g.1.within w.1 (g.2 ∙ sym w.2) in
+                      elim g.1.by [
+                        | inl o ↦ untouched-from_open (from_at net.waits w.0) (ap (λ k. is_open_in now (from_at net.waits k)) (sym same) ∙ o) w.3
+                        | inr o ↦ omega (arith, o.1)
+                      ]
+                ])
+                in
+                let o = taken-open net label (from_at net.waits w.0) (touched-taken (from_at net.waits w.0) w.3) in
+                let r : IsReached net n = step o.offered.3 o.offered.2 o.not_closed (record { within = w.1; from = refl; to = w.2 }) in
+                omega (arith, bit-true (falls_with net (is_touched_in now) n) e, bit-false (is_marked_in now n) out, bit-true (is_marked_in t n) (marked-from_reached n r))
+            | inr e ↦
+                elim (cases_Bool (is_marked_in now n)) [
+                  | inl m ↦ omega (arith, bit-false (falls_with net (is_touched_in now) n) e, bit-true (is_marked_in now n) m, bit-true (is_marked_in t n) (marked-from_reached n (f.falling.sound n m)))
+                  | inr m ↦
+                      let out : is_marked_in t n ≡ false =
+                      false_from_ne_true (is_marked_in t n) (λ a.
+                      let w = f.falling.lost n (h.follows.steady.sound n a) m in
+                      let not_root : is_root net n ≡ false = false_from_ne_true (is_root net n) (λ r. both_ways (is_marked_in now n) m (f.falling.roots n r)) in
+                      both_ways (falls_with net (is_touched_in now) n) e (ap (falls_with net (is_touched_in now)) (sym w.2) ∙ falls-from w.0 w.1 (ap (is_root net) w.2 ∙ not_root) w.3))
+                      in
+                      omega (arith, bit-false (falls_with net (is_touched_in now) n) e, bit-false (is_marked_in now n) m, bit-false (is_marked_in t n) out)
+                ]
+          ]
+
+      -- the visits fall by the edges that are taken back
+      pub visits_taken : (waits : (i : ℕ) → i < length net.waits → from_at net.waits i < length net.closed) → t.visits ≡ now.visits + edges_taken_back net (is_touched_in now)
+      visits_taken waits =
+          omega (
+            arith,
+            count_marked net t h.follows.steady.listing,
+            h.follows.counted.visits,
+            f.falling.counted.visits,
+            count_below-add (λ i. is_marked_in t (from_at net.offers i)) (λ i. is_marked_in now (from_at net.offers i)) (λ i. falls_with net (is_touched_in now) (from_at net.offers i)) (length net.offers) (λ i a. marked_bit (from_at net.offers i)),
+            count_below-add (λ i. is_open_in t (from_at net.waits i)) (λ i. is_open_in now (from_at net.waits i)) (λ i. is_touched_in now (from_at net.waits i)) (length net.waits) (λ i a. open_bit (from_at net.waits i) (waits i a)),
+            count_by-count_below (λ (e : Edge). falls_with net (is_touched_in now) e.from) net.offers (record { from = 0; to = 0 }),
+            count_by-count_below (λ (e : Edge). is_touched_in now e.from) net.waits (record { from = 0; to = 0 }),
+          )
+
+      -- the touched labels are those that are taken back
+      taken-touched : (l : ℕ) → IsTakenBack net label l → is_touched_in now l ≡ true
+      taken-touched l (itself o) =
+          holds-from_placed now.touched_places label (omega (arith, ap (λ k. get_or now.touched_places k 0) (sym f.first), f.falling.queue.listed 0 f.falling.some))
+      taken-touched l (beyond {here = here} {node = node} {i = i} {j = j} b w r e c) =
+          let a = taken-touched here b in
+          let o = taken-open net label here b in
+          let reached : IsReached net node = step o.offered.3 o.offered.2 o.not_closed w in
+          let falls : falls_with net (is_touched_in now) node ≡ true =
+          ap (falls_with net (is_touched_in now)) (sym w.to) ∙ falls-from i w.within (ap (is_root net) w.to ∙ r) (ap (is_touched_in now) w.from ∙ a)
+          in
+          let out : is_marked_in now node ≡ false = false_from_ne_true (is_marked_in now node) (λ m. omega (arith, marked_bit node, bit-le (is_marked_in t node), bit-true (is_marked_in now node) m, bit-true (falls_with net (is_touched_in now) node) falls)) in
+          elim (f.falling.shut node j reached e.within e.from (ap (is_closed net) e.to ∙ c)) [
+            | inl d ↦ ap (is_touched_in now) (sym e.to) ∙ f.falling.fallen node j reached out e.within e.from d
+            | inr d ↦ ap (is_touched_in now) (sym e.to) ∙ d
+          ]
+
+      pub touched-all : AreTakenBack net label (is_touched_in now)
+      touched-all = record { only = touched-taken; all = taken-touched }
 
 -- The net with one label closed
 
@@ -349,3 +493,61 @@ visits_after net t h queue labels label l new k =
           let b = Follows-offered (with_closed net label) (length new.marked) new k.follows m within (k.follows.steady.open_supported m o) in
           (b.0, b.1, b.2, reached-before net label l b.1 (k.follows.steady.sound b.1 b.3), (not_closed_before net label l m (k.follows.steady.open_not_closed m o)).0)),
     )
+
+-- How many turns a close takes
+
+pub ClosesIn-shut : (net : Net) (label visits : ℕ) → (IsOpen net label → ⊥) → ClosesIn net label visits visits 0
+ClosesIn-shut net label visits shut = record {
+  labels = λ l. false;
+  taken_back = none-taken net label shut;
+  again = 0;
+  visits = omega (arith, none-edges net);
+  turns = omega (arith, none-edges net);
+}
+
+module _ (net : Net) (t : Tally) (h : IsSettled net t) (queue : IsListing t.touched t.touched_places) (labels : (i : ℕ) → i < length net.offers → to_at net.offers i < length net.closed) (waits : (i : ℕ) → i < length net.waits → from_at net.waits i < length net.closed) (once : WaitsOnce net) (label : ℕ) (now : Tally) (f : HasFallen net label now) where
+  pub visits_fall : now.visits ≤ t.visits
+  visits_fall = omega (arith, visits_taken net t h queue labels label now f once waits)
+
+  pub ClosesIn-open : (after : ℕ) → now.visits ≤ after → ClosesIn net label t.visits after ((t.visits - now.visits) + (after - now.visits))
+  ClosesIn-open after l = record {
+    labels = is_touched_in now;
+    taken_back = touched-all net t h queue labels label now f once;
+    again = after - now.visits;
+    visits = omega (arith, l, visits_taken net t h queue labels label now f once waits);
+    turns = omega (arith, l, visits_taken net t h queue labels label now f once waits);
+  }
+
+-- no more than two turns for each edge at labels of the reach, where the visits do not grow
+pub ClosesIn-near : (net : Net) (label before after turns : ℕ) (labels : ℕ → Bool) → ClosesIn net label before after turns → after ≤ before → HasReachOf net label labels → turns ≤ 2 * edges_at net labels
+ClosesIn-near net label before after turns labels c l h = omega (arith, c.visits, c.turns, l, taken-few net label c.labels labels c.taken_back h)
+
+-- no other number of turns
+pub ClosesIn-one : (net : Net) (label before after turns others : ℕ) → ClosesIn net label before after turns → ClosesIn net label before after others → turns ≡ others
+ClosesIn-one net label before after turns others a b =
+    omega (arith, a.visits, a.turns, b.visits, b.turns, taken-same a.labels b.labels a.taken_back b.taken_back, taken-same b.labels a.labels b.taken_back a.taken_back)
+  where
+    fewer_fall : (p q : ℕ → Bool) → ((l : ℕ) → p l ≡ true → q l ≡ true) → (n : ℕ) → falls_with net p n ≡ true → falls_with net q n ≡ true
+    fewer_fall p q k n e =
+        let parts = and_parts (not (is_root net n)) (list_any (λ (w : Edge). eqb w.to n && p w.from) net.waits) e in
+        let c = Any-from_list_any (λ (w : Edge). eqb w.to n && p w.from) net.waits parts.1 in
+        let tests = and_parts (eqb c.1.to n) (p c.1.from) c.4 in
+        let item : edge_at net.waits c.0 ≡ c.1 = get_or_default net.waits c.0 (record { from = 0; to = 0 }) c.1 c.2 ∙ c.3 in
+        let test : (eqb (to_at net.waits c.0) n && q (from_at net.waits c.0)) ≡ true =
+        ap (λ (w : Edge). eqb w.to n && q w.from) item ∙ and_from (eqb c.1.to n) (q c.1.from) tests.0 (k c.1.from tests.1)
+        in
+        and_from (not (is_root net n)) (list_any (λ (w : Edge). eqb w.to n && q w.from) net.waits) parts.0
+        (list_any_at (λ (w : Edge). eqb w.to n && q w.from) net.waits c.0 (record { from = 0; to = 0 }) c.2 test)
+
+    taken-same : (p q : ℕ → Bool) → AreTakenBack net label p → AreTakenBack net label q → edges_taken_back net p ≤ edges_taken_back net q
+    taken-same p q x y =
+        let fewer : (l : ℕ) → p l ≡ true → q l ≡ true = λ l e. y.all l (x.only l e) in
+        omega (
+          arith,
+          count_by-count_below (λ (e : Edge). falls_with net p e.from) net.offers (record { from = 0; to = 0 }),
+          count_by-count_below (λ (e : Edge). p e.from) net.waits (record { from = 0; to = 0 }),
+          count_by-count_below (λ (e : Edge). falls_with net q e.from) net.offers (record { from = 0; to = 0 }),
+          count_by-count_below (λ (e : Edge). q e.from) net.waits (record { from = 0; to = 0 }),
+          count_below-mono (λ i. falls_with net p (from_at net.offers i)) (λ i. falls_with net q (from_at net.offers i)) (length net.offers) (λ i a e. fewer_fall p q fewer (from_at net.offers i) e),
+          count_below-mono (λ i. p (from_at net.waits i)) (λ i. q (from_at net.waits i)) (length net.waits) (λ i a e. fewer (from_at net.waits i) e),
+        )

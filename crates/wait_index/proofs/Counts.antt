@@ -3,7 +3,7 @@ use Rattle.std.proofs.Common.{◌≡◌, ◌≢◌, ℕ, zero, suc, ◌+◌, ◌
 use Rattle.std.proofs.lemmas.Bool.{cases_Bool, cases_eq}
 use Rattle.std.proofs.lemmas.List.{take_all}
 use Rattle.std.proofs.lemmas.List.Sums.{count_by_more_yes, count_by_more_no}
-use Rattle.wait_index.specs.Count.{bit, count_below}
+use Rattle.wait_index.specs.Inside.Count.{bit, count_below}
 
 pub bit-le : (b : Bool) → bit b ≤ 1
 bit-le true = omega arith

@@ -3,12 +3,13 @@ use Rattle.std.proofs.Common.{◌≡◌, ◌≢◌, ℕ, ◌+◌, ◌-◌, ◌<�
 use Rattle.std.specs.Prelude.{not}
 use Rattle.std.proofs.lemmas.Bool.{cases_eq, cases_lt, ne_eqb, eq-eqb, eqb-true, and_parts, and_from, and_cases, both_ways, not-true, not-false}
 use Rattle.std.proofs.lemmas.List.{length-set, length-take, get_or-take, get_or_past}
-use Rattle.wait_index.specs.Count.{bit, count_below}
-use Rattle.wait_index.specs.Edge.{from_at, to_at, IsEdge, IsLink, IsLast}
-use Rattle.wait_index.specs.Listing.{holds, IsListing}
-use Rattle.wait_index.specs.Net.{Net, is_root, HasReachOf}
-use Rattle.wait_index.specs.Tally.{Tally, is_marked_in, is_touched_in, is_open_in, support_in, offers_between, UnmarksNode, WithdrawsAll, Falls}
-use Rattle.wait_index.specs.Fall.{StillFollowed, IsFalling, CanFall}
+use Rattle.wait_index.specs.Inside.Count.{bit, count_below}
+use Rattle.wait_index.specs.Edge.{from_at, to_at, IsEdge}
+use Rattle.wait_index.specs.Inside.Links.{IsLink, IsLast}
+use Rattle.wait_index.specs.Inside.Listing.{holds, IsListing}
+use Rattle.wait_index.specs.Net.{Net, is_root, IsTakenBack, beyond}
+use Rattle.wait_index.specs.Inside.Tally.{Tally, is_marked_in, is_touched_in, is_open_in, support_in, offers_between, UnmarksNode, WithdrawsAll, Falls}
+use Rattle.wait_index.specs.Inside.Fall.{StillFollowed, IsFalling, CanFall}
 use Rattle.wait_index.proofs.Counts.{bit-true, bit-false, count_below-some, count_below-add, count_below-mono, count_below-same}
 use Rattle.wait_index.proofs.Links.{IsLink-last, count_owned, count_owned-step}
 use Rattle.wait_index.proofs.Listings.{placed-from_holds, holds-from_placed}
@@ -331,12 +332,12 @@ module _ (net : Net) (once : WaitsOnce net) (index label edge link next : ℕ) (
     support_is : (l : ℕ) → l < length net.closed → support_in new l + offers_between net (to_at net.waits edge) l ≡ support_in now l
     support_is l a = w.support l (omega (arith, a, label_size)) ∙ ap (λ xs. get_or xs l 0) u.support
 
-    new_near : (labels : ℕ → Bool) → HasReachOf net (get_or new.touched 0 0) labels → (l : ℕ) → is_touched_in new l ≡ true → labels l ≡ true
-    new_near labels r l a =
-        let before : HasReachOf net (get_or now.touched 0 0) labels = subst (λ x. HasReachOf net x labels) (touched_item 0 h.falling.some) r in
+    new_near : (l : ℕ) → is_touched_in new l ≡ true → IsTakenBack net (get_or new.touched 0 0) l
+    new_near l a =
+        let before : (k : ℕ) → is_touched_in now k ≡ true → IsTakenBack net (get_or new.touched 0 0) k = λ k b. subst (λ x. IsTakenBack net x k) (sym (touched_item 0 h.falling.some)) (h.falling.near k b) in
         elim (touched_only l a) [
-          | inl b ↦ h.falling.near labels before l b
-          | inr b ↦ r.goes_on label (to_at net.waits edge) l edge b.1.0 (h.falling.near labels before label h.touched_label) (record { within = edge_within; from = owner; to = refl }) b.1.1
+          | inl b ↦ before l b
+          | inr b ↦ beyond (before label h.touched_label) (record { within = edge_within; from = owner; to = refl }) not_root b.1.1 (h.falling.open_not_closed l b.0)
         ]
 
     new_todo : (k : ℕ) → index + 1 ≤ k → k < length new.touched → is_open_in new (get_or new.touched k 0) ≡ true

@@ -2,12 +2,13 @@
 use Rattle.std.proofs.Common.{◌≡◌, ◌≢◌, ℕ, ◌+◌, ◌-◌, ◌<◌, ◌≤◌, ◌⊎◌, inl, inr, Bool, true, false, ◌&&◌, List, length, get_or, set, take, eqb, ltb, leb, arith, refl, sym, ap, ◌∙◌, subst}
 use Rattle.std.proofs.lemmas.Bool.{cases_eq, cases_lt, ne_eqb, eq-eqb, eqb-true, and_left, and_from, and_parts, lt-ltb, le-ltb, le-leb, lt-leb, both_ways}
 use Rattle.std.proofs.lemmas.List.{length-take, take_all, length-set, get_or-set_same, get_or-set_other, get_or-take}
-use Rattle.wait_index.specs.Count.{bit, count_below}
-use Rattle.wait_index.specs.Edge.{from_at, to_at, IsEdge, IsLink, IsLast}
-use Rattle.wait_index.specs.Listing.{holds, IsListing}
+use Rattle.wait_index.specs.Inside.Count.{bit, count_below}
+use Rattle.wait_index.specs.Edge.{from_at, to_at, IsEdge}
+use Rattle.wait_index.specs.Inside.Links.{IsLink, IsLast}
+use Rattle.wait_index.specs.Inside.Listing.{holds, IsListing}
 use Rattle.wait_index.specs.Net.{Net, is_closed, step}
-use Rattle.wait_index.specs.Tally.{Tally, is_marked_in, is_touched_in, is_open_in, support_in, waits_of, Leaves, Opens, Settles, Supports}
-use Rattle.wait_index.specs.Step.{is_before, IsSteady, IsCounted, IsOpened, Follows, Spreads}
+use Rattle.wait_index.specs.Inside.Tally.{Tally, is_marked_in, is_touched_in, is_open_in, support_in, waits_of, Leaves, Opens, Settles, Supports}
+use Rattle.wait_index.specs.Inside.Step.{is_before, IsSteady, IsCounted, IsOpened, Follows, Spreads}
 use Rattle.wait_index.proofs.Counts.{bit-true, bit-false, count_below-le, count_below-add, count_below-same, count_below-some}
 use Rattle.wait_index.proofs.Links.{IsLink-last, count_owned, count_owned-step, count_owned_and, count_owned_and-step}
 use Rattle.wait_index.proofs.Listings.{placed-from_holds, holds-from_placed}

@@ -2,13 +2,13 @@
 use Rattle.std.proofs.Common.{◌≡◌, ℕ, ◌+◌, ◌<◌, ◌⊎◌, inl, inr, Bool, true, false, ◌&&◌, List, [], ◌∷◌, ◌++◌, length, get_or, take, eqb, ltb, leb, arith, refl, sym, ap, ◌∙◌, subst}
 use Rattle.std.proofs.lemmas.Bool.{cases_Bool, cases_eq, cases_lt, ne_eqb, eq-eqb, eqb-true, or_cases, or_left, or_right, and_from, and_left, both_ways}
 use Rattle.std.proofs.lemmas.List.{length-set, length_push, get_or_append_left, get_or_push, get_or_past}
-use Rattle.wait_index.specs.Count.{bit, count_below}
+use Rattle.wait_index.specs.Inside.Count.{bit, count_below}
 use Rattle.wait_index.specs.Edge.{from_at, to_at}
-use Rattle.wait_index.specs.Listing.{holds, IsListing}
+use Rattle.wait_index.specs.Inside.Listing.{holds, IsListing}
 use Rattle.wait_index.specs.Net.{Net, is_root, is_closed, IsReached, root, step, IsMore, with_node, with_label, with_offer, with_wait, with_root}
-use Rattle.wait_index.specs.Tally.{Tally, is_marked_in, is_open_in, support_in, MarksNode, Supports, FollowsWait}
-use Rattle.wait_index.specs.Step.{is_before, IsSteady, Follows}
-use Rattle.wait_index.specs.Fall.{IsSettled}
+use Rattle.wait_index.specs.Inside.Tally.{Tally, is_marked_in, is_open_in, support_in, MarksNode, Supports, FollowsWait}
+use Rattle.wait_index.specs.Inside.Step.{is_before, IsSteady, Follows}
+use Rattle.wait_index.specs.Inside.Fall.{IsSettled}
 use Rattle.wait_index.proofs.Counts.{bit-true, bit-false, count_below-more, count_below-same, count_below-gap}
 use Rattle.wait_index.proofs.Links.{from_at-old, to_at-old, from_at-new, to_at-new, IsEdge-old, IsEdge-new}
 use Rattle.wait_index.proofs.Listings.{IsListing-grow}

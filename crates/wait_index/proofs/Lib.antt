@@ -9,3 +9,4 @@ pub mod Closing
 pub mod Growing
 pub mod Showing
 pub mod Least
+pub mod StandardFacts

@@ -3,8 +3,9 @@ use Rattle.std.proofs.Common.{◌≡◌, ◌≢◌, ℕ, ◌+◌, ◌<◌, ◌�
 use Rattle.std.proofs.lemmas.Bool.{cases_eq, cases_lt, ne_eqb, eq-eqb, and_left}
 use Rattle.std.proofs.lemmas.List.{get_or_append_left, get_or_push, length_push, length-set, get_or-set_same, get_or-set_other, get_or_read}
 use Rattle.wait_index.specs.declared.edges.Edge.{Edge}
-use Rattle.wait_index.specs.Count.{bit, count_below}
-use Rattle.wait_index.specs.Edge.{edge_at, from_at, to_at, IsEdge, IsLink, IsLast, AreLinked}
+use Rattle.wait_index.specs.Inside.Count.{bit, count_below}
+use Rattle.wait_index.specs.Edge.{edge_at, from_at, to_at, IsEdge}
+use Rattle.wait_index.specs.Inside.Links.{IsLink, IsLast, AreLinked}
 use Rattle.wait_index.proofs.Counts.{bit-true, count_below-more, count_below-gap}
 
 -- the edges of an owner that pass a test

@@ -4,8 +4,8 @@ use Rattle.std.specs.Prelude.{not}
 use Rattle.std.specs.List.{swap_remove}
 use Rattle.std.proofs.lemmas.Bool.{cases_eq, cases_lt, ne_eqb, eq-eqb, ltb-true, ltb-false, lt-ltb, le-ltb}
 use Rattle.std.proofs.lemmas.List.{get_or_append_left, get_or_push, length_push, length-set, get_or-set_same, get_or-set_other, get_or-take, length-take-le, get_or_past, get_or_default}
-use Rattle.wait_index.specs.Count.{bit, count_below}
-use Rattle.wait_index.specs.Listing.{holds, IsListing}
+use Rattle.wait_index.specs.Inside.Count.{bit, count_below}
+use Rattle.wait_index.specs.Inside.Listing.{holds, IsListing}
 use Rattle.wait_index.proofs.Counts.{count_below-change, count_below-less, count_below-same, count_below-more, bit-false}
 
 -- a number is listed exactly where its place is not 0

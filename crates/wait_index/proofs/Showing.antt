@@ -1,5 +1,5 @@
 -- What is shown of a settled index
-use Rattle.std.proofs.Common.{◌≡◌, ◌≢◌, ℕ, ◌+◌, ◌-◌, ◌<◌, ◌≤◌, inl, inr, true, false, ◌&&◌, List, length, get_or, eqb, arith, sym, ap, ◌∙◌}
+use Rattle.std.proofs.Common.{◌≡◌, ◌≢◌, ℕ, ◌+◌, ◌-◌, ◌<◌, ◌≤◌, inl, inr, true, false, ◌&&◌, List, length, get_or, eqb, arith, sym, ap, subst, ◌∙◌}
 use Rattle.std.specs.Prelude.{not, Contains, AllPairs}
 use Rattle.std.specs.List.{list_any}
 use Rattle.std.proofs.lemmas.Bool.{cases_Bool, eq-eqb, eqb-true, and_parts, and_from, both_ways, false_from_ne_true, not-true}
@@ -7,11 +7,13 @@ use Rattle.std.proofs.lemmas.List.{get_or_default}
 use Rattle.std.proofs.lemmas.List.Folds.{Any-from_list_any, list_any_at}
 use Rattle.wait_index.specs.declared.edges.Edge.{Edge}
 use Rattle.wait_index.specs.Edge.{edge_at, from_at, to_at}
-use Rattle.wait_index.specs.Listing.{holds, IsListing}
-use Rattle.wait_index.specs.Net.{Net, is_closed, IsOpen, ListsReached, has_wait, is_among, is_open_among, visits_of}
-use Rattle.wait_index.specs.Tally.{Tally, is_marked_in, is_open_in}
-use Rattle.wait_index.specs.Step.{is_before}
-use Rattle.wait_index.specs.Fall.{IsSettled}
+use Rattle.wait_index.specs.Inside.Listing.{holds, IsListing}
+use Rattle.wait_index.specs.Net.{Net, is_closed, ListsReached, has_wait, is_among, is_open_among, visits_of}
+use Rattle.wait_index.specs.declared.graph.Graph.{Graph}
+use Rattle.wait_index.specs.declared.marks.Marks.{Marks}
+use Rattle.wait_index.specs.Inside.Tally.{Tally, net_of, tally_of, is_marked_in, is_open_in}
+use Rattle.wait_index.specs.Inside.Step.{is_before}
+use Rattle.wait_index.specs.Inside.Fall.{IsSettled}
 use Rattle.wait_index.proofs.Counts.{count_by-count_below, count_below-same}
 use Rattle.wait_index.proofs.Listings.{placed-from_holds, holds-from_placed}
 use Rattle.wait_index.proofs.Following.{Follows-offered}
@@ -61,15 +63,6 @@ module _ (net : Net) (t : Tally) (h : IsSettled net t) (queue : IsListing t.touc
         once = listed-once t.marked t.places listing;
       }
 
-  pub open-shown : (l : ℕ) → l < length net.closed → is_open_in t l ≡ true → IsOpen net l
-  open-shown l within o =
-      let b = Follows-offered net (length t.marked) t h.follows l within (h.follows.steady.open_supported l o) in
-      record { not_closed = h.follows.steady.open_not_closed l o; offered = (b.0, b.1, b.2, h.follows.steady.sound b.1 b.3) }
-
-  pub open-from_shown : (l : ℕ) → l < length net.closed → IsOpen net l → is_open_in t l ≡ true
-  open-from_shown l within o =
-      open-from_offer net t h queue o.offered.0 o.offered.1 l o.offered.2 (marked-from_reached net t h queue labels o.offered.1 o.offered.3) within o.not_closed
-
   among : (n : ℕ) → is_among t.marked n ≡ is_marked_in t n
   among = is_among-holds t.marked t.places h.follows.steady.listing
 
@@ -108,6 +101,15 @@ module _ (net : Net) (t : Tally) (h : IsSettled net t) (queue : IsListing t.touc
         count_below-same (λ i. is_among t.marked (from_at net.offers i)) (λ i. is_before t (length t.marked) (from_at net.offers i)) (length net.offers) (λ i a. among (from_at net.offers i) ∙ sym (before_all t h.follows.steady.listing (from_at net.offers i))),
         count_below-same (λ i. is_open_among net t.marked (from_at net.waits i)) (λ i. is_open_in t (from_at net.waits i)) (length net.waits) (λ i a. open_among (from_at net.waits i)),
       )
+
+-- the marked nodes of a settled index are listed
+pub lists : (g : Graph) (m : Marks) → IsSettled (net_of g) (tally_of m) → ListsReached (net_of g) m.marked.items.items
+lists g m h = lists-reached (net_of g) (tally_of m) h m.touched.listed g.shaped.labels
+
+-- ... also where only room was added
+pub lists-grown : (g more : Graph) (m grown : Marks) → IsSettled (net_of g) (tally_of m) → net_of more ≡ net_of g → tally_of grown ≡ tally_of m → ListsReached (net_of more) grown.marked.items.items
+lists-grown g more m grown h net tally =
+    subst (λ (n : Net). ListsReached n grown.marked.items.items) (sym net) (subst (λ (t : Tally). ListsReached (net_of g) t.marked) (sym tally) (lists g m h))
 
 -- no wait edge leads to a node that is not there
 pub has_wait-past : (net : Net) (node : ℕ) → ((i : ℕ) → i < length net.waits → to_at net.waits i < length net.roots) → length net.roots ≤ node → has_wait net node ≡ false

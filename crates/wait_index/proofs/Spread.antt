@@ -2,10 +2,11 @@
 use Rattle.std.proofs.Common.{◌≡◌, ℕ, ◌+◌, ◌<◌, ◌≤◌, ◌⊎◌, inl, inr, true, ◌||◌, List, length, take, eqb, arith, refl, sym, ap, ◌∙◌}
 use Rattle.std.proofs.lemmas.Bool.{cases_eq, cases_lt, eq-eqb, or_cases, or_left, or_right, eqb-true}
 use Rattle.std.proofs.lemmas.List.{take-take, length-take, take_all}
-use Rattle.wait_index.specs.Count.{count_below}
-use Rattle.wait_index.specs.Edge.{from_at, to_at, IsEdge, IsLink, IsLast}
+use Rattle.wait_index.specs.Inside.Count.{count_below}
+use Rattle.wait_index.specs.Edge.{from_at, to_at, IsEdge}
+use Rattle.wait_index.specs.Inside.Links.{IsLink, IsLast}
 use Rattle.wait_index.specs.Net.{Net}
-use Rattle.wait_index.specs.Tally.{Tally, HasSizes, is_marked_in, waits_of, MarksNode, Releases}
+use Rattle.wait_index.specs.Inside.Tally.{Tally, HasSizes, is_marked_in, waits_of, MarksNode, Releases}
 use Rattle.wait_index.proofs.Counts.{count_below-le, count_below-at}
 use Rattle.wait_index.proofs.Links.{IsLink-last, count_owned, count_owned-step}
 

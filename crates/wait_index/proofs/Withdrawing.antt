@@ -2,11 +2,12 @@
 use Rattle.std.proofs.Common.{◌≡◌, ◌≢◌, ℕ, ◌+◌, ◌-◌, ◌<◌, ◌≤◌, ◌⊎◌, inl, inr, true, false, ◌&&◌, length, get_or, take, eqb, arith, refl, sym, ap, ◌∙◌}
 use Rattle.std.proofs.lemmas.Bool.{cases_eq, cases_lt, ne_eqb, eq-eqb, or_cases, or_left, or_right, eqb-true, and_parts, and_from}
 use Rattle.std.proofs.lemmas.List.{take_all, length-set, get_or-set_same, get_or-set_other}
-use Rattle.wait_index.specs.Count.{count_below}
-use Rattle.wait_index.specs.Edge.{from_at, to_at, IsEdge, IsLink, IsLast}
+use Rattle.wait_index.specs.Inside.Count.{count_below}
+use Rattle.wait_index.specs.Edge.{from_at, to_at, IsEdge}
+use Rattle.wait_index.specs.Inside.Links.{IsLink, IsLast}
 use Rattle.wait_index.specs.Net.{Net}
-use Rattle.wait_index.specs.Tally.{Tally, HasSizes, is_touched_in, is_open_in, support_in, offers_of, offers_between, Withdraws, WithdrawsAll}
-use Rattle.wait_index.specs.Fall.{CanFall}
+use Rattle.wait_index.specs.Inside.Tally.{Tally, HasSizes, is_touched_in, is_open_in, support_in, offers_of, offers_between, Withdraws, WithdrawsAll}
+use Rattle.wait_index.specs.Inside.Fall.{CanFall}
 use Rattle.wait_index.proofs.Counts.{bit-true, bit-false, count_below-at}
 use Rattle.wait_index.proofs.Links.{IsLink-last, count_owned, count_owned-step, count_owned_and, count_owned_and-step}
 use Rattle.wait_index.proofs.Spread.{front-trans}

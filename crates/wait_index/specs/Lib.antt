@@ -1,12 +1,5 @@
-pub mod Edge
+-- What a caller cites stands in the first three; `Inside` has what the index keeps and its invariants.
 pub mod Net
 pub mod Index
-pub mod Room
-pub mod Shape
-pub mod Capacity
-pub mod Count
-pub mod Listing
-pub mod Tally
-pub mod Step
-pub mod Fall
-pub mod Keep
+pub mod Edge
+pub mod Inside

@@ -88,6 +88,34 @@ is_open_among net nodes label = not (is_closed net label) && list_any (λ edge. 
 abbrev pub visits_of : Net → List ℕ → ℕ
 visits_of net nodes = count_by (λ edge. is_among nodes edge.from) net.offers + count_by (λ edge. is_open_among net nodes edge.from) net.waits
 
+-- Taken back with a label are the label itself, where it is open, and with each of them the labels that are not
+-- closed and that a node offers which awaits it and is no root.
+pub data IsTakenBack (net : Net) (label : ℕ) : ℕ → Type 0 where
+  itself : IsOpen net label → IsTakenBack net label label
+  beyond : {here node there i j : ℕ} → IsTakenBack net label here → IsEdge net.waits i here node → is_root net node ≡ false → IsEdge net.offers j node there → is_closed net there ≡ false → IsTakenBack net label there
+
+-- The set has exactly the labels that are taken back with the label.
+pub record AreTakenBack (net : Net) (label : ℕ) (labels : ℕ → Bool) : Type 0 where
+  pub only : (other : ℕ) → labels other ≡ true → IsTakenBack net label other
+  pub all : (other : ℕ) → IsTakenBack net label other → labels other ≡ true
+
+-- whether the node is no root and awaits a label of the set
+abbrev pub falls_with : Net → (ℕ → Bool) → ℕ → Bool
+falls_with net labels node = not (is_root net node) && list_any (λ edge. (edge.to == node) && labels edge.from) net.waits
+
+-- how many offer edges lead from nodes that fall with the labels of the set, and how many wait edges from the labels
+abbrev pub edges_taken_back : Net → (ℕ → Bool) → ℕ
+edges_taken_back net labels = count_by (λ edge. falls_with net labels edge.from) net.offers + count_by (λ edge. labels edge.from) net.waits
+
+-- Closing the label takes so many turns: each edge that is taken back is one, and so is each that is followed
+-- again, which brings the visits from what they were before to what they are after.
+pub record ClosesIn (net : Net) (label before after count : ℕ) : Type 0 where
+  pub labels : ℕ → Bool
+  pub taken_back : AreTakenBack net label labels
+  pub again : ℕ
+  pub visits : before + again ≡ after + edges_taken_back net labels
+  pub turns : count ≡ edges_taken_back net labels + again
+
 -- The set has the label and, with a label, each label that is offered by a node that awaits it.
 pub record HasReachOf (net : Net) (label : ℕ) (labels : ℕ → Bool) : Type 0 where
   pub has : labels label ≡ true

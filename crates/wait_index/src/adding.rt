@@ -1,9 +1,9 @@
 //! How marks grow with what is added to a graph.
 ghost use Rattle.std.specs.Prelude.{◌≡◌, ℕ, ◌+◌, ◌^◌, ◌<◌, ◌≤◌, ◌⊎◌, true, false, length, take};
-ghost use Rattle.wait_index.specs.Capacity.{graph_capacity};
-ghost use Rattle.wait_index.specs.Fall.{IsSettled};
+ghost use Rattle.wait_index.specs.Inside.Capacity.{graph_capacity};
+ghost use Rattle.wait_index.specs.Inside.Fall.{IsSettled};
 ghost use Rattle.wait_index.specs.Net.{with_node, with_label, with_offer, with_wait, with_root, has_wait};
-ghost use Rattle.wait_index.specs.Tally.{net_of, tally_of, capacity_of, HasSizes, is_marked_in, is_open_in, support_in, Supports, FollowsWait};
+ghost use Rattle.wait_index.specs.Inside.Tally.{net_of, tally_of, capacity_of, HasSizes, is_marked_in, is_open_in, support_in, Supports, FollowsWait};
 
 use crate::graph::Graph;
 use crate::marks::Marks;

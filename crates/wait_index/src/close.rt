@@ -1,10 +1,11 @@
-//! How a label is closed: what it alone reaches is taken back, and what is reached otherwise follows again.
+//! How a label is closed: what it alone reaches is taken back, and what is reached otherwise
+//! follows again.
 ghost use Rattle.std.specs.Prelude.{◌≡◌, ℕ, ◌+◌, ◌*◌, ◌^◌, ◌<◌, ◌≤◌, true, false, [], Bool, length, slice_index, take};
-ghost use Rattle.wait_index.specs.Capacity.{graph_capacity};
-ghost use Rattle.wait_index.specs.Fall.{CanFall, HasFallen, IsFalling, IsSettled};
-ghost use Rattle.wait_index.specs.Net.{with_closed, HasReachOf, edges_at};
-ghost use Rattle.wait_index.specs.Step.{Follows};
-ghost use Rattle.wait_index.specs.Tally.{net_of, tally_of, capacity_of, HasSizes, is_marked_in, is_open_in, Falls, Withdraws, WithdrawsAll};
+ghost use Rattle.wait_index.specs.Inside.Capacity.{graph_capacity};
+ghost use Rattle.wait_index.specs.Inside.Fall.{CanFall, HasFallen, IsFalling, IsSettled};
+ghost use Rattle.wait_index.specs.Net.{with_closed, ClosesIn, HasReachOf, edges_at};
+ghost use Rattle.wait_index.specs.Inside.Step.{Follows};
+ghost use Rattle.wait_index.specs.Inside.Tally.{net_of, tally_of, capacity_of, HasSizes, is_marked_in, is_open_in, Falls, Withdraws, WithdrawsAll};
 
 use crate::graph::Graph;
 use crate::marks::Marks;
@@ -17,9 +18,9 @@ impl Marks {
         requires few { length graph.old.offers.edges.items + length graph.old.waits.edges.items < 2 ^ 63 }
         ensures net { net_of graph.new ≡ with_closed (net_of graph.old) label }
         ensures settled { IsSettled (net_of graph.new) (tally_of self.new) }
-        ensures turns { (taken again : ℕ) × (result ≡ taken + again) × (self.old.visits + again ≡ self.new.visits + taken) }
+        ensures turns { ClosesIn (net_of graph.old) label self.old.visits self.new.visits result }
         ensures near { (labels : ℕ → Bool) → HasReachOf (net_of graph.old) label labels → result ≤ 2 * edges_at (net_of graph.old) labels }
-        ensures none { is_open_in (tally_of self.old) label ≡ false → result ≡ 0 }
+        ensures shut { is_open_in (tally_of self.old) label ≡ false → (result ≡ 0) × (tally_of self.new ≡ tally_of self.old) }
         ensures graph_room { graph_capacity graph.new ≡ graph_capacity graph.old }
         ensures room { capacity_of self.new ≡ capacity_of self.old }
     {
@@ -74,7 +75,8 @@ impl Marks {
         }
     }
 
-    /// Takes the wait edges of the touched label at the index back. Each node that awaits it falls, but for a root.
+    /// Takes the wait edges of the touched label at the index back. Each node that awaits it falls,
+    /// but for a root.
     fn take_back_waits(&mut self, graph: &Graph, index: usize)
         requires falling { IsFalling (net_of graph.now) (tally_of self.old) index 0 0 }
         requires index { index < length self.old.touched.items.items }
@@ -122,7 +124,8 @@ impl Marks {
         }
     }
 
-    /// Takes an offer edge to the label back. Where the label is open its wait edges are to be looked at.
+    /// Takes an offer edge to the label back. Where the label is open its wait edges are to be
+    /// looked at.
     fn withdraw(&mut self, label: usize)
         requires visits { 0 < self.old.visits }
         requires support { 0 < slice_index self.old.support.items label }

@@ -1,11 +1,13 @@
-//! Edges in the order in which they were added, with a list of the edges of each owner through them.
+//! Edges in the order in which they were added, with a list of the edges of each owner through
+//! them.
 ghost use Rattle.std.specs.Prelude.{◌≡◌, ℕ, ◌+◌, ◌<◌, ◌≤◌, [], ◌∷◌, ◌++◌, length, IsOk, OnOk, ◌==◌, vec_len, vec_capacity};
 ghost use Rattle.std.specs.List.{list_any};
-ghost use Rattle.wait_index.specs.Edge.{AreLinked};
+ghost use Rattle.wait_index.specs.Inside.Links.{AreLinked};
 
 use std::alloc::{AllocError, Global};
 
-/// An edge from its owner. An offer edge leads from a node to a label, a wait edge from a label to a node.
+/// An edge from its owner. An offer edge leads from a node to a label, a wait edge from a label to
+/// a node.
 #[derive(Clone, Copy, Debug, PartialEq, Eq)]
 pub(crate) struct Edge {
     pub(crate) from: usize,
@@ -22,7 +24,7 @@ pub(crate) struct Edges {
 }
 
 impl Edges {
-    ghost use Rattle.wait_index.specs.Room.{SameEdges, owners_room, edges_room};
+    ghost use Rattle.wait_index.specs.Inside.Room.{GrowsEdges, HasEdgesRoom, owners_room, edges_room};
 
     pub(crate) fn new(alloc: Global) -> Self
         ensures edges { result.edges.items ≡ [] }
@@ -37,13 +39,8 @@ impl Edges {
 
     /// Makes room for so many owners and edges more.
     pub(crate) fn try_reserve(&mut self, owners: usize, edges: usize) -> Result<(), AllocError>
-        ensures same { SameEdges self.old self.new }
-        ensures owners { OnOk result (length self.new.newest.items + owners ≤ owners_room self.new) }
-        ensures edges { OnOk result (length self.new.edges.items + edges ≤ edges_room self.new) }
-        ensures owners_kept { owners_room self.old ≤ owners_room self.new }
-        ensures edges_kept { edges_room self.old ≤ edges_room self.new }
-        ensures succeeds { length self.old.newest.items + owners ≤ owners_room self.old
-            → length self.old.edges.items + edges ≤ edges_room self.old → IsOk result }
+        ensures grows { GrowsEdges self.old self.new }
+        ensures ok { OnOk result (HasEdgesRoom self.new owners edges) }
     {
         self.newest.try_reserve(owners)?;
         self.edges.try_reserve(edges)?;

@@ -1,9 +1,12 @@
 //! The nodes, labels and edges of an index.
-ghost use Rattle.std.specs.Prelude.{◌≡◌, ℕ, ◌+◌, ◌<◌, ◌≤◌, true, false, [], ◌∷◌, ◌++◌, length, OnOk, IsOk, vec_capacity};
-ghost use Rattle.wait_index.specs.Shape.{IsShaped};
+ghost use Rattle.std.specs.Prelude.{◌≡◌, ℕ, ◌+◌, ◌^◌, ◌<◌, ◌≤◌, true, false, [], ◌∷◌, ◌++◌, length, OnOk, IsOk, vec_capacity};
+ghost use Rattle.wait_index.specs.Inside.Shape.{IsShaped};
 
 use crate::edges::{Edge, Edges};
 use std::alloc::{AllocError, Global};
+
+/// The number of edges that an index holds at most.
+const MOST_EDGES: usize = 0x7fff_ffff_ffff_ffff;
 
 /// Which nodes are roots, which labels are closed, and the edges.
 #[derive(Drop)]
@@ -16,9 +19,9 @@ pub(crate) struct Graph {
 }
 
 impl Graph {
-    ghost use Rattle.wait_index.specs.Capacity.{graph_capacity};
+    ghost use Rattle.wait_index.specs.Inside.Capacity.{graph_capacity, GrowsGraph, HasGraphRoom};
     ghost use Rattle.wait_index.specs.Net.{with_node, with_label, with_offer, with_wait, with_root, with_closed, has_wait};
-    ghost use Rattle.wait_index.specs.Tally.{net_of};
+    ghost use Rattle.wait_index.specs.Inside.Tally.{net_of};
 
     pub(crate) fn new(alloc: Global) -> Self
         ensures { net_of result ≡ record { roots = []; closed = []; offers = []; waits = [] } }
@@ -31,27 +34,38 @@ impl Graph {
         }
     }
 
-    /// Makes room for so many nodes, labels and edges of each kind more.
+    /// Makes room for so many nodes, labels and edges of each kind more. There are at most
+    /// `MOST_EDGES` edges.
     pub(crate) fn try_reserve(
         &mut self,
         nodes: usize,
         labels: usize,
         edges: usize,
     ) -> Result<(), AllocError>
-        ensures net { net_of self.new ≡ net_of self.old }
-        ensures nodes { OnOk result (length self.new.roots.items + nodes ≤ (graph_capacity self.new).nodes) }
-        ensures labels { OnOk result (length self.new.closed.items + labels ≤ (graph_capacity self.new).labels) }
-        ensures offers { OnOk result (length self.new.offers.edges.items + edges ≤ (graph_capacity self.new).offers) }
-        ensures waits { OnOk result (length self.new.waits.edges.items + edges ≤ (graph_capacity self.new).waits) }
-        ensures nodes_kept { (graph_capacity self.old).nodes ≤ (graph_capacity self.new).nodes }
-        ensures labels_kept { (graph_capacity self.old).labels ≤ (graph_capacity self.new).labels }
-        ensures offers_kept { (graph_capacity self.old).offers ≤ (graph_capacity self.new).offers }
-        ensures waits_kept { (graph_capacity self.old).waits ≤ (graph_capacity self.new).waits }
+        requires { length self.old.offers.edges.items + length self.old.waits.edges.items < 2 ^ 63 }
+        ensures grows { GrowsGraph self.old self.new }
+        ensures ok { OnOk result (HasGraphRoom self.new nodes labels edges) }
     {
         self.roots.try_reserve(nodes)?;
         self.closed.try_reserve(labels)?;
         self.offers.try_reserve(nodes, edges)?;
         self.waits.try_reserve(labels, edges)?;
+        self.try_reserve_turns(edges)?;
+        Ok(())
+    }
+
+    /// Two passes over all edges, so many more included, are to fit a word: past that it asks for a
+    /// growth that is always refused.
+    fn try_reserve_turns(&mut self, edges: usize) -> Result<(), AllocError>
+        requires { length self.old.offers.edges.items + length self.old.waits.edges.items < 2 ^ 63 }
+        ensures grows { GrowsGraph self.old self.new }
+        ensures room { graph_capacity self.new ≡ graph_capacity self.old }
+        ensures ok { OnOk result (length self.new.offers.edges.items + length self.new.waits.edges.items + edges < 2 ^ 63) }
+    {
+        let most = MOST_EDGES - self.offers.edges.len() - self.waits.edges.len();
+        if edges > most {
+            self.offers.edges.try_reserve(usize::MAX)?;
+        }
         Ok(())
     }
 

@@ -1,12 +1,12 @@
 //! A set of labels in the order in which they were put in.
 ghost use Rattle.std.specs.Prelude.{◌≡◌, ℕ, ◌+◌, ◌<◌, ◌≤◌, true, false, [], ◌∷◌, ◌++◌, length, slice_set, MatchOption, OnOk, vec_capacity};
-ghost use Rattle.wait_index.specs.Listing.{IsListing, holds};
+ghost use Rattle.wait_index.specs.Inside.Listing.{IsListing, holds};
 
 use crate::number::LabelNo;
 use std::alloc::{AllocError, Global};
 
-/// The place of a label is its index in the list plus 1, or 0 where it is not in the set. There is room in the
-/// list for each label.
+/// The place of a label is its index in the list plus 1, or 0 where it is not in the set. There is
+/// room in the list for each label.
 #[derive(Drop)]
 pub(crate) struct LabelSet {
     pub(crate) items: Vec<LabelNo>,
@@ -16,6 +16,8 @@ pub(crate) struct LabelSet {
 }
 
 impl LabelSet {
+    ghost use Rattle.wait_index.specs.Inside.Room.{GrowsLabels, HasLabelsRoom};
+
     pub(crate) fn new(alloc: Global) -> Self
         ensures items { result.items.items ≡ [] }
         ensures places { result.places.items ≡ [] }
@@ -28,12 +30,8 @@ impl LabelSet {
 
     /// Makes room for so many labels more.
     pub(crate) fn try_reserve(&mut self, labels: usize) -> Result<(), AllocError>
-        ensures items { self.new.items.items ≡ self.old.items.items }
-        ensures places { self.new.places.items ≡ self.old.places.items }
-        ensures items_room { OnOk result (length self.new.places.items + labels ≤ vec_capacity self.new.items) }
-        ensures places_room { OnOk result (length self.new.places.items + labels ≤ vec_capacity self.new.places) }
-        ensures items_kept { vec_capacity self.old.items ≤ vec_capacity self.new.items }
-        ensures places_kept { vec_capacity self.old.places ≤ vec_capacity self.new.places }
+        ensures grows { GrowsLabels self.old self.new }
+        ensures ok { OnOk result (HasLabelsRoom self.new labels) }
     {
         self.places.try_reserve(labels)?;
         let unlisted = self.places.len() - self.items.len();

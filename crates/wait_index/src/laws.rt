@@ -1,10 +1,10 @@
 //! What holds of every net of nodes and labels.
 ghost use Rattle.std.specs.Prelude.{◌≡◌, ℕ, ◌+◌, ◌<◌, ◌≤◌, ◌↔◌, ◌⊎◌, ◌∷◌, Bool, true, false, List, length, Contains};
 ghost use Rattle.wait_index.specs.Edge.{IsEdge};
-ghost use Rattle.wait_index.specs.Net.{Net, is_root, is_closed, IsReached, IsMore, IsClosedUnder, with_closed, with_all_closed, visits_of};
+ghost use Rattle.wait_index.specs.Net.{Net, is_root, is_closed, IsReached, IsMore, IsClosedUnder, ClosesIn, with_closed, with_all_closed, visits_of};
 
-/// What is reached is the least set that has the roots and, where it has a node that offers a label that is not
-/// closed, each node that awaits the label.
+/// What is reached is the least set that has the roots and, where it has a node that offers a label
+/// that is not closed, each node that awaits the label.
 pub fn least()
     ensures roots { (net : Net) (node : ℕ) → is_root net node ≡ true → IsReached net node }
     ensures steps { (net : Net) (node label next i j : ℕ) → IsReached net node → IsEdge net.offers i node label
@@ -17,8 +17,8 @@ pub fn more_reaches_no_less()
     ensures { (old new : Net) → IsMore old new → (node : ℕ) → IsReached old node → IsReached new node }
 {}
 
-/// After labels were closed one after another, those and the ones that were closed before are closed. So the order
-/// does not matter.
+/// After labels were closed one after another, those and the ones that were closed before are
+/// closed. So the order does not matter.
 pub fn closes_in_any_order()
     ensures one_by_one { (net : Net) (label : ℕ) (labels : List ℕ) → with_all_closed (with_closed net label) labels ≡ with_all_closed net (label ∷ labels) }
     ensures closed { (net : Net) (labels : List ℕ) (label : ℕ) → label < length net.closed →
@@ -30,4 +30,9 @@ pub fn closes_in_any_order()
 /// The turns are at most the edges: until a label is closed no edge is followed twice.
 pub fn no_edge_twice()
     ensures { (net : Net) (nodes : List ℕ) → visits_of net nodes ≤ length net.offers + length net.waits }
+{}
+
+/// A close has one number of turns, whatever way it took.
+pub fn one_number_of_turns()
+    ensures { (net : Net) (label before after count other : ℕ) → ClosesIn net label before after count → ClosesIn net label before after other → count ≡ other }
 {}

@@ -1,5 +1,6 @@
-//! An index of nodes and labels that says which nodes are reached. A node offers labels and awaits at most
-//! one; a label that a reached node offers, and that is not closed, reaches each node that awaits it.
+//! An index of nodes and labels that says which nodes are reached. A node offers labels and awaits
+//! at most one; a label that a reached node offers, and that is not closed, reaches each node that
+//! awaits it.
 #![tactic(auto)]
 
 mod adding;

@@ -1,16 +1,17 @@
 //! The marked nodes and open labels of a graph, and how they spread.
 ghost use Rattle.std.specs.Prelude.{◌≡◌, ℕ, ◌+◌, ◌^◌, ◌<◌, ◌≤◌, true, false, [], ◌∷◌, ◌++◌, length, slice_index, min, vec_capacity, OnOk, IsOk};
-ghost use Rattle.wait_index.specs.Step.{Follows, Spreads};
-ghost use Rattle.wait_index.specs.Tally.{net_of, tally_of, capacity_of, HasSizes, MarksNode, Releases, Settles, Supports};
+ghost use Rattle.wait_index.specs.Inside.Capacity.{GrowsMarks, HasMarksRoom};
+ghost use Rattle.wait_index.specs.Inside.Step.{Follows, Spreads};
+ghost use Rattle.wait_index.specs.Inside.Tally.{net_of, tally_of, capacity_of, HasSizes, MarksNode, Releases, Settles, Supports};
 
 use crate::graph::Graph;
 use crate::label_set::LabelSet;
 use crate::node_set::NodeSet;
 use std::alloc::{AllocError, Global};
 
-/// The marked nodes, how many followed offer edges lead to each label, whether the wait edges of each label are
-/// followed, the labels whose wait edges are to be looked at again, and the turns: one more for each edge that
-/// is followed, one less for each that is taken back.
+/// The marked nodes, how many followed offer edges lead to each label, whether the wait edges of
+/// each label are followed, the labels whose wait edges are to be looked at again, and the turns:
+/// one more for each edge that is followed, one less for each that is taken back.
 #[derive(Drop)]
 pub(crate) struct Marks {
     pub(crate) marked: NodeSet,
@@ -43,14 +44,8 @@ impl Marks {
 
     /// Makes room for so many nodes and labels more.
     pub(crate) fn try_reserve(&mut self, nodes: usize, labels: usize) -> Result<(), AllocError>
-        ensures tally { tally_of self.new ≡ tally_of self.old }
-        ensures nodes { OnOk result (length self.new.marked.places.items + nodes ≤ (capacity_of self.new).nodes) }
-        ensures support { OnOk result (length self.new.support.items + labels ≤ vec_capacity self.new.support) }
-        ensures opened { OnOk result (length self.new.opened.items + labels ≤ vec_capacity self.new.opened) }
-        ensures touched { OnOk result (length self.new.touched.places.items + labels
-            ≤ min (vec_capacity self.new.touched.items) (vec_capacity self.new.touched.places)) }
-        ensures nodes_kept { (capacity_of self.old).nodes ≤ (capacity_of self.new).nodes }
-        ensures labels_kept { (capacity_of self.old).labels ≤ (capacity_of self.new).labels }
+        ensures grows { GrowsMarks self.old self.new }
+        ensures ok { OnOk result (HasMarksRoom self.new nodes labels) }
     {
         self.marked.try_reserve(nodes)?;
         self.support.try_reserve(labels)?;
@@ -85,7 +80,8 @@ impl Marks {
         self.touched.add_label();
     }
 
-    /// Follows what comes from the marked nodes from the cursor on, also from those that are marked meanwhile.
+    /// Follows what comes from the marked nodes from the cursor on, also from those that are marked
+    /// meanwhile.
     pub(crate) fn follow_all(&mut self, graph: &Graph, cursor: usize)
         requires follows { Follows (net_of graph.now) (tally_of self.old) cursor 0 0 }
         requires cursor { cursor ≤ length self.old.marked.items.items }

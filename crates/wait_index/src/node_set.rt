@@ -1,12 +1,12 @@
 //! A set of nodes in the order in which they were put in.
 ghost use Rattle.std.specs.Prelude.{◌≡◌, ℕ, ◌+◌, ◌<◌, ◌≤◌, ◌==◌, ◌&&◌, not, true, false, [], ◌∷◌, ◌++◌, length, slice_set, OnOk, vec_capacity};
-ghost use Rattle.wait_index.specs.Listing.{IsListing, holds};
+ghost use Rattle.wait_index.specs.Inside.Listing.{IsListing, holds};
 
 use crate::number::NodeNo;
 use std::alloc::{AllocError, Global};
 
-/// The place of a node is its index in the list plus 1, or 0 where it is not in the set. There is room in the
-/// list for each node.
+/// The place of a node is its index in the list plus 1, or 0 where it is not in the set. There is
+/// room in the list for each node.
 #[derive(Drop)]
 pub(crate) struct NodeSet {
     pub(crate) items: Vec<NodeNo>,
@@ -16,6 +16,8 @@ pub(crate) struct NodeSet {
 }
 
 impl NodeSet {
+    ghost use Rattle.wait_index.specs.Inside.Room.{GrowsNodes, HasNodesRoom};
+
     pub(crate) fn new(alloc: Global) -> Self
         ensures items { result.items.items ≡ [] }
         ensures places { result.places.items ≡ [] }
@@ -28,12 +30,8 @@ impl NodeSet {
 
     /// Makes room for so many nodes more.
     pub(crate) fn try_reserve(&mut self, nodes: usize) -> Result<(), AllocError>
-        ensures items { self.new.items.items ≡ self.old.items.items }
-        ensures places { self.new.places.items ≡ self.old.places.items }
-        ensures items_room { OnOk result (length self.new.places.items + nodes ≤ vec_capacity self.new.items) }
-        ensures places_room { OnOk result (length self.new.places.items + nodes ≤ vec_capacity self.new.places) }
-        ensures items_kept { vec_capacity self.old.items ≤ vec_capacity self.new.items }
-        ensures places_kept { vec_capacity self.old.places ≤ vec_capacity self.new.places }
+        ensures grows { GrowsNodes self.old self.new }
+        ensures ok { OnOk result (HasNodesRoom self.new nodes) }
     {
         self.places.try_reserve(nodes)?;
         let unlisted = self.places.len() - self.items.len();

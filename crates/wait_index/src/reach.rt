@@ -11,13 +11,11 @@ use std::marker::Model;
 /// Memory ran out.
 pub type NoMemory = AllocError;
 
-/// The number of edges that an index holds at most.
-const MOST_EDGES: usize = 0x7fff_ffff_ffff_ffff;
-
 /// An index of nodes and labels that says which nodes are reached.
 ///
-/// A node offers labels and awaits at most one. Reached are the roots and, where a reached node offers a label
-/// that is not closed, each node that awaits the label. The reached nodes are marked at all times.
+/// A node offers labels and awaits at most one. Reached are the roots and, where a reached node
+/// offers a label that is not closed, each node that awaits the label. The reached nodes are marked
+/// at all times.
 #[derive(Drop)]
 pub struct Reach {
     graph: Graph,
@@ -30,7 +28,7 @@ impl Model for Reach {
 
     ghost Value = { Index };
 
-    ghost use Rattle.wait_index.specs.Keep.{index_of, IsKept};
+    ghost use Rattle.wait_index.specs.Inside.Keep.{index_of, IsKept};
 
     ghost view = { λ r. index_of r.graph r.marks r.room };
 
@@ -38,12 +36,13 @@ impl Model for Reach {
 }
 
 impl Reach {
-    ghost use Rattle.wait_index.specs.Net.{with_node, with_label, with_offer, with_wait, with_root, with_closed, has_wait, is_closed, IsReached, IsOpen, ListsReached, visits_of, HasReachOf, edges_at};
+    ghost use Rattle.wait_index.specs.Net.{with_node, with_label, with_offer, with_wait, with_root, with_closed, has_wait, is_closed, IsReached, IsOpen, ListsReached, visits_of, ClosesIn, HasReachOf, edges_at};
 
     /// An index without nodes, labels and room.
     pub fn new(alloc: Global) -> Self
         ensures net { result.net ≡ record { roots = []; closed = []; offers = []; waits = [] } }
         ensures marked { result.marked ≡ [] }
+        ensures reached { ListsReached result.net result.marked }
         ensures room { result.room ≡ record { nodes = 0; labels = 0; edges = 0 } }
     {
         Reach {
@@ -57,10 +56,16 @@ impl Reach {
         }
     }
 
-    /// Makes room for so many nodes, labels and edges more. A refusal leaves all as it was.
+    /// Makes room for so many nodes, labels and edges more.
+    ///
+    /// # Errors
+    ///
+    /// [`NoMemory`] where there was not so much room already and a growth was refused. All is left
+    /// as it was.
     pub fn try_reserve(&mut self, nodes: usize, labels: usize, edges: usize) -> Result<(), NoMemory>
         ensures net { self.new.net ≡ self.old.net }
         ensures marked { self.new.marked ≡ self.old.marked }
+        ensures reached { ListsReached self.new.net self.new.marked }
         ensures ok { OnOk result (self.new.room ≡ record {
           nodes = max self.old.room.nodes nodes;
           labels = max self.old.room.labels labels;
@@ -73,10 +78,6 @@ impl Reach {
     {
         if self.room.covers(nodes, labels, edges) {
             return Ok(());
-        }
-        let most = MOST_EDGES - self.graph.offers.edges.len() - self.graph.waits.edges.len();
-        if edges > most {
-            return Err(AllocError);
         }
         self.graph.try_reserve(nodes, labels, edges)?;
         self.marks.try_reserve(nodes, labels)?;
@@ -100,6 +101,7 @@ impl Reach {
         ensures net { self.new.net ≡ with_node self.old.net }
         ensures awaits { has_wait self.new.net result ≡ false }
         ensures marked { self.new.marked ≡ self.old.marked }
+        ensures reached { ListsReached self.new.net self.new.marked }
         ensures room { self.new.room ≡ record self.old.room { nodes = self.old.room.nodes - 1 } }
     {
         let node = NodeNo::new(self.graph.roots.len());
@@ -115,13 +117,10 @@ impl Reach {
         ensures number { result ≡ length self.old.net.closed }
         ensures net { self.new.net ≡ with_label self.old.net false }
         ensures marked { self.new.marked ≡ self.old.marked }
+        ensures reached { ListsReached self.new.net self.new.marked }
         ensures room { self.new.room ≡ record self.old.room { labels = self.old.room.labels - 1 } }
     {
-        let label = LabelNo::new(self.graph.closed.len());
-        self.graph.add_label(false);
-        self.marks.add_label();
-        self.room.labels -= 1;
-        label
+        self.add_label_that_is(false)
     }
 
     /// Adds a label that is closed from the start: it is never open. There is room for it (`room`).
@@ -130,16 +129,14 @@ impl Reach {
         ensures number { result ≡ length self.old.net.closed }
         ensures net { self.new.net ≡ with_label self.old.net true }
         ensures marked { self.new.marked ≡ self.old.marked }
+        ensures reached { ListsReached self.new.net self.new.marked }
         ensures room { self.new.room ≡ record self.old.room { labels = self.old.room.labels - 1 } }
     {
-        let label = LabelNo::new(self.graph.closed.len());
-        self.graph.add_label(true);
-        self.marks.add_label();
-        self.room.labels -= 1;
-        label
+        self.add_label_that_is(true)
     }
 
-    /// The node offers the label from now on. There is room for an edge (`room`), and both are of this index.
+    /// The node offers the label from now on. There is room for an edge (`room`), and both are of
+    /// this index.
     pub fn add_offer(&mut self, node: NodeNo, label: LabelNo)
         requires room { 0 < self.old.room.edges }
         requires node { node < length self.old.net.roots }
@@ -154,8 +151,8 @@ impl Reach {
             .add_offer(&mut self.graph, node.index(), label.index());
     }
 
-    /// The node awaits the label from now on. It awaited none before (`awaits`), there is room for an edge
-    /// (`room`), and both are of this index.
+    /// The node awaits the label from now on. It awaited none before (`awaits`), there is room for
+    /// an edge (`room`), and both are of this index.
     pub fn add_wait(&mut self, label: LabelNo, node: NodeNo)
         requires room { 0 < self.old.room.edges }
         requires label { label < length self.old.net.closed }
@@ -182,21 +179,23 @@ impl Reach {
         self.marks.add_root(&mut self.graph, node.index());
     }
 
-    /// Closes the label for good, and answers its turns, each of which looked at one edge: 0 where it was closed
-    /// already. The order of the marked nodes may change.
+    /// Closes the label for good, and answers its turns, each of which looked at one edge: one for
+    /// each edge that rests on the label, taken back, and one for each that is followed again,
+    /// since it is reached otherwise. Where the label was not open that is 0, and the marked nodes
+    /// stay as they are. Else their order may change.
     pub fn close_label(&mut self, label: LabelNo) -> usize
         requires { label < length self.old.net.closed }
         ensures net { self.new.net ≡ with_closed self.old.net label }
         ensures marked { ListsReached self.new.net self.new.marked }
         ensures room { self.new.room ≡ self.old.room }
+        ensures turns { ClosesIn self.old.net label (visits_of self.old.net self.old.marked)
+            (visits_of self.new.net self.new.marked) result }
 
-        // Some turns took an edge back, the others followed one again.
-        ensures turns { (taken again : ℕ) × (result ≡ taken + again)
-            × (visits_of self.old.net self.old.marked + again ≡ visits_of self.new.net self.new.marked + taken) }
-
-        // Each looked at an edge at a label that the label leads to.
+        // Each turn looked at an edge at a label that the label leads to, and at most two at one
+        // edge.
         ensures near { (labels : ℕ → Bool) → HasReachOf self.old.net label labels
             → result ≤ 2 * edges_at self.old.net labels }
+        ensures shut { (IsOpen self.old.net label → ⊥) → (result ≡ 0) × (self.new.marked ≡ self.old.marked) }
         ensures closed { is_closed self.old.net label ≡ true → result ≡ 0 }
     {
         self.marks.close(&mut self.graph, label.index())
@@ -226,7 +225,8 @@ impl Reach {
         self.graph.waits.has_edge_to(node.index())
     }
 
-    /// The turns so far: one more for each edge that was followed, one less for each that a close took back.
+    /// The turns so far: one more for each edge that was followed, one less for each that a close
+    /// took back.
     pub fn visits(&self) -> usize
         ensures { result ≡ visits_of self.now.net self.now.marked }
     {
@@ -253,11 +253,28 @@ impl Reach {
         self.graph.label_count()
     }
 
-    /// The marked nodes, each once, in the order in which they were marked, which a close may change.
+    /// The marked nodes, each once, in the order in which they were marked, which a close may
+    /// change.
     pub fn marked(&self) -> &[NodeNo]
         ensures nodes { result.now ≡ self.now.marked }
         ensures reached { ListsReached self.now.net result.now }
     {
         &self.marks.marked.items
+    }
+
+    /// Adds a label that has no edge, closed or not.
+    fn add_label_that_is(&mut self, closed: bool) -> LabelNo
+        requires { 0 < self.old.room.labels }
+        ensures number { result ≡ length self.old.net.closed }
+        ensures net { self.new.net ≡ with_label self.old.net closed }
+        ensures marked { self.new.marked ≡ self.old.marked }
+        ensures reached { ListsReached self.new.net self.new.marked }
+        ensures room { self.new.room ≡ record self.old.room { labels = self.old.room.labels - 1 } }
+    {
+        let label = LabelNo::new(self.graph.closed.len());
+        self.graph.add_label(closed);
+        self.marks.add_label();
+        self.room.labels -= 1;
+        label
     }
 }

@@ -1,5 +1,5 @@
 use Rattle.std.proofs.Common.{length, arith}
-use Rattle.wait_index.specs.Listing.{holds}
+use Rattle.wait_index.specs.Inside.Listing.{holds}
 use Rattle.wait_index.proofs.Counts.{count_below-le}
 use Rattle.wait_index.proofs.label_set.LabelSet.try_reserve.Goals as goal
 

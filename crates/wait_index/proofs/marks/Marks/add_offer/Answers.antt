@@ -1,7 +1,7 @@
 use Rattle.std.proofs.Common.{◌≡◌, inl, inr, length, take, ap, ◌∙◌, arith}
 use Rattle.std.proofs.lemmas.List.{take_all}
 use Rattle.wait_index.specs.Net.{Net}
-use Rattle.wait_index.specs.Tally.{Tally, net_of, tally_of}
+use Rattle.wait_index.specs.Inside.Tally.{Tally, net_of, tally_of}
 use Rattle.wait_index.proofs.Following.{Follows-visits, Follows-support, Settles-spreads, with_support}
 use Rattle.wait_index.proofs.Growing.{Follows-offer}
 use Rattle.wait_index.proofs.Spread.{front-trans}

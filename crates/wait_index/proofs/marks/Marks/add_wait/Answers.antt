@@ -1,6 +1,6 @@
 use Rattle.std.proofs.Common.{◌≡◌, inl, inr, length, take, ap, ◌∙◌, arith}
 use Rattle.std.proofs.lemmas.List.{take_all}
-use Rattle.wait_index.specs.Tally.{Tally, net_of, tally_of}
+use Rattle.wait_index.specs.Inside.Tally.{Tally, net_of, tally_of}
 use Rattle.wait_index.proofs.Following.{Follows-visits}
 use Rattle.wait_index.proofs.Growing.{Follows-wait}
 use Rattle.wait_index.proofs.Spread.{front-trans}

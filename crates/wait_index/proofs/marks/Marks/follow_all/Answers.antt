@@ -1,5 +1,5 @@
 use Rattle.std.proofs.Common.{arith}
-use Rattle.wait_index.specs.Tally.{net_of, tally_of}
+use Rattle.wait_index.specs.Inside.Tally.{net_of, tally_of}
 use Rattle.wait_index.proofs.Following.{Follows-nodes}
 use Rattle.wait_index.proofs.marks.Marks.follow_all.Goals as goal
 

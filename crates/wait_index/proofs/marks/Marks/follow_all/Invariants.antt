@@ -1,6 +1,6 @@
 use Rattle.std.proofs.Common.{◌≡◌, ◌-◌, ◌≤◌, length}
-use Rattle.wait_index.specs.Tally.{net_of, tally_of, capacity_of}
-use Rattle.wait_index.specs.Step.{Follows, Spreads}
+use Rattle.wait_index.specs.Inside.Tally.{net_of, tally_of, capacity_of}
+use Rattle.wait_index.specs.Inside.Step.{Follows, Spreads}
 use Rattle.wait_index.proofs.marks.Marks.follow_all.Given as goal
 
 abbrev pub invariant-nodes : goal.invariant-nodes

@@ -1,5 +1,5 @@
 use Rattle.std.proofs.Common.{◌≡◌}
-use Rattle.wait_index.specs.Tally.{net_of, tally_of, capacity_of}
+use Rattle.wait_index.specs.Inside.Tally.{net_of, tally_of, capacity_of}
 use Rattle.wait_index.proofs.Following.{OffersFrom}
 use Rattle.wait_index.proofs.marks.Marks.follow_offers.Given as goal
 

@@ -1,7 +1,7 @@
 use Rattle.std.proofs.Common.{◌≡◌, ◌+◌, ◌<◌, ◌≤◌, length, get_or, ap, ◌∙◌, subst, arith}
 use Rattle.std.specs.Prelude.{min, vec_capacity}
 use Rattle.std.proofs.lemmas.List.{length-take, get_or_push, length_push}
-use Rattle.wait_index.specs.Tally.{Tally, net_of, tally_of, capacity_of, Settles}
+use Rattle.wait_index.specs.Inside.Tally.{Tally, net_of, tally_of, capacity_of, Settles}
 use Rattle.wait_index.proofs.Following.{Follows-visits, Restore-step, Settles-spreads, with_untouched}
 use Rattle.wait_index.proofs.Spread.{front-trans}
 use Rattle.wait_index.proofs.marks.Marks.restore.Goals as goal

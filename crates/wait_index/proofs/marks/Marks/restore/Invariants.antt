@@ -1,6 +1,6 @@
 use Rattle.std.proofs.Common.{◌≡◌, ◌≤◌, length, take}
-use Rattle.wait_index.specs.Tally.{net_of, tally_of, capacity_of}
-use Rattle.wait_index.specs.Step.{Follows}
+use Rattle.wait_index.specs.Inside.Tally.{net_of, tally_of, capacity_of}
+use Rattle.wait_index.specs.Inside.Step.{Follows}
 use Rattle.wait_index.proofs.marks.Marks.restore.Given as goal
 
 abbrev pub invariant-labels : goal.invariant-labels

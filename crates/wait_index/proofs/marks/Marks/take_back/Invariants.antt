@@ -1,6 +1,6 @@
 use Rattle.std.proofs.Common.{◌≡◌, ◌-◌, ◌≤◌, length, get_or}
-use Rattle.wait_index.specs.Tally.{net_of, tally_of, capacity_of}
-use Rattle.wait_index.specs.Fall.{IsFalling}
+use Rattle.wait_index.specs.Inside.Tally.{net_of, tally_of, capacity_of}
+use Rattle.wait_index.specs.Inside.Fall.{IsFalling}
 use Rattle.wait_index.proofs.marks.Marks.take_back.Given as goal
 
 abbrev pub invariant-labels : goal.invariant-labels

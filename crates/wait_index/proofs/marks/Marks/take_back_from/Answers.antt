@@ -1,6 +1,6 @@
 use Rattle.std.proofs.Common.{◌≡◌, ℕ, ◌+◌, List, [], ◌∷◌, ◌++◌, length, set, ap, ◌∙◌}
 use Rattle.std.proofs.lemmas.Bool.{false_from_ne_true}
-use Rattle.wait_index.specs.Tally.{net_of, tally_of, is_touched_in}
+use Rattle.wait_index.specs.Inside.Tally.{net_of, tally_of, is_touched_in}
 use Rattle.wait_index.proofs.Closing.{none_touched, IsFalling-touched}
 use Rattle.wait_index.proofs.marks.Marks.take_back_from.Goals as goal
 

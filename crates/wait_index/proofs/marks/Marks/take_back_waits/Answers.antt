@@ -1,12 +1,13 @@
 use Rattle.std.proofs.Common.{◌≡◌, ◌+◌, ◌-◌, ◌<◌, length, true, false, inr, get_or, set, refl, sym, subst, ap, ◌∙◌, arith}
 use Rattle.std.proofs.lemmas.List.{get_or_read, take_all}
-use Rattle.wait_index.specs.Edge.{to_at, IsLast}
-use Rattle.wait_index.specs.Fall.{CanFall}
-use Rattle.wait_index.specs.Tally.{Tally, net_of, tally_of, is_marked_in, Falls}
+use Rattle.wait_index.specs.Edge.{to_at}
+use Rattle.wait_index.specs.Inside.Links.{IsLast}
+use Rattle.wait_index.specs.Inside.Fall.{CanFall, IsFalling}
+use Rattle.wait_index.specs.Inside.Tally.{Tally, net_of, tally_of, is_marked_in, Falls}
 use Rattle.wait_index.proofs.Links.{first_link, next_link, read_to, IsLink-last}
 use Rattle.wait_index.proofs.Listings.{holds-from_placed}
 use Rattle.wait_index.proofs.Following.{flag-here}
-use Rattle.wait_index.proofs.Falling.{IsFalling-start, TakesBackFrom-step, visits_some, node_can}
+use Rattle.wait_index.proofs.Falling.{IsFalling-start, IsFalling-between, TakesBackFrom-step, visits_some, node_can}
 use Rattle.wait_index.proofs.marks.Marks.take_back_waits.Goals as goal
 
 pub waits-init : goal.waits-init
@@ -88,3 +89,9 @@ waits-preserved c =
       TakesBackFrom-step (net_of g) g.shaped.once c.args.index c.index-label.result edge c.waits.link c.index-link-in-waits.result.now old (tally_of c.waits.self) h at last (tally_of c.fall.new.self) falls c.fall.new.self.marked.listed c.fall.new.self.touched.listed,
       c.fall.ensures.capacity ∙ c.waits.invariant.1,
     )
+
+pub returns-clause-falling : goal.returns-clause-falling
+returns-clause-falling c =
+    let g = c.args.graph.now in
+    let none : c.waits.link ≡ 0 = omega (arith, c.waits-test.false) in
+    IsFalling-between (net_of g) (tally_of c.waits.self) (c.args.index + 1) c.index-label.result (subst (λ k. IsFalling (net_of g) (tally_of c.waits.self) (c.args.index + 1) c.index-label.result k) none c.waits.invariant.0.falling)

@@ -1,5 +1,5 @@
 use Rattle.std.proofs.Common.{◌≡◌}
-use Rattle.wait_index.specs.Tally.{net_of, tally_of, capacity_of}
+use Rattle.wait_index.specs.Inside.Tally.{net_of, tally_of, capacity_of}
 use Rattle.wait_index.proofs.Falling.{TakesBackFrom}
 use Rattle.wait_index.proofs.marks.Marks.take_back_waits.Given as goal
 

@@ -1,11 +1,11 @@
 use Rattle.std.proofs.Common.{◌≡◌, ◌<◌, false, length, ap, sym, subst, arith}
 use Rattle.std.proofs.lemmas.List.{length_push}
-use Rattle.wait_index.specs.Capacity.{GraphCapacity}
+use Rattle.wait_index.specs.Inside.Capacity.{GraphCapacity}
 use Rattle.wait_index.specs.Index.{Index}
 use Rattle.wait_index.specs.Net.{Net, has_wait}
-use Rattle.wait_index.specs.Tally.{Capacity, net_of, tally_of}
+use Rattle.wait_index.specs.Inside.Tally.{Capacity, net_of, tally_of}
 use Rattle.wait_index.proofs.Growing.{IsSettled-node}
-use Rattle.wait_index.proofs.Showing.{has_wait-past}
+use Rattle.wait_index.proofs.Showing.{lists, has_wait-past}
 use Rattle.wait_index.proofs.reach.Reach.add_node.Goals as goal
 
 pub invariant_of-self : goal.invariant_of-self
@@ -35,3 +35,6 @@ pub returns-clause-awaits : goal.returns-clause-awaits
 returns-clause-awaits c =
     let r = c.self.inside in
     subst (λ (n : Net). has_wait n c.new-node.result ≡ false) (sym c.add_node.ensures.net) (has_wait-past (net_of r.graph) c.new-node.result r.graph.shaped.nodes (omega (arith, c.new-node.ensures, c.len.ensures, r.graph.roots.ok.0)))
+
+pub returns-clause-reached : goal.returns-clause-reached
+returns-clause-reached c = lists c.add_node.new.self c.add_node-2.new.self (invariant_of-self c).settled

@@ -1,10 +1,10 @@
 -- What holds while edges are followed
 use Rattle.std.specs.Prelude.{◌≡◌, ℕ, ◌+◌, ◌<◌, ◌≤◌, ◌==◌, ◌&&◌, ◌⊎◌, Bool, true, false, length, nat_lt, nat_le, slice_index, take}
-use Rattle.wait_index.specs.Count.{count_below}
+use Rattle.wait_index.specs.Inside.Count.{count_below}
 use Rattle.wait_index.specs.Edge.{from_at, to_at}
-use Rattle.wait_index.specs.Listing.{IsListing}
+use Rattle.wait_index.specs.Inside.Listing.{IsListing}
 use Rattle.wait_index.specs.Net.{Net, is_root, is_closed, IsReached}
-use Rattle.wait_index.specs.Tally.{Tally, HasSizes, is_marked_in, is_touched_in, is_open_in, support_in}
+use Rattle.wait_index.specs.Inside.Tally.{Tally, HasSizes, is_marked_in, is_touched_in, is_open_in, support_in}
 
 -- whether the node is among the first marked ones, as many as `cursor`
 abbrev pub is_before : Tally → ℕ → ℕ → Bool

@@ -1,11 +1,11 @@
 -- What holds while edges are taken back
-use Rattle.std.specs.Prelude.{◌≡◌, ℕ, ◌+◌, ◌<◌, ◌≤◌, ◌==◌, ◌&&◌, ◌⊎◌, Bool, true, false, [], length, slice_index}
-use Rattle.wait_index.specs.Count.{count_below}
+use Rattle.std.specs.Prelude.{◌≡◌, ℕ, ◌+◌, ◌<◌, ◌≤◌, ◌==◌, ◌&&◌, ◌⊎◌, true, false, [], length, slice_index}
+use Rattle.wait_index.specs.Inside.Count.{count_below}
 use Rattle.wait_index.specs.Edge.{from_at, to_at}
-use Rattle.wait_index.specs.Listing.{IsListing}
-use Rattle.wait_index.specs.Net.{Net, is_root, is_closed, IsReached, HasReachOf}
-use Rattle.wait_index.specs.Tally.{Tally, HasSizes, is_marked_in, is_touched_in, is_open_in, support_in, offers_of, offers_between}
-use Rattle.wait_index.specs.Step.{IsOpened, Follows}
+use Rattle.wait_index.specs.Inside.Listing.{IsListing}
+use Rattle.wait_index.specs.Net.{Net, is_root, is_closed, IsReached, IsTakenBack}
+use Rattle.wait_index.specs.Inside.Tally.{Tally, HasSizes, is_marked_in, is_touched_in, is_open_in, support_in, offers_of, offers_between}
+use Rattle.wait_index.specs.Inside.Step.{IsOpened, Follows}
 
 -- the wait edge is followed: its label is open, or is the one whose edges are taken back, and the edge is below the link
 pub record StillFollowed (net : Net) (t : Tally) (label link i : ℕ) : Type 0 where
@@ -36,7 +36,7 @@ pub record IsFalling (net : Net) (t : Tally) (index label link : ℕ) : Type 0 w
   pub opened : IsOpened net t
   pub lost : (n : ℕ) → IsReached net n → is_marked_in t n ≡ false → (i : ℕ) × (i < length net.waits) × (to_at net.waits i ≡ n) × (is_touched_in t (from_at net.waits i) ≡ true)
   pub shut : (n i : ℕ) → IsReached net n → i < length net.offers → from_at net.offers i ≡ n → is_closed net (to_at net.offers i) ≡ false → (is_open_in t (to_at net.offers i) ≡ true) ⊎ (is_touched_in t (to_at net.offers i) ≡ true)
-  pub near : (labels : ℕ → Bool) → HasReachOf net (slice_index t.touched 0) labels → (l : ℕ) → is_touched_in t l ≡ true → labels l ≡ true
+  pub near : (l : ℕ) → is_touched_in t l ≡ true → IsTakenBack net (slice_index t.touched 0) l
   pub done : (k : ℕ) → k < index → is_open_in t (slice_index t.touched k) ≡ false
   pub todo : (k : ℕ) → index ≤ k → k < length t.touched → is_open_in t (slice_index t.touched k) ≡ true
 

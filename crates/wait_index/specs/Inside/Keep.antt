@@ -3,10 +3,10 @@ use Rattle.std.specs.Prelude.{◌+◌, ◌<◌, ◌≤◌, ◌^◌, length}
 use Rattle.wait_index.specs.declared.graph.Graph.{Graph}
 use Rattle.wait_index.specs.declared.marks.Marks.{Marks}
 use Rattle.wait_index.specs.declared.room.Room.{Room}
-use Rattle.wait_index.specs.Capacity.{graph_capacity}
-use Rattle.wait_index.specs.Fall.{IsSettled}
+use Rattle.wait_index.specs.Inside.Capacity.{graph_capacity}
+use Rattle.wait_index.specs.Inside.Fall.{IsSettled}
 use Rattle.wait_index.specs.Index.{Index}
-use Rattle.wait_index.specs.Tally.{net_of, tally_of, capacity_of}
+use Rattle.wait_index.specs.Inside.Tally.{net_of, tally_of, capacity_of}
 
 abbrev pub index_of : Graph → Marks → Room → Index
 index_of graph marks room = record { net = net_of graph; marked = marks.marked.items.items; room = room }

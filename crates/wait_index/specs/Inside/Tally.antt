@@ -2,9 +2,9 @@
 use Rattle.std.specs.Prelude.{◌≡◌, ℕ, ◌+◌, ◌-◌, ◌<◌, ◌==◌, ◌&&◌, ◌||◌, Bool, true, false, not, min, List, length, slice_index, slice_index_or, slice_set, take, vec_capacity, ◌⊎◌}
 use Rattle.wait_index.specs.declared.graph.Graph.{Graph}
 use Rattle.wait_index.specs.declared.marks.Marks.{Marks}
-use Rattle.wait_index.specs.Count.{count_below}
+use Rattle.wait_index.specs.Inside.Count.{count_below}
 use Rattle.wait_index.specs.Edge.{IsEdge, from_at, to_at}
-use Rattle.wait_index.specs.Listing.{holds}
+use Rattle.wait_index.specs.Inside.Listing.{holds}
 use Rattle.wait_index.specs.Net.{Net, is_closed, is_root}
 
 abbrev pub net_of : Graph → Net

@@ -1,0 +1,154 @@
+-- What the definitions say of one small net. Node 0 is its root and offers the labels 0 and 1; node 1 awaits 0 and
+-- node 2 awaits 1; both offer 2, which node 3 awaits.
+use Rattle.std.proofs.Common.{◌≡◌, ℕ, zero, suc, ◌+◌, ◌⊎◌, inl, inr, Bool, true, false, [], ◌∷◌, eqb, arith, refl, sym, ap, ◌∙◌, subst}
+use Rattle.std.specs.Prelude.{◌||◌}
+use Rattle.std.proofs.lemmas.Bool.{both_ways, or_cases, eqb-true}
+use Rattle.wait_index.specs.Edge.{IsEdge}
+use Rattle.wait_index.specs.Net.{Net, is_root, is_closed, IsReached, root, step, IsOpen, IsClosedUnder, IsTakenBack, itself, beyond, AreTakenBack, ClosesIn, HasReachOf, has_wait, visits_of, edges_taken_back, edges_at, with_closed}
+use Rattle.wait_index.proofs.Least.{reached-least}
+use Rattle.wait_index.proofs.Closing.{taken-near, ClosesIn-one}
+
+abbrev pub net : Net
+net = record {
+  roots = true ∷ false ∷ false ∷ false ∷ [];
+  closed = false ∷ false ∷ false ∷ [];
+  offers = record { from = 0; to = 0 } ∷ record { from = 0; to = 1 } ∷ record { from = 1; to = 2 } ∷ record { from = 2; to = 2 } ∷ [];
+  waits = record { from = 0; to = 1 } ∷ record { from = 1; to = 2 } ∷ record { from = 2; to = 3 } ∷ [];
+}
+
+-- the same with label 0 closed
+abbrev pub less : Net
+less = with_closed net 0
+
+offer : (i node label : ℕ) → IsEdge net.offers i node label → ((node ≡ 0) × (label ≡ 0)) ⊎ (((node ≡ 0) × (label ≡ 1)) ⊎ (((node ≡ 1) × (label ≡ 2)) ⊎ ((node ≡ 2) × (label ≡ 2))))
+offer zero n l e = inl (sym e.from, sym e.to)
+offer (suc zero) n l e = inr (inl (sym e.from, sym e.to))
+offer (suc (suc zero)) n l e = inr (inr (inl (sym e.from, sym e.to)))
+offer (suc (suc (suc zero))) n l e = inr (inr (inr (sym e.from, sym e.to)))
+offer (suc (suc (suc (suc i)))) n l e = absurd (omega (arith, e.within))
+
+wait : (i label node : ℕ) → IsEdge net.waits i label node → node ≡ label + 1
+wait zero l n e = omega (arith, e.from, e.to)
+wait (suc zero) l n e = omega (arith, e.from, e.to)
+wait (suc (suc zero)) l n e = omega (arith, e.from, e.to)
+wait (suc (suc (suc i))) l n e = absurd (omega (arith, e.within))
+
+-- Which nodes are reached
+
+pub node_1 : IsReached net 1
+node_1 = step {label = 0} {i = 0} {j = 0} (root refl) (record { within = omega arith; from = refl; to = refl }) refl (record { within = omega arith; from = refl; to = refl })
+
+pub node_2 : IsReached less 2
+node_2 = step {label = 1} {i = 1} {j = 1} (root refl) (record { within = omega arith; from = refl; to = refl }) refl (record { within = omega arith; from = refl; to = refl })
+
+pub node_3 : IsReached less 3
+node_3 = step {label = 2} {i = 3} {j = 2} node_2 (record { within = omega arith; from = refl; to = refl }) refl (record { within = omega arith; from = refl; to = refl })
+
+-- every node but 1
+abbrev pub others : ℕ → Bool
+others n = eqb n 0 || (eqb n 2 || eqb n 3)
+
+others-closed : IsClosedUnder less others
+others-closed = record { roots = roots; steps = steps }
+  where
+    roots : (node : ℕ) → is_root less node ≡ true → others node ≡ true
+    roots zero e = refl
+    roots (suc zero) e = absurd (both_ways false refl e)
+    roots (suc (suc zero)) e = refl
+    roots (suc (suc (suc zero))) e = refl
+    roots (suc (suc (suc (suc n)))) e = absurd (both_ways false refl e)
+
+    steps : (node label next i j : ℕ) → others node ≡ true → IsEdge less.offers i node label → is_closed less label ≡ false → IsEdge less.waits j label next → others next ≡ true
+    steps node label next i j o e c w =
+        let next_is = wait j label next w in
+        elim (offer i node label e) [
+          | inl a ↦ absurd (both_ways true (ap (is_closed less) (sym a.1) ∙ c) refl)
+          | inr a ↦
+              elim a [
+                | inl b ↦ let at : next ≡ 2 = omega (arith, next_is, b.1) in ap others at
+                | inr b ↦
+                    elim b [
+                      | inl d ↦ absurd (both_ways false refl (ap others (sym d.0) ∙ o))
+                      | inr d ↦ let at : next ≡ 3 = omega (arith, next_is, d.1) in ap others at
+                    ]
+              ]
+        ]
+
+pub not_node_1 : IsReached less 1 → ⊥
+not_node_1 r = both_ways false refl (reached-least less others others-closed 1 r)
+
+-- an open label is offered by a reached node and not closed
+pub label_2 : IsOpen less 2
+label_2 = record { not_closed = refl; offered = (3, 2, record { within = omega arith; from = refl; to = refl }, node_2) }
+
+pub not_label_0 : IsOpen less 0 → ⊥
+not_label_0 o = both_ways true o.not_closed refl
+
+-- Counts: all offer edges of marked nodes, also those to closed labels, and the wait edges of open labels
+
+pub visits_before : visits_of net (0 ∷ 1 ∷ 2 ∷ 3 ∷ []) ≡ 7
+visits_before = refl
+
+pub visits_after : visits_of less (0 ∷ 2 ∷ 3 ∷ []) ≡ 5
+visits_after = refl
+
+pub none_marked : visits_of net [] ≡ 0
+none_marked = refl
+
+pub awaited : has_wait net 3 ≡ true
+awaited = refl
+
+pub not_awaited : has_wait net 0 ≡ false
+not_awaited = refl
+
+-- What closing label 0 takes back: the wait edge to node 1, which falls with its offer edge, and the wait edge to
+-- node 3, which is then followed again, since node 2 offers label 2 too. So it takes 3 turns and 1.
+
+abbrev pub lost : ℕ → Bool
+lost l = eqb l 0 || eqb l 2
+
+lost-reach : HasReachOf net 0 lost
+lost-reach = record {
+  has = refl;
+  goes_on = λ here node there i j o w e.
+      elim (offer j node there e) [
+        | inl a ↦ absurd (omega (arith, wait i here node w, a.0))
+        | inr a ↦
+            elim a [
+              | inl b ↦ absurd (omega (arith, wait i here node w, b.0))
+              | inr b ↦ elim b [ inl d ↦ ap lost d.1 | inr d ↦ ap lost d.1 ]
+            ]
+      ];
+}
+
+open_0 : IsOpen net 0
+open_0 = record { not_closed = refl; offered = (0, 0, record { within = omega arith; from = refl; to = refl }, root refl) }
+
+taken_2 : IsTakenBack net 0 2
+taken_2 = beyond {here = 0} {node = 1} {i = 0} {j = 2} (itself open_0) (record { within = omega arith; from = refl; to = refl }) refl (record { within = omega arith; from = refl; to = refl }) refl
+
+pub taken : AreTakenBack net 0 lost
+taken = record {
+  only = λ l e.
+      elim (or_cases (eqb l 0) (eqb l 2) e) [
+        | inl a ↦ subst (IsTakenBack net 0) (sym (eqb-true l 0 a)) (itself open_0)
+        | inr a ↦ subst (IsTakenBack net 0) (sym (eqb-true l 2 a)) taken_2
+      ];
+  all = taken-near net 0 lost lost-reach;
+}
+
+pub three_taken : edges_taken_back net lost ≡ 3
+three_taken = refl
+
+pub five_near : edges_at net lost ≡ 5
+five_near = refl
+
+pub four_turns : ClosesIn net 0 7 5 4
+four_turns = record { labels = lost; taken_back = taken; again = 1; visits = refl; turns = refl }
+
+-- neither the fall of the visits alone nor twice what was taken back
+pub not_two : ClosesIn net 0 7 5 2 → ⊥
+not_two c = omega (arith, ClosesIn-one net 0 7 5 4 2 four_turns c)
+
+pub not_six : ClosesIn net 0 7 5 6 → ⊥
+not_six c = omega (arith, ClosesIn-one net 0 7 5 4 6 four_turns c)

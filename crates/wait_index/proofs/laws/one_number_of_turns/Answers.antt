@@ -1,0 +1,5 @@
+use Rattle.wait_index.proofs.Closing.{ClosesIn-one}
+use Rattle.wait_index.proofs.laws.one_number_of_turns.Goals as goal
+
+pub returns : goal.returns
+returns c = ClosesIn-one
