@@ -1,0 +1,6 @@
+pub mod BlockFacts
+pub mod SearchFacts
+pub mod PickedFacts
+pub mod OrderFacts
+mod StandardFacts
+mod SizeFacts

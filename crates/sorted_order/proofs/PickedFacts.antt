@@ -1,0 +1,327 @@
+-- The items with some numbers, in the order of those
+use Rattle.std.proofs.Common.{◌≡◌, ◌≢◌, inl, inr, ℕ, zero, suc, ◌+◌, ◌-◌, ◌<◌, ◌≤◌, List, [], ◌∷◌, ◌++◌, length, take, drop, slice_index, slice_index_or, slice_get, Option, Some, None, Bool, true, false, MatchOption, is_eq, refl, sym, ◌∙◌, ap, subst, arith, length-append, cond}
+use Rattle.std.proofs.lemmas.Bool.{cases_lt}
+use Rattle.std.proofs.lemmas.List.{get_or_default}
+use Rattle.std.proofs.lemmas.List.Edits.{length-insert, get_or-insert_below, get_or-insert_at, get_or-insert_above}
+use Rattle.std.proofs.lemmas.List.Elements.{filter_map-append}
+use Rattle.std.proofs.lemmas.Grind.{in_insert}
+use Rattle.std.proofs.lemmas.Option.{slice_get_within, get_or_from_slice_get, slice_get-get_or, slice_get_past}
+use Rattle.std.specs.List.{All, cons_option, filter, insert}
+use Rattle.std.specs.declared.cmp.Ordering.{Ordering}
+use Rattle.std.specs.declared.cmp.Ordering.TheVariants.{Less, Equal, Greater}
+use Rattle.sorted_order.specs.Sought.{IsRising, IsGap, IsMissing, is_equal}
+use Rattle.sorted_order.specs.Stock.{Stock, picked, in_order, Arranges, compared_if, compared_at, IsNumber}
+use Rattle.sorted_order.proofs.SearchFacts.{missing_else, missing_none, found_at}
+
+-- each number is that of an item
+abbrev pub AreNumbers : {T : Type 0} → List T → List ℕ → Type 0
+AreNumbers items numbers = All (λ number. number < length items) numbers
+
+rest_of : {T : Type 0} (items : List T) (n : ℕ) (ns : List ℕ) → AreNumbers items (n ∷ ns) → AreNumbers items ns
+rest_of items n ns all = λ k d h. all (suc k) d (omega arith)
+
+first_of : {T : Type 0} (items : List T) (n : ℕ) (ns : List ℕ) → AreNumbers items (n ∷ ns) → n < length items
+first_of items n ns all = all 0 0 (omega arith)
+
+-- the item with a number
+item_of : {T : Type 0} (items : List T) (n : ℕ) → n < length items → (item : T) × (slice_get items n ≡ Some item)
+item_of [] n h = absurd (omega arith)
+item_of (x ∷ xs) zero h = (x, refl)
+item_of (x ∷ xs) (suc n) h = item_of xs n (omega arith)
+
+picked_more : {T : Type 0} (items : List T) (n : ℕ) (ns : List ℕ) (item : T) → slice_get items n ≡ Some item
+    → picked items (n ∷ ns) ≡ item ∷ picked items ns
+picked_more items n ns item e = ap (λ found. cons_option found (picked items ns)) e
+
+pub length-picked : {T : Type 0} (items : List T) (ns : List ℕ) → AreNumbers items ns → length (picked items ns) ≡ length ns
+length-picked items [] all = refl
+length-picked items (n ∷ ns) all =
+    let item = item_of items n (first_of items n ns all) in
+    ap length (picked_more items n ns item.0 item.1) ∙ ap suc (length-picked items ns (rest_of items n ns all))
+
+pub take-picked : {T : Type 0} (items : List T) (ns : List ℕ) (k : ℕ) → AreNumbers items ns → picked items (take k ns) ≡ take k (picked items ns)
+take-picked items [] zero all = refl
+take-picked items [] (suc k) all = refl
+take-picked items (n ∷ ns) zero all = refl
+take-picked items (n ∷ ns) (suc k) all =
+    let item = item_of items n (first_of items n ns all) in
+    picked_more items n (take k ns) item.0 item.1
+    ∙ ap (λ rest. item.0 ∷ rest) (take-picked items ns k (rest_of items n ns all))
+    ∙ ap (λ xs. take (suc k) xs) (sym (picked_more items n ns item.0 item.1))
+
+pub drop-picked : {T : Type 0} (items : List T) (ns : List ℕ) (k : ℕ) → AreNumbers items ns → picked items (drop k ns) ≡ drop k (picked items ns)
+drop-picked items [] zero all = refl
+drop-picked items [] (suc k) all = refl
+drop-picked items (n ∷ ns) zero all = refl
+drop-picked items (n ∷ ns) (suc k) all =
+    let item = item_of items n (first_of items n ns all) in
+    drop-picked items ns k (rest_of items n ns all) ∙ ap (λ xs. drop (suc k) xs) (sym (picked_more items n ns item.0 item.1))
+
+pub picked-at : {T : Type 0} (items : List T) (ns : List ℕ) (i : ℕ) (d : T) → AreNumbers items ns → i < length ns
+    → slice_get items (slice_index ns i) ≡ Some (slice_index_or (picked items ns) i d)
+picked-at items [] i d all h = absurd (omega arith)
+picked-at items (n ∷ ns) zero d all h =
+    let item = item_of items n (first_of items n ns all) in
+    item.1 ∙ ap (λ xs. Some (slice_index_or xs 0 d)) (sym (picked_more items n ns item.0 item.1))
+picked-at items (n ∷ ns) (suc i) d all h =
+    let item = item_of items n (first_of items n ns all) in
+    picked-at items ns i d (rest_of items n ns all) (omega arith)
+    ∙ ap (λ xs. Some (slice_index_or xs (suc i) d)) (sym (picked_more items n ns item.0 item.1))
+
+-- after one more item
+get_more : {T : Type 0} (items : List T) (n : ℕ) (item : T) → n < length items → slice_get (items ++ item ∷ []) n ≡ slice_get items n
+get_more [] n item h = absurd (omega arith)
+get_more (x ∷ xs) zero item h = refl
+get_more (x ∷ xs) (suc n) item h = get_more xs n item (omega arith)
+
+get_last : {T : Type 0} (items : List T) (item : T) → slice_get (items ++ item ∷ []) (length items) ≡ Some item
+get_last [] item = refl
+get_last (x ∷ xs) item = get_last xs item
+
+same_picked : {T : Type 0} (items : List T) (ns : List ℕ) (item : T) → AreNumbers items ns → picked (items ++ item ∷ []) ns ≡ picked items ns
+same_picked items [] item all = refl
+same_picked items (n ∷ ns) item all =
+    let old = item_of items n (first_of items n ns all) in
+    picked_more (items ++ item ∷ []) n ns old.0 (get_more items n item (first_of items n ns all) ∙ old.1)
+    ∙ ap (λ rest. old.0 ∷ rest) (same_picked items ns item (rest_of items n ns all))
+    ∙ sym (picked_more items n ns old.0 old.1)
+
+more_numbers : {T : Type 0} (items : List T) (ns : List ℕ) (item : T) → AreNumbers items ns → AreNumbers (items ++ item ∷ []) ns
+more_numbers items ns item all = λ k d h. let w = all k d h in omega (arith, w, length-append items (item ∷ []))
+
+pub picked-insert : {T : Type 0} (items : List T) (ns : List ℕ) (at : ℕ) (item : T) → AreNumbers items ns
+    → picked (items ++ item ∷ []) (insert ns at (length items)) ≡ insert (picked items ns) at item
+picked-insert items ns at item all =
+    let more = items ++ item ∷ [] in
+    let wide = more_numbers items ns item all in
+    filter_map-append (slice_get more) (take at ns) (length items ∷ drop at ns)
+    ∙ ap (λ rest. picked more (take at ns) ++ rest) (picked_more more (length items) (drop at ns) item (get_last items item))
+    ∙ ap (λ rest. picked more (take at ns) ++ item ∷ rest) (drop-picked more ns at wide)
+    ∙ ap (λ front. front ++ item ∷ drop at (picked more ns)) (take-picked more ns at wide)
+    ∙ ap (λ xs. insert xs at item) (same_picked items ns item all)
+
+-- how the numbers stand, and how their items do
+pub compared_is : {T : Type 0} (compared : T → Ordering) (items : List T) (ns : List ℕ) (i d : ℕ) (e : T) → AreNumbers items ns
+    → i < length ns → compared_at compared items (slice_index_or ns i d) ≡ compared (slice_index_or (picked items ns) i e)
+compared_is compared items ns i d e all h =
+    ap (λ n. compared_at compared items n) (get_or_default ns i d 0 h) ∙ ap (λ found. compared_if compared found) (picked-at items ns i e all h)
+
+pub rising_numbers : {T : Type 0} (compared : T → Ordering) (items : List T) (ns : List ℕ) → AreNumbers items ns
+    → IsRising compared (picked items ns) → IsRising (λ n. compared_at compared items n) ns
+rising_numbers compared items ns all rises = record {
+  rising = λ i j d h l.
+      let item = item_of items (slice_index_or ns j d) (all j d l) in
+      let low = compared_is compared items ns i d item.0 all (omega arith) in
+      let high = compared_is compared items ns j d item.0 all l in
+      let w : j < length (picked items ns) = omega (arith, length-picked items ns all) in
+      rw (low, high) (rises.rising i j item.0 h w);
+}
+
+pub gap_of_items : {T : Type 0} (compared : T → Ordering) (items : List T) (ns : List ℕ) (place : ℕ) → AreNumbers items ns
+    → IsGap (λ n. compared_at compared items n) ns place → IsGap compared (picked items ns) place
+gap_of_items compared items ns place all gap = record {
+  within = omega (arith, length-picked items ns all, gap.within);
+  before = λ k e z h.
+      let l : k < length ns = omega (arith, gap.within) in
+      sym (compared_is compared items ns k 0 e all l) ∙ gap.before k 0 z h;
+  after = λ k e h l less.
+      let w : k < length ns = omega (arith, length-picked items ns all) in
+      gap.after k 0 h w (compared_is compared items ns k 0 e all w ∙ less);
+}
+
+-- what a search among the numbers says of the items
+pub slice_get-picked : {T : Type 0} (items : List T) (ns : List ℕ) (place number : ℕ) (item : T) → AreNumbers items ns
+    → slice_get ns place ≡ Some number → slice_get items number ≡ Some item → slice_get (picked items ns) place ≡ Some item
+slice_get-picked items ns place number item all at there =
+    let here : place < length ns = slice_get_within ns place number at in
+    let w : place < length (picked items ns) = omega (arith, length-picked items ns all) in
+    let same : slice_index ns place ≡ number = get_or_from_slice_get ns place number 0 at in
+    slice_get-get_or (picked items ns) place item w ∙ sym (picked-at items ns place item all here)
+    ∙ ap (λ n. slice_get items n) same ∙ there
+
+pub slice_get-none : {T : Type 0} (items : List T) (ns : List ℕ) (place : ℕ) → AreNumbers items ns
+    → slice_get ns place ≡ None → slice_get (picked items ns) place ≡ None
+slice_get-none items ns place all none =
+    elim (cases_lt place (length ns)) [
+      | inl here ↦
+          let there : slice_get ns place ≡ Some (slice_index_or ns place 0) = slice_get-get_or ns place 0 here in
+          absurd (cc)
+      | inr past ↦ slice_get_past (picked items ns) place (omega (arith, length-picked items ns all))
+    ]
+
+filter_more : {T : Type 0} (b : Bool) (n : ℕ) (ns : List ℕ) (items : List T) (item : T) → slice_get items n ≡ Some item
+    → picked items (cond b (n ∷ ns) ns) ≡ cond b (item ∷ picked items ns) (picked items ns)
+filter_more true n ns items item e = picked_more items n ns item e
+filter_more false n ns items item e = refl
+
+pub filter-picked : {T : Type 0} (compared : T → Ordering) (items : List T) (ns : List ℕ) → AreNumbers items ns
+    → picked items (filter (λ n. is_equal (compared_at compared items n)) ns) ≡ filter (λ item. is_equal (compared item)) (picked items ns)
+filter-picked compared items [] all = refl
+filter-picked compared items (n ∷ ns) all =
+    let item = item_of items n (first_of items n ns all) in
+    filter_more (is_equal (compared_at compared items n)) n (filter (λ m. is_equal (compared_at compared items m)) ns) items item.0 item.1
+    ∙ ap (λ found. cond (is_equal (compared_if compared found))
+    (item.0 ∷ picked items (filter (λ m. is_equal (compared_at compared items m)) ns))
+    (picked items (filter (λ m. is_equal (compared_at compared items m)) ns))) item.1
+    ∙ ap (λ rest. cond (is_equal (compared item.0)) (item.0 ∷ rest) rest) (filter-picked compared items ns (rest_of items n ns all))
+    ∙ ap (λ xs. filter (λ y. is_equal (compared y)) xs) (sym (picked_more items n ns item.0 item.1))
+
+-- what is filtered is still among them
+All-cons : (limit n : ℕ) (ns : List ℕ) → n < limit → All (λ m. m < limit) ns → All (λ m. m < limit) (n ∷ ns)
+All-cons limit n ns h all = λ k d l. elim k as (λ j. j < length (n ∷ ns) → slice_index_or (n ∷ ns) j d < limit) [
+  | zero ↦ λ w. h
+  | suc j ↦ λ w. all j d (omega arith)
+] l
+
+All-cond : (b : Bool) (limit n : ℕ) (ns : List ℕ) → n < limit → All (λ m. m < limit) ns → All (λ m. m < limit) (cond b (n ∷ ns) ns)
+All-cond true limit n ns h all = All-cons limit n ns h all
+All-cond false limit n ns h all = all
+
+pub filter_within : (test : ℕ → Bool) (limit : ℕ) (ns : List ℕ) → All (λ n. n < limit) ns → All (λ n. n < limit) (filter test ns)
+filter_within test limit [] all = all
+filter_within test limit (n ∷ ns) all =
+    All-cond (test n) limit n (filter test ns) (all 0 0 (omega arith)) (filter_within test limit ns (λ k d h. all (suc k) d (omega arith)))
+
+-- an order with one more number
+pub Arranges-insert : (order : List ℕ) (count at : ℕ) → Arranges order count → at ≤ length order → Arranges (insert order at count) (count + 1)
+Arranges-insert order count at h l = record {
+  counted = omega (arith, length-insert order at count l, h.counted);
+  within = λ k d w.
+      let len = length-insert order at count l in
+      elim (cases_lt k at) [
+        | inl below ↦ rw (get_or-insert_below order at count d k below l) (let old = h.within k d (omega arith) in omega arith)
+        | inr not_below ↦
+            elim (cases_lt at k) [
+              | inl above ↦
+                  let before : k ≡ (k - 1) + 1 = omega arith in
+                  let moved : slice_index_or (insert order at count) k d ≡ slice_index_or order (k - 1) d =
+                  ap (λ n. slice_index_or (insert order at count) n d) before ∙ get_or-insert_above order at count d (k - 1) (omega arith) l in
+                  rw moved (let old = h.within (k - 1) d (omega arith) in omega arith)
+              | inr not_above ↦
+                  let here : k ≡ at = omega arith in
+                  let read : slice_index_or (insert order at count) k d ≡ count =
+                  ap (λ n. slice_index_or (insert order at count) n d) here ∙ get_or-insert_at order at count d l in
+                  omega (arith, read)
+            ]
+      ];
+  each = λ number w.
+      elim (cases_lt number count) [
+        | inl old ↦
+            let has = h.each number old in
+            (in_insert order at has.0 count number l has.1 (sym has.2)).1
+        | inr new ↦
+            let same : number ≡ count = omega arith in
+            (at, omega (arith, length-insert order at count l), rw same (get_or-insert_at order at count count l))
+      ];
+}
+
+-- The same for a search that is lent the items and what is sought, in the words of the arena.
+pub by_rises : {T P : Type 0} (compared : P → T → Ordering) (p q : P) (items lent : List T) (order : List ℕ) (capacity : ℕ) (stock : Stock T)
+    → record { items = items; order = order; capacity = capacity } ≡ stock → q ≡ p → lent ≡ items → AreNumbers items order
+    → IsRising (compared p) (in_order stock) → IsRising (λ n. compared_at (compared q) lent n) order
+by_rises {T} {P} compared p q items lent order capacity stock view same_probe same_items all rises =
+    let here : IsRising (compared p) (picked items order) = subst (λ (s : Stock T). IsRising (compared p) (in_order s)) (sym view) rises in
+    rw (same_probe, same_items) (rising_numbers (compared p) items order all here)
+
+pub by_gap : {T P : Type 0} (compared : P → T → Ordering) (p q : P) (items lent : List T) (order : List ℕ) (capacity : ℕ) (stock : Stock T) (place : ℕ)
+    → record { items = items; order = order; capacity = capacity } ≡ stock → q ≡ p → lent ≡ items → AreNumbers items order
+    → IsGap (λ n. compared_at (compared q) lent n) order place → IsGap (compared p) (in_order stock) place
+by_gap {T} {P} compared p q items lent order capacity stock place view same_probe same_items all gap =
+    let mine : IsGap (λ n. compared_at (compared q) items n) order place =
+    subst (λ (xs : List T). IsGap (λ n. compared_at (compared q) xs n) order place) same_items gap in
+    let here : IsGap (λ n. compared_at (compared p) items n) order place =
+    subst (λ (r : P). IsGap (λ n. compared_at (compared r) items n) order place) same_probe mine in
+    subst (λ (s : Stock T). IsGap (compared p) (in_order s) place) view (gap_of_items (compared p) items order place all here)
+
+equal_of : (o : Ordering) → is_eq o ≡ true → o ≡ Equal
+equal_of Less e = absurd (cc)
+equal_of Equal e = refl
+equal_of Greater e = absurd (cc)
+
+pub not_equal_of : (o : Ordering) → is_eq o ≡ false → o ≢ Equal
+not_equal_of o e h = let yes : is_eq o ≡ true = rw h refl in cc
+
+pub equal_at : {T : Type 0} (compared : T → Ordering) (item : T) (o : Ordering) (b : Bool) → o ≡ compared item → b ≡ is_eq o → b ≡ true
+    → compared item ≡ Equal
+equal_at compared item o b e f h = sym e ∙ equal_of o (sym f ∙ h)
+
+pub not_equal_at : {T : Type 0} (compared : T → Ordering) (item : T) (o : Ordering) (b : Bool) → o ≡ compared item → b ≡ is_eq o → b ≡ false
+    → compared item ≢ Equal
+not_equal_at compared item o b e f h = λ equal. not_equal_of o (sym f ∙ h) (e ∙ equal)
+
+pub number_found : {T : Type 0} (compared : T → Ordering) (items : List T) (order : List ℕ) (capacity : ℕ) (stock : Stock T) (place number : ℕ) (item : T)
+    → record { items = items; order = order; capacity = capacity } ≡ stock → AreNumbers items order → IsGap compared (in_order stock) place
+    → slice_get order place ≡ Some number → item ≡ slice_index_or items number item → compared item ≡ Equal → IsNumber compared stock number
+number_found {T} compared items order capacity stock place number item view all gap at read equal =
+    let here : place < length order = slice_get_within order place number at in
+    let numbered : slice_index order place ≡ number = get_or_from_slice_get order place number 0 at in
+    let within : number < length items = let w = all place 0 here in omega (arith, w, numbered) in
+    let there : slice_get items number ≡ Some item = slice_get-get_or items number item within ∙ ap Some (sym read) in
+    let mine : IsGap compared (picked items order) place = subst (λ (s : Stock T). IsGap compared (in_order s) place) (sym view) gap in
+    subst (λ (s : Stock T). IsNumber compared s number) view (record {
+      within = within;
+      equal = λ d. ap compared (get_or_from_slice_get items number item d there) ∙ equal;
+      place = place;
+      found = found_at compared (picked items order) place item mine (slice_get-picked items order place number item all at there) equal;
+      numbered = numbered;
+    })
+
+pub number_missing : {T : Type 0} (compared : T → Ordering) (items : List T) (order : List ℕ) (capacity : ℕ) (stock : Stock T) (place number : ℕ) (item : T)
+    → record { items = items; order = order; capacity = capacity } ≡ stock → AreNumbers items order → IsRising compared (in_order stock)
+    → IsGap compared (in_order stock) place → slice_get order place ≡ Some number → item ≡ slice_index_or items number item
+    → compared item ≢ Equal → IsMissing compared (in_order stock) place
+number_missing {T} compared items order capacity stock place number item view all rises gap at read other =
+    let here : place < length order = slice_get_within order place number at in
+    let numbered : slice_index order place ≡ number = get_or_from_slice_get order place number 0 at in
+    let within : number < length items = let w = all place 0 here in omega (arith, w, numbered) in
+    let there : slice_get items number ≡ Some item = slice_get-get_or items number item within ∙ ap Some (sym read) in
+    let stands : slice_get (in_order stock) place ≡ Some item =
+    subst (λ (s : Stock T). slice_get (in_order s) place ≡ Some item) view (slice_get-picked items order place number item all at there) in
+    missing_else compared (in_order stock) place item rises gap stands other
+
+pub none_missing : {T : Type 0} (compared : T → Ordering) (items : List T) (order : List ℕ) (capacity : ℕ) (stock : Stock T) (place : ℕ)
+    → record { items = items; order = order; capacity = capacity } ≡ stock → AreNumbers items order
+    → IsGap compared (in_order stock) place → slice_get order place ≡ None → IsMissing compared (in_order stock) place
+none_missing {T} compared items order capacity stock place view all gap none =
+    missing_none compared (in_order stock) place gap
+    (subst (λ (s : Stock T). slice_get (in_order s) place ≡ None) view (slice_get-none items order place all none))
+
+pub number_within : {T : Type 0} (items : List T) (order : List ℕ) (place number : ℕ) → AreNumbers items order
+    → slice_get order place ≡ Some number → number < length items
+number_within items order place number all at =
+    let w = all place 0 (slice_get_within order place number at) in
+    omega (arith, w, get_or_from_slice_get order place number 0 at)
+
+-- what is left to lend
+pub next_within : (limit : ℕ) (old new : List ℕ) (r : Option ℕ) → MatchOption r ((old ≡ []) × (new ≡ [])) (λ n. old ≡ n ∷ new)
+    → All (λ n. n < limit) old → All (λ n. n < limit) new
+next_within limit old new None e all = rw e.1 (λ k d h. absurd (omega arith))
+next_within limit old new (Some n) e all =
+    let here : All (λ m. m < limit) (n ∷ new) = subst (λ (xs : List ℕ). All (λ m. m < limit) xs) e all in
+    λ k d h. here (suc k) d (omega arith)
+
+pub drop_numbers : {T : Type 0} (items : List T) (ns : List ℕ) (k : ℕ) → AreNumbers items ns → AreNumbers items (drop k ns)
+drop_numbers items [] zero all = all
+drop_numbers items [] (suc k) all = all
+drop_numbers items (n ∷ ns) zero all = all
+drop_numbers items (n ∷ ns) (suc k) all = drop_numbers items ns k (rest_of items n ns all)
+
+pub lend_next : {T : Type 0} (items : List T) (old new : List ℕ) (n : ℕ) (x : T) (left : List T) → picked items old ≡ left → old ≡ n ∷ new
+    → All (λ m. m < length items) old → left ≡ slice_index_or items n x ∷ picked items new
+lend_next {T} items old new n x left view e all =
+    let here : AreNumbers items (n ∷ new) = subst (λ (ns : List ℕ). AreNumbers items ns) e all in
+    sym view ∙ ap (λ (ns : List ℕ). picked items ns) e
+    ∙ picked_more items n new (slice_index_or items n x) (slice_get-get_or items n x (first_of items n new here))
+
+pub by_filter : {T P : Type 0} (compared : P → T → Ordering) (p q : P) (items lent : List T) (order : List ℕ) (capacity : ℕ) (stock : Stock T)
+    → record { items = items; order = order; capacity = capacity } ≡ stock → q ≡ p → lent ≡ items → AreNumbers items order
+    → picked items (filter (λ n. is_equal (compared_at (compared q) lent n)) order) ≡ filter (λ item. is_equal (compared p item)) (in_order stock)
+by_filter {T} {P} compared p q items lent order capacity stock view same_probe same_items all =
+    rw (same_probe, same_items) (filter-picked (compared p) items order all
+    ∙ ap (λ (s : Stock T). filter (λ item. is_equal (compared p item)) (in_order s)) view)
+
+pub length-in_order : {T : Type 0} (stock : Stock T) → Arranges stock.order (length stock.items) → length (in_order stock) ≡ length stock.items
+length-in_order stock h = length-picked stock.items stock.order h.within ∙ h.counted
+
+pub same_in_order : {T : Type 0} (s t : Stock T) → s.items ≡ t.items → s.order ≡ t.order → in_order s ≡ in_order t
+same_in_order s t items order = ap (λ xs. picked xs s.order) items ∙ ap (λ ns. picked t.items ns) order

@@ -1,0 +1,51 @@
+-- Good and bad examples of the definitions, by computation
+use Rattle.std.proofs.Common.{◌≡◌, ℕ, zero, suc, ◌<◌, ◌≤◌, [], ◌∷◌, slice_index_or, refl, arith}
+use Rattle.std.specs.declared.cmp.Ordering.TheVariants.{Less, Equal}
+use Rattle.std.specs.List.{filter}
+use Rattle.std.specs.Ordering.{nat_cmp}
+use Rattle.sorted_order.specs.Blocks.{AreFilled, capacity_of, put}
+use Rattle.sorted_order.specs.Sought.{IsRising, IsFound, is_equal, past}
+use Rattle.sorted_order.specs.Stock.{in_order, Arranges}
+
+-- the first block makes no room, and each other one makes room for half of what it can hold
+capacity_of_none : capacity_of 0 0 ≡ 0
+capacity_of_none = refl
+
+capacity_of_first : capacity_of 1 0 ≡ 0
+capacity_of_first = refl
+
+capacity_of_three : capacity_of 2 1 ≡ 512
+capacity_of_three = refl
+
+put_in_second : put ((1 ∷ 2 ∷ []) ∷ (5 ∷ 7 ∷ []) ∷ []) 1 1 6 ≡ (1 ∷ 2 ∷ []) ∷ (5 ∷ 6 ∷ 7 ∷ []) ∷ []
+put_in_second = refl
+
+-- a second block of two numbers is too empty
+not_filled : AreFilled ((1 ∷ []) ∷ (2 ∷ 3 ∷ []) ∷ []) → ⊥
+not_filled h = let half : 256 ≤ 2 = h.0 in omega arith
+
+-- items in order of arrival, and in order
+ten_to_thirty : in_order {T = ℕ} (record { items = 30 ∷ 10 ∷ 20 ∷ []; order = 1 ∷ 2 ∷ 0 ∷ []; capacity = 4 }) ≡ 10 ∷ 20 ∷ 30 ∷ []
+ten_to_thirty = refl
+
+-- a number that stands twice, so that another is missing
+missing : (k one : ℕ) → one ≡ 1 → k < 2 → slice_index_or (0 ∷ 0 ∷ []) k one ≡ one → ⊥
+missing zero one e l h = absurd (omega arith)
+missing (suc zero) one e l h = absurd (omega arith)
+missing (suc (suc k)) one e l h = absurd (omega arith)
+
+not_arranged : Arranges (0 ∷ 0 ∷ []) 2 → ⊥
+not_arranged h = let has = h.each 1 (omega arith) in missing has.0 1 refl has.1 has.2
+
+-- what equals 20 in a list that rises, and what does not rise
+the_twenties : filter (λ n. is_equal (nat_cmp n 20)) (10 ∷ 20 ∷ 20 ∷ 30 ∷ []) ≡ 20 ∷ 20 ∷ []
+the_twenties = refl
+
+not_rising : IsRising (λ n. nat_cmp n 20) (30 ∷ 10 ∷ []) → ⊥
+not_rising h = let low : 2 ≤ 0 = h.rising 0 1 0 (omega arith) (omega arith) in omega arith
+
+not_the_first : IsFound (λ n. nat_cmp n 20) (20 ∷ 20 ∷ []) 1 → ⊥
+not_the_first h = let less : Equal ≡ Less = h.before 0 0 (omega arith) (omega arith) in cc
+
+just_past : past Equal ≡ Less
+just_past = refl

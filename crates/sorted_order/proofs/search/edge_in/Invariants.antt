@@ -1,0 +1,14 @@
+use Rattle.std.proofs.Common.{◌≡◌, ◌≢◌, ◌-◌, ◌<◌, ◌≤◌, length, slice_index}
+use Rattle.std.specs.declared.cmp.Ordering.TheVariants.{Less}
+use Rattle.sorted_order.proofs.search.edge_in.Given as goal
+
+abbrev pub invariant-loop-low : goal.invariant-loop-low
+invariant-loop-low g l = record {
+  order : l.low ≤ l.high;
+  within : l.high ≤ length l.numbers;
+  before : 0 < l.low → g.P.Probe.compared l.probe (slice_index l.numbers (l.low - 1)) ≡ Less;
+  after : l.high < length l.numbers → g.P.Probe.compared l.probe (slice_index l.numbers l.high) ≢ Less;
+}
+
+abbrev pub decreases-loop-low : goal.decreases-loop-low
+decreases-loop-low g l = l.high - l.low

@@ -1,0 +1,176 @@
+//! Items in order of arrival, beside the order that the caller gives them.
+ghost use Rattle.std.specs.Prelude.{◌≡◌, ℕ, ◌+◌, ◌<◌, ◌≤◌, [], ◌∷◌, ◌++◌, length, take, drop, slice_get, IsOk, OnOk, Some};
+ghost use Rattle.std.specs.List.{insert, filter};
+ghost use Rattle.sorted_order.specs.Sought.{IsRising, IsGap, is_equal};
+ghost use Rattle.sorted_order.specs.Stock.{in_order, Arranges, FindsNumber};
+
+use crate::lent::Lent;
+use crate::order::Order;
+use crate::probe::{ByItem, ItemProbe};
+use std::alloc::{AllocError, Global};
+use std::marker::Model;
+
+/// Items that stay where they are, each with the number of those that came before it, beside their
+/// order.
+#[derive(Drop)]
+pub struct Arena<T> {
+    items: Vec<T>,
+    order: Order,
+}
+
+impl<T> Model for Arena<T> {
+    ghost use Rattle.std.specs.Prelude.{length, min, vec_capacity};
+    ghost use Rattle.sorted_order.specs.Stock.{Stock, Arranges};
+
+    ghost Value = { Stock T };
+
+    ghost view = { λ a. record {
+      items = a.items.items;
+      order = a.order.items;
+      capacity = min (vec_capacity a.items) a.order.capacity;
+    } };
+
+    ghost invariant = { λ a. Arranges a.order.items (length a.items.items) };
+}
+
+impl<T> Arena<T> {
+    /// No items, without room. It takes no memory.
+    pub fn new(alloc: Global) -> Self
+        ensures { result ≡ record { items = []; order = []; capacity = 0 } }
+    {
+        Arena {
+            items: Vec::new(alloc),
+            order: Order::new(alloc),
+        }
+    }
+
+    /// How many items there are. Each number below that stands in the order once.
+    pub fn len(&self) -> usize
+        ensures len { result ≡ length self.now.items }
+        ensures arranged { Arranges self.now.order (length self.now.items) }
+    {
+        self.items.len()
+    }
+
+    /// How many items more can be inserted without memory.
+    pub fn room(&self) -> usize
+        ensures { length self.now.items + result ≡ self.now.capacity }
+    {
+        (self.items.capacity() - self.len()).min(self.order.room())
+    }
+
+    /// Makes room for so many items more. Where there is not so much room, it at least doubles what
+    /// there is room for.
+    ///
+    /// # Errors
+    /// Memory ran out, or there cannot be so much room, which is for fewer than 2^32 items. All
+    /// items are there still, and only the room may have grown.
+    pub fn try_reserve(&mut self, items: usize) -> Result<(), AllocError>
+        ensures items { self.new.items ≡ self.old.items }
+        ensures order { self.new.order ≡ self.old.order }
+        ensures capacity { self.old.capacity ≤ self.new.capacity }
+        ensures ok { OnOk result (length self.new.items + items ≤ self.new.capacity) }
+        ensures within { length self.old.items + items ≤ self.old.capacity → (IsOk result) × (self.new ≡ self.old) }
+    {
+        if items <= self.room() {
+            return Ok(());
+        }
+        self.items.try_reserve(items)?;
+        self.order.try_reserve(items)
+    }
+
+    /// Adds an item, whose number is how many there were, and gives it a place in the order. It
+    /// takes no memory.
+    pub fn insert(&mut self, at: usize, item: T) -> u32
+        requires place { at ≤ length self.old.items }
+        requires room { length self.old.items < self.old.capacity }
+        ensures number { result ≡ length self.old.items }
+        ensures items { self.new.items ≡ self.old.items ++ item ∷ [] }
+        ensures order { self.new.order ≡ insert self.old.order at (length self.old.items) }
+        ensures in_order { in_order self.new ≡ insert (in_order self.old) at item }
+        ensures capacity { self.new.capacity ≡ self.old.capacity }
+    {
+        let number = self.order.len() as u32;
+        self.items.push_reserved(item);
+        self.order.insert(at, number);
+        number
+    }
+
+    /// The item with a number.
+    pub fn get(&self, number: u32) -> &T
+        requires { number < length self.now.items }
+        ensures { slice_get self.now.items number ≡ Some result.now }
+    {
+        &self.items.as_slice()[number as usize]
+    }
+
+    /// The items in order of arrival.
+    pub fn items(&self) -> &[T]
+        ensures { result.now ≡ self.now.items }
+    {
+        &self.items[..]
+    }
+
+    /// The items' numbers in order.
+    pub fn order(&self) -> &Order
+        ensures items { result.now.items ≡ self.now.order }
+        ensures arranged { Arranges self.now.order (length self.now.items) }
+    {
+        &self.order
+    }
+
+    /// The number of the first item in the order that is what is sought, or, as an error, the place
+    /// in the order where it would stand.
+    pub fn find<P: ItemProbe<T>>(&self, probe: &P) -> Result<u32, usize>
+        requires { IsRising (P.compared probe.now) (in_order self.now) }
+        ensures { FindsNumber (P.compared probe.now) self.now result }
+    {
+        let (place, found) = self.order.seek(&ByItem::new(self.items.as_slice(), probe));
+        match found {
+            Some(number) => {
+                if probe.compare(&self.items[number as usize]).is_eq() {
+                    Ok(number)
+                } else {
+                    Err(place)
+                }
+            }
+            None => Err(place),
+        }
+    }
+
+    /// How many items in the order stand before what is sought.
+    pub fn before<P: ItemProbe<T>>(&self, probe: &P) -> usize
+        requires { IsRising (P.compared probe.now) (in_order self.now) }
+        ensures { IsGap (P.compared probe.now) (in_order self.now) result }
+    {
+        self.order
+            .before(&ByItem::new(self.items.as_slice(), probe))
+    }
+
+    /// The items from a place of the order on.
+    pub fn from(&self, at: usize) -> Lent<'_, T>
+        requires { at ≤ length self.now.items }
+        ensures { result ≡ drop at (in_order self.now) }
+    {
+        Lent::new(self.order.from(at), self.items.as_slice())
+    }
+
+    /// So many items from a place of the order on.
+    pub fn range(&self, at: usize, items: usize) -> Lent<'_, T>
+        requires { at + items ≤ length self.now.items }
+        ensures { result ≡ take items (drop at (in_order self.now)) }
+    {
+        Lent::new(self.order.range(at, items), self.items.as_slice())
+    }
+
+    /// The items in the place of what is sought, in order.
+    pub fn matching<P: ItemProbe<T>>(&self, probe: &P) -> Lent<'_, T>
+        requires { IsRising (P.compared probe.now) (in_order self.now) }
+        ensures { result ≡ filter (λ item. is_equal (P.compared probe.now item)) (in_order self.now) }
+    {
+        let numbers = self
+            .order
+            .matching(&ByItem::new(self.items.as_slice(), probe));
+        Lent::new(numbers, self.items.as_slice())
+    }
+}

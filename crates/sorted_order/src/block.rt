@@ -1,0 +1,69 @@
+//! A block: a few hundred numbers whose room is there from the start.
+ghost use Rattle.std.specs.Prelude.{◌≡◌, ℕ, ◌<◌, ◌≤◌, List, [], length, take, drop, vec_capacity, IfOk};
+ghost use Rattle.std.specs.List.{insert};
+
+use std::alloc::{AllocError, Global};
+use std::marker::Model;
+
+/// The most numbers that a block holds.
+pub(crate) const BLOCK: usize = 512;
+
+/// Half of them.
+pub(crate) const HALF: usize = 256;
+
+#[derive(Drop)]
+pub(crate) struct Block {
+    numbers: Vec<u32>,
+}
+
+impl Model for Block {
+    ghost Value = { List ℕ };
+
+    ghost view = { λ block. block.numbers.items };
+
+    ghost invariant = { λ block. (length block.numbers.items ≤ 512) × (512 ≤ vec_capacity block.numbers) };
+}
+
+impl Block {
+    pub(crate) fn try_new(alloc: Global) -> Result<Block, AllocError>
+        ensures { IfOk result (λ block. block ≡ []) }
+    {
+        Ok(Block {
+            numbers: Vec::with_capacity(alloc, BLOCK)?,
+        })
+    }
+
+    pub(crate) fn len(&self) -> usize
+        ensures len { result ≡ length self.now }
+        ensures most { result ≤ 512 }
+    {
+        self.numbers.len()
+    }
+
+    pub(crate) fn as_slice(&self) -> &[u32]
+        ensures { result.now ≡ self.now }
+    {
+        self.numbers.as_slice()
+    }
+
+    pub(crate) fn insert(&mut self, at: usize, number: u32)
+        requires place { at ≤ length self.old }
+        requires room { length self.old < 512 }
+        ensures { self.new ≡ insert self.old at number }
+    {
+        // There is room, so it is never refused.
+        let _ = self.numbers.insert(at, number);
+    }
+
+    /// Moves the second half into a spare block, and forgets what that held.
+    pub(crate) fn halve(&mut self, spare: &mut Block)
+        requires { 256 ≤ length self.old }
+        ensures first { self.new ≡ take 256 self.old }
+        ensures second { spare.new ≡ drop 256 self.old }
+    {
+        spare.numbers.clear();
+        // There is room, so it is never refused.
+        let _ = spare.numbers.extend_from_slice(&self.numbers[HALF..]);
+        self.numbers.truncate(HALF);
+    }
+}

@@ -1,0 +1,31 @@
+//! What holds of every list that is in order.
+ghost use Rattle.std.specs.Prelude.{◌≡◌, ℕ, ◌<◌, ◌≤◌, Bool, true, List, length};
+ghost use Rattle.std.specs.declared.cmp.Ordering.{Ordering};
+ghost use Rattle.std.specs.List.{AllPairs, AllWithin, insert};
+ghost use Rattle.std.specs.Ordering.{ordering_index};
+ghost use Rattle.sorted_order.specs.Sought.{IsRising};
+ghost use Rattle.sorted_order.specs.Stock.{Stock, Arranges, in_order};
+
+/// A list in order rises under what is sought, where no item that stands before another is further
+/// on under it.
+pub fn order_rises<T>()
+    ensures { (less : T → T → Bool) (compared : T → Ordering) (items : List T)
+        → AllPairs (λ x y. less x y ≡ true) items
+        → ((x y : T) → less x y ≡ true → ordering_index (compared x) ≤ ordering_index (compared y))
+        → IsRising compared items }
+{}
+
+/// A list in order stays so when an item is put after those that stand before it, and before the
+/// others.
+pub fn insertion_keeps_order<T>()
+    ensures { (less : T → T → Bool) (items : List T) (at : ℕ) (item : T) → at ≤ length items
+        → AllPairs (λ x y. less x y ≡ true) items
+        → AllWithin (λ x. less x item ≡ true) items 0 at
+        → AllWithin (λ x. less item x ≡ true) items at (length items)
+        → AllPairs (λ x y. less x y ≡ true) (insert items at item) }
+{}
+
+/// As many items stand in order as there are.
+pub fn each_item_is_in_order<T>()
+    ensures { (stock : Stock T) → Arranges stock.order (length stock.items) → length (in_order stock) ≡ length stock.items }
+{}

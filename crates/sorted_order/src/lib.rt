@@ -1,0 +1,22 @@
+//! Numbers in an order that the caller gives, in which an insertion stays cheap however many there
+//! are, and items in order of arrival beside their order.
+#![tactic(auto)]
+
+mod arena;
+mod block;
+mod directory;
+pub mod laws;
+mod lent;
+mod numbers;
+mod order;
+mod probe;
+mod search;
+
+pub use arena::Arena;
+pub use lent::Lent;
+pub use numbers::Numbers;
+pub use order::Order;
+pub use probe::{ByItem, ItemProbe, Probe};
+
+#[cfg(test)]
+mod tests;

@@ -1,0 +1,190 @@
+//! A sequence of numbers in the order that its caller gives.
+ghost use Rattle.std.specs.Prelude.{◌≡◌, ℕ, ◌+◌, ◌-◌, ◌^◌, ◌<◌, ◌≤◌, [], length, take, drop, slice_get, slice_index, IsOk, OnOk};
+ghost use Rattle.std.specs.List.{All, filter, insert};
+ghost use Rattle.sorted_order.specs.Sought.{IsRising, IsGap, Finds, is_equal};
+
+use crate::block::{Block, HALF};
+use crate::directory::{add_blocks, length_before_block, locate, put_number};
+use crate::numbers::Numbers;
+use crate::probe::{Past, Probe};
+use crate::search::{edge, first_from};
+use std::alloc::{AllocError, Global};
+use std::marker::Model;
+
+/// The most blocks, so that there are fewer than 2^32 numbers.
+const MOST_BLOCKS: usize = 16_777_216;
+
+/// The most numbers that there can be room for.
+const MOST_NUMBERS: usize = 4_294_967_040;
+
+/// Numbers of 32 bits in the order that the caller gives.
+///
+/// They lie in blocks of at most 512. An insertion looks at the lengths of the blocks before its
+/// place, and moves at most 2 KiB of numbers; where it finds a full block, it cuts that into halves
+/// and moves the directory's entries behind it.
+#[derive(Drop)]
+pub struct Order {
+    blocks: Vec<Block>,
+    spare: Vec<Block>,
+    count: usize,
+}
+
+impl Model for Order {
+    ghost use Rattle.std.specs.Prelude.{length, vec_capacity};
+    ghost use Rattle.std.specs.List.{concat};
+    ghost use Rattle.sorted_order.specs.Sequence.{Sequence};
+    ghost use Rattle.sorted_order.specs.Blocks.{AreKept, capacity_of};
+
+    ghost Value = { Sequence };
+
+    ghost view = { λ o. record {
+      items = concat o.blocks.items;
+      capacity = capacity_of (length o.blocks.items) (length o.spare.items);
+    } };
+
+    ghost invariant = { λ o. AreKept o.blocks.items (length o.spare.items) o.count (vec_capacity o.blocks) };
+}
+
+impl Order {
+    /// A sequence of no numbers, without room. It takes no memory.
+    pub fn new(alloc: Global) -> Self
+        ensures { result ≡ record { items = []; capacity = 0 } }
+    {
+        Order {
+            blocks: Vec::new(alloc),
+            spare: Vec::new(alloc),
+            count: 0,
+        }
+    }
+
+    /// How many numbers there are.
+    pub fn len(&self) -> usize
+        ensures len { result ≡ length self.now.items }
+        ensures within { result ≤ self.now.capacity }
+        ensures few { self.now.capacity < 2 ^ 32 }
+    {
+        self.count
+    }
+
+    /// How many numbers more can be inserted without memory.
+    pub fn room(&self) -> usize
+        ensures { length self.now.items + result ≡ self.now.capacity }
+    {
+        let blocks = self.blocks.len() + self.spare.len();
+        HALF * blocks.saturating_sub(1) - self.len()
+    }
+
+    /// Makes room for so many numbers more. Where there is not so much room, it at least doubles
+    /// what there is room for in all, so far as there can be room: for fewer than 2^32 numbers.
+    ///
+    /// # Errors
+    /// Memory ran out, or there cannot be so much room. All numbers are there still, and only the
+    /// room may have grown.
+    pub fn try_reserve(&mut self, numbers: usize) -> Result<(), AllocError>
+        ensures items { self.new.items ≡ self.old.items }
+        ensures capacity { self.old.capacity ≤ self.new.capacity }
+        ensures ok { OnOk result (length self.new.items + numbers ≤ self.new.capacity) }
+        ensures within { length self.old.items + numbers ≤ self.old.capacity → (IsOk result) × (self.new ≡ self.old) }
+    {
+        if numbers <= self.room() {
+            return Ok(());
+        }
+        if numbers > MOST_NUMBERS.saturating_sub(self.len()) {
+            return Err(AllocError);
+        }
+        let present = self.blocks.len() + self.spare.len();
+        let needed = (self.len() + numbers).div_ceil(HALF) + 1;
+        let wanted = needed.max(present * 2).min(MOST_BLOCKS);
+        add_blocks(&mut self.blocks, &mut self.spare, wanted)
+    }
+
+    /// Puts a number at a place: those from there on stand one place later. It takes no memory.
+    pub fn insert(&mut self, at: usize, number: u32)
+        requires place { at ≤ length self.old.items }
+        requires room { length self.old.items < self.old.capacity }
+        ensures items { self.new.items ≡ insert self.old.items at number }
+        ensures capacity { self.new.capacity ≡ self.old.capacity }
+    {
+        put_number(&mut self.blocks, &mut self.spare, at, number);
+        self.count += 1;
+    }
+
+    /// The number at a place.
+    pub fn get(&self, at: usize) -> u32
+        requires { at < length self.now.items }
+        ensures { result ≡ slice_index self.now.items at }
+    {
+        let (block, past) = locate(self.blocks.as_slice(), at + 1);
+        self.blocks[block].as_slice()[past - 1]
+    }
+
+    /// The numbers from a place on, in order.
+    pub fn from(&self, at: usize) -> Numbers<'_>
+        requires { at ≤ length self.now.items }
+        ensures { result ≡ drop at self.now.items }
+    {
+        Numbers::new(self.blocks.as_slice(), at, self.len() - at)
+    }
+
+    /// So many numbers from a place on, in order.
+    pub fn range(&self, at: usize, numbers: usize) -> Numbers<'_>
+        requires { at + numbers ≤ length self.now.items }
+        ensures { result ≡ take numbers (drop at self.now.items) }
+    {
+        Numbers::new(self.blocks.as_slice(), at, numbers)
+    }
+
+    /// How many numbers stand before what is sought.
+    pub fn before<P: Probe>(&self, probe: &P) -> usize
+        requires known { All (P.knows probe.now) self.now.items }
+        requires rising { IsRising (P.compared probe.now) self.now.items }
+        ensures { IsGap (P.compared probe.now) self.now.items result }
+    {
+        let (place, _) = self.seek(probe);
+        place
+    }
+
+    /// The first place of what is sought, or, as an error, the place where it would stand.
+    pub fn find<P: Probe>(&self, probe: &P) -> Result<usize, usize>
+        requires known { All (P.knows probe.now) self.now.items }
+        requires rising { IsRising (P.compared probe.now) self.now.items }
+        ensures { Finds (P.compared probe.now) self.now.items result }
+    {
+        let (place, found) = self.seek(probe);
+        match found {
+            Some(number) => if probe.compare(number).is_eq() {
+                Ok(place)
+            } else {
+                Err(place)
+            },
+            None => Err(place),
+        }
+    }
+
+    /// The numbers in the place of what is sought, in order.
+    pub fn matching<P: Probe>(&self, probe: &P) -> Numbers<'_>
+        requires known { All (P.knows probe.now) self.now.items }
+        requires rising { IsRising (P.compared probe.now) self.now.items }
+        ensures { result ≡ filter (λ number. is_equal (P.compared probe.now number)) self.now.items }
+    {
+        let first = self.before(probe);
+        let end = self.before(&Past::new(probe));
+        self.range(first, end - first)
+    }
+
+    /// How many numbers stand before what is sought, and the number that stands after those.
+    pub(crate) fn seek<P: Probe>(&self, probe: &P) -> (usize, Option<u32>)
+        requires known { All (P.knows probe.now) self.now.items }
+        requires rising { IsRising (P.compared probe.now) self.now.items }
+        ensures gap { IsGap (P.compared probe.now) self.now.items result.0 }
+        ensures number { result.1 ≡ slice_get self.now.items result.0 }
+    {
+        if self.blocks.is_empty() {
+            return (0, None);
+        }
+        let blocks = self.blocks.as_slice();
+        let (block, place) = edge(blocks, probe);
+        let number = first_from(blocks, block, place);
+        (length_before_block(blocks, block) + place, number)
+    }
+}

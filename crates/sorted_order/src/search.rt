@@ -1,0 +1,75 @@
+//! Searches over the blocks of a sequence.
+ghost use Rattle.std.specs.Prelude.{◌≡◌, ℕ, ◌+◌, ◌-◌, ◌^◌, ◌<◌, ◌≤◌, length, slice_get};
+ghost use Rattle.std.specs.List.{All, concat};
+ghost use Rattle.sorted_order.specs.Blocks.{AreFilled, block_at, length_before, IsSpot, IsEdge, IsEdgeBlock};
+
+use crate::block::Block;
+use crate::probe::Probe;
+
+/// Where what is sought would stand: a block, and a place in it.
+pub(crate) fn edge<P: Probe>(blocks: &[Block], probe: &P) -> (usize, usize)
+    requires some { 0 < length blocks.now }
+    requires filled { AreFilled blocks.now }
+    requires known { All (P.knows probe.now) (concat blocks.now) }
+    ensures spot { IsSpot blocks.now (length_before blocks.now result.0 + result.1) result.0 result.1 }
+    ensures edge { IsEdge (P.compared probe.now) (concat blocks.now) (length_before blocks.now result.0 + result.1) }
+{
+    let block = edge_block(blocks, probe);
+    let place = edge_in(blocks[block].as_slice(), probe);
+    (block, place)
+}
+
+/// The last block that begins before what is sought, or else the first.
+fn edge_block<P: Probe>(blocks: &[Block], probe: &P) -> usize
+    requires some { 0 < length blocks.now }
+    requires filled { AreFilled blocks.now }
+    requires known { All (P.knows probe.now) (concat blocks.now) }
+    ensures { IsEdgeBlock (P.compared probe.now) blocks.now result }
+{
+    let mut low = 0;
+    let mut high = blocks.len();
+    while low + 1 < high {
+        let middle = low + (high - low) / 2;
+        let first = blocks[middle].as_slice()[0];
+        if probe.compare(first).is_lt() {
+            low = middle;
+        } else {
+            high = middle;
+        }
+    }
+    low
+}
+
+/// How many numbers of the block stand before what is sought.
+fn edge_in<P: Probe>(numbers: &[u32], probe: &P) -> usize
+    requires { All (P.knows probe.now) numbers.now }
+    ensures { IsEdge (P.compared probe.now) numbers.now result }
+{
+    let mut low = 0;
+    let mut high = numbers.len();
+    while low < high {
+        let middle = low + (high - low) / 2;
+        if probe.compare(numbers[middle]).is_lt() {
+            low = middle + 1;
+        } else {
+            high = middle;
+        }
+    }
+    low
+}
+
+/// The number that stands there in the sequence, if there is one.
+pub(crate) fn first_from(blocks: &[Block], block: usize, place: usize) -> Option<u32>
+    requires block { block < length blocks.now }
+    requires place { place ≤ length (block_at blocks.now block) }
+    requires filled { AreFilled blocks.now }
+    ensures { result ≡ slice_get (concat blocks.now) (length_before blocks.now block + place) }
+{
+    if place < blocks[block].len() {
+        return Some(blocks[block].as_slice()[place]);
+    }
+    if block + 1 < blocks.len() {
+        return Some(blocks[block + 1].as_slice()[0]);
+    }
+    None
+}
