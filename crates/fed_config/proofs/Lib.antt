@@ -1,0 +1,17 @@
+mod BytesFacts
+mod CanonicalFacts
+mod CauseFacts
+mod CountFacts
+mod DocumentFacts
+mod DomainFacts
+mod GatherFacts
+mod MeaningFacts
+mod ReadFacts
+mod SeedFacts
+mod SetFacts
+mod SingleFacts
+mod StandardFacts
+mod TextFacts
+mod UrlFacts
+mod WrittenFacts
+mod ZipFacts

@@ -1,0 +1,164 @@
+-- A text has one meaning, or a cause for which it is none.
+use Rattle.std.proofs.Common.{◌≡◌, ℕ, List, Some, codes, Contains, refl, sym, ap, ◌∙◌, subst}
+use Rattle.std.specs.List.{AllZip}
+use Rattle.std.specs.declared.cmp.Ordering.{Ordering}
+use Rattle.std.specs.Cmp.{IsTotalOrder}
+use Rattle.serde_json.specs.Data.{Data, string}
+use Rattle.serde_json.specs.Find.{get}
+use Rattle.url.specs.Parts.{Parts, serialize}
+use Rattle.spiffe_name.specs.SpiffeId.{Id, IsId, IsIdText}
+use Rattle.spiffe_name.specs.TrustDomain.{IsDomainText}
+use Rattle.bundle_doc.specs.Bundle.{Bundle, Means, Fits}
+use Rattle.fed_config.specs.EndpointUrl.{IsParsed, KeepsUrl}
+use Rattle.fed_config.specs.Written.{RelationshipText, SeedText, Written, SaysRelationshipText, SaysSeedText, SaysWritten, IsText}
+use Rattle.fed_config.specs.Configuration.{Configuration, AreDomains}
+use Rattle.fed_config.specs.Reading.{HasName, IsConfig, IsMeant, IsProfile, IsSetOf, Passes, RefusesBytes, RefusesWritten, SaysRelationship, SaysSeed}
+use Rattle.fed_config.specs.Seeds.{seed_cmp_total}
+use Rattle.fed_config.specs.declared.error.ConfigError.{ConfigError}
+use Rattle.fed_config.specs.declared.error.ConfigError.TheVariants.{NotJson, Shape, BadName, BadUrl, BadProfile, DoubleRelationship, BadSeed, TooMany, NoMemory}
+use Rattle.fed_config.specs.declared.relationship.Relationship.{Relationship}
+use Rattle.fed_config.specs.declared.seed.Seed.{Seed}
+use Rattle.fed_config.proofs.SetFacts.{Has-Contains, Contains-Has, rising_same}
+use Rattle.fed_config.proofs.SingleFacts.{relationships_total}
+use Rattle.fed_config.proofs.WrittenFacts.{one_array}
+use Rattle.fed_config.proofs.ZipFacts.{each_left, zip_one}
+
+-- ---- what is written
+
+relationship_text : List ℕ → List ℕ → List ℕ → List ℕ → RelationshipText
+relationship_text domain endpoint profile url = record { domain = domain; endpoint = endpoint; profile = profile; url = url }
+
+one_text : (tree : Data) (name s t : List ℕ) → get name tree ≡ Some (string s) → get name tree ≡ Some (string t) → s ≡ t
+one_text tree name s t p q = let both : Some (string s) ≡ Some (string t) = sym p ∙ q in cc
+
+one_relationship_text : (tree : Data) (t u : RelationshipText) → SaysRelationshipText tree t → SaysRelationshipText tree u → t ≡ u
+unfolding relationship_text
+one_relationship_text tree t u p q =
+    let a : t.domain ≡ u.domain = one_text tree (codes "domain") t.domain u.domain p.domain q.domain in
+    let b : t.endpoint ≡ u.endpoint = one_text tree (codes "endpoint") t.endpoint u.endpoint p.endpoint q.endpoint in
+    let c : t.profile ≡ u.profile = one_text tree (codes "profile") t.profile u.profile p.profile q.profile in
+    let d : t.url ≡ u.url = one_text tree (codes "url") t.url u.url p.url q.url in
+    let same : relationship_text t.domain t.endpoint t.profile t.url ≡ relationship_text u.domain u.endpoint u.profile u.url = cc in same
+
+seed_of : Data → List ℕ → SeedText
+seed_of bundle domain = record { bundle = bundle; domain = domain }
+
+one_seed_text : (tree : Data) (t u : SeedText) → SaysSeedText tree t → SaysSeedText tree u → t ≡ u
+unfolding seed_of
+one_seed_text tree t u p q =
+    let a : t.domain ≡ u.domain = one_text tree (codes "domain") t.domain u.domain p.domain q.domain in
+    let both : Some t.bundle ≡ Some u.bundle = sym p.bundle ∙ q.bundle in
+    let b : t.bundle ≡ u.bundle = cc in
+    let same : seed_of t.bundle t.domain ≡ seed_of u.bundle u.domain = cc in same
+
+written_of : List RelationshipText → List SeedText → Written
+written_of relationships seeds = record { relationships = relationships; seeds = seeds }
+
+one_written : (tree : Data) (w v : Written) → SaysWritten tree w → SaysWritten tree v → w ≡ v
+unfolding written_of
+one_written tree w v p q =
+    let trees = one_array tree (codes "relationships") p.relationships q.relationships p.has_relationships q.has_relationships in
+    let others = one_array tree (codes "seeds") p.seeds q.seeds p.has_seeds q.has_seeds in
+    let a : w.relationships ≡ v.relationships = zip_one SaysRelationshipText one_relationship_text q.relationships w.relationships v.relationships (subst (λ l. AllZip SaysRelationshipText l w.relationships) trees p.each_relationship) q.each_relationship in
+    let b : w.seeds ≡ v.seeds = zip_one SaysSeedText one_seed_text q.seeds w.seeds v.seeds (subst (λ l. AllZip SaysSeedText l w.seeds) others p.each_seed) q.each_seed in
+    let same : written_of w.relationships w.seeds ≡ written_of v.relationships v.seeds = cc in same
+
+pub same_written : (bytes : List ℕ) (w v : Written) → IsText bytes w → IsText bytes v → w ≡ v
+same_written bytes w v p q =
+    let both : Some p.tree ≡ Some q.tree = sym p.json.1 ∙ q.json.1 in
+    let tree : p.tree ≡ q.tree = cc in
+    one_written q.tree w v (subst (λ t. SaysWritten t w) tree p.says) q.says
+
+-- ---- the meaning
+
+relationship_of : List ℕ → Id → List ℕ → Relationship
+relationship_of domain endpoint url = record { domain = domain; endpoint = endpoint; url = url }
+
+one_url : (text u v : List ℕ) → KeepsUrl text u → KeepsUrl text v → u ≡ v
+one_url text u v p q =
+    let both = sym p.parsed.parses ∙ q.parsed.parses in
+    let same : p.parts ≡ q.parts = cc in p.serialized ∙ ap serialize same ∙ sym q.serialized
+
+seed_from : List ℕ → Bundle → Seed
+seed_from domain document = record { domain = domain; document = document }
+
+same_set : {X : Type 0} {cmp : X → X → Ordering} (o : IsTotalOrder cmp) (xs ys set other : List X) → xs ≡ ys → IsSetOf cmp xs set → IsSetOf cmp ys other → set ≡ other
+same_set {X} o xs ys set other e p q =
+    rising_same o set other p.rising q.rising
+    (λ x h. Has-Contains other x ((q.members x).1 (subst (λ l. Contains l x) e ((p.members x).0 (Contains-Has set x h)))))
+    (λ x h. Has-Contains set x ((p.members x).1 (subst (λ l. Contains l x) (sym e) ((q.members x).0 (Contains-Has other x h)))))
+
+configuration_of : List Relationship → List Seed → Configuration
+configuration_of relationships seeds = record { relationships = relationships; seeds = seeds }
+
+module _ (one_id : (one other : Id) → IsId one → IsId other → one.text ≡ other.text → one ≡ other) (one_bundle : (value : Data) (b c : Bundle) → Means value b → Means value c → b ≡ c) where
+  one_relationship : (t : RelationshipText) (r s : Relationship) → SaysRelationship t r → SaysRelationship t s → r ≡ s
+  unfolding relationship_of
+  one_relationship t r s p q =
+      let a : r.domain ≡ s.domain = p.domain ∙ sym q.domain in
+      let b : r.endpoint ≡ s.endpoint = one_id r.endpoint s.endpoint p.is_id q.is_id (p.endpoint ∙ sym q.endpoint) in
+      let c : r.url ≡ s.url = one_url t.url r.url s.url p.url q.url in
+      let same : relationship_of r.domain r.endpoint r.url ≡ relationship_of s.domain s.endpoint s.url = cc in same
+
+  one_seed : (t : SeedText) (s u : Seed) → SaysSeed t s → SaysSeed t u → s ≡ u
+  unfolding seed_from
+  one_seed t s u p q =
+      let a : s.domain ≡ u.domain = p.domain ∙ sym q.domain in
+      let b : s.document ≡ u.document = one_bundle t.bundle s.document u.document p.means q.means in
+      let same : seed_from s.domain s.document ≡ seed_from u.domain u.document = cc in same
+
+  pub one_meaning : (w : Written) (b c : Configuration) → IsMeant w b → IsMeant w c → b ≡ c
+  unfolding configuration_of
+  one_meaning w b c p q =
+      let rs = zip_one SaysRelationship one_relationship w.relationships p.relationships q.relationships p.each_relationship q.each_relationship in
+      let ss = zip_one SaysSeed one_seed w.seeds p.seeds q.seeds p.each_seed q.each_seed in
+      let a : b.relationships ≡ c.relationships = same_set relationships_total p.relationships q.relationships b.relationships c.relationships rs p.relationship_set q.relationship_set in
+      let d : b.seeds ≡ c.seeds = same_set seed_cmp_total p.seeds q.seeds b.seeds c.seeds ss p.seed_set q.seed_set in
+      let same : configuration_of b.relationships b.seeds ≡ configuration_of c.relationships c.seeds = cc in same
+
+  pub one_configuration : (bytes : List ℕ) (b c : Configuration) → IsConfig bytes b → IsConfig bytes c → b ≡ c
+  one_configuration bytes b c p q = one_meaning q.written b c (subst (λ w. IsMeant w b) (same_written bytes p.written q.written p.text q.text) p.meant) q.meant
+
+  -- ---- what is read has no cause
+
+  named : (t : RelationshipText) (r : Relationship) → SaysRelationship t r → HasName t
+  named t r h = record {
+    domain = subst IsDomainText h.domain h.is_domain;
+    endpoint_domain = r.endpoint.domain;
+    endpoint_path = r.endpoint.path;
+    endpoint = subst (λ text. IsIdText text r.endpoint.domain r.endpoint.path) h.endpoint h.is_id;
+  }
+
+  passes : (bytes : List ℕ) (c : Configuration) (p : IsConfig bytes c) (e : ConfigError) → Passes p.written e
+  passes bytes c p BadName = (
+    each_left SaysRelationship HasName named p.written.relationships p.meant.relationships p.meant.each_relationship,
+    each_left SaysSeed (λ t. IsDomainText t.domain) (λ t s h. subst IsDomainText h.domain h.is_domain) p.written.seeds p.meant.seeds p.meant.each_seed,
+  )
+  passes bytes c p BadUrl = each_left SaysRelationship (λ t. (parts : Parts) × IsParsed t.url parts) (λ t r h. (h.url.parts, h.url.parsed)) p.written.relationships p.meant.relationships p.meant.each_relationship
+  passes bytes c p BadProfile = each_left SaysRelationship (λ t. IsProfile t.profile) (λ t r h. h.profile) p.written.relationships p.meant.relationships p.meant.each_relationship
+  passes bytes c p DoubleRelationship = p.single
+  passes bytes c p BadSeed = each_left SaysSeed (λ t. (b : Bundle) × Means t.bundle b × Fits b) (λ t s h. (s.document, h.means, h.fits)) p.written.seeds p.meant.seeds p.meant.each_seed
+  passes bytes c p TooMany = record {
+    relationships = p.few_relationships;
+    seeds = p.few_seeds;
+    domains = λ d ds meant are. p.is.few_domains ds (subst (λ x. AreDomains x ds) (one_meaning p.written d c meant p.meant) are);
+  }
+  passes bytes c p NotJson = tt
+  passes bytes c p Shape = tt
+  passes bytes c p NoMemory = tt
+
+  no_cause : (bytes : List ℕ) (e : ConfigError) (c : Configuration) (w : Written) → IsText bytes w → RefusesWritten w e → IsConfig bytes c → ⊥
+  no_cause bytes e c w text refuses p = refuses.failed (subst (λ v. Passes v e) (same_written bytes p.written w p.text text) (passes bytes c p e))
+
+  pub refused_none : (bytes : List ℕ) (e : ConfigError) (c : Configuration) → RefusesBytes bytes e → (e ≡ NoMemory → ⊥) → IsConfig bytes c → ⊥
+  refused_none bytes NotJson c h other p = h p.text.tree p.text.json
+  refused_none bytes Shape c h other p =
+      let both : Some p.text.tree ≡ Some h.0 = sym p.text.json.1 ∙ h.1.1 in
+      let tree : p.text.tree ≡ h.0 = cc in h.2 p.written (subst (λ t. SaysWritten t p.written) tree p.text.says)
+  refused_none bytes BadName c h other p = no_cause bytes BadName c h.0 h.1 h.2 p
+  refused_none bytes BadUrl c h other p = no_cause bytes BadUrl c h.0 h.1 h.2 p
+  refused_none bytes BadProfile c h other p = no_cause bytes BadProfile c h.0 h.1 h.2 p
+  refused_none bytes DoubleRelationship c h other p = no_cause bytes DoubleRelationship c h.0 h.1 h.2 p
+  refused_none bytes BadSeed c h other p = no_cause bytes BadSeed c h.0 h.1 h.2 p
+  refused_none bytes TooMany c h other p = no_cause bytes TooMany c h.0 h.1 h.2 p
+  refused_none bytes NoMemory c h other p = other refl

@@ -1,0 +1,264 @@
+-- What is read, part after part, is a configuration, or is refused for its first cause.
+use Rattle.std.proofs.Common.{◌≡◌, ℕ, suc, get_or, Result, Ok, Err, ◌+◌, ◌≤◌, inl, inr, List, [], ◌∷◌, length, map, true, false, cond, refl, sym, ap, ap₂, ◌∙◌, subst, arith, bytes_eq, Less, Equal, is_lt}
+use Rattle.std.specs.Result.{MatchResult}
+use Rattle.std.specs.List.{AllByRecursion, AllZip, zip, count_by}
+use Rattle.std.specs.List.Sorted.{IsPermutation, IsSorted, IsStrictlySortedBy}
+use Rattle.std.proofs.lemmas.List.Sorted.{Contains-permutation, IsPermutation-sym, sum_by-IsPermutation, length_permutation}
+use Rattle.std.proofs.lemmas.List.Sums.{sum_by-cons}
+use Rattle.std.proofs.lemmas.Slice.Eq.{bytes_eq-Decides}
+use Rattle.std.proofs.lemmas.Bool.{cases_Bool}
+use Rattle.std.proofs.lemmas.Cmp.{tied_itself}
+use Rattle.std.specs.declared.cmp.Ordering.{Ordering}
+use Rattle.url.specs.Parts.{Parts}
+use Rattle.spiffe_name.specs.TrustDomain.{IsDomainText}
+use Rattle.spiffe_name.specs.SpiffeId.{IsIdText}
+use Rattle.bundle_doc.specs.Bundle.{Bundle, Means, Fits}
+use Rattle.fed_config.specs.EndpointUrl.{IsParsed}
+use Rattle.fed_config.specs.Written.{RelationshipText, SeedText, Written}
+use Rattle.fed_config.specs.Configuration.{Configuration, IsConfiguration, IsRelationship, IsSeed, relationship_cmp, seed_cmp}
+use Rattle.fed_config.specs.Reading.{Fails, HasName, HasNames, HasUrls, HasProfiles, HasSingle, HasDocuments, HasFew, HasFewDomains, IsMeant, IsProfile, IsRead, IsSetOf, RefusesRead, RefusesWritten, AreSets, SaysNames, SaysDomain, SaysUrl, SaysDocument, SaysRelationship, SaysSeed, joined_relationship, joined_seed}
+use Rattle.fed_config.specs.Entries.{seed_text}
+use Rattle.fed_config.specs.declared.error.ConfigError.{ConfigError}
+use Rattle.fed_config.specs.declared.error.ConfigError.TheVariants.{BadUrl, BadProfile, DoubleRelationship, BadSeed, TooMany}
+use Rattle.fed_config.specs.declared.names.Names.{Names}
+use Rattle.fed_config.specs.declared.written.SeedEntry.{SeedEntry}
+use Rattle.fed_config.specs.declared.relationship.Relationship.{Relationship}
+use Rattle.fed_config.specs.declared.seed.Seed.{Seed}
+use Rattle.std.specs.Cmp.Lexicographic.{slice_cmp}
+use Rattle.std.specs.Ordering.{nat_cmp}
+use Rattle.fed_config.proofs.SetFacts.{Has-Contains, Contains-Has, each_has, each_from_has}
+use Rattle.fed_config.proofs.SingleFacts.{relationships_total, below_by, below_all}
+use Rattle.fed_config.proofs.ZipFacts.{each_left, each_right, each_unmap, zip_map, zip_length}
+
+-- ---- exits
+
+pub exits : (w : Written) (cause : ConfigError) (P : Type 0) (e : ConfigError) → Fails cause P e → ((P → ⊥) → RefusesRead w cause) → RefusesRead w e
+exits w cause P e (inl is) go = subst (RefusesRead w) (sym is) tt
+exits w cause P e (inr f) go = subst (RefusesRead w) (sym f.0) (go f.1)
+
+-- ---- what is written has its parts
+
+has_name : (t : RelationshipText) (n : Names) → SaysNames t n → HasName t
+has_name t n h = record {
+  domain = subst IsDomainText h.domain h.is_domain;
+  endpoint_domain = n.endpoint.domain;
+  endpoint_path = n.endpoint.path;
+  endpoint = subst (λ text. IsIdText text n.endpoint.domain n.endpoint.path) h.endpoint h.is_id;
+}
+
+pub names_in : (ts : List RelationshipText) (ns : List Names) → AllZip SaysNames ts ns → AllByRecursion HasName ts
+names_in ts ns = each_left SaysNames HasName has_name ts ns
+
+pub domains_in : (es : List SeedEntry) (ds : List (List ℕ)) → AllZip (λ e d. SaysDomain (seed_text e) d) es ds → AllByRecursion (λ t. IsDomainText t.domain) (map seed_text es)
+domains_in es ds zip = each_unmap (λ t. IsDomainText t.domain) seed_text es (each_left (λ e d. SaysDomain (seed_text e) d) (λ e. IsDomainText (seed_text e).domain) (λ e d h. subst IsDomainText h.same h.is) es ds zip)
+
+pub urls_in : (ts : List RelationshipText) (us : List (List ℕ)) → AllZip SaysUrl ts us → AllByRecursion (λ t. (parts : Parts) × IsParsed t.url parts) ts
+urls_in ts us = each_left SaysUrl (λ t. (parts : Parts) × IsParsed t.url parts) (λ t u h. (h.parts, h.parsed)) ts us
+
+pub documents_in : (es : List SeedEntry) (bs : List Bundle) → AllZip (λ e b. SaysDocument (seed_text e) b) es bs → AllByRecursion (λ t. (b : Bundle) × Means t.bundle b × Fits b) (map seed_text es)
+documents_in es bs zip = each_unmap (λ t. (b : Bundle) × Means t.bundle b × Fits b) seed_text es (each_left (λ e b. SaysDocument (seed_text e) b) (λ e. (b : Bundle) × Means (seed_text e).bundle b × Fits b) (λ e b h. (b, h.means, h.fits)) es bs zip)
+
+-- ---- joined
+
+pub join_said : (ts : List RelationshipText) (ns : List Names) (us : List (List ℕ)) → AllZip SaysNames ts ns → AllZip SaysUrl ts us → AllByRecursion (λ t. IsProfile t.profile) ts → AllZip SaysRelationship ts (map joined_relationship (zip ns us))
+join_said [] [] us names urls profiles = tt
+join_said [] (n ∷ ns) us names urls profiles = absurd names
+join_said (t ∷ ts) [] us names urls profiles = absurd names
+join_said (t ∷ ts) (n ∷ ns) [] names urls profiles = absurd urls
+join_said (t ∷ ts) (n ∷ ns) (u ∷ us) names urls profiles = (
+  record { domain = names.0.domain; is_domain = names.0.is_domain; endpoint = names.0.endpoint; is_id = names.0.is_id; url = urls.0; profile = profiles.0 },
+  join_said ts ns us names.1 urls.1 profiles.1,
+)
+
+pub join_seeds_said : (es : List SeedEntry) (ds : List (List ℕ)) (bs : List Bundle) → AllZip (λ e d. SaysDomain (seed_text e) d) es ds → AllZip (λ e b. SaysDocument (seed_text e) b) es bs → AllZip (λ e s. SaysSeed (seed_text e) s) es (map joined_seed (zip ds bs))
+join_seeds_said [] [] bs domains documents = tt
+join_seeds_said [] (d ∷ ds) bs domains documents = absurd domains
+join_seeds_said (e ∷ es) [] bs domains documents = absurd domains
+join_seeds_said (e ∷ es) (d ∷ ds) [] domains documents = absurd documents
+join_seeds_said (e ∷ es) (d ∷ ds) (b ∷ bs) domains documents = (
+  record { domain = domains.0.same; is_domain = domains.0.is; means = documents.0.means; fits = documents.0.fits },
+  join_seeds_said es ds bs domains.1 documents.1,
+)
+
+pub relationship_in : (t : RelationshipText) (r : Relationship) → SaysRelationship t r → IsRelationship r
+relationship_in t r h = record { domain = h.is_domain; endpoint = h.is_id; url = (t.url, h.url) }
+
+pub seed_in : (t : SeedText) (s : Seed) → SaysSeed t s → IsSeed s
+seed_in t s h = record { domain = h.is_domain; bundle = h.means.is; fits = h.fits }
+
+pub each_of_set : {X : Type 0} (cmp : X → X → Ordering) (P : X → Type 0) (xs set : List X) → IsSetOf cmp xs set → AllByRecursion P xs → AllByRecursion P set
+each_of_set cmp P xs set is each = each_from_has P set (λ x h. each_has P xs x each (Has-Contains xs x ((is.members x).0 (Contains-Has set x h))))
+
+pub set_of_sorted : (xs ys : List Relationship) → IsPermutation xs ys → IsStrictlySortedBy relationship_cmp ys → IsSetOf relationship_cmp xs ys
+set_of_sorted xs ys moved rising = record {
+  rising = rising;
+  members = λ x. (λ h. Contains-permutation ys xs x (IsPermutation-sym xs ys moved) h, λ h. Contains-permutation xs ys x moved h);
+}
+
+-- ---- one relationship a domain
+
+abbrev one_if : List ℕ → Relationship → ℕ
+one_if d r = cond (bytes_eq r.domain d) 1 0
+
+abbrev pub Single : List Relationship → Type 0
+Single rs = (d : List ℕ) → count_by (λ r. bytes_eq r.domain d) rs ≤ 1
+
+count_written : (ts : List RelationshipText) (rs : List Relationship) (d : List ℕ) → AllZip SaysRelationship ts rs → count_by (λ t. bytes_eq t.domain d) ts ≡ count_by (λ r. bytes_eq r.domain d) rs
+count_written [] [] d zip = refl
+count_written [] (r ∷ rs) d zip = absurd zip
+count_written (t ∷ ts) [] d zip = absurd zip
+count_written (t ∷ ts) (r ∷ rs) d zip =
+    sum_by-cons (λ (x : RelationshipText). cond (bytes_eq x.domain d) 1 0) t ts
+    ∙ ap₂ (λ m n. m + n) (ap (λ x. cond (bytes_eq x d) 1 0) (sym zip.0.domain)) (count_written ts rs d zip.1)
+    ∙ sym (sum_by-cons (one_if d) r rs)
+
+none_above : (r : Relationship) (rs : List Relationship) → AllByRecursion (λ s. relationship_cmp r s ≡ Less) rs → (d : List ℕ) → r.domain ≡ d → count_by (λ s. bytes_eq s.domain d) rs ≡ 0
+none_above r [] all d is = refl
+none_above r (s ∷ rs) all d is =
+    let differ : bytes_eq s.domain d ≡ false = elim (cases_Bool (bytes_eq s.domain d)) [
+      | inl same ↦ absurd (let domains : r.domain ≡ s.domain = is ∙ sym ((bytes_eq-Decides s.domain d).0 same) in
+          let tied : relationship_cmp r s ≡ Equal = subst (λ (x : List ℕ). slice_cmp nat_cmp r.domain x ≡ Equal) domains (tied_itself relationships_total r) in
+          let less = all.0 in cc)
+      | inr other ↦ other
+    ] in
+    sum_by-cons (one_if d) s rs ∙ ap₂ (λ m n. m + n) (ap (λ b. cond b 1 0) differ) (none_above r rs all.1 d is)
+
+strict_single : (rs : List Relationship) → IsStrictlySortedBy relationship_cmp rs → Single rs
+unfolding IsStrictlySortedBy
+strict_single [] rising d = omega arith
+strict_single (r ∷ rs) rising d =
+    let counts = sum_by-cons (one_if d) r rs in
+    elim (cases_Bool (bytes_eq r.domain d)) [
+      | inl same ↦ let none = none_above r rs rising.0 d ((bytes_eq-Decides r.domain d).0 same) in let one : one_if d r ≡ 1 = ap (λ b. cond b 1 0) same in omega arith
+      | inr other ↦ let rest = strict_single rs rising.1 d in let zero_here : one_if d r ≡ 0 = ap (λ b. cond b 1 0) other in omega arith
+    ]
+
+pub single_in : (ts : List RelationshipText) (seeds : List SeedText) (rs ys : List Relationship) → AllZip SaysRelationship ts rs → IsPermutation rs ys → IsStrictlySortedBy relationship_cmp ys → HasSingle (record { relationships = ts; seeds = seeds })
+single_in ts seeds rs ys zip moved rising d =
+    let counts : count_by (λ t. bytes_eq t.domain d) ts ≡ count_by (λ r. bytes_eq r.domain d) ys = count_written ts rs d zip ∙ sym (sum_by-IsPermutation (one_if d) rs ys moved) in
+    let few = strict_single ys rising d in subst (λ n. n ≤ 1) (sym counts) few
+
+-- sorted relationships with one a domain rise strictly
+twice : (x y : Relationship) (rs : List Relationship) → bytes_eq x.domain y.domain ≡ true → Single (x ∷ y ∷ rs) → ⊥
+twice x y rs same single =
+    let first = sum_by-cons (one_if y.domain) x (y ∷ rs) in
+    let second = sum_by-cons (one_if y.domain) y rs in
+    let one : one_if y.domain x ≡ 1 = ap (λ b. cond b 1 0) same in
+    let other : one_if y.domain y ≡ 1 = ap (λ b. cond b 1 0) ((bytes_eq-Decides y.domain y.domain).1 refl) in
+    let few = single y.domain in omega arith
+
+tail_single : (x : Relationship) (rs : List Relationship) → Single (x ∷ rs) → Single rs
+tail_single x rs single d = let counts = sum_by-cons (one_if d) x rs in let few = single d in omega arith
+
+tail_sorted : (x : Relationship) (rs : List Relationship) → IsSorted relationship_cmp (x ∷ rs) → IsSorted relationship_cmp rs
+tail_sorted x rs sorted k d low below = let more : suc k + 1 ≡ suc (k + 1) = omega arith in subst (λ n. is_lt (relationship_cmp (get_or (x ∷ rs) n d) (get_or rs k d)) ≡ false) more (sorted (suc k) d (omega arith) (omega arith))
+
+next_below : (x y : Relationship) (rs : List Relationship) → IsSorted relationship_cmp (x ∷ y ∷ rs) → Single (x ∷ y ∷ rs) → relationship_cmp x y ≡ Less
+next_below x y rs sorted single =
+    let differ : bytes_eq x.domain y.domain ≡ false = elim (cases_Bool (bytes_eq x.domain y.domain)) [ inl same ↦ absurd (twice x y rs same single) | inr other ↦ other ] in
+    below_by x y (relationship_cmp x y) refl (sorted 0 x (omega arith) (omega arith)) differ
+
+sorted_strict : (rs : List Relationship) → IsSorted relationship_cmp rs → Single rs → IsStrictlySortedBy relationship_cmp rs
+unfolding IsStrictlySortedBy
+sorted_strict [] sorted single = tt
+sorted_strict (x ∷ []) sorted single = (tt, tt)
+sorted_strict (x ∷ y ∷ rs) sorted single =
+    let rest = sorted_strict (y ∷ rs) (tail_sorted x (y ∷ rs) sorted) (tail_single x (y ∷ rs) single) in
+    let first = next_below x y rs sorted single in
+    ((first, below_all x y rs first rest.0), rest)
+
+pub not_single_in : (ts : List RelationshipText) (seeds : List SeedText) (rs ys : List Relationship) → AllZip SaysRelationship ts rs → IsPermutation rs ys → IsSorted relationship_cmp ys → (IsStrictlySortedBy relationship_cmp ys → ⊥) → HasSingle (record { relationships = ts; seeds = seeds }) → ⊥
+not_single_in ts seeds rs ys zip moved sorted none single =
+    none (sorted_strict ys sorted (λ d. subst (λ n. n ≤ 1) (count_written ts rs d zip ∙ sym (sum_by-IsPermutation (one_if d) rs ys moved)) (single d)))
+
+-- ---- all parts
+
+abbrev pub written : List RelationshipText → List SeedEntry → Written
+written ts es = record { relationships = ts; seeds = map seed_text es }
+
+pub map_length : {X Y : Type 0} (f : X → Y) (xs : List X) → length (map f xs) ≡ length xs
+map_length f [] = refl
+map_length f (x ∷ xs) = ap suc (map_length f xs)
+
+pub zip_at_slice : {X Y : Type 0} (R : X → Y → Type 0) (slice xs : List X) (ys : List Y) → slice ≡ xs → AllZip R slice ys → AllZip R xs ys
+zip_at_slice R slice xs ys e zip = subst (λ l. AllZip R l ys) e zip
+
+pub each_at_slice : {X : Type 0} (P : X → Type 0) (slice xs : List X) → slice ≡ xs → AllByRecursion P xs → AllByRecursion P slice
+each_at_slice P slice xs e each = subst (AllByRecursion P) (sym e) each
+
+module _ (ts : List RelationshipText) (es : List SeedEntry) (ns : List Names) (ds : List (List ℕ)) (names : AllZip SaysNames ts ns) (domains : AllZip (λ e d. SaysDomain (seed_text e) d) es ds) where
+  pub has_names : HasNames (written ts es)
+  has_names = (names_in ts ns names, domains_in es ds domains)
+
+  pub bad_url : (HasUrls (written ts es) → ⊥) → RefusesWritten (written ts es) BadUrl
+  bad_url none = record { passed = (has_names, tt); failed = none }
+
+  module _ (us : List (List ℕ)) (urls : AllZip SaysUrl ts us) where
+    pub bad_profile : (HasProfiles (written ts es) → ⊥) → RefusesWritten (written ts es) BadProfile
+    bad_profile none = record { passed = (has_names, (urls_in ts us urls, tt)); failed = none }
+
+    module _ (profiles : HasProfiles (written ts es)) (rs : List Relationship) (joined : rs ≡ map joined_relationship (zip ns us)) where
+      pub said : AllZip SaysRelationship ts rs
+      said = subst (AllZip SaysRelationship ts) (sym joined) (join_said ts ns us names urls profiles)
+
+      module _ (ys : List Relationship) (moved : IsPermutation rs ys) where
+        pub double : IsSorted relationship_cmp ys → (IsStrictlySortedBy relationship_cmp ys → ⊥) → RefusesWritten (written ts es) DoubleRelationship
+        double sorted none = record {
+          passed = (has_names, (urls_in ts us urls, (profiles, tt)));
+          failed = not_single_in ts (map seed_text es) rs ys said moved sorted none;
+        }
+
+        module _ (rising : IsStrictlySortedBy relationship_cmp ys) where
+          pub single : HasSingle (written ts es)
+          single = single_in ts (map seed_text es) rs ys said moved rising
+
+          pub bad_seed : (HasDocuments (written ts es) → ⊥) → RefusesWritten (written ts es) BadSeed
+          bad_seed none = record { passed = (has_names, (urls_in ts us urls, (profiles, (single, tt)))); failed = none }
+
+          module _ (bs : List Bundle) (documents : AllZip (λ e b. SaysDocument (seed_text e) b) es bs) where
+            pub too_many : (HasFew (written ts es) → ⊥) → RefusesWritten (written ts es) TooMany
+            too_many none = record { passed = (has_names, (urls_in ts us urls, (profiles, (single, (documents_in es bs documents, tt))))); failed = none }
+
+            module _ (few : length ts ≤ 1024) (few_seeds : length es ≤ 4096) (ss : List Seed) (joined_ss : ss ≡ map joined_seed (zip ds bs)) where
+              said_seeds : AllZip (λ e s. SaysSeed (seed_text e) s) es ss
+              said_seeds = subst (AllZip (λ e s. SaysSeed (seed_text e) s) es) (sym joined_ss) (join_seeds_said es ds bs domains documents)
+
+              pub are_seeds : AllByRecursion IsSeed ss
+              are_seeds = each_right (λ e s. SaysSeed (seed_text e) s) IsSeed (λ e s h. seed_in (seed_text e) s h) es ss said_seeds
+
+              module _ (zs : List Seed) (set : IsSetOf seed_cmp ss zs) (bound : length zs ≤ length ss) where
+                abbrev of : Configuration
+                of = record { relationships = ys; seeds = zs }
+
+                relationship_set : IsSetOf relationship_cmp rs ys
+                relationship_set = set_of_sorted rs ys moved rising
+
+                pub are_sets : AreSets of
+                are_sets = record {
+                  rising_relationships = rising;
+                  rising_seeds = set.rising;
+                  each_relationship = each_of_set relationship_cmp IsRelationship rs ys relationship_set (each_right SaysRelationship IsRelationship relationship_in ts rs said);
+                  each_seed = each_of_set seed_cmp IsSeed ss zs set are_seeds;
+                  few_relationships = let l = length_permutation rs ys moved in let m = zip_length SaysRelationship ts rs said in omega arith;
+                  few_seeds = let m = zip_length (λ e s. SaysSeed (seed_text e) s) es ss said_seeds in omega arith;
+                }
+
+                meant : IsMeant (written ts es) of
+                meant = record {
+                  relationships = rs;
+                  each_relationship = said;
+                  relationship_set = relationship_set;
+                  seeds = ss;
+                  each_seed = zip_map SaysSeed seed_text es ss said_seeds;
+                  seed_set = set;
+                }
+
+                pub finish : (r : Result Configuration ConfigError) → MatchResult r (λ c. (c ≡ of) × IsConfiguration c) (Fails TooMany (HasFewDomains of)) → MatchResult r (IsRead (written ts es)) (RefusesRead (written ts es))
+                finish (Ok c) h = record {
+                  meant = subst (IsMeant (written ts es)) (sym h.0) meant;
+                  single = single;
+                  few_relationships = few;
+                  few_seeds = subst (λ n. n ≤ 4096) (sym (map_length seed_text es)) few_seeds;
+                  is = h.1;
+                }
+                finish (Err e) h = exits (written ts es) TooMany (HasFewDomains of) e h (λ none. too_many (λ all. none (λ domains are. all.domains of domains meant are)))

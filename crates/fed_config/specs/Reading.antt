@@ -1,0 +1,192 @@
+-- What a text means as a configuration, and why it is none.
+use Rattle.std.specs.Prelude.{◌≡◌, ℕ, ◌<◌, ◌≤◌, ◌↔◌, ◌⊎◌, ⊤, List, [], ◌∷◌, length, codes, Contains, count_by, bytes_eq}
+use Rattle.std.specs.Str.{IsUtf8}
+use Rattle.std.specs.List.{AllByRecursion, AllZip}
+use Rattle.std.specs.List.Sorted.{IsStrictlySortedBy}
+use Rattle.std.specs.declared.cmp.Ordering.{Ordering}
+use Rattle.serde_json.specs.Data.{Data}
+use Rattle.spiffe_name.specs.TrustDomain.{IsDomainText}
+use Rattle.spiffe_name.specs.SpiffeId.{IsId, IsIdText}
+use Rattle.jwk_set.specs.Json.{IsJson}
+use Rattle.bundle_doc.specs.Bundle.{Bundle, Means, Fits}
+use Rattle.bundle_doc.specs.declared.error.DocError.{DocError}
+use Rattle.bundle_doc.specs.declared.error.DocError.TheVariants as doc_error
+use Rattle.url.specs.Parts.{Parts}
+use Rattle.fed_config.specs.EndpointUrl.{IsParsed, KeepsUrl}
+use Rattle.fed_config.specs.Written.{RelationshipText, SeedText, Written, SaysWritten, IsText}
+use Rattle.fed_config.specs.Configuration.{Configuration, IsConfiguration, IsRelationship, IsSeed, AreDomains, relationship_cmp, seed_cmp}
+use Rattle.fed_config.specs.declared.relationship.Relationship.{Relationship}
+use Rattle.fed_config.specs.declared.seed.Seed.{Seed}
+use Rattle.fed_config.specs.declared.names.Names.{Names}
+use Rattle.fed_config.specs.declared.error.ConfigError.{ConfigError}
+use Rattle.fed_config.specs.declared.error.ConfigError.TheVariants.{NotJson, Shape, BadName, BadUrl, BadProfile, DoubleRelationship, BadSeed, TooMany, NoMemory}
+
+-- ---- the meaning
+
+-- the profile is `https_spiffe` (SPIFFE Federation, section 5.2.2)
+abbrev pub IsProfile : List ℕ → Type 0
+IsProfile profile = profile ≡ codes "https_spiffe"
+
+pub record SaysRelationship (t : RelationshipText) (r : Relationship) : Type 0 where
+  pub domain : r.domain ≡ t.domain
+  pub is_domain : IsDomainText r.domain
+  pub endpoint : r.endpoint.text ≡ t.endpoint
+  pub is_id : IsId r.endpoint
+  pub url : KeepsUrl t.url r.url
+  pub profile : IsProfile t.profile
+
+pub record SaysSeed (t : SeedText) (s : Seed) : Type 0 where
+  pub domain : s.domain ≡ t.domain
+  pub is_domain : IsDomainText s.domain
+  pub means : Means t.bundle s.document
+  pub fits : Fits s.document
+
+-- the list is the rising one of the set of these
+pub record IsSetOf {X : Type 0} (cmp : X → X → Ordering) (xs set : List X) : Type 0 where
+  pub rising : IsStrictlySortedBy cmp set
+  pub members : (x : X) → Contains set x ↔ Contains xs x
+
+-- what each relationship and each seed says, as two sets
+pub record IsMeant (w : Written) (c : Configuration) : Type 0 where
+  pub relationships : List Relationship
+  pub each_relationship : AllZip SaysRelationship w.relationships relationships
+  pub relationship_set : IsSetOf relationship_cmp relationships c.relationships
+  pub seeds : List Seed
+  pub each_seed : AllZip SaysSeed w.seeds seeds
+  pub seed_set : IsSetOf seed_cmp seeds c.seeds
+
+-- a trust domain has at most one relationship
+abbrev pub HasSingle : Written → Type 0
+HasSingle w = (domain : List ℕ) → count_by (λ t. bytes_eq t.domain domain) w.relationships ≤ 1
+
+-- the bytes are a configuration of this meaning
+pub record IsConfig (bytes : List ℕ) (c : Configuration) : Type 0 where
+  pub written : Written
+  pub text : IsText bytes written
+  pub meant : IsMeant written c
+  pub single : HasSingle written
+  pub few_relationships : length written.relationships ≤ 1024
+  pub few_seeds : length written.seeds ≤ 4096
+  pub is : IsConfiguration c
+
+-- ---- the refusals
+
+pub record HasName (t : RelationshipText) : Type 0 where
+  pub domain : IsDomainText t.domain
+  pub endpoint_domain : List ℕ
+  pub endpoint_path : List ℕ
+  pub endpoint : IsIdText t.endpoint endpoint_domain endpoint_path
+
+abbrev pub HasNames : Written → Type 0
+HasNames w = AllByRecursion HasName w.relationships × AllByRecursion (λ t. IsDomainText t.domain) w.seeds
+
+abbrev pub HasUrls : Written → Type 0
+HasUrls w = AllByRecursion (λ t. (parts : Parts) × IsParsed t.url parts) w.relationships
+
+abbrev pub HasProfiles : Written → Type 0
+HasProfiles w = AllByRecursion (λ t. IsProfile t.profile) w.relationships
+
+abbrev pub HasDocuments : Written → Type 0
+HasDocuments w = AllByRecursion (λ t. (b : Bundle) × Means t.bundle b × Fits b) w.seeds
+
+-- at most 1,024 relationships and 4,096 seeds, as written, and at most 1,024 domains
+pub record HasFew (w : Written) : Type 0 where
+  pub relationships : length w.relationships ≤ 1024
+  pub seeds : length w.seeds ≤ 4096
+  pub domains : (c : Configuration) (domains : List (List ℕ)) → IsMeant w c → AreDomains c domains → length domains ≤ 1024
+
+-- what is refused with this cause lacks this
+abbrev pub Passes : Written → ConfigError → Type 0
+Passes w BadName = HasNames w
+Passes w BadUrl = HasUrls w
+Passes w BadProfile = HasProfiles w
+Passes w DoubleRelationship = HasSingle w
+Passes w BadSeed = HasDocuments w
+Passes w TooMany = HasFew w
+Passes w e = ⊤
+
+-- the causes that go before
+abbrev pub earlier : ConfigError → List ConfigError
+earlier BadUrl = BadName ∷ []
+earlier BadProfile = BadName ∷ BadUrl ∷ []
+earlier DoubleRelationship = BadName ∷ BadUrl ∷ BadProfile ∷ []
+earlier BadSeed = BadName ∷ BadUrl ∷ BadProfile ∷ DoubleRelationship ∷ []
+earlier TooMany = BadName ∷ BadUrl ∷ BadProfile ∷ DoubleRelationship ∷ BadSeed ∷ []
+earlier e = []
+
+-- the first cause: all that go before do not stand, and this one does
+pub record RefusesWritten (w : Written) (e : ConfigError) : Type 0 where
+  pub passed : AllByRecursion (Passes w) (earlier e)
+  pub failed : Passes w e → ⊥
+
+-- the text has its shape, and what is written is refused
+abbrev pub RefusesText : List ℕ → ConfigError → Type 0
+RefusesText bytes e = (w : Written) × IsText bytes w × RefusesWritten w e
+
+-- Memory is first wanted for the value of a text that is not empty: that the bytes are UTF-8 is known before.
+abbrev pub RefusesBytes : List ℕ → ConfigError → Type 0
+RefusesBytes bytes NotJson = (tree : Data) → IsJson bytes tree → ⊥
+RefusesBytes bytes Shape = (tree : Data) × IsJson bytes tree × ((w : Written) → SaysWritten tree w → ⊥)
+RefusesBytes bytes NoMemory = IsUtf8 bytes × (0 < length bytes)
+RefusesBytes bytes e = RefusesText bytes e
+
+-- ---- single steps
+
+-- memory ran out, or it is this cause and that does not hold
+abbrev pub Fails : ConfigError → Type 0 → ConfigError → Type 0
+Fails cause P e = (e ≡ NoMemory) ⊎ ((e ≡ cause) × (P → ⊥))
+
+-- the names of a relationship are those that are written
+pub record SaysNames (t : RelationshipText) (n : Names) : Type 0 where
+  pub domain : n.domain ≡ t.domain
+  pub is_domain : IsDomainText n.domain
+  pub endpoint : n.endpoint.text ≡ t.endpoint
+  pub is_id : IsId n.endpoint
+
+pub record SaysDomain (t : SeedText) (domain : List ℕ) : Type 0 where
+  pub same : domain ≡ t.domain
+  pub is : IsDomainText domain
+
+abbrev pub SaysUrl : RelationshipText → List ℕ → Type 0
+SaysUrl t url = KeepsUrl t.url url
+
+pub record SaysDocument (t : SeedText) (b : Bundle) : Type 0 where
+  pub means : Means t.bundle b
+  pub fits : Fits b
+
+-- the cause for which a seed is refused whose bundle is
+abbrev pub cause_of : DocError → ConfigError
+cause_of doc_error.NoMemory = NoMemory
+cause_of e = BadSeed
+
+abbrev pub joined_relationship : Names × List ℕ → Relationship
+joined_relationship p = record { domain = p.0.domain; endpoint = p.0.endpoint; url = p.1 }
+
+abbrev pub joined_seed : List ℕ × Bundle → Seed
+joined_seed p = record { domain = p.0; document = p.1 }
+
+abbrev pub HasFewDomains : Configuration → Type 0
+HasFewDomains c = (domains : List (List ℕ)) → AreDomains c domains → length domains ≤ 1024
+
+-- a configuration, but for the number of its domains
+pub record AreSets (c : Configuration) : Type 0 where
+  pub rising_relationships : IsStrictlySortedBy relationship_cmp c.relationships
+  pub rising_seeds : IsStrictlySortedBy seed_cmp c.seeds
+  pub each_relationship : AllByRecursion IsRelationship c.relationships
+  pub each_seed : AllByRecursion IsSeed c.seeds
+  pub few_relationships : length c.relationships ≤ 1024
+  pub few_seeds : length c.seeds ≤ 4096
+
+-- what is written is a configuration
+pub record IsRead (w : Written) (c : Configuration) : Type 0 where
+  pub meant : IsMeant w c
+  pub single : HasSingle w
+  pub few_relationships : length w.relationships ≤ 1024
+  pub few_seeds : length w.seeds ≤ 4096
+  pub is : IsConfiguration c
+
+abbrev pub RefusesRead : Written → ConfigError → Type 0
+RefusesRead w NotJson = ⊥
+RefusesRead w Shape = ⊥
+RefusesRead w NoMemory = ⊤
+RefusesRead w e = RefusesWritten w e

@@ -1,0 +1,135 @@
+//! Configurations, and what they are asked.
+ghost use Rattle.std.specs.Prelude.{◌≡◌, IfOk, option_copied};
+ghost use Rattle.fed_config.specs.Configuration.{AreDomains, IsConfiguration, IsFound, IsPlace, config_id_of};
+
+use crate::id::ConfigId;
+use crate::relationship::Relationship;
+use crate::seed::Seed;
+use spiffe_name::TrustDomain;
+use std::alloc::{AllocError, Global};
+use std::marker::Model;
+
+/// What an operator tells a replica out of band (SPIFFE Federation, section 5): at most one relationship with each foreign
+/// trust domain, and seeds, which are bundles of trust domains.
+///
+/// A configuration is its meaning: two of them are equal exactly where they have the same relationships and seeds, in
+/// whatever order these were written and however often a seed was. Each has one canonical text, and that text's digest is
+/// its id.
+#[derive(Debug, Drop)]
+pub struct Config {
+    pub(crate) relationships: Vec<Relationship>,
+    pub(crate) seeds: Vec<Seed>,
+    pub(crate) domains: Vec<TrustDomain>,
+    pub(crate) id: ConfigId,
+}
+
+impl Model for Config {
+    ghost use Rattle.fed_config.specs.Configuration.{Configuration, IsKept};
+
+    ghost Value = { Configuration };
+
+    ghost view = { λ a. record { relationships = a.relationships.items; seeds = a.seeds.items } };
+
+    ghost invariant = { λ a. IsKept (record { relationships = a.relationships.items; seeds = a.seeds.items }) a.domains.items a.id.0 };
+}
+
+impl Config {
+    /// The trust domains that the configuration speaks of, rising: those of its relationships, of their endpoints and
+    /// of its seeds. There are at most 1,024.
+    pub fn domains(&self) -> &[TrustDomain]
+        ensures all { AreDomains self.now result.now }
+        ensures form { IsConfiguration self.now }
+    {
+        self.domains.as_slice()
+    }
+
+    /// Where the trust domain stands in [`Config::domains`], found by binary search.
+    pub fn domain_no(&self, domain: &TrustDomain) -> Option<usize>
+        ensures { IsPlace self.now domain.now result }
+    {
+        self.domains.binary_search(domain).ok()
+    }
+
+    /// The relationship with a trust domain, found by binary search.
+    pub fn relationship(&self, domain: &TrustDomain) -> Option<&Relationship>
+        ensures { IsFound self.now domain.now (option_copied result) }
+    {
+        match self
+            .relationships
+            .binary_search_by(|relationship| relationship.domain.cmp(domain))
+        {
+            Ok(place) => Some(&self.relationships[place]),
+            Err(_) => None,
+        }
+    }
+
+    /// The relationships, rising by their trust domains. There are at most 1,024.
+    pub fn relationships(&self) -> &[Relationship]
+        ensures { result.now ≡ self.now.relationships }
+    {
+        self.relationships.as_slice()
+    }
+
+    /// The seeds, each once, rising by their trust domains and then by their documents' canonical texts. There are at
+    /// most 4,096.
+    pub fn seeds(&self) -> &[Seed]
+        ensures { result.now ≡ self.now.seeds }
+    {
+        self.seeds.as_slice()
+    }
+
+    /// The configuration's id, which equal configurations share.
+    pub fn digest(&self) -> ConfigId
+        ensures { result.0 ≡ config_id_of self.now }
+    {
+        self.id
+    }
+
+    /// An equal configuration.
+    ///
+    /// # Errors
+    /// Memory ran out.
+    pub fn try_clone(&self, alloc: Global) -> Result<Config, AllocError>
+        ensures { IfOk result (λ c. c ≡ self.now) }
+    {
+        Ok(Config {
+            relationships: copies_of_relationships(alloc, self.relationships.as_slice())?,
+            seeds: copies_of_seeds(alloc, self.seeds.as_slice())?,
+            domains: copies_of_domains(alloc, self.domains.as_slice())?,
+            id: self.id,
+        })
+    }
+}
+
+fn copies_of_relationships(
+    alloc: Global,
+    relationships: &[Relationship],
+) -> Result<Vec<Relationship>, AllocError>
+    ensures { IfOk result (λ v. v.items ≡ relationships.now) }
+{
+    let mut copies = Vec::with_capacity(alloc, relationships.len())?;
+    for relationship in relationships {
+        copies.push(relationship.try_clone(alloc)?)?;
+    }
+    Ok(copies)
+}
+
+fn copies_of_seeds(alloc: Global, seeds: &[Seed]) -> Result<Vec<Seed>, AllocError>
+    ensures { IfOk result (λ v. v.items ≡ seeds.now) }
+{
+    let mut copies = Vec::with_capacity(alloc, seeds.len())?;
+    for seed in seeds {
+        copies.push(seed.try_clone(alloc)?)?;
+    }
+    Ok(copies)
+}
+
+fn copies_of_domains(alloc: Global, domains: &[TrustDomain]) -> Result<Vec<TrustDomain>, AllocError>
+    ensures { IfOk result (λ v. v.items ≡ domains.now) }
+{
+    let mut copies = Vec::with_capacity(alloc, domains.len())?;
+    for domain in domains {
+        copies.push(domain.try_clone(alloc)?)?;
+    }
+    Ok(copies)
+}

@@ -1,0 +1,55 @@
+//! Why bytes are no configuration.
+ghost use Rattle.std.specs.Prelude.{◌≡◌};
+ghost use Rattle.fed_config.specs.declared.error.ConfigError.TheVariants.{NoMemory};
+
+use std::alloc::{AllocError, AllocFailed};
+use thiserror::Error;
+
+/// Why bytes are no configuration. Of several causes the first of this list is answered, wherever they stand, but for
+/// want of memory, which may come at any time.
+#[derive(Clone, Copy, Debug, PartialEq, Eq, Error)]
+pub enum ConfigError {
+    /// The bytes are no JSON text (RFC 8259), or they nest deeper than 127 levels.
+    #[error("C1 NotJson")]
+    NotJson,
+    /// The value, a relationship or a seed is no object with exactly its members, or a member is not what it has to be.
+    #[error("C2 Shape")]
+    Shape,
+    /// A `domain` is no trust domain name, or an `endpoint` is no SPIFFE ID.
+    #[error("C3 BadName")]
+    BadName,
+    /// A `url` is no URL, has more than 2,048 bytes, another scheme than `https`, a user name or a password.
+    #[error("C4 BadUrl")]
+    BadUrl,
+    /// A `profile` is not `https_spiffe`.
+    #[error("C5 BadProfile")]
+    BadProfile,
+    /// Two relationships have one trust domain.
+    #[error("C6 DoubleRelationship")]
+    DoubleRelationship,
+    /// A `bundle` is no document.
+    #[error("C7 BadSeed")]
+    BadSeed,
+    /// More than 1,024 relationships or 4,096 seeds are written, or there are more than 1,024 trust domains.
+    #[error("C8 TooMany")]
+    TooMany,
+    /// Memory ran out.
+    #[error("C9 NoMemory")]
+    NoMemory,
+}
+
+impl From<AllocError> for ConfigError {
+    ghost from_gives = { λ _ e. e ≡ NoMemory };
+
+    fn from(_error: AllocError) -> ConfigError {
+        ConfigError::NoMemory
+    }
+}
+
+impl<T: Drop> From<AllocFailed<T>> for ConfigError {
+    ghost from_gives = { λ _ e. e ≡ NoMemory };
+
+    fn from(_error: AllocFailed<T>) -> ConfigError {
+        ConfigError::NoMemory
+    }
+}

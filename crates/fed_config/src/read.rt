@@ -1,0 +1,111 @@
+//! Reading a configuration.
+ghost use Rattle.std.specs.Prelude.{◌≡◌, ◌↔◌, ◌≤◌, IsTrue, MatchResult, length};
+ghost use Rattle.fed_config.specs.Configuration.{IsConfiguration};
+ghost use Rattle.fed_config.specs.Entries.{written_of};
+ghost use Rattle.fed_config.specs.Reading.{AreSets, Fails, HasFewDomains, IsConfig, IsRead, RefusesBytes, RefusesRead};
+
+use crate::canonical::id_of;
+use crate::config::Config;
+use crate::domains::domains_of;
+use crate::error::ConfigError;
+use crate::names::{
+    have_profile, join_relationships, join_seeds, read_documents, read_domains, read_names,
+    read_urls,
+};
+use crate::relationship::Relationship;
+use crate::seed::Seed;
+use crate::sets::{are_single, sort_relationships, sort_seeds};
+use crate::written::{Entries, read_entries};
+use serde_json::Value;
+use std::alloc::Global;
+use std::str;
+
+/// The most relationships, as they are written, and the most trust domains.
+const MAX_DOMAINS: usize = 1_024;
+
+/// The most seeds, as they are written.
+const MAX_SEEDS: usize = 4_096;
+
+impl Config {
+    /// The configuration that a JSON text (RFC 8259) says: of members with one name the last counts, and arrays and
+    /// objects may nest 127 levels deep.
+    ///
+    /// It is an object with exactly the members `relationships` and `seeds`, both arrays. A relationship is an object with
+    /// exactly the members `domain`, `endpoint`, `profile` and `url`, all texts: a trust domain name, a SPIFFE ID,
+    /// `https_spiffe`, and a URL of at most 2,048 bytes with the scheme `https`, which has neither a user name nor a
+    /// password. A seed is an object with exactly the members `bundle`, a document, and `domain`, a trust domain name.
+    ///
+    /// # Errors
+    /// The first of [`ConfigError`]'s causes that holds anywhere. Where memory ran out it is [`ConfigError::NoMemory`],
+    /// whatever else holds: memory is first wanted for the JSON value of bytes that are UTF-8 and not empty.
+    pub fn read(alloc: Global, bytes: &[u8]) -> Result<Config, ConfigError>
+        ensures { MatchResult result (IsConfig bytes.now) (RefusesBytes bytes.now) }
+    {
+        let Ok(text) = str::from_utf8(bytes) else {
+            return Err(ConfigError::NotJson);
+        };
+        match Value::from_str(alloc, text) {
+            Ok(value) => Config::from_entries(alloc, &read_entries(alloc, &value)?),
+            Err(error) if error.is_memory() => Err(ConfigError::NoMemory),
+            Err(_) => Err(ConfigError::NotJson),
+        }
+    }
+
+    /// The configuration of what is written.
+    fn from_entries(alloc: Global, entries: &Entries) -> Result<Config, ConfigError>
+        ensures { MatchResult result (IsRead (written_of entries.now)) (RefusesRead (written_of entries.now)) }
+    {
+        let names = read_names(alloc, entries.relationships.as_slice())?;
+        let domains = read_domains(alloc, entries.seeds.as_slice())?;
+        let urls = read_urls(alloc, entries.relationships.as_slice())?;
+        if !have_profile(entries.relationships.as_slice()) {
+            return Err(ConfigError::BadProfile);
+        }
+        let mut relationships = join_relationships(alloc, names, urls)?;
+        sort_relationships(&mut relationships);
+        if !are_single(relationships.as_slice()) {
+            return Err(ConfigError::DoubleRelationship);
+        }
+        let documents = read_documents(alloc, entries.seeds.as_slice())?;
+        if !are_few(entries) {
+            return Err(ConfigError::TooMany);
+        }
+        let mut seeds = join_seeds(alloc, domains, documents)?;
+        sort_seeds(&mut seeds);
+        Config::of_sets(alloc, relationships, seeds)
+    }
+
+    /// The configuration of these sets, where they have few enough domains.
+    fn of_sets(
+        alloc: Global,
+        relationships: Vec<Relationship>,
+        seeds: Vec<Seed>,
+    ) -> Result<Config, ConfigError>
+        requires { AreSets (record { relationships = relationships.items; seeds = seeds.items }) }
+        ensures { MatchResult result
+            (λ c. (c ≡ record { relationships = relationships.items; seeds = seeds.items }) × IsConfiguration c)
+            (Fails ConfigError.TooMany (HasFewDomains (record { relationships = relationships.items; seeds = seeds.items }))) }
+    {
+        let domains = domains_of(alloc, relationships.as_slice(), seeds.as_slice())?;
+        if domains.len() > MAX_DOMAINS {
+            return Err(ConfigError::TooMany);
+        }
+        let id = id_of(alloc, relationships.as_slice(), seeds.as_slice())?;
+        Ok(Config {
+            relationships,
+            seeds,
+            domains,
+            id,
+        })
+    }
+}
+
+/// Whether there are few enough relationships and seeds, as they are written.
+fn are_few(entries: &Entries) -> bool
+    ensures { IsTrue result ↔ ((length entries.now.relationships.items ≤ 1024) × (length entries.now.seeds.items ≤ 4096)) }
+{
+    if entries.relationships.len() > MAX_DOMAINS {
+        return false;
+    }
+    entries.seeds.len() <= MAX_SEEDS
+}
