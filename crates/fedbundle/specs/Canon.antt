@@ -1,5 +1,5 @@
 -- What `canon` prints, and what a run of it does to its two devices.
-use Rattle.std.specs.Prelude.{◌≡◌, ℕ, ◌+◌, ◌++◌, ◌⊎◌, List, [], ◌∷◌, codes, Option, Some, None, Bool, true, Result, Ok, Err}
+use Rattle.std.specs.Prelude.{◌≡◌, ℕ, ◌+◌, ◌++◌, ◌⊎◌, List, [], ◌∷◌, codes, Option, Some, None, Bool, true}
 use Rattle.std.specs.Io.KnownBytes.{Appends}
 use Rattle.hex.specs.Hex.{encode_lower}
 use Rattle.jwk_set.specs.declared.authority.Authority.{Authority}
@@ -11,7 +11,7 @@ use Rattle.bundle_doc.specs.declared.error.DocError.{DocError}
 use Rattle.bundle_doc.specs.declared.document.TheConstants.{MAX_DOCUMENT_BYTES}
 use Rattle.receipt_core.specs.Device.{TakesUpTo, AppendsBeginning}
 use Rattle.fedbundle.specs.declared.error.CommandError.{CommandError}
-use Rattle.fedbundle.specs.declared.error.CommandError.TheVariants.{Name, Document, Full, NoMemory, Io}
+use Rattle.fedbundle.specs.declared.error.CommandError.TheVariants.{Document}
 
 -- a label, a digest in lower-case hexadecimal, and a line feed
 abbrev pub digest_line : List ℕ → List ℕ → List ℕ
@@ -42,10 +42,12 @@ pub record PrintsCanon (before after : Option (List ℕ)) (domain : List ℕ) (h
   pub is : IsDocument bytes document
   pub written : Appends held holds (canon_text domain document)
 
--- The bytes read are refused for this cause, and nothing was written.
-pub record RefusesCanon (before after held holds : Option (List ℕ)) (why : DocError) : Type 0 where
+-- The error is the cause for which the bytes read are refused, and nothing was written.
+pub record RefusesCanon (before after held holds : Option (List ℕ)) (error : CommandError) : Type 0 where
   pub bytes : List ℕ
   pub read : Reads before after bytes
+  pub why : DocError
+  pub is : error ≡ Document why
   pub cause : RefusesBytes bytes why
   pub unwritten : holds ≡ held
 
@@ -57,10 +59,6 @@ pub record CutsCanon (before after : Option (List ℕ)) (domain : List ℕ) (hel
   pub is : IsDocument bytes document
   pub beginning : AppendsBeginning held holds (canon_text domain document)
 
--- What an end without a result says. The source failed before anything was written, or the sink failed.
-abbrev pub EndsCanon : Option (List ℕ) → Option (List ℕ) → List ℕ → Option (List ℕ) → Option (List ℕ) → Bool → Bool → CommandError → Type 0
-EndsCanon before after domain held holds source_failed sink_failed (Name e) = ⊥
-EndsCanon before after domain held holds source_failed sink_failed (Document e) = RefusesCanon before after held holds e
-EndsCanon before after domain held holds source_failed sink_failed Full = ⊥
-EndsCanon before after domain held holds source_failed sink_failed NoMemory = holds ≡ held
-EndsCanon before after domain held holds source_failed sink_failed Io = ((source_failed ≡ true) × (holds ≡ held)) ⊎ ((sink_failed ≡ true) × CutsCanon before after domain held holds)
+-- The source failed before anything was written, or the sink failed.
+abbrev pub FailsCanon : Option (List ℕ) → Option (List ℕ) → List ℕ → Option (List ℕ) → Option (List ℕ) → Bool → Bool → Type 0
+FailsCanon before after domain held holds source_failed sink_failed = ((source_failed ≡ true) × (holds ≡ held)) ⊎ ((sink_failed ≡ true) × CutsCanon before after domain held holds)

@@ -1,6 +1,7 @@
-// `canon`: a bundle document as it was fetched, printed in its canonical form with its ids.
-ghost use Rattle.std.specs.Prelude.{◌≡◌, ◌++◌, IfOk, OnOk, MatchResult};
-ghost use Rattle.fedbundle.specs.Canon.{EndsCanon, PrintsCanon, canon_text, digest_line, key_line, keys_text};
+//! `canon`: a bundle document as it was fetched, printed in its canonical form with its ids.
+ghost use Rattle.std.specs.Prelude.{◌≡◌, ◌++◌, IfErr, IfOk, IsErrOf, OnOk};
+ghost use Rattle.fedbundle.specs.Canon.{FailsCanon, PrintsCanon, RefusesCanon, canon_text, digest_line, key_line, keys_text};
+ghost use Rattle.fedbundle.specs.declared.error.CommandError.TheVariants.{Io, NoMemory};
 ghost use Rattle.jwk_set.specs.Element.{key_id_of};
 
 use crate::error::CommandError;
@@ -10,23 +11,31 @@ use receipt_core::{Sink, Source, read_up_to, write_all};
 use spiffe_name::TrustDomain;
 use std::alloc::{AllocError, Global};
 
-/// Reads a bundle document of the domain and writes its canonical text, a line `id` with its document id, and for
-/// each X.509 authority a line `key` with its key id, in the order of the canonical text.
+/// Reads a bundle document of the domain and writes its canonical text, a line `id` with its
+/// document id, and for each X.509 authority a line `key` with its key id, in the order of the
+/// canonical text.
 ///
-/// It reads at most one byte more than a document may have. Nothing is written before the whole text is made.
+/// It reads at most one byte more than a document may have. Nothing is written before the whole
+/// text is made.
 ///
 /// # Errors
-/// `Document` where the bytes are no document, `NoMemory` where memory ran out: then nothing was written. `Io` where
-/// the source failed, and nothing was written, or where the sink failed, which then holds a beginning of the text.
+/// `Document` where the bytes are no document, `NoMemory` where memory ran out: then nothing was
+/// written. `Io` where the source failed, and nothing was written, or where the sink failed, which
+/// then holds a beginning of the text.
 pub fn run_canon<R: Source, W: Sink>(
     alloc: Global,
     domain: &TrustDomain,
     source: &mut R,
     sink: &mut W,
 ) -> Result<(), CommandError>
-    ensures { MatchResult result
-        (λ _. PrintsCanon (R.remaining source.old) (R.remaining source.new) domain.now (W.contents sink.old) (W.contents sink.new))
-        (EndsCanon (R.remaining source.old) (R.remaining source.new) domain.now (W.contents sink.old) (W.contents sink.new) (R.has_failed source.new) (W.has_failed sink.new)) }
+    ensures ok { OnOk result (PrintsCanon (R.remaining source.old) (R.remaining source.new) domain.now (W.contents sink.old) (W.contents sink.new)) }
+
+    // Every error but these two is the cause for which the bytes are refused.
+    ensures refused { IfErr result (λ e. (e ≡ Io → ⊥) → (e ≡ NoMemory → ⊥)
+        → RefusesCanon (R.remaining source.old) (R.remaining source.new) (W.contents sink.old) (W.contents sink.new) e) }
+    ensures io { IsErrOf result Io
+        → FailsCanon (R.remaining source.old) (R.remaining source.new) domain.now (W.contents sink.old) (W.contents sink.new) (R.has_failed source.new) (W.has_failed sink.new) }
+    ensures memory { IsErrOf result NoMemory → W.contents sink.new ≡ W.contents sink.old }
 {
     let bytes = read_up_to(alloc, source, MAX_DOCUMENT_BYTES + 1)?;
     let document = Document::read(alloc, bytes.as_slice())?;

@@ -1,4 +1,4 @@
-// Why a command ends without its result, and the exit status that says so.
+//! Why a command ends without its result, and the exit status that says so.
 ghost use Rattle.std.specs.Prelude.{◌≡◌};
 ghost use Rattle.fedbundle.specs.Status.{of_read, status_of};
 ghost use Rattle.fedbundle.specs.declared.error.CommandError.TheVariants.{Name, Document, NoMemory, Io};
@@ -9,7 +9,8 @@ use spiffe_name::NameError;
 use std::alloc::AllocError;
 use thiserror::Error;
 
-/// Why a command ends without its result: the refusal of the part that it stands on, or a cause of its own.
+/// Why a command ends without its result: the refusal of the part that it stands on, or a cause of
+/// its own.
 #[derive(Clone, Copy, Debug, PartialEq, Eq, Error)]
 pub enum CommandError {
     /// A word is no trust domain name, or no SPIFFE ID.
@@ -29,7 +30,8 @@ pub enum CommandError {
     Io,
 }
 
-/// The exit status of the program: 1 where an input was refused, 3 where a device failed, 4 where memory ran out.
+/// The exit status of the program: 1 where an input was refused, 3 where a device failed, 4 where
+/// memory ran out.
 pub fn status(error: &CommandError) -> u8
     ensures { result ≡ status_of error.now }
 {

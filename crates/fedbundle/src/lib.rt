@@ -1,6 +1,7 @@
+//! The command's functions, each over a source and a sink: the program hands them its standard
+//! streams.
 #![tactic(auto)]
 
-//! The command's functions, each over a source and a sink: the program hands them its standard streams.
 mod canon;
 mod error;
 mod fault;

@@ -1,3 +1,15 @@
+pub mod Receipt
+pub mod Order
+pub mod Parts
+pub mod Rising
+pub mod Sets
+pub mod Acceptance
+pub mod Chain
+pub mod Line
+pub mod Lines
+pub mod Ahead
+pub mod Streams
+pub mod Steps
 pub mod Device
 pub mod Adaptor
 pub mod Memory

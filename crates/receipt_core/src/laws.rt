@@ -1,8 +1,18 @@
-//! What is so of bytes that go to a sink in several pieces. A call that writes so calls the function, which
-//! does nothing, and cites what it ensures.
-ghost use Rattle.std.specs.Prelude.{[], ◌++◌, ℕ, List, Option};
+//! What follows from the definitions alone. A call that needs a law calls its function, which does nothing, and cites
+//! what it ensures.
+ghost use Rattle.std.specs.Prelude.{◌≡◌, ◌↔◌, [], ◌∷◌, ◌++◌, ℕ, List, Option, Contains};
+ghost use Rattle.std.specs.declared.cmp.Ordering.TheVariants.{Less};
+ghost use Rattle.std.specs.Ordering.{nat_cmp};
+ghost use Rattle.std.specs.Cmp.Lexicographic.{slice_cmp};
 ghost use Rattle.std.specs.Io.KnownBytes.{Appends};
 ghost use Rattle.receipt_core.specs.Device.{AppendsBeginning};
+ghost use Rattle.receipt_core.specs.Lines.{HasNoFeed, lines_of, with_line};
+ghost use Rattle.receipt_core.specs.Receipt.{Receipt, IsReceipt, line, receipt_cmp, triple_cmp, Pair, pair_of, offers_of, need_of, IsDistrust, distrust_line, distrust_cmp};
+ghost use Rattle.receipt_core.specs.Acceptance.{IsMember, Meaning, Vouches, distrust_of};
+ghost use Rattle.std.specs.List.{AllByRecursion};
+ghost use Rattle.receipt_core.specs.Chain.{IsChain};
+ghost use Rattle.receipt_core.specs.Sets.{AreSets, Always};
+ghost use Rattle.receipt_core.specs.declared.distrust.Distrust.{Distrust};
 
 /// One piece after another is both together, and a beginning of the first, or the first and a beginning of
 /// the second, is a beginning of both.
@@ -14,4 +24,43 @@ pub fn pieces()
         → AppendsBeginning old new (first ++ second) }
     ensures in_second { (old between new : Option (List ℕ)) (first second : List ℕ) → Appends old between first
         → AppendsBeginning between new second → AppendsBeginning old new (first ++ second) }
+{}
+
+/// One line, one receipt, and one record of distrust: the orders of receipts and of records are those of their lines,
+/// and tell apart what differs. A record's line comes before each receipt's.
+pub fn lines()
+    ensures one_receipt { (r s : Receipt) → IsReceipt r → IsReceipt s → line r ≡ line s → r ≡ s }
+    ensures one_record { (x y : Distrust) → IsDistrust x → IsDistrust y → distrust_line x ≡ distrust_line y → x ≡ y }
+    ensures records { (x y : Distrust) → IsDistrust x → IsDistrust y → slice_cmp nat_cmp (distrust_line x) (distrust_line y) ≡ distrust_cmp x y }
+    ensures record_first { (x : Distrust) (r : Receipt) → IsDistrust x → IsReceipt r → slice_cmp nat_cmp (distrust_line x) (line r) ≡ Less }
+{}
+
+/// Receipts, triples and records of distrust in rising lists are sets.
+pub fn sets()
+    ensures receipts { AreSets IsReceipt receipt_cmp }
+    ensures triples { AreSets Always triple_cmp }
+    ensures records { AreSets Always distrust_cmp }
+{}
+
+/// A document vouches for a receipt exactly if what the receipt needs is among what the document offers, and no record
+/// distrusts the key in the endpoint's trust domain.
+pub fn vouching()
+    ensures { (records : List Distrust) (p : Pair) (r : Receipt) → Vouches records p r
+        ↔ (Contains (offers_of p) (need_of r) × (Contains records (distrust_of r.endpoint.domain r) → ⊥)) }
+{}
+
+/// The lines of bytes, as they are taken from a stream: a text without a line feed that one follows is the first line,
+/// before the lines of what comes after it, and a text without any line feed is the rest.
+pub fn streams()
+    ensures line { (text after : List ℕ) → HasNoFeed text
+        → lines_of ((text ++ (10 ∷ [])) ++ after) ≡ with_line text (lines_of after) }
+    ensures rest { (text : List ℕ) → HasNoFeed text → lines_of text ≡ record { whole = []; rest = text } }
+{}
+
+/// The last document of a chain is accepted under each meaning of this configuration that holds the chain's receipts
+/// and whose records are among these.
+pub fn chains()
+    ensures { (m : Meaning) (records : List Distrust) (front : List Receipt) (r : Receipt) → IsChain m.config records (front ++ r ∷ [])
+        → AllByRecursion (Contains m.held) (front ++ r ∷ []) → ((x : Distrust) → Contains m.records x → Contains records x)
+        → IsMember m (pair_of r) }
 {}

@@ -1,0 +1,14 @@
+use Rattle.std.proofs.Common.{◌≡◌, refl, false}
+use Rattle.receipt_core.specs.Receipt.{pair_of}
+use Rattle.receipt_core.specs.Acceptance.{IsFitting, Vouches}
+use Rattle.receipt_core.specs.Chain.{HasVoucher, IsChain, IsFirst}
+use Rattle.receipt_core.proofs.ChainFacts.{next_told, distrusted_told, seeded_told, distrusted_seeded, chain_told, no_first, told_no, not_told, fitting_told}
+use Rattle.receipt_core.proofs.chain.is_vouched_for.Goals as goal
+
+pub returns-then-is_distrusted : goal.returns-then-is_distrusted
+returns-then-is_distrusted c = told_no _ false refl (distrusted_told c.args.records.now (pair_of c.args.previous.now) c.args.receipt.now (c.is_distrusted.ensures.0 c.if-is_distrusted.true))
+
+pub returns-else-is_distrusted : goal.returns-else-is_distrusted
+returns-else-is_distrusted c =
+    next_told c.args.records.now (pair_of c.args.previous.now) c.args.receipt.now c.offers_need.result
+    (not_told _ c.is_distrusted.result c.is_distrusted.ensures c.if-is_distrusted.false) c.offers_need.ensures

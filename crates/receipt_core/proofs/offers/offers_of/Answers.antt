@@ -1,0 +1,24 @@
+use Rattle.std.proofs.Common.{◌≡◌, ◌++◌, ◌∙◌, ap, sym, map, append-nil}
+use Rattle.receipt_core.specs.Receipt.{Pair, offer_of, key_ids}
+use Rattle.receipt_core.proofs.KeyIdFacts.{offers_more}
+use Rattle.receipt_core.proofs.offers.offers_of.Goals as goal
+
+pub loop-key-init : goal.loop-key-init
+loop-key-init c =
+    ap (λ x. x ++ map (offer_of (record { domain = c.args.domain.now; document = c.args.document.now })) c.into_iter-key-iterator.result) c.new-offers.ensures.items
+
+pub loop-key-preserved : goal.loop-key-preserved
+loop-key-preserved c =
+    let p : Pair = record { domain = c.args.domain.now; document = c.args.document.now } in
+    offers_more p c.in-Some.key c.in_ok-new.field-0 c.loop-key.key-iterator c.next.new.self c.loop-key.offers.items c.push.new.self.items
+    (map (offer_of p) c.into_iter-key-iterator.result) c.in-Some.ensures.steps
+    (c.in_ok-new.ensures ∙ (λ i. record { domain = c.args.domain.now; document = record { 0 = c.id-id.ensures i }; key = c.in-Some.key }))
+    c.in_ok-push.ensures.items c.loop-key.invariant
+
+pub returns : goal.returns
+returns c =
+    let p : Pair = record { domain = c.args.domain.now; document = c.args.document.now } in
+    sym (append-nil c.loop-key.offers.items)
+    ∙ ap (λ x. c.loop-key.offers.items ++ map (offer_of p) x) (sym c.in-None.ensures.steps.0)
+    ∙ c.loop-key.invariant
+    ∙ ap (map (offer_of p)) (c.into_iter-key-iterator.ensures.into_iter_gives.0 ∙ c.in_ok-key-items.ensures ∙ ap key_ids c.authorities.ensures)
