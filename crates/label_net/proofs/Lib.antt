@@ -1,0 +1,5 @@
+pub mod Arrows
+pub mod Mirroring
+pub mod Edges
+pub mod InOrder
+pub mod Closing

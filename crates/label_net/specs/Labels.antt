@@ -1,0 +1,117 @@
+-- Labels in order, and what a caller sees of a net of them
+use Rattle.std.specs.Prelude.{◌≡◌, ◌↔◌, ◌⊎◌, ℕ, ◌+◌, ◌-◌, ◌<◌, ◌≤◌, List, [], ◌∷◌, ◌++◌, Bool, true, false, length, min, take, AllPairs, Contains, slice_get, slice_index_or, Some}
+use Rattle.std.specs.declared.cmp.Ordering.{Ordering}
+use Rattle.std.specs.declared.cmp.Ordering.TheVariants.{Less}
+use Rattle.std.specs.Ordering.{nat_cmp, ordering_then}
+use Rattle.std.specs.Cmp.Lexicographic.{slice_cmp}
+use Rattle.jwk_set.specs.declared.authority.KeyId.{KeyId}
+use Rattle.sorted_order.specs.Stock.{Stock, in_order}
+use Rattle.wait_index.specs.Index.{Index}
+use Rattle.wait_index.specs.Net.{Net, is_closed, ListsReached, with_node, with_label, with_offer, with_wait, with_root, with_closed, has_wait}
+use Rattle.label_net.specs.declared.label.Label.{Label}
+
+-- labels are ordered by domain number, document id and key id
+abbrev pub label_cmp : Label → Label → Ordering
+label_cmp a b = ordering_then (nat_cmp a.domain b.domain) (ordering_then (slice_cmp nat_cmp a.document.0 b.document.0) (slice_cmp nat_cmp a.key.0 b.key.0))
+
+-- each stands before those after it
+abbrev pub IsInOrder : List Label → Type 0
+IsInOrder labels = AllPairs (λ a b. label_cmp a b ≡ Less) labels
+
+-- what each label stands for, the net, the marked nodes, and for how many nodes, and for how many edges with new labels,
+-- there is room
+pub record Wired : Type 0 where
+  pub labels : List Label
+  pub net : Net
+  pub marked : List ℕ
+  pub nodes : ℕ
+  pub edges : ℕ
+
+-- for how many edges there is room, should each come with a new label
+abbrev pub edges_room : Stock Label → Index → ℕ
+edges_room stock index = min (min index.room.labels index.room.edges) (stock.capacity - length stock.items)
+
+abbrev pub wired_of : Stock Label → Index → Wired
+wired_of stock index = record { labels = stock.items; net = index.net; marked = index.marked; nodes = index.room.nodes; edges = edges_room stock index }
+
+-- Labels are found in their order, the net has one label for each, and the marked nodes are the reached ones.
+pub record IsWired (stock : Stock Label) (index : Index) : Type 0 where
+  pub rising : IsInOrder (in_order stock)
+  pub sizes : length index.net.closed ≡ length stock.items
+  pub reached : ListsReached index.net index.marked
+
+-- ---- what one call does
+
+-- Nothing but the room has changed, and that has grown or stayed.
+pub record IsRoomier (old new : Wired) : Type 0 where
+  pub labels : new.labels ≡ old.labels
+  pub net : new.net ≡ old.net
+  pub marked : new.marked ≡ old.marked
+  pub nodes : old.nodes ≤ new.nodes
+  pub edges : old.edges ≤ new.edges
+
+-- The label has this number: it had it before, or it was not there and comes last.
+pub record HasNumber (labels : List Label) (net : Net) (label : Label) (closed : Bool) (more : List Label) (wider : Net) (number : ℕ) : Type 0 where
+  pub named : slice_get more number ≡ Some label
+  pub grown : ((more ≡ labels) × (wider ≡ net)) ⊎ ((Contains labels label → ⊥) × (more ≡ labels ++ label ∷ []) × (wider ≡ with_label net closed))
+
+-- A node is added.
+pub record HasNode (old : Wired) (new : Wired) (node : ℕ) : Type 0 where
+  pub number : node ≡ length old.net.roots
+  pub labels : new.labels ≡ old.labels
+  pub net : new.net ≡ with_node old.net
+  pub awaits : has_wait new.net node ≡ false
+  pub marked : new.marked ≡ old.marked
+  pub nodes : old.nodes ≡ new.nodes + 1
+  pub edges : new.edges ≡ old.edges
+
+-- The node offers the label from now on; where that is new, it is closed as it is said.
+pub record Offers (old : Wired) (node : ℕ) (label : Label) (closed : Bool) (new : Wired) : Type 0 where
+  pub number : ℕ
+  pub wider : Net
+  pub numbered : HasNumber old.labels old.net label closed new.labels wider number
+  pub net : new.net ≡ with_offer wider node number
+  pub front : take (length old.marked) new.marked ≡ old.marked
+  pub nodes : new.nodes ≡ old.nodes
+  pub edges : old.edges ≤ new.edges + 1
+
+-- The node awaits the label from now on; where that is new, it is closed as it is said.
+pub record Awaits (old : Wired) (node : ℕ) (label : Label) (closed : Bool) (new : Wired) : Type 0 where
+  pub number : ℕ
+  pub wider : Net
+  pub numbered : HasNumber old.labels old.net label closed new.labels wider number
+  pub net : new.net ≡ with_wait wider number node
+  pub front : take (length old.marked) new.marked ≡ old.marked
+  pub nodes : new.nodes ≡ old.nodes
+  pub edges : old.edges ≤ new.edges + 1
+
+-- The node is a root from now on.
+pub record IsRooted (old : Wired) (node : ℕ) (new : Wired) : Type 0 where
+  pub labels : new.labels ≡ old.labels
+  pub net : new.net ≡ with_root old.net node
+  pub front : take (length old.marked) new.marked ≡ old.marked
+  pub nodes : new.nodes ≡ old.nodes
+  pub edges : new.edges ≡ old.edges
+
+-- a label of the key in the domain, of whatever document
+abbrev pub IsOfKey : ℕ → KeyId → Label → Type 0
+IsOfKey domain key label = (label.domain ≡ domain) × (label.key ≡ key)
+
+-- The labels of the key in the domain are closed from now on, and the others stay as they are.
+pub record HasClosed (net : Net) (labels : List Label) (domain : ℕ) (key : KeyId) (after : Net) : Type 0 where
+  pub flags : List Bool
+  pub sizes : length flags ≡ length net.closed
+  pub closed : (number : ℕ) (label : Label) → slice_get labels number ≡ Some label
+      → (slice_index_or flags number false ≡ true) ↔ ((is_closed net number ≡ true) ⊎ IsOfKey domain key label)
+  pub net_is : after ≡ record net { closed = flags }
+
+pub record Closes (old : Wired) (domain : ℕ) (key : KeyId) (new : Wired) : Type 0 where
+  pub labels : new.labels ≡ old.labels
+  pub net : HasClosed old.net old.labels domain key new.net
+  pub nodes : new.nodes ≡ old.nodes
+  pub edges : new.edges ≡ old.edges
+
+-- the net with the label closed, or as it was
+abbrev pub closed_if : Bool → Net → ℕ → Net
+closed_if true net label = with_closed net label
+closed_if false net label = net

@@ -1,0 +1,51 @@
+-- What ties a net of nodes and labels to what stands at its nodes
+use Rattle.std.specs.Prelude.{◌≡◌, ◌≢◌, ◌↔◌, ℕ, ◌+◌, Bool, true, false, length, List, [], ◌∷◌, ◌++◌, map, Option, Some, None, slice_get, AllPairs}
+use Rattle.std.specs.Option.{option_to_list}
+use Rattle.wait_index.specs.declared.edges.Edge.{Edge}
+use Rattle.wait_index.specs.Net.{Net, is_closed}
+
+-- What stands at a node: whether it is a root, what it offers, in order, and what it awaits, if anything.
+pub record Spot (A : Type 0) : Type 0 where
+  pub rooted : Bool
+  pub offers : List A
+  pub awaits : Option A
+
+-- an edge by its node and what its label stands for
+pub record Arrow (A : Type 0) : Type 0 where
+  pub node : ℕ
+  pub label : Option A
+
+abbrev pub arrow_at : {A : Type 0} → ℕ → A → Arrow A
+arrow_at node label = record { node = node; label = Some label }
+
+-- one arrow for each of these of each spot, and no other; the first spot stands at this node
+abbrev pub arrows_from : {A : Type 0} → (Spot A → List A) → ℕ → List (Spot A) → List (Arrow A)
+arrows_from of node [] = []
+arrows_from of node (spot ∷ spots) = map (arrow_at node) (of spot) ++ arrows_from of (node + 1) spots
+
+abbrev pub offered_at : {A : Type 0} → Spot A → List A
+offered_at spot = spot.offers
+
+abbrev pub awaited_at : {A : Type 0} → Spot A → List A
+awaited_at spot = option_to_list spot.awaits
+
+-- what the edges of a net are, given what each label stands for
+abbrev pub offer_arrow : {A : Type 0} → List A → Edge → Arrow A
+offer_arrow labels edge = record { node = edge.from; label = slice_get labels edge.to }
+
+abbrev pub wait_arrow : {A : Type 0} → List A → Edge → Arrow A
+wait_arrow labels edge = record { node = edge.to; label = slice_get labels edge.from }
+
+-- The net has one node for each spot, one label for each of `labels`, which are different, closed exactly where it is
+-- shut, one offer edge for each offer of each spot, one wait edge for each spot that awaits, and no other.
+pub record Mirrors {A : Type 0} (spots : List (Spot A)) (labels : List A) (IsShut : A → Type 0) (net : Net) : Type 0 where
+  pub roots : net.roots ≡ map (λ spot. spot.rooted) spots
+  pub sizes : length net.closed ≡ length labels
+  pub closed : (number : ℕ) (label : A) → slice_get labels number ≡ Some label → (is_closed net number ≡ true) ↔ IsShut label
+  pub offers : map (offer_arrow labels) net.offers ≡ arrows_from offered_at 0 spots
+  pub waits : map (wait_arrow labels) net.waits ≡ arrows_from awaited_at 0 spots
+  pub once : AllPairs ◌≢◌ labels
+
+-- a spot without any of it
+abbrev pub bare : {A : Type 0} → Spot A
+bare = record { rooted = false; offers = []; awaits = None }

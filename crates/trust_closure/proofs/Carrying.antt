@@ -1,0 +1,214 @@
+-- What a plain closure keeps, when receipts or records of distrust come
+use Rattle.std.proofs.Common.{◌≡◌, ◌≢◌, ℕ, ◌+◌, ◌<◌, ◌≤◌, inl, inr, Bool, true, false, List, [], ◌∷◌, ◌++◌, length, get_or, map, Some, arith, refl, sym, ap, ◌∙◌, subst}
+use Rattle.std.specs.Prelude.{Contains, slice_get, ◌↔◌}
+use Rattle.std.specs.List.{All}
+use Rattle.std.proofs.lemmas.Bool.{cases_lt, both_ways}
+use Rattle.std.proofs.lemmas.List.{length-map, length_push, get_or_past, get_or_append_left, get_or_push}
+use Rattle.std.proofs.lemmas.List.Quantifiers.{all_pairs_push}
+use Rattle.std.proofs.lemmas.List.Elements.{Contains-append_left, Contains-get_or, All-contains}
+use Rattle.std.proofs.lemmas.Option.{slice_get_within, slice_get-get_or}
+use Rattle.fed_config.specs.Configuration.{Configuration}
+use Rattle.receipt_core.specs.declared.distrust.Distrust.{Distrust}
+use Rattle.receipt_core.specs.declared.triple.Triple.{Triple}
+use Rattle.receipt_core.specs.Receipt.{Receipt, Pair, pair_of, IsReceipt}
+use Rattle.receipt_core.specs.Order.{distrust_total}
+use Rattle.receipt_core.specs.Acceptance.{Meaning, IsMeaning, IsFitting, IsReleased, pair_of_seed}
+use Rattle.label_net.proofs.Edges.{slice_get-left, slice_get-append_cases, slice_get-map_cases}
+use Rattle.label_net.proofs.Mirroring.{slice_get-more, slice_get-push_cases}
+use Rattle.trust_closure.specs.Nodes.{pairs_of, is_raised}
+use Rattle.trust_closure.specs.Changes.{IsGain}
+use Rattle.trust_closure.specs.Flags.{raised_count}
+use Rattle.trust_closure.specs.Held.{Hoard, meaning_of}
+use Rattle.trust_closure.specs.Indexed.{IsBefore}
+use Rattle.trust_closure.specs.Pairs.{Paired, IsPairing, no_pair}
+use Rattle.trust_closure.specs.Plain.{AreSound, AreReleased, IsHadNode, IsFirstHad, IsSet, IsSettled, IsRoomierPaired}
+use Rattle.trust_closure.proofs.Bridge.{pair-of_receipt_node}
+use Rattle.trust_closure.proofs.FlagFacts.{gain-from_flags, count-fewer}
+use Rattle.trust_closure.proofs.IndexFacts.{pairing-flags, same-more, pairs-push, with_arrival, hoard-before, with_mistrust}
+use Rattle.trust_closure.proofs.MemberFacts.{member_more}
+use Rattle.trust_closure.proofs.PlainFacts.{item_at, plain-tells}
+use Rattle.trust_closure.proofs.RisingFacts.{with_item_keeps}
+
+raised-within : (flags : List Bool) (k : ℕ) → is_raised flags k ≡ true → k < length flags
+raised-within flags k e = elim (cases_lt k (length flags)) [ inl l ↦ l | inr l ↦ absurd (both_ways (is_raised flags k) (get_or_past flags k false l) e) ]
+
+released-more : (m n : Meaning) → m.config ≡ n.config → ((r : Receipt) → Contains m.held r → Contains n.held r) → ((x : Distrust) → Contains n.records x → Contains m.records x) → (r : Receipt) → IsReleased m r → IsReleased n r
+released-more m n same more fewer r is = record {
+  held = more r is.held;
+  fits = subst (λ (c : Configuration). IsFitting c r) same is.fits;
+  voucher = is.voucher;
+  accepted = member_more m n same more fewer is.voucher is.accepted;
+  vouches = record {
+    endpoint = is.vouches.endpoint;
+    voucher = is.vouches.voucher;
+    key = is.vouches.key;
+    trusted = λ h. is.vouches.trusted (fewer _ h);
+  };
+}
+
+-- ---- from one closure to another
+
+module _ (h new : Hoard) (p q : Paired) (offers : List Triple) (released others : List Bool) (config : h.config ≡ new.config)
+    (arrivals : (place : ℕ) (r : Receipt) → slice_get h.arrived place ≡ Some r → slice_get new.arrived place ≡ Some r)
+    (release : (r : Receipt) → IsReleased (meaning_of h) r → IsReleased (meaning_of new) r)
+    (i : IsSettled h p offers released) (j : IsSettled new q offers others)
+    (firsts : (node number : ℕ) → slice_get p.firsts node ≡ Some number → slice_get q.firsts node ≡ Some number)
+    (sizes : length p.flags ≤ length q.flags) where
+  had-carry : (node : ℕ) → IsHadNode (length h.config.seeds) released node → IsHadNode (length new.config.seeds) others node
+  had-carry node had = elim had [
+    | inl l ↦ inl (subst (λ (c : Configuration). node < length c.seeds) config l)
+    | inr f ↦
+        let l : f.0 < length h.arrived = omega (arith, raised-within released f.0 f.2, i.set.size) in
+        let r = item_at h.arrived f.0 l in
+        inr (f.0, subst (λ (c : Configuration). node ≡ length c.seeds + f.0) config f.1, (j.settled f.0 r.0 (arrivals f.0 r.0 r.1)).1 (release r.0 ((i.settled f.0 r.0 r.1).0 f.2)))
+  ]
+
+  kept-carry : (k : ℕ) → is_raised p.flags k ≡ true → is_raised q.flags k ≡ true
+  kept-carry k e =
+      let f = (i.flags k).0 e in
+      let at = firsts f.node k f.first in
+      (j.flags k).1 record { node = f.node; below = slice_get_within q.firsts f.node k at; had = had-carry f.node f.had; first = at }
+
+  pairs-carry : (n : ℕ) (x : Pair) → slice_get (pairs_of h.config.seeds h.arrived) n ≡ Some x → slice_get (pairs_of new.config.seeds new.arrived) n ≡ Some x
+  pairs-carry n x at = elim (slice_get-append_cases (map pair_of_seed h.config.seeds) (map pair_of h.arrived) n x at) [
+    | inl a ↦ subst (λ (c : Configuration). slice_get (pairs_of c.seeds new.arrived) n ≡ Some x) config (slice_get-left (map pair_of_seed h.config.seeds) (map pair_of new.arrived) n x a)
+    | inr a ↦
+        let r = slice_get-map_cases pair_of h.arrived a.place x a.at in
+        let e : n ≡ length h.config.seeds + a.place = omega (arith, a.is, length-map h.config.seeds pair_of_seed) in
+        subst (λ (c : Configuration). slice_get (pairs_of c.seeds new.arrived) n ≡ Some x) config
+        (ap (λ k. slice_get (pairs_of h.config.seeds new.arrived) k) e ∙ pair-of_receipt_node h.config.seeds new.arrived a.place r.0 (arrivals a.place r.0 r.1) ∙ ap (λ (y : Pair). Some y) r.2)
+  ]
+
+  pub few-carry : raised_count p.flags ≤ raised_count q.flags
+  few-carry = count-fewer p.flags q.flags sizes kept-carry
+
+  pub gain-carry : (n : ℕ) → raised_count q.flags ≡ raised_count p.flags + n → IsGain (meaning_of h) (meaning_of new) n
+  gain-carry n count =
+      gain-from_flags no_pair (meaning_of h) (meaning_of new) (pairs_of h.config.seeds h.arrived) (pairs_of new.config.seeds new.arrived) p.numbers q.numbers p.flags q.flags
+      (plain-tells h p offers released i) (plain-tells new q offers others j) kept-carry (λ k x e f at. pairs-carry k x at) n count sizes
+
+-- ---- flags raised anew
+
+pub settled-from : (h : Hoard) (p q : Paired) (offers : List Triple) (old released : List Bool) → IsSet h p offers old → length released ≡ length old → AreReleased (meaning_of h) h.arrived released
+    → q.numbers ≡ p.numbers → q.firsts ≡ p.firsts → length q.flags ≡ length p.flags
+    → ((number : ℕ) → (is_raised q.flags number ≡ true) ↔ IsFirstHad (length h.config.seeds) released p.firsts (length p.firsts) number) → IsSettled h q offers released
+settled-from h p q offers old released s size are numbers firsts flags raised = record {
+  set = record {
+    valid = s.valid;
+    once = s.once;
+    same = s.same;
+    offers = s.offers;
+    pairing = pairing-flags (pairs_of h.config.seeds h.arrived) p q s.pairing numbers firsts flags;
+    size = size ∙ s.size;
+  };
+  settled = are;
+  flags = λ n. subst (λ (fs : List ℕ). (is_raised q.flags n ≡ true) ↔ IsFirstHad (length h.config.seeds) released fs (length fs) n) (sym firsts) (raised n);
+}
+
+pub firsts-within : (h : Hoard) (p : Paired) (offers : List Triple) (released : List Bool) → IsSet h p offers released → All (λ f. f < length p.flags) p.firsts
+firsts-within h p offers released s k d l =
+    let f = s.pairing.first k (get_or p.firsts k d) (slice_get-get_or p.firsts k d l) in
+    omega (arith, All-contains (λ n. n < length (pairs_of h.config.seeds h.arrived)) p.numbers (get_or p.firsts k d) s.pairing.within f.0, s.pairing.flagged)
+
+-- ---- one more receipt
+
+pub set-more : (h new : Hoard) (p q : Paired) (offers : List Triple) (released : List Bool) (r : Receipt) → IsSet h p offers released → IsReceipt r → (Contains h.held r → ⊥) → new ≡ with_arrival h r → IsMeaning (meaning_of new)
+    → IsPairing (pairs_of h.config.seeds h.arrived ++ pair_of r ∷ []) q → IsSet new q offers (released ++ false ∷ [])
+set-more h new p q offers released r s form unheld is valid pairing =
+    let valid' : IsMeaning (meaning_of (with_arrival h r)) = subst (λ x. IsMeaning (meaning_of x)) is valid in
+    subst (λ x. IsSet x q offers (released ++ false ∷ [])) (sym is) (record {
+      valid = valid';
+      once = all_pairs_push ◌≢◌ h.arrived r s.once (λ k d l e. unheld (subst (Contains h.held) e ((s.same (get_or h.arrived k d)).1 (Contains-get_or h.arrived k d l))));
+      same = same-more h r s.valid form s.same;
+      offers = s.offers;
+      pairing = subst (λ ps. IsPairing ps q) (sym (pairs-push h.config.seeds h.arrived r)) pairing;
+      size = omega (arith, length_push released false, length_push h.arrived r, s.size);
+    })
+
+pub release-more : (h new : Hoard) (r : Receipt) → IsMeaning (meaning_of h) → IsReceipt r → ((s : Receipt) → Contains h.held s ↔ Contains h.arrived s) → new ≡ with_arrival h r → (s : Receipt) → IsReleased (meaning_of h) s → IsReleased (meaning_of new) s
+release-more h new r valid form same is s released =
+    subst (λ (x : Hoard). IsReleased (meaning_of x) s) (sym is)
+    (released-more (meaning_of h) (meaning_of (with_arrival h r)) refl (λ t c. (same-more h r valid form same t).1 (Contains-append_left h.arrived (r ∷ []) t ((same t).0 c))) (λ x c. c) s released)
+
+pub arrivals-more : (h new : Hoard) (r : Receipt) → new ≡ with_arrival h r → (place : ℕ) (s : Receipt) → slice_get h.arrived place ≡ Some s → slice_get new.arrived place ≡ Some s
+arrivals-more h new r is place s at = ap (λ (x : Hoard). slice_get x.arrived place) is ∙ slice_get-more h.arrived (r ∷ []) place s at
+
+pub sound-push : (h new : Hoard) (p : Paired) (offers : List Triple) (released : List Bool) (r : Receipt) → IsSettled h p offers released → IsReceipt r → new ≡ with_arrival h r → AreSound (meaning_of new) new.arrived (released ++ false ∷ [])
+sound-push h new p offers released r i form is place s at raised =
+    elim (slice_get-push_cases h.arrived r place s (ap (λ (x : Hoard). slice_get x.arrived place) (sym is) ∙ at)) [
+      | inl a ↦ release-more h new r i.set.valid form i.set.same is s ((i.settled place s a.1).0 (sym (get_or_append_left released (false ∷ []) false place (omega (arith, a.0, i.set.size))) ∙ raised))
+      | inr a ↦ absurd (both_ways (is_raised (released ++ false ∷ []) place) (get_or_push released false false place (omega (arith, a.0, i.set.size))) raised)
+    ]
+
+-- ---- one more record of distrust
+
+pub set-closed : (old new : Hoard) (x : Distrust) (p : Paired) (offers : List Triple) (released lowered : List Bool) → IsSet old p offers released → IsBefore old x new → IsMeaning (meaning_of new) → length lowered ≡ length released → IsSet new p offers lowered
+set-closed old new x p offers released lowered s before valid size =
+    let is = hoard-before old new x before in
+    let valid' : IsMeaning (meaning_of (with_mistrust old x new.capacity)) = subst (λ h. IsMeaning (meaning_of h)) is valid in
+    subst (λ h. IsSet h p offers lowered) (sym is) (record { valid = valid'; once = s.once; same = s.same; offers = s.offers; pairing = s.pairing; size = size ∙ s.size })
+
+pub release-fewer : (old new : Hoard) (x : Distrust) → IsBefore old x new → (s : Receipt) → IsReleased (meaning_of new) s → IsReleased (meaning_of old) s
+release-fewer old new x before s released =
+    released-more (meaning_of new) (meaning_of old) before.config (λ t c. subst (λ (ts : List Receipt). Contains ts t) before.held c)
+    (λ y c. subst (λ (ys : List Distrust). Contains ys y) (sym before.records) (with_item_keeps distrust_total x old.records y c)) s released
+
+pub sound-lowered : (m : Meaning) (arrived : List Receipt) (flags : List Bool) → ((n : ℕ) → is_raised flags n ≡ false) → AreSound m arrived flags
+sound-lowered m arrived flags low place r at raised = absurd (both_ways (is_raised flags place) (low place) raised)
+
+-- ---- more room
+
+pub settled-roomier : (h new : Hoard) (p q : Paired) (offers : List Triple) (released : List Bool) → IsSettled h p offers released → new ≡ record h { capacity = new.capacity } → IsRoomierPaired p q → IsSettled new q offers released
+settled-roomier h new p q offers released i is r =
+    subst (λ x. IsSettled x q offers released) (sym is) (record {
+      set = record {
+        valid = i.set.valid;
+        once = i.set.once;
+        same = i.set.same;
+        offers = i.set.offers;
+        pairing = pairing-flags (pairs_of h.config.seeds h.arrived) p q i.set.pairing r.numbers r.firsts (ap length r.flags);
+        size = i.set.size;
+      };
+      settled = i.settled;
+      flags = λ n.
+          subst (λ fs. (is_raised q.flags n ≡ true) ↔ IsFirstHad (length h.config.seeds) released fs (length fs) n) (sym r.firsts)
+          (subst (λ fs. (is_raised fs n ≡ true) ↔ IsFirstHad (length h.config.seeds) released p.firsts (length p.firsts) n) (sym r.flags) (i.flags n));
+    })
+
+-- ---- what is gained and lost
+
+pub firsts-lowered : (h : Hoard) (p low : Paired) (offers : List Triple) (released : List Bool) → IsSet h p offers released → low.firsts ≡ p.firsts → length low.flags ≡ length p.flags → All (λ f. f < length low.flags) low.firsts
+firsts-lowered h p low offers released s firsts flags =
+    subst (λ (fs : List ℕ). All (λ f. f < length low.flags) fs) (sym firsts) (subst (λ (n : ℕ). All (λ f. f < n) p.firsts) (sym flags) (firsts-within h p offers released s))
+
+pub raised-as : (flags : List Bool) (a b : ℕ) (rs ss : List Bool) (fs gs : List ℕ) → a ≡ b → rs ≡ ss → fs ≡ gs
+    → ((n : ℕ) → (is_raised flags n ≡ true) ↔ IsFirstHad a rs fs (length fs) n) → (n : ℕ) → (is_raised flags n ≡ true) ↔ IsFirstHad b ss gs (length gs) n
+raised-as flags a b rs ss fs gs seeds released firsts raised n =
+    subst (λ (k : ℕ). (is_raised flags n ≡ true) ↔ IsFirstHad k ss gs (length gs) n) seeds
+    (subst (λ (bs : List Bool). (is_raised flags n ≡ true) ↔ IsFirstHad a bs gs (length gs) n) released
+    (subst (λ (ns : List ℕ). (is_raised flags n ≡ true) ↔ IsFirstHad a rs ns (length ns) n) firsts (raised n)))
+
+pub gain-added : (h new : Hoard) (p q : Paired) (offers : List Triple) (released others : List Bool) (r : Receipt) (first : ℕ) → IsSettled h p offers released → IsReceipt r → new ≡ with_arrival h r → IsSettled new q offers others
+    → q.firsts ≡ p.firsts ++ first ∷ [] → length q.flags ≡ length p.flags + 1
+    → (raised_count p.flags ≤ raised_count q.flags) × ((n : ℕ) → raised_count q.flags ≡ raised_count p.flags + n → IsGain (meaning_of h) (meaning_of new) n)
+gain-added h new p q offers released others r first i form is j list size =
+    let config : h.config ≡ new.config = sym (ap (λ (x : Hoard). x.config) is) in
+    let firsts : (node number : ℕ) → slice_get p.firsts node ≡ Some number → slice_get q.firsts node ≡ Some number =
+    λ node number at. ap (λ fs. slice_get fs node) list ∙ slice_get-more p.firsts (first ∷ []) node number at in
+    let sizes : length p.flags ≤ length q.flags = omega (arith, size) in (
+      few-carry h new p q offers released others config (arrivals-more h new r is) (release-more h new r i.set.valid form i.set.same is) i j firsts sizes,
+      gain-carry h new p q offers released others config (arrivals-more h new r is) (release-more h new r i.set.valid form i.set.same is) i j firsts sizes,
+    )
+
+pub loss-fallen : (old new : Hoard) (x : Distrust) (p q : Paired) (offers : List Triple) (released others : List Bool) → IsSettled old p offers released → IsBefore old x new → IsSettled new q offers others
+    → q.firsts ≡ p.firsts → length q.flags ≡ length p.flags
+    → (raised_count q.flags ≤ raised_count p.flags) × ((n : ℕ) → raised_count p.flags ≡ raised_count q.flags + n → IsGain (meaning_of new) (meaning_of old) n)
+loss-fallen old new x p q offers released others i before j list size =
+    let arrivals : (place : ℕ) (r : Receipt) → slice_get new.arrived place ≡ Some r → slice_get old.arrived place ≡ Some r =
+    λ place r at. ap (λ rs. slice_get rs place) (sym before.arrived) ∙ at in
+    let firsts : (node number : ℕ) → slice_get q.firsts node ≡ Some number → slice_get p.firsts node ≡ Some number =
+    λ node number at. ap (λ fs. slice_get fs node) (sym list) ∙ at in
+    let sizes : length q.flags ≤ length p.flags = omega (arith, size) in (
+      few-carry new old q p offers others released before.config arrivals (release-fewer old new x before) j i firsts sizes,
+      gain-carry new old q p offers others released before.config arrivals (release-fewer old new x before) j i firsts sizes,
+    )

@@ -1,0 +1,638 @@
+-- The flags of an indexed closure tell what is accepted
+use Rattle.std.proofs.Common.{◌≡◌, ℕ, zero, suc, ◌+◌, ◌-◌, ◌<◌, ◌≤◌, inl, inr, Bool, true, false, List, [], ◌∷◌, ◌++◌, length, get_or, take, drop, map, Some, None, arith, refl, sym, ap, ◌∙◌, subst}
+use Rattle.std.specs.Prelude.{Contains, slice_get, ◌↔◌, ◌≢◌, AllPairs}
+use Rattle.std.proofs.lemmas.List.Quantifiers.{all_pairs_push}
+use Rattle.std.specs.List.{All, AllByRecursion}
+use Rattle.std.proofs.lemmas.Bool.{cases_lt, both_ways}
+use Rattle.std.proofs.lemmas.List.{append_assoc, append-nil, map_push, length_push, get_or_past, get_or_append_left, get_or_push, take-append-drop}
+use Rattle.std.proofs.lemmas.List.Elements.{Contains-append_left, Contains-append_right, Contains-append_cases, Contains-get_or, Contains-push, Contains-push_cases, All-contains, All-same}
+use Rattle.std.proofs.lemmas.Option.{slice_get_within, same_Some, slice_get-get_or, get_or_from_slice_get}
+use Rattle.fed_config.specs.declared.seed.Seed.{Seed}
+use Rattle.fed_config.specs.Configuration.{Configuration, HasDomain, AreDomains, domain_cmp}
+use Rattle.wait_index.specs.Net.{IsReached, root, ListsReached}
+use Rattle.std.specs.List.Sorted.{IsStrictlySortedBy}
+use Rattle.std.specs.Prelude.{sum_by}
+use Rattle.std.proofs.Common.{cond}
+use Rattle.std.proofs.lemmas.List.Sums.{sum_by_push}
+use Rattle.receipt_core.specs.declared.distrust.Distrust.{Distrust}
+use Rattle.receipt_core.specs.declared.triple.Triple.{Triple}
+use Rattle.receipt_core.specs.Receipt.{Receipt, Pair, pair_of, IsReceipt, offers_of, receipt_cmp, with_receipt, distrust_cmp, with_distrust}
+use Rattle.receipt_core.specs.Order.{receipt_total, distrust_total}
+use Rattle.receipt_core.specs.Sets.{AreSets, Always}
+use Rattle.receipt_core.proofs.LineFacts.{one_receipt, one_distrust}
+use Rattle.receipt_core.proofs.RisingFacts.{AreSets-from_total}
+use Rattle.label_net.specs.declared.label.Label.{Label}
+use Rattle.label_net.specs.Spots.{Spot, Mirrors, bare}
+use Rattle.label_net.proofs.Arrows.{Contains-map, Contains-from_map}
+use Rattle.std.proofs.lemmas.List.{length-map, length-append}
+use Rattle.trust_closure.specs.Views.{IsPendingCount}
+use Rattle.receipt_core.specs.Acceptance.{Meaning, IsMeaning, IsMember, IsReleased, IsFitting, pair_of_seed}
+use Rattle.label_net.specs.Labels.{Wired, Closes, HasNode, IsRooted, IsRoomier as IsRoomierWired}
+use Rattle.label_net.proofs.Edges.{slice_get-left, slice_get-map_cases, slice_get-Contains, Contains-slice_get, one_place, root-of_spot}
+use Rattle.label_net.proofs.Mirroring.{slice_get-more, slice_get-push_cases, Mirrors-shut}
+use Rattle.trust_closure.specs.Nodes.{pairs_of, is_raised}
+use Rattle.trust_closure.specs.Flags.{raised_count, IsFirstOf, Raises, TellsMembers}
+use Rattle.trust_closure.specs.Held.{Hoard, meaning_of, HasAdded}
+use Rattle.trust_closure.specs.NetOf.{spots_of, spot_of_seed, spot_of_receipt, IsShutBy, IsWiringOf, triple_by}
+use Rattle.trust_closure.specs.Pairs.{Paired, IsPairing, HasRaised, no_pair}
+use Rattle.trust_closure.specs.Indexed.{IsBuilt, IsIndexed, IsBefore, HasRoom, IsKept, Reserves, IsIndexOf, indexed_of, IsSeeded}
+use Rattle.trust_closure.specs.declared.indexed.Spare.{Spare}
+use Rattle.trust_closure.specs.Changes.{IsGain}
+use Rattle.std.proofs.Common.{eqb}
+use Rattle.std.proofs.lemmas.Bool.{eq-eqb, eqb-true, not-true, not_from_false, false_from_ne_true}
+use Rattle.std.proofs.lemmas.List.{get_or_default}
+use Rattle.std.proofs.lemmas.List.Folds.{Any-from_list_any, list_any_at}
+use Rattle.wait_index.specs.Net.{is_among}
+use Rattle.trust_closure.specs.Count.{AreDifferent}
+use Rattle.trust_closure.proofs.CountFacts.{no_longer}
+use Rattle.trust_closure.proofs.FlagFacts.{gain-from_flags, passing, passing-to, passing-from, passing-differ, only_wide, length-only_wide, different-map}
+use Rattle.trust_closure.proofs.MemberFacts.{member_more}
+use Rattle.trust_closure.proofs.Wirings.{domain-one_number, wiring-node, wiring-root, node-number}
+use Rattle.trust_closure.proofs.RisingFacts.{each_has}
+use Rattle.trust_closure.proofs.Bridge.{IsAccepted, IsReachedAt, accepted-from_reached, reached-from_member, reached-from_released, spot-of_seed_node}
+use Rattle.trust_closure.proofs.PairFacts.{pairing-once}
+
+module _ (h : Hoard) (p : Paired) (w : Wired) (b : IsBuilt h p w) where
+  fits : (r : Receipt) → Contains h.arrived r → IsFitting h.config r
+  fits r c = each_has (IsFitting h.config) h.held r b.valid.fitting ((b.same r).1 c)
+
+  pub node-accepted : (n : ℕ) → IsReached w.net n → IsAccepted (meaning_of h) h.arrived n
+  node-accepted n r = accepted-from_reached (meaning_of h) h.arrived b.same fits (map (triple_by b.domains) w.labels) w.net b.wired.mirrors n r
+
+  pub member-reached : (q : Pair) → IsMember (meaning_of h) q → IsReachedAt h.config.seeds h.arrived w.net q
+  member-reached q a = reached-from_member (meaning_of h) h.arrived b.same fits (map (triple_by b.domains) w.labels) w.net b.wired.mirrors q a
+
+  -- marked nodes are there
+  pub marked-within : All (λ n. n < length p.firsts) w.marked
+  marked-within k d l =
+      let c : Contains w.marked (get_or w.marked k d) = Contains-get_or w.marked k d l in
+      let a = node-accepted (get_or w.marked k d) (b.reached.reached (get_or w.marked k d) c) in
+      omega (arith, slice_get_within (pairs_of h.config.seeds h.arrived) (get_or w.marked k d) a.pair a.at, b.pairing.sizes)
+
+  pub firsts-within : All (λ f. f < length p.flags) p.firsts
+  firsts-within k d l =
+      let f = b.pairing.first k (get_or p.firsts k d) (slice_get-get_or p.firsts k d l) in
+      omega (arith, All-contains (λ n. n < length (pairs_of h.config.seeds h.arrived)) p.numbers (get_or p.firsts k d) b.pairing.within f.0, b.pairing.flagged)
+
+  pub tells : ((number : ℕ) → (is_raised p.flags number ≡ true) ↔ IsFirstOf p.firsts w.marked number) → TellsMembers (meaning_of h) (pairs_of h.config.seeds h.arrived) p.numbers p.flags
+  tells flags = record {
+    size = b.pairing.flagged;
+    sound = λ n q e at.
+        let f = (flags n).0 e in
+        let a = node-accepted f.0 (b.reached.reached f.0 f.1) in
+        let same = same_Some a.pair q (sym a.at ∙ sym (b.pairing.first f.0 n f.2).1 ∙ at) in
+        subst (IsMember (meaning_of h)) same a.member;
+    listed = λ n e. let f = (flags n).0 e in (b.pairing.first f.0 n f.2).0;
+    all = λ q a.
+        let r = member-reached q a in
+        let l : r.node < length p.firsts = omega (arith, slice_get_within (pairs_of h.config.seeds h.arrived) r.node q r.at, b.pairing.sizes) in
+        let at = slice_get-get_or p.firsts r.node 0 l in
+        let f = b.pairing.first r.node (get_or p.firsts r.node 0) at in
+        (get_or p.firsts r.node 0, (flags (get_or p.firsts r.node 0)).1 (r.node, b.reached.all r.node r.reached, at), f.1 ∙ r.at);
+    once = λ one other q. pairing-once (pairs_of h.config.seeds h.arrived) p b.pairing one other q;
+  }
+
+-- a raised flag is membership
+pub raised-member : (h : Hoard) (p : Paired) (w : Wired) → IsIndexed h p w → (q : Pair) → HasRaised (pairs_of h.config.seeds h.arrived) p q ↔ IsMember (meaning_of h) q
+raised-member h p w i q =
+    let t = tells h p w i.built i.flags in (
+      λ r. t.sound r.number q r.raised r.at,
+      λ a. let f = t.all q a in record { number = f.0; has = t.listed f.0 f.1; at = f.2; raised = f.1 },
+    )
+
+-- ---- flags after more nodes are marked
+
+-- the flags of marked nodes stand, and those of the nodes that are marked now are raised
+pub flags-more : (old_firsts firsts marked more : List ℕ) (old_flags flags : List Bool) (first count : ℕ) → count ≡ length marked
+    → firsts ≡ old_firsts ++ first ∷ [] → take count more ≡ marked → All (λ n. n < length old_firsts) marked
+    → ((n : ℕ) → (is_raised old_flags n ≡ true) ↔ IsFirstOf old_firsts marked n)
+    → Raises firsts (drop count more) (old_flags ++ false ∷ []) flags
+    → (n : ℕ) → (is_raised flags n ≡ true) ↔ IsFirstOf firsts more n
+flags-more old_firsts firsts marked more old_flags flags first count size list front small before raises n =
+    let parts : take count more ++ drop count more ≡ more = take-append-drop count more in (
+      λ e. elim ((raises.each n).0 e) [
+        | inl a ↦
+            let f = (before n).0 (old a) in (
+              f.0,
+              subst (λ ns. Contains ns f.0) parts (Contains-append_left (take count more) (drop count more) f.0 (subst (λ ns. Contains ns f.0) (sym front) f.1)),
+              ap (λ fs. slice_get fs f.0) list ∙ slice_get-more old_firsts (first ∷ []) f.0 n f.2,
+            )
+        | inr f ↦ (f.0, subst (λ ns. Contains ns f.0) parts (Contains-append_right (take count more) (drop count more) f.0 f.1), f.2)
+      ],
+      λ f.
+          (raises.each n).1
+          (elim (Contains-append_cases (take count more) (drop count more) f.0 (subst (λ ns. Contains ns f.0) (sym parts) f.1)) [
+            | inl c ↦
+                let d : Contains marked f.0 = subst (λ ns. Contains ns f.0) front c in
+                let l : f.0 < length old_firsts = All-contains (λ k. k < length old_firsts) marked f.0 small d in
+                inl (kept ((before n).1 (f.0, d, earlier f.0 l (ap (λ fs. slice_get fs f.0) (sym list) ∙ f.2))))
+            | inr c ↦ inr (f.0, c, f.2)
+          ]),
+    )
+  where
+    old : is_raised (old_flags ++ false ∷ []) n ≡ true → is_raised old_flags n ≡ true
+    old e =
+        elim (cases_lt n (length old_flags)) [
+          | inl l ↦ sym (get_or_append_left old_flags (false ∷ []) false n l) ∙ e
+          | inr l ↦ absurd (both_ways (is_raised (old_flags ++ false ∷ []) n) (past l) e)
+        ]
+      where
+        past : length old_flags ≤ n → get_or (old_flags ++ false ∷ []) n false ≡ false
+        past l =
+            elim (cases_lt n (length (old_flags ++ false ∷ []))) [
+              | inl b ↦ get_or_push old_flags false false n (omega (arith, l, b, length_push old_flags false))
+              | inr b ↦ get_or_past (old_flags ++ false ∷ []) n false b
+            ]
+
+    kept : is_raised old_flags n ≡ true → is_raised (old_flags ++ false ∷ []) n ≡ true
+    kept e =
+        elim (cases_lt n (length old_flags)) [
+          | inl l ↦ get_or_append_left old_flags (false ∷ []) false n l ∙ e
+          | inr l ↦ absurd (both_ways (is_raised old_flags n) (get_or_past old_flags n false l) e)
+        ]
+
+    earlier : (k : ℕ) → k < length old_firsts → slice_get (old_firsts ++ first ∷ []) k ≡ Some n → slice_get old_firsts k ≡ Some n
+    earlier k l e =
+        elim (slice_get-push_cases old_firsts first k n e) [
+          | inl a ↦ a.1
+          | inr a ↦ absurd (omega (arith, l, a.0))
+        ]
+
+-- after all flags were lowered, those of the marked nodes are raised
+pub flags-again : (firsts marked : List ℕ) (lowered flags : List Bool) → ((n : ℕ) → is_raised lowered n ≡ false) → Raises firsts marked lowered flags → (n : ℕ) → (is_raised flags n ≡ true) ↔ IsFirstOf firsts marked n
+flags-again firsts marked lowered flags low raises n =
+    (λ e. elim ((raises.each n).0 e) [ inl a ↦ absurd (both_ways (is_raised lowered n) (low n) a) | inr f ↦ f ], λ f. (raises.each n).1 (inr f))
+
+-- ---- one more receipt
+
+pub pairs-push : (seeds : List Seed) (arrived : List Receipt) (r : Receipt) → pairs_of seeds (arrived ++ r ∷ []) ≡ pairs_of seeds arrived ++ pair_of r ∷ []
+pairs-push seeds arrived r = ap (λ ps. map pair_of_seed seeds ++ ps) (map_push pair_of arrived r) ∙ sym (append_assoc (map pair_of_seed seeds) (map pair_of arrived) (pair_of r ∷ []))
+
+pub spots-push : (seeds : List Seed) (arrived : List Receipt) (r : Receipt) → spots_of seeds (arrived ++ r ∷ []) ≡ spots_of seeds arrived ++ spot_of_receipt r ∷ []
+spots-push seeds arrived r = ap (λ ss. map spot_of_seed seeds ++ ss) (map_push spot_of_receipt arrived r) ∙ sym (append_assoc (map spot_of_seed seeds) (map spot_of_receipt arrived) (spot_of_receipt r ∷ []))
+
+-- the same flags, as many
+pub pairing-flags : (pairs : List Pair) (p q : Paired) → IsPairing pairs p → q.numbers ≡ p.numbers → q.firsts ≡ p.firsts → length q.flags ≡ length p.flags → IsPairing pairs q
+pairing-flags pairs p q h numbers firsts flags =
+    let one : IsPairing pairs (record { numbers = p.numbers; firsts = p.firsts; flags = q.flags; capacity = q.capacity }) =
+    record { sizes = h.sizes; flagged = flags ∙ h.flagged; forms = h.forms; within = h.within; few = h.few; rising = h.rising; first = h.first }
+    in
+    subst (λ ns. IsPairing pairs (record { numbers = ns; firsts = q.firsts; flags = q.flags; capacity = q.capacity })) (sym numbers)
+    (subst (λ fs. IsPairing pairs (record { numbers = p.numbers; firsts = fs; flags = q.flags; capacity = q.capacity })) (sym firsts) one)
+
+receipt-sets : AreSets IsReceipt receipt_cmp
+receipt-sets = AreSets-from_total IsReceipt receipt_cmp receipt_total one_receipt
+
+distrust-sets : AreSets Always distrust_cmp
+distrust-sets = AreSets-from_total Always distrust_cmp distrust_total (λ a b p q. one_distrust a b)
+
+always-all : {A : Type 0} (xs : List A) → AllByRecursion Always xs
+always-all [] = tt
+always-all (x ∷ xs) = (tt, always-all xs)
+
+abbrev pub with_arrival : Hoard → Receipt → Hoard
+with_arrival h r = record h { arrived = h.arrived ++ r ∷ []; held = with_receipt r h.held }
+
+pub same-more : (h : Hoard) (r : Receipt) → IsMeaning (meaning_of h) → IsReceipt r → ((s : Receipt) → Contains h.held s ↔ Contains h.arrived s) → (s : Receipt) → Contains (with_receipt r h.held) s ↔ Contains (h.arrived ++ r ∷ []) s
+same-more h r valid form same s =
+    let m = receipt-sets.members r s h.held form valid.receipts in (
+      λ c. elim (m.0 c) [
+        | inl e ↦ subst (Contains (h.arrived ++ r ∷ [])) e (Contains-push h.arrived r)
+        | inr d ↦ Contains-append_left h.arrived (r ∷ []) s ((same s).0 d)
+      ],
+      λ c. m.1 (elim (Contains-push_cases h.arrived r s c) [ inl d ↦ inr ((same s).1 d) | inr e ↦ inl e ]),
+    )
+
+pub built-more : (h new : Hoard) (p q : Paired) (w v : Wired) (r : Receipt) → IsBuilt h p w → IsReceipt r → (Contains h.held r → ⊥) → new ≡ with_arrival h r → IsMeaning (meaning_of new)
+    → ((domains : List (List ℕ)) (spots : List (Spot Triple)) → AreDomains h.config domains → IsWiringOf domains h.records spots w → IsWiringOf domains h.records (spots ++ spot_of_receipt r ∷ []) v)
+    → ListsReached v.net v.marked → IsPairing (pairs_of h.config.seeds h.arrived ++ pair_of r ∷ []) q → IsBuilt new q v
+built-more h new p q w v r b form unheld is valid wired reached pairing =
+    let valid' : IsMeaning (meaning_of (with_arrival h r)) = subst (λ x. IsMeaning (meaning_of x)) is valid in
+    subst (λ x. IsBuilt x q v) (sym is) (record {
+      valid = valid';
+      same = same-more h r b.valid form b.same;
+      once = all_pairs_push ◌≢◌ h.arrived r b.once (λ k d l e. unheld (subst (Contains h.held) e ((b.same (get_or h.arrived k d)).1 (Contains-get_or h.arrived k d l))));
+      domains = b.domains;
+      are_domains = b.are_domains;
+      wired = subst (λ ss. IsWiringOf b.domains h.records ss v) (sym (spots-push h.config.seeds h.arrived r)) (wired b.domains (spots_of h.config.seeds h.arrived) b.are_domains b.wired);
+      reached = reached;
+      pairing = subst (λ ps. IsPairing ps q) (sym (pairs-push h.config.seeds h.arrived r)) pairing;
+    })
+
+pub built-flags : (h : Hoard) (p q : Paired) (w : Wired) → IsBuilt h p w → q.numbers ≡ p.numbers → q.firsts ≡ p.firsts → length q.flags ≡ length p.flags → IsBuilt h q w
+built-flags h p q w b numbers firsts flags = record {
+  valid = b.valid;
+  same = b.same;
+  once = b.once;
+  domains = b.domains;
+  are_domains = b.are_domains;
+  wired = b.wired;
+  reached = b.reached;
+  pairing = pairing-flags (pairs_of h.config.seeds h.arrived) p q b.pairing numbers firsts flags;
+}
+
+pub count-push : (flags : List Bool) → raised_count (flags ++ false ∷ []) ≡ raised_count flags
+count-push flags = sum_by_push (λ b. cond b 1 0) flags false ∙ (let e : sum_by (λ b. cond b 1 0) flags + 0 ≡ sum_by (λ b. cond b 1 0) flags = omega arith in e)
+
+-- what is gained with one more receipt
+pub gain-more : (h new : Hoard) (p q : Paired) (w v : Wired) (r : Receipt) (nodes : List ℕ) (n : ℕ) → IsIndexed h p w → IsIndexed new q v → new ≡ with_arrival h r
+    → Raises q.firsts nodes (p.flags ++ false ∷ []) q.flags → raised_count q.flags ≡ raised_count (p.flags ++ false ∷ []) + n → IsGain (meaning_of h) (meaning_of new) n
+gain-more h new p q w v r nodes n i j is raises count =
+    let prefix : pairs_of new.config.seeds new.arrived ≡ pairs_of h.config.seeds h.arrived ++ pair_of r ∷ [] = ap (λ (x : Hoard). pairs_of x.config.seeds x.arrived) is ∙ pairs-push h.config.seeds h.arrived r in
+    gain-from_flags no_pair (meaning_of h) (meaning_of new) (pairs_of h.config.seeds h.arrived) (pairs_of new.config.seeds new.arrived) p.numbers q.numbers p.flags q.flags
+    (tells h p w i.built i.flags) (tells new q v j.built j.flags)
+    (λ k e. (raises.each k).1 (inl (still k e)))
+    (λ k x e f at. ap (λ ps. slice_get ps k) prefix ∙ slice_get-left (pairs_of h.config.seeds h.arrived) (pair_of r ∷ []) k x at)
+    n (count ∙ ap (λ m. m + n) (count-push p.flags))
+    (omega (arith, raises.size, length_push p.flags false))
+  where
+    still : (k : ℕ) → is_raised p.flags k ≡ true → is_raised (p.flags ++ false ∷ []) k ≡ true
+    still k e =
+        elim (cases_lt k (length p.flags)) [
+          | inl l ↦ get_or_append_left p.flags (false ∷ []) false k l ∙ e
+          | inr l ↦ absurd (both_ways (is_raised p.flags k) (get_or_past p.flags k false l) e)
+        ]
+
+-- ---- one more record of distrust
+
+wiring-closed : (domains : List (List ℕ)) (records : List Distrust) (x : Distrust) (spots : List (Spot Triple)) (old new : Wired) (number : ℕ) → IsStrictlySortedBy domain_cmp domains
+    → slice_get domains number ≡ Some x.domain → IsWiringOf domains records spots old → Closes old number x.key new → IsWiringOf domains (with_distrust x records) spots new
+wiring-closed domains records x spots old new number rising at h c =
+    let mirrors = Mirrors-shut spots (map (triple_by domains) old.labels) (IsShutBy records) old.net h.mirrors (IsShutBy (with_distrust x records)) c.net.flags c.net.sizes (λ i t e.
+    let f = slice_get-map_cases (triple_by domains) old.labels i t e in
+    let l : f.0.domain < length domains = All-contains (λ (a : Label). a.domain < length domains) old.labels f.0 h.within (slice_get-Contains old.labels i f.0 f.1) in
+    let m = distrust-sets.members x (record { domain = t.domain; key = t.key }) records tt (always-all records) in
+    let before = h.mirrors.closed i t e in
+    let is = c.net.closed i f.0 f.1 in (
+      λ shut. m.1 (elim (is.0 shut) [
+        | inl a ↦ inr (before.0 a)
+        | inr k ↦ inl (
+            sym (ap (λ (d : List ℕ). let y : Distrust = record { domain = d; key = t.key } in y)
+            (ap (λ (s : Triple). s.domain) (sym f.2) ∙ ap (λ j. get_or domains j []) k.0 ∙ get_or_from_slice_get domains number x.domain [] at)
+            ∙ ap (λ q. let y : Distrust = record { domain = x.domain; key = q } in y) (ap (λ (s : Triple). s.key) (sym f.2) ∙ k.1)))
+      ]),
+      λ has. is.1 (elim (m.0 has) [
+        | inl same ↦ inr (
+          domain-one_number domains rising f.0.domain number l (slice_get_within domains number x.domain at)
+              (ap (λ (s : Triple). s.domain) f.2 ∙ sym (ap (λ (y : Distrust). y.domain) same) ∙ sym (get_or_from_slice_get domains number x.domain [] at)),
+          ap (λ (s : Triple). s.key) f.2 ∙ sym (ap (λ (y : Distrust). y.key) same),
+        )
+        | inr a ↦ inl (before.1 a)
+      ]),
+    ))
+    in
+    record {
+      within = All-same (λ (a : Label). a.domain < length domains) new.labels old.labels c.labels h.within;
+      mirrors = subst (λ ls. Mirrors spots (map (triple_by domains) ls) (IsShutBy (with_distrust x records)) new.net) (sym c.labels)
+          (subst (Mirrors spots (map (triple_by domains) old.labels) (IsShutBy (with_distrust x records))) (sym c.net.net_is) mirrors);
+    }
+
+abbrev pub with_mistrust : Hoard → Distrust → ℕ → Hoard
+with_mistrust h x capacity = record { config = h.config; arrived = h.arrived; held = h.held; records = with_distrust x h.records; capacity = capacity }
+
+pub hoard-before : (old new : Hoard) (x : Distrust) → IsBefore old x new → new ≡ with_mistrust old x new.capacity
+hoard-before old new x b =
+    ap (λ c. let h : Hoard = record { config = c; arrived = new.arrived; held = new.held; records = new.records; capacity = new.capacity } in h) b.config
+    ∙ ap (λ a. let h : Hoard = record { config = old.config; arrived = a; held = new.held; records = new.records; capacity = new.capacity } in h) b.arrived
+    ∙ ap (λ a. let h : Hoard = record { config = old.config; arrived = old.arrived; held = a; records = new.records; capacity = new.capacity } in h) b.held
+    ∙ ap (λ a. let h : Hoard = record { config = old.config; arrived = old.arrived; held = old.held; records = a; capacity = new.capacity } in h) b.records
+
+pub built-closed : (old new : Hoard) (x : Distrust) (p q : Paired) (w v : Wired) (number : ℕ) → IsBuilt old p w → IsBefore old x new → IsMeaning (meaning_of new)
+    → ((domains : List (List ℕ)) → AreDomains old.config domains → slice_get domains number ≡ Some x.domain) → Closes w number x.key v → ListsReached v.net v.marked
+    → q.numbers ≡ p.numbers → q.firsts ≡ p.firsts → length q.flags ≡ length p.flags → IsBuilt new q v
+built-closed old new x p q w v number b before valid at closes reached numbers firsts flags =
+    let is = hoard-before old new x before in
+    let valid' : IsMeaning (meaning_of (with_mistrust old x new.capacity)) = subst (λ h. IsMeaning (meaning_of h)) is valid in
+    subst (λ h. IsBuilt h q v) (sym is) (record {
+      valid = valid';
+      same = b.same;
+      once = b.once;
+      domains = b.domains;
+      are_domains = b.are_domains;
+      wired = wiring-closed b.domains old.records x (spots_of old.config.seeds old.arrived) w v number b.are_domains.rising (at b.domains b.are_domains) b.wired closes;
+      reached = reached;
+      pairing = pairing-flags (pairs_of old.config.seeds old.arrived) p q b.pairing numbers firsts flags;
+    })
+
+-- what is accepted with one more record was accepted without it
+pub kept-closed : (old new : Hoard) (x : Distrust) (p q : Paired) (w v : Wired) → IsIndexed old p w → IsIndexed new q v → IsBefore old x new → q.numbers ≡ p.numbers → (k : ℕ) → is_raised q.flags k ≡ true → is_raised p.flags k ≡ true
+kept-closed old new x p q w v i j before numbers k e =
+    let is = hoard-before old new x before in
+    let same : pairs_of new.config.seeds new.arrived ≡ pairs_of old.config.seeds old.arrived = ap (λ (h : Hoard). pairs_of h.config.seeds h.arrived) is in
+    let fewer = tells new q v j.built j.flags in
+    let more = tells old p w i.built i.flags in
+    let l : k < length (pairs_of new.config.seeds new.arrived) = omega (arith, within, fewer.size) in
+    let at = slice_get-get_or (pairs_of new.config.seeds new.arrived) k no_pair l in
+    let m = fewer.sound k (get_or (pairs_of new.config.seeds new.arrived) k no_pair) e at in
+    let less = member_more (meaning_of new) (meaning_of old) before.config (λ r c. subst (λ rs. Contains rs r) before.held c)
+    (λ y c. subst (λ ys. Contains ys y) (sym before.records) ((distrust-sets.members x y old.records tt (always-all old.records)).1 (inr c)))
+    (get_or (pairs_of new.config.seeds new.arrived) k no_pair) m
+    in
+    let f = more.all (get_or (pairs_of new.config.seeds new.arrived) k no_pair) less in
+    let here = more.once k f.0 (get_or (pairs_of new.config.seeds new.arrived) k no_pair) (subst (λ ns. Contains ns k) numbers (fewer.listed k e)) (more.listed f.0 f.1) (ap (λ ps. slice_get ps k) (sym same) ∙ at) f.2 in
+    ap (λ a. is_raised p.flags a) here ∙ f.1
+  where
+    within : k < length q.flags
+    within = elim (cases_lt k (length q.flags)) [ inl b ↦ b | inr b ↦ absurd (both_ways (is_raised q.flags k) (get_or_past q.flags k false b) e) ]
+
+-- what is lost with one more record
+pub loss-closed : (old new : Hoard) (x : Distrust) (p q : Paired) (w v : Wired) (n : ℕ) → IsIndexed old p w → IsIndexed new q v → IsBefore old x new
+    → length q.flags ≡ length p.flags → q.numbers ≡ p.numbers → raised_count p.flags ≡ raised_count q.flags + n → IsGain (meaning_of new) (meaning_of old) n
+loss-closed old new x p q w v n i j before size numbers count =
+    let same : pairs_of new.config.seeds new.arrived ≡ pairs_of old.config.seeds old.arrived = ap (λ (h : Hoard). pairs_of h.config.seeds h.arrived) (hoard-before old new x before) in
+    gain-from_flags no_pair (meaning_of new) (meaning_of old) (pairs_of new.config.seeds new.arrived) (pairs_of old.config.seeds old.arrived) q.numbers p.numbers q.flags p.flags
+    (tells new q v j.built j.flags) (tells old p w i.built i.flags) (kept-closed old new x p q w v i j before numbers)
+    (λ k y e f at. ap (λ ps. slice_get ps k) (sym same) ∙ at)
+    n count (omega (arith, size))
+
+-- the index after the labels of a key were closed, and after flags were raised anew
+pub indexed-closed : (old new : Hoard) (x : Distrust) (p lowered q : Paired) (w v : Wired) (number : ℕ) (nodes : List ℕ) → IsIndexed old p w → IsBefore old x new → IsMeaning (meaning_of new)
+    → ((domains : List (List ℕ)) → AreDomains old.config domains → slice_get domains number ≡ Some x.domain) → Closes w number x.key v → ListsReached v.net v.marked
+    → lowered.numbers ≡ p.numbers → lowered.firsts ≡ p.firsts → length lowered.flags ≡ length p.flags → ((k : ℕ) → is_raised lowered.flags k ≡ false)
+    → q.numbers ≡ lowered.numbers → q.firsts ≡ lowered.firsts → nodes ≡ v.marked → Raises lowered.firsts nodes lowered.flags q.flags → IsIndexed new q v
+indexed-closed old new x p lowered q w v number nodes i before valid at closes reached n1 f1 s1 low n2 f2 is raises =
+    let right : Raises q.firsts v.marked lowered.flags q.flags = subst (λ fs. Raises fs v.marked lowered.flags q.flags) (sym f2) (subst (λ ns. Raises lowered.firsts ns lowered.flags q.flags) is raises) in
+    record {
+      built = built-closed old new x p q w v number i.built before valid at closes reached (n2 ∙ n1) (f2 ∙ f1) (raises.size ∙ s1);
+      flags = flags-again q.firsts v.marked lowered.flags q.flags low right;
+    }
+
+-- the same hoard, where nothing of the meaning has changed
+pub hoard-same : (old new : Hoard) → meaning_of new ≡ meaning_of old → new.arrived ≡ old.arrived → new.capacity ≡ old.capacity → new ≡ old
+hoard-same old new meaning arrived capacity =
+    ap (λ (m : Meaning). let h : Hoard = record { config = m.config; arrived = new.arrived; held = m.held; records = m.records; capacity = new.capacity } in h) meaning
+    ∙ ap (λ a. let h : Hoard = record { config = old.config; arrived = a; held = old.held; records = old.records; capacity = new.capacity } in h) arrived
+    ∙ ap (λ n. let h : Hoard = record { config = old.config; arrived = old.arrived; held = old.held; records = old.records; capacity = n } in h) capacity
+
+pub before-added : (old new : Hoard) (x : Distrust) → HasAdded (meaning_of old) x (meaning_of new) → new.arrived ≡ old.arrived → IsBefore old x new
+before-added old new x a arrived = record {
+  config = ap (λ (m : Meaning). m.config) a.meaning;
+  arrived = arrived;
+  held = ap (λ (m : Meaning). m.held) a.meaning;
+  records = ap (λ (m : Meaning). m.records) a.meaning;
+}
+
+-- ---- more room
+
+same-wiring : (w : Wired) → IsRoomierWired w w
+same-wiring w = record { labels = refl; net = refl; marked = refl; nodes = omega arith; edges = omega arith }
+
+indexed-roomier : (h new : Hoard) (p q : Paired) (w v : Wired) → IsIndexed h p w → new ≡ record h { capacity = new.capacity } → q.numbers ≡ p.numbers → q.firsts ≡ p.firsts → q.flags ≡ p.flags → IsRoomierWired w v → IsIndexed new q v
+indexed-roomier h new p q w v i is numbers firsts flags r =
+    let b = i.built in
+    let other : Hoard = record h { capacity = new.capacity } in
+    subst (λ x. IsIndexed x q v) (sym is) (record {
+      built = record {
+        valid = b.valid;
+        same = b.same;
+        once = b.once;
+        domains = b.domains;
+        are_domains = b.are_domains;
+        wired = record {
+          within = All-same (λ (a : Label). a.domain < length b.domains) v.labels w.labels r.labels b.wired.within;
+          mirrors = subst (λ ls. Mirrors (spots_of h.config.seeds h.arrived) (map (triple_by b.domains) ls) (IsShutBy h.records) v.net) (sym r.labels)
+              (subst (Mirrors (spots_of h.config.seeds h.arrived) (map (triple_by b.domains) w.labels) (IsShutBy h.records)) (sym r.net) b.wired.mirrors);
+        };
+        reached = subst (λ ns. ListsReached v.net ns) (sym r.marked) (subst (λ net. ListsReached net w.marked) (sym r.net) b.reached);
+        pairing = pairing-flags (pairs_of h.config.seeds h.arrived) p q b.pairing numbers firsts (ap length flags);
+      };
+      flags = λ n.
+          subst (λ ms. (is_raised q.flags n ≡ true) ↔ IsFirstOf q.firsts ms n) (sym r.marked)
+          (subst (λ fs. (is_raised q.flags n ≡ true) ↔ IsFirstOf fs w.marked n) (sym firsts) (subst (λ fs. (is_raised fs n ≡ true) ↔ IsFirstOf p.firsts w.marked n) (sym flags) (i.flags n)));
+    })
+
+pub room-kept : (h new : Hoard) (p q : Paired) (w v : Wired) (spare : Spare) → HasRoom h p w spare → new ≡ record h { capacity = new.capacity } → h.capacity ≤ new.capacity → q.firsts ≡ p.firsts → p.capacity ≤ q.capacity → IsRoomierWired w v → HasRoom new q v spare
+room-kept h new p q w v spare r is held firsts pairs wired = record {
+  held = omega (arith, r.held, held, ap (λ (x : Hoard). length x.arrived) is);
+  pairs = omega (arith, r.pairs, pairs, ap length firsts);
+  nodes = omega (arith, r.nodes, wired.nodes);
+  edges = omega (arith, r.edges, wired.edges);
+  few = omega (arith, r.few, ap length firsts);
+}
+
+pub reserves-from : (h new : Hoard) (p q : Paired) (w v : Wired) (spare more : Spare) → IsKept h p w spare → new ≡ record h { capacity = new.capacity } → q.numbers ≡ p.numbers → q.firsts ≡ p.firsts → q.flags ≡ p.flags → IsRoomierWired w v → HasRoom new q v more → spare.receipts ≤ more.receipts → spare.offers ≤ more.offers → Reserves h new p q w v spare more
+reserves-from h new p q w v spare more k is numbers firsts flags r room receipts offers = record {
+  meaning = ap meaning_of is;
+  arrived = ap (λ (x : Hoard). x.arrived) is;
+  kept = record { indexed = indexed-roomier h new p q w v k.indexed is numbers firsts flags r; room = room };
+  roomier = record { receipts = receipts; offers = offers };
+}
+
+-- a refusal leaves the room
+pub reserves-kept : (h new : Hoard) (p q : Paired) (w v : Wired) (spare : Spare) → IsKept h p w spare → new ≡ record h { capacity = new.capacity } → h.capacity ≤ new.capacity → q.numbers ≡ p.numbers → q.firsts ≡ p.firsts → q.flags ≡ p.flags → p.capacity ≤ q.capacity → IsRoomierWired w v → Reserves h new p q w v spare spare
+reserves-kept h new p q w v spare k is held numbers firsts flags pairs r =
+    reserves-from h new p q w v spare spare k is numbers firsts flags r (room-kept h new p q w v spare k.room is held firsts pairs r) (omega arith) (omega arith)
+
+pub reserves-held : (h new : Hoard) (p : Paired) (w : Wired) (spare : Spare) → IsKept h p w spare → new ≡ record h { capacity = new.capacity } → h.capacity ≤ new.capacity → Reserves h new p p w w spare spare
+reserves-held h new p w spare k is held = reserves-kept h new p p w w spare k is held refl refl refl (omega arith) (same-wiring w)
+
+pub reserves-pairs : (h new : Hoard) (p q : Paired) (w : Wired) (spare : Spare) → IsKept h p w spare → new ≡ record h { capacity = new.capacity } → h.capacity ≤ new.capacity → q.numbers ≡ p.numbers → q.firsts ≡ p.firsts → q.flags ≡ p.flags → p.capacity ≤ q.capacity → Reserves h new p q w w spare spare
+reserves-pairs h new p q w spare k is held numbers firsts flags pairs = reserves-kept h new p q w w spare k is held numbers firsts flags pairs (same-wiring w)
+
+-- ---- what the index is
+
+-- configured documents' nodes are marked, and those of receipts that are released
+pub index-parts : (h : Hoard) (p : Paired) (w : Wired) → IsBuilt h p w → ((n : ℕ) → n < length h.config.seeds → Contains w.marked n) × ((place : ℕ) (r : Receipt) → slice_get h.arrived place ≡ Some r → Contains w.marked (length h.config.seeds + place) ↔ IsReleased (meaning_of h) r)
+index-parts h p w b =
+    let labels = map (triple_by b.domains) w.labels in
+    let fits : (r : Receipt) → Contains h.arrived r → IsFitting h.config r = λ r c. each_has (IsFitting h.config) h.held r b.valid.fitting ((b.same r).1 c) in (
+      (λ n l.
+          let s = get_or_seed h.config.seeds n l in
+          b.reached.all n (root (root-of_spot (spots_of h.config.seeds h.arrived) labels (IsShutBy h.records) w.net b.wired.mirrors n (spot_of_seed s.0) (spot-of_seed_node h.config.seeds h.arrived n s.0 s.1)))),
+      (λ place r at. (
+        λ c.
+            let a = node-accepted h p w b (length h.config.seeds + place) (b.reached.reached (length h.config.seeds + place) c) in
+            a.released place r refl at,
+        λ released. b.reached.all (length h.config.seeds + place) (reached-from_released (meaning_of h) h.arrived b.same fits labels w.net b.wired.mirrors place r at released),
+      )),
+    )
+  where
+    get_or_seed : (seeds : List Seed) (n : ℕ) → n < length seeds → (s : Seed) × (slice_get seeds n ≡ Some s)
+    get_or_seed [] n l = absurd (omega (arith, l))
+    get_or_seed (s ∷ seeds) zero l = (s, refl)
+    get_or_seed (s ∷ seeds) (suc n) l = get_or_seed seeds n (omega (arith, l))
+
+pub index-of_kept : (h : Hoard) (p : Paired) (w : Wired) (spare : Spare) → IsKept h p w spare → length h.arrived ≡ length h.held → IsIndexOf (indexed_of h w spare)
+index-of_kept h p w spare k once =
+    let b = k.indexed.built in
+    let parts = index-parts h p w b in
+    record { labels = map (triple_by b.domains) w.labels; net = b.wired.mirrors; held = b.same; once = once; seeds = parts.0; receipts = parts.1 }
+
+-- ---- configured documents
+
+wiring-same : (domains : List (List ℕ)) (records : List Distrust) (spots : List (Spot Triple)) (w v : Wired) → IsWiringOf domains records spots w → IsRoomierWired w v → IsWiringOf domains records spots v
+wiring-same domains records spots w v h r = record {
+  within = All-same (λ (a : Label). a.domain < length domains) v.labels w.labels r.labels h.within;
+  mirrors = subst (λ ls. Mirrors spots (map (triple_by domains) ls) (IsShutBy records) v.net) (sym r.labels)
+      (subst (Mirrors spots (map (triple_by domains) w.labels) (IsShutBy records)) (sym r.net) h.mirrors);
+}
+
+pub wired-seed : (h : Hoard) (seeds : List Seed) (s : Seed) (w a b c d : Wired) (node : ℕ) (triples : List Triple)
+    → ((domains : List (List ℕ)) → AreDomains h.config domains → IsWiringOf domains h.records (map spot_of_seed seeds) w)
+    → IsRoomierWired w a → HasNode a b node → IsRooted b node c → triples ≡ offers_of (pair_of_seed s)
+    → ((domains : List (List ℕ)) (spots : List (Spot Triple)) (spot : Spot Triple) → AreDomains h.config domains → node ≡ length spots → IsWiringOf domains h.records (spots ++ spot ∷ []) c → IsWiringOf domains h.records (spots ++ record spot { offers = spot.offers ++ triples } ∷ []) d)
+    → (domains : List (List ℕ)) → AreDomains h.config domains → IsWiringOf domains h.records (map spot_of_seed (seeds ++ s ∷ [])) d
+wired-seed h seeds s w a b c d node triples wired room has rooted is offers domains are =
+    let spots = map spot_of_seed seeds in
+    let before = wiring-same domains h.records spots w a (wired domains are) room in
+    let at : node ≡ length spots = has.number ∙ node-number domains h.records spots a before in
+    let first = wiring-node domains are.rising h.records spots a b node before has in
+    let second = wiring-root domains are.rising h.records spots b c bare node at first rooted in
+    let third = offers domains spots (record { rooted = true; offers = []; awaits = None }) are at second in
+    subst (λ ss. IsWiringOf domains h.records ss d) (sym (map_push spot_of_seed seeds s))
+    (subst (λ (ts : List Triple). IsWiringOf domains h.records (spots ++ record { rooted = true; offers = ts; awaits = None } ∷ []) d) is third)
+
+lowered-push : (flags : List Bool) → ((n : ℕ) → is_raised flags n ≡ false) → (n : ℕ) → is_raised (flags ++ false ∷ []) n ≡ false
+lowered-push flags h n =
+    elim (cases_lt n (length flags)) [
+      | inl l ↦ get_or_append_left flags (false ∷ []) false n l ∙ h n
+      | inr l ↦
+          elim (cases_lt n (length (flags ++ false ∷ []))) [
+            | inl b ↦ get_or_push flags false false n (omega (arith, l, b, length_push flags false))
+            | inr b ↦ get_or_past (flags ++ false ∷ []) n false b
+          ]
+    ]
+
+pub seeded-more : (h : Hoard) (seeds : List Seed) (s : Seed) (p a q : Paired) (w d : Wired) (first : ℕ) → h.arrived ≡ [] → IsSeeded h seeds p w
+    → IsPairing (pairs_of seeds h.arrived ++ pair_of_seed s ∷ []) q → a.flags ≡ p.flags → a.firsts ≡ p.firsts → q.flags ≡ a.flags ++ false ∷ [] → q.firsts ≡ a.firsts ++ first ∷ [] → length a.firsts + 1 ≤ a.capacity → q.capacity ≡ a.capacity
+    → ((domains : List (List ℕ)) → AreDomains h.config domains → IsWiringOf domains h.records (map spot_of_seed (seeds ++ s ∷ [])) d) → ListsReached d.net d.marked → IsSeeded h (seeds ++ s ∷ []) q d
+seeded-more h seeds s p a q w d first none g pairing f1 f2 flags firsts room capacity wired reached =
+    let pairs : pairs_of seeds h.arrived ++ pair_of_seed s ∷ [] ≡ pairs_of (seeds ++ s ∷ []) h.arrived =
+    ap (λ rs. (map pair_of_seed seeds ++ map pair_of rs) ++ pair_of_seed s ∷ []) none
+    ∙ ap (λ ps. ps ++ pair_of_seed s ∷ []) (append-nil (map pair_of_seed seeds))
+    ∙ sym (map_push pair_of_seed seeds s)
+    ∙ sym (append-nil (map pair_of_seed (seeds ++ s ∷ [])))
+    ∙ ap (λ rs. map pair_of_seed (seeds ++ s ∷ []) ++ map pair_of rs) (sym none)
+    in
+    record {
+      pairing = subst (λ ps. IsPairing ps q) pairs pairing;
+      lowered = λ n. ap (λ fs. is_raised fs n) (flags ∙ ap (λ fs. fs ++ false ∷ []) f1) ∙ lowered-push p.flags g.lowered n;
+      room = omega (arith, ap length firsts, length_push a.firsts first, room, capacity);
+      firsts = omega (arith, ap length firsts, length_push a.firsts first, ap length f2, g.firsts, length_push seeds s);
+      wired = wired;
+      reached = reached;
+    }
+
+pub seeds-domains : (c : Configuration) → All (λ (s : Seed). HasDomain c s.domain) c.seeds
+seeds-domains c k d l = inr (inr (get_or c.seeds k d, Contains-get_or c.seeds k d l, refl))
+
+pub built-seeded : (h : Hoard) (domains : List (List ℕ)) (p : Paired) (w : Wired) (seeds : List Seed) → IsMeaning (meaning_of h) → h.held ≡ [] → h.arrived ≡ [] → AreDomains h.config domains → seeds ≡ h.config.seeds → IsSeeded h seeds p w → IsBuilt h p w
+built-seeded h domains p w seeds valid held arrived are is g =
+    let both : h.held ≡ h.arrived = held ∙ sym arrived in
+    let spots : map spot_of_seed seeds ≡ spots_of h.config.seeds h.arrived =
+    ap (map spot_of_seed) is ∙ sym (append-nil (map spot_of_seed h.config.seeds)) ∙ ap (λ rs. map spot_of_seed h.config.seeds ++ map spot_of_receipt rs) (sym arrived)
+    in
+    record {
+      valid = valid;
+      same = λ r. (λ c. subst (λ rs. Contains rs r) both c, λ c. subst (λ rs. Contains rs r) (sym both) c);
+      once = subst (λ rs. AllPairs ◌≢◌ rs) (sym arrived) (λ i j d l b. absurd (omega (arith, b)));
+      domains = domains;
+      are_domains = are;
+      wired = subst (λ ss. IsWiringOf domains h.records ss w) spots (g.wired domains are);
+      reached = g.reached;
+      pairing = subst (λ ss. IsPairing (pairs_of ss h.arrived) p) is g.pairing;
+    }
+
+pub kept-seeded : (h : Hoard) (p q : Paired) (w : Wired) (nodes : List ℕ) (seeds : List Seed) → IsBuilt h p w → IsSeeded h seeds p w → h.arrived ≡ [] → length seeds ≤ 4096
+    → q.numbers ≡ p.numbers → q.firsts ≡ p.firsts → q.capacity ≡ p.capacity → nodes ≡ w.marked → Raises p.firsts nodes p.flags q.flags → IsKept h q w (record { receipts = 0; offers = 0 })
+kept-seeded h p q w nodes seeds b g none few numbers firsts capacity is raises =
+    let right : Raises q.firsts w.marked p.flags q.flags = subst (λ fs. Raises fs w.marked p.flags q.flags) (sym firsts) (subst (λ ns. Raises p.firsts ns p.flags q.flags) is raises) in
+    record {
+      indexed = record {
+        built = built-flags h p q w b numbers firsts raises.size;
+        flags = flags-again q.firsts w.marked p.flags q.flags g.lowered right;
+      };
+      room = record {
+        held = omega (arith, ap length none);
+        pairs = omega (arith, ap length firsts, capacity, g.room);
+        nodes = omega arith;
+        edges = omega arith;
+        few = omega (arith, ap length firsts, g.firsts, few);
+      };
+    }
+
+-- ---- pending receipts
+
+different-from_pairs : {A : Type 0} (xs : List A) → AllPairs ◌≢◌ xs → AreDifferent xs
+different-from_pairs [] h = tt
+different-from_pairs (x ∷ xs) h =
+    (λ c. h 0 (suc c.0) x (omega arith) (omega (arith, c.1)) (sym c.2), different-from_pairs xs (λ i j d l b. h (suc i) (suc j) d (omega (arith, l)) (omega (arith, b))))
+
+length-passing_all : (n : ℕ) → length (passing (λ k. true) n) ≡ n
+length-passing_all zero = refl
+length-passing_all (suc n) = ap suc (length-passing_all n)
+
+among-from : (nodes : List ℕ) (n : ℕ) → Contains nodes n → is_among nodes n ≡ true
+among-from nodes n c = list_any_at (λ m. eqb m n) nodes c.0 n c.1 (eq-eqb (get_or nodes c.0 n) n c.2)
+
+among-to : (nodes : List ℕ) (n : ℕ) → is_among nodes n ≡ true → Contains nodes n
+among-to nodes n t =
+    let a = Any-from_list_any (λ m. eqb m n) nodes t in
+    (a.0, a.2, get_or_default nodes a.0 n a.1 a.2 ∙ a.3 ∙ eqb-true a.1 n a.4)
+
+-- nodes that are not marked
+abbrev unmarked : List ℕ → ℕ → List ℕ
+unmarked marked count = passing (only_wide (λ k. is_among marked k) (λ k. true) (λ k e. refl)) count
+
+length-unmarked : (marked : List ℕ) (count : ℕ) → AllPairs ◌≢◌ marked → All (λ n. n < count) marked → length (unmarked marked count) + length marked ≡ count
+length-unmarked marked count once within =
+    let among = λ (k : ℕ). is_among marked k in
+    let less : length (passing among count) ≤ length marked = no_longer (passing among count) marked (passing-differ among count) (λ k c. among-to marked k (passing-to among count k c).1) in
+    let more : length marked ≤ length (passing among count) = no_longer marked (passing among count) (different-from_pairs marked once) (λ k c. passing-from among count k (All-contains (λ n. n < count) marked k within c) (among-from marked k c)) in
+    omega (arith, length-only_wide among (λ k. true) (λ k e. refl) count, length-passing_all count, less, more)
+
+pub pending-count : (h : Hoard) (p : Paired) (w : Wired) (none : Receipt) (n : ℕ) → IsBuilt h p w → n + length w.marked ≡ length h.config.seeds + length h.arrived → IsPendingCount (meaning_of h) n
+pending-count h p w none n b total =
+    let seeds = length h.config.seeds in
+    let count = seeds + length h.arrived in
+    let at : ℕ → Receipt = λ k. get_or h.arrived (k - seeds) none in
+    let list : List ℕ = unmarked w.marked count in
+    let labels = map (triple_by b.domains) w.labels in
+    let fits' : (r : Receipt) → Contains h.arrived r → IsFitting h.config r = λ r c. each_has (IsFitting h.config) h.held r b.valid.fitting ((b.same r).1 c) in
+    let index = index-parts h p w b in
+    let parts : (k : ℕ) → Contains list k → (seeds ≤ k) × (k - seeds < length h.arrived) × (Contains w.marked k → ⊥) = λ k c.
+    let g = passing-to (only_wide (λ j. is_among w.marked j) (λ j. true) (λ j e. refl)) count k c in
+    let off : is_among w.marked k ≡ false = not-true (is_among w.marked k) g.1 in
+    let low : seeds ≤ k = elim (cases_lt k seeds) [ inl l ↦ absurd (both_ways (is_among w.marked k) off (among-from w.marked k (index.0 k l))) | inr l ↦ l ] in
+    (low, omega (arith, low, g.0), λ m. both_ways (is_among w.marked k) off (among-from w.marked k m))
+    in
+    record {
+      items = map at list;
+      different = different-map at list (passing-differ (only_wide (λ j. is_among w.marked j) (λ j. true) (λ j e. refl)) count) (λ x y cx cy s.
+          let a = parts x cx in
+          let c = parts y cy in
+          let one = one_place h.arrived b.once (x - seeds) (y - seeds) (at y) (slice_get-get_or h.arrived (x - seeds) none a.1 ∙ ap (λ (r : Receipt). Some r) s) (slice_get-get_or h.arrived (y - seeds) none c.1) in
+          omega (arith, one, a.0, c.0));
+      exactly = λ r. (
+        λ c.
+            let f = Contains-from_map at list r c in
+            let a = parts f.0 f.1 in
+            let here : slice_get h.arrived (f.0 - seeds) ≡ Some r = slice_get-get_or h.arrived (f.0 - seeds) none a.1 ∙ ap (λ (x : Receipt). Some x) f.2 in
+            let node : seeds + (f.0 - seeds) ≡ f.0 = omega (arith, a.0) in
+            record {
+              held = (b.same r).1 (slice_get-Contains h.arrived (f.0 - seeds) r here);
+              unreleased = λ released. a.2 (subst (Contains w.marked) node ((index.1 (f.0 - seeds) r here).1 released));
+            },
+        λ pending.
+            let place = Contains-slice_get h.arrived r ((b.same r).0 pending.held) in
+            let l : place.0 < length h.arrived = slice_get_within h.arrived place.0 r place.1 in
+            let off : is_among w.marked (seeds + place.0) ≡ false = false_from_ne_true (is_among w.marked (seeds + place.0)) (λ t. pending.unreleased ((index.1 place.0 r place.1).0 (among-to w.marked (seeds + place.0) t))) in
+            let c : Contains list (seeds + place.0) = passing-from (only_wide (λ j. is_among w.marked j) (λ j. true) (λ j e. refl)) count (seeds + place.0) (omega (arith, l)) (not_from_false (is_among w.marked (seeds + place.0)) off) in
+            let is : at (seeds + place.0) ≡ r = (let e : (seeds + place.0) - seeds ≡ place.0 = omega arith in ap (λ k. get_or h.arrived k none) e) ∙ get_or_from_slice_get h.arrived place.0 r none place.1 in
+            subst (Contains (map at list)) is (Contains-map at list (seeds + place.0) c),
+      );
+      count = length-map list at ∙ (let e : length list ≡ n = omega (arith, length-unmarked w.marked count b.reached.once within, total) in e);
+    }
+  where
+    within : All (λ k. k < length h.config.seeds + length h.arrived) w.marked
+    within k d l =
+        let small = marked-within h p w b k d l in
+        omega (arith, small, b.pairing.sizes, length-append (map pair_of_seed h.config.seeds) (map pair_of h.arrived), length-map h.config.seeds pair_of_seed, length-map h.arrived pair_of)
+
+pub marked-few : (h : Hoard) (p : Paired) (w : Wired) → IsBuilt h p w → length w.marked ≤ length h.config.seeds + length h.arrived
+marked-few h p w b = omega (arith, length-unmarked w.marked (length h.config.seeds + length h.arrived) b.reached.once within)
+  where
+    within : All (λ k. k < length h.config.seeds + length h.arrived) w.marked
+    within k d l =
+        let small = marked-within h p w b k d l in
+        omega (arith, small, b.pairing.sizes, length-append (map pair_of_seed h.config.seeds) (map pair_of h.arrived), length-map h.config.seeds pair_of_seed, length-map h.arrived pair_of)

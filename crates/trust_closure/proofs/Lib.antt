@@ -1,0 +1,18 @@
+mod MemberFacts
+mod CountFacts
+mod RisingFacts
+mod RecordFacts
+mod HeldFacts
+mod ConfigFacts
+mod NodeFacts
+mod StandardFacts
+pub mod Vouching
+pub mod Bridge
+pub mod Wirings
+pub mod FlagFacts
+pub mod PairFacts
+pub mod IndexFacts
+mod PlainFacts
+mod Carrying
+mod SownFacts
+mod AcceptedFacts

@@ -1,0 +1,72 @@
+-- One more document that is had has its flag raised.
+use Rattle.std.proofs.Common.{◌≡◌, ◌∙◌, ◌+◌, ◌∷◌, [], ℕ, List, true, length, arith, sym, ap, subst, refl}
+use Rattle.std.specs.Prelude.{◌↔◌}
+use Rattle.std.proofs.lemmas.Bool.{both_ways}
+use Rattle.std.proofs.lemmas.List.Sums.{count_by-le-length}
+use Rattle.trust_closure.specs.Nodes.{is_raised}
+use Rattle.trust_closure.specs.Flags.{Raises, raised_count}
+use Rattle.trust_closure.specs.Plain.{IsFirstHad}
+use Rattle.trust_closure.proofs.FlagFacts.{count-lowered}
+use Rattle.trust_closure.proofs.PlainFacts.{first-none, first-skip, first-later, first-more}
+use Rattle.trust_closure.proofs.rounds.raise_had.Goals.{then-is_had, else-is_had}
+use Rattle.trust_closure.proofs.rounds.raise_had.Goals as goal
+
+pub loop-node-init : goal.loop-node-init
+loop-node-init c = record {
+  numbers = refl;
+  firsts = refl;
+  size = refl;
+  raised = λ n. (λ e. absurd (both_ways (is_raised c.args.pairs.now.flags n) (c.requires.lowered n) e), λ f. absurd (first-none c.args.seeds c.args.released.now c.args.pairs.now.firsts n f));
+  count = count-lowered c.args.pairs.now.flags c.requires.lowered;
+  capacity = refl;
+}
+
+pub overflow_add-count : goal.overflow_add-count
+overflow_add-count c =
+    let q = c.raise-count.new.self in
+    omega (
+      arith,
+      count_by-le-length (λ flag. flag) q.flags,
+      c.raise-count.ensures.count,
+      c.raise-count.ensures.raised.size,
+      c.loop-node.invariant.count,
+      c.loop-node.invariant.size,
+      c.requires.flagged,
+      c.len-node-end.ensures,
+      c.len-node-end.type_inv,
+    )
+
+pub loop-node-preserved : goal.loop-node-preserved
+loop-node-preserved c =
+    let i = c.loop-node.invariant in
+    let seeds = c.args.seeds in
+    let released = c.args.released.now in
+    let firsts = c.args.pairs.now.firsts in
+    let k = c.loop-node.node in
+    elim c.if-is_had.branch [
+      | then-is_had w ↦
+          let q = w.raise-count.new.self in
+          record {
+            numbers = ap (λ p. p.numbers) w.pairs-is ∙ w.raise-count.ensures.numbers ∙ i.numbers;
+            firsts = ap (λ p. p.firsts) w.pairs-is ∙ w.raise-count.ensures.firsts ∙ i.firsts;
+            size = ap (λ p. length p.flags) w.pairs-is ∙ w.raise-count.ensures.raised.size ∙ i.size;
+            raised = λ n. subst (λ p. (is_raised p.flags n ≡ true) ↔ IsFirstHad seeds released firsts (k + 1) n) (sym w.pairs-is)
+                (first-more seeds released firsts k (k ∷ []) refl (c.is_had.ensures.0 w.if-is_had.true) c.loop-node.pairs.flags q.flags
+                (subst (λ (fs : List ℕ). Raises fs (k ∷ []) c.loop-node.pairs.flags q.flags) i.firsts (subst (λ (n : ℕ). Raises c.loop-node.pairs.firsts (n ∷ []) c.loop-node.pairs.flags q.flags) w.new.ensures w.raise-count.ensures.raised))
+                i.raised n);
+            count = omega (arith, ap (λ p. raised_count p.flags) w.pairs-is, w.raise-count.ensures.count, i.count, w.count-is);
+            capacity = ap (λ p. p.capacity) w.pairs-is ∙ w.raise-count.ensures.capacity ∙ i.capacity;
+          }
+      | else-is_had w ↦
+          record {
+            numbers = ap (λ p. p.numbers) w.pairs-is ∙ i.numbers;
+            firsts = ap (λ p. p.firsts) w.pairs-is ∙ i.firsts;
+            size = ap (λ p. length p.flags) w.pairs-is ∙ i.size;
+            raised = λ n. subst (λ p. (is_raised p.flags n ≡ true) ↔ IsFirstHad seeds released firsts (k + 1) n) (sym w.pairs-is) (
+              λ e. first-later seeds released firsts k n ((i.raised n).0 e),
+              λ f. (i.raised n).1 (first-skip seeds released firsts k (λ had. both_ways c.is_had.result w.if-is_had.false (c.is_had.ensures.1 had)) n f),
+            );
+            count = omega (arith, ap (λ p. raised_count p.flags) w.pairs-is, i.count, w.count-is);
+            capacity = ap (λ p. p.capacity) w.pairs-is ∙ i.capacity;
+          }
+    ]

@@ -1,0 +1,104 @@
+-- What an indexed closure keeps
+use Rattle.std.specs.Prelude.{◌≡◌, ◌≢◌, ◌↔◌, AllPairs, ◌+◌, ◌^◌, ◌<◌, ◌≤◌, ℕ, true, false, map, List, Contains, length, slice_get, Some}
+use Rattle.fed_config.specs.Configuration.{AreDomains}
+use Rattle.fed_config.specs.declared.seed.Seed.{Seed}
+use Rattle.receipt_core.specs.declared.distrust.Distrust.{Distrust}
+use Rattle.receipt_core.specs.Receipt.{Receipt, with_distrust}
+use Rattle.receipt_core.specs.declared.triple.Triple.{Triple}
+use Rattle.receipt_core.specs.Acceptance.{IsMeaning, IsReleased}
+use Rattle.wait_index.specs.Net.{ListsReached}
+use Rattle.label_net.specs.Labels.{Wired}
+use Rattle.trust_closure.specs.Nodes.{pairs_of, is_raised}
+use Rattle.trust_closure.specs.Flags.{IsFirstOf}
+use Rattle.trust_closure.specs.Held.{Hoard, meaning_of}
+use Rattle.trust_closure.specs.NetOf.{spots_of, spot_of_seed, IsNetOf, IsWiringOf}
+use Rattle.trust_closure.specs.Pairs.{Paired, IsPairing}
+use Rattle.trust_closure.specs.Refusals.{Room, IsRoomier}
+use Rattle.trust_closure.specs.Changes.{State}
+use Rattle.trust_closure.specs.declared.indexed.Spare.{Spare}
+
+-- The index has exactly the nodes and edges of what is held, its reached nodes are marked, and each different document
+-- has its number.
+pub record IsBuilt (h : Hoard) (p : Paired) (w : Wired) : Type 0 where
+  pub valid : IsMeaning (meaning_of h)
+  pub same : (r : Receipt) → Contains h.held r ↔ Contains h.arrived r
+  pub once : AllPairs ◌≢◌ h.arrived
+  pub domains : List (List ℕ)
+  pub are_domains : AreDomains h.config domains
+  pub wired : IsWiringOf domains h.records (spots_of h.config.seeds h.arrived) w
+  pub reached : ListsReached w.net w.marked
+  pub pairing : IsPairing (pairs_of h.config.seeds h.arrived) p
+
+-- Besides, the flags of the marked nodes' documents are raised, and no others.
+pub record IsIndexed (h : Hoard) (p : Paired) (w : Wired) : Type 0 where
+  pub built : IsBuilt h p w
+  pub flags : (number : ℕ) → (is_raised p.flags number ≡ true) ↔ IsFirstOf p.firsts w.marked number
+
+-- The new hoard has the record besides, which the old one had not.
+pub record IsBefore (old : Hoard) (x : Distrust) (new : Hoard) : Type 0 where
+  pub config : new.config ≡ old.config
+  pub arrived : new.arrived ≡ old.arrived
+  pub held : new.held ≡ old.held
+  pub records : new.records ≡ with_distrust x old.records
+
+-- The index is still that of what was held before the record was.
+pub record WasIndexed (new : Hoard) (x : Distrust) (p : Paired) (w : Wired) : Type 0 where
+  pub old : Hoard
+  pub before : IsBefore old x new
+  pub indexed : IsIndexed old p w
+
+-- There is room for so many receipts more and so many offers of theirs.
+pub record HasRoom (h : Hoard) (p : Paired) (w : Wired) (room : Spare) : Type 0 where
+  pub held : length h.arrived + room.receipts ≤ h.capacity
+  pub pairs : length p.firsts + room.receipts ≤ p.capacity
+  pub nodes : room.receipts ≤ w.nodes
+  pub edges : room.receipts + room.offers ≤ w.edges
+  pub few : length p.firsts + room.receipts < 2 ^ 32
+
+-- What one closure keeps, beside the room.
+pub record IsKept (h : Hoard) (p : Paired) (w : Wired) (spare : Spare) : Type 0 where
+  pub indexed : IsIndexed h p w
+  pub room : HasRoom h p w spare
+
+abbrev pub room_of : Spare → Room
+room_of s = record { receipts = s.receipts; offers = s.offers }
+
+abbrev pub state_of : Hoard → Spare → State
+state_of h s = record { meaning = meaning_of h; room = room_of s }
+
+-- Nothing but the room has changed, and that has grown or stayed.
+pub record Reserves (h new : Hoard) (p q : Paired) (w v : Wired) (room more : Spare) : Type 0 where
+  pub meaning : meaning_of new ≡ meaning_of h
+  pub arrived : new.arrived ≡ h.arrived
+  pub kept : IsKept new q v more
+  pub roomier : IsRoomier (room_of room) (room_of more)
+
+-- What a caller sees: the meaning and the room, the receipts in order of arrival, and the index.
+pub record Indexed : Type 0 where
+  pub state : State
+  pub arrived : List Receipt
+  pub wired : Wired
+
+abbrev pub indexed_of : Hoard → Wired → Spare → Indexed
+indexed_of h w s = record { state = state_of h s; arrived = h.arrived; wired = w }
+
+-- The index has one node for each configured document, which is marked, and one for each receipt, in order of arrival,
+-- one wait edge for each receipt, one offer edge for each offer of each, and no other; labels of distrusted keys are
+-- closed. A receipt's node is marked exactly where an accepted document vouches for it.
+pub record IsIndexOf (i : Indexed) : Type 0 where
+  pub labels : List Triple
+  pub net : IsNetOf i.state.meaning.config.seeds i.arrived i.state.meaning.records labels i.wired.net
+  pub held : (r : Receipt) → Contains i.state.meaning.held r ↔ Contains i.arrived r
+  pub once : length i.arrived ≡ length i.state.meaning.held
+  pub seeds : (node : ℕ) → node < length i.state.meaning.config.seeds → Contains i.wired.marked node
+  pub receipts : (place : ℕ) (r : Receipt) → slice_get i.arrived place ≡ Some r
+      → Contains i.wired.marked (length i.state.meaning.config.seeds + place) ↔ IsReleased i.state.meaning r
+
+-- The index and the different documents of these configured documents, before a flag is raised.
+pub record IsSeeded (h : Hoard) (seeds : List Seed) (p : Paired) (w : Wired) : Type 0 where
+  pub pairing : IsPairing (pairs_of seeds h.arrived) p
+  pub lowered : (number : ℕ) → is_raised p.flags number ≡ false
+  pub room : length p.firsts ≤ p.capacity
+  pub firsts : length p.firsts ≡ length seeds
+  pub wired : (domains : List (List ℕ)) → AreDomains h.config domains → IsWiringOf domains h.records (map spot_of_seed seeds) w
+  pub reached : ListsReached w.net w.marked

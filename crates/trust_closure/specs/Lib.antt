@@ -1,0 +1,13 @@
+pub mod Count
+pub mod Records
+pub mod Nodes
+pub mod Held
+pub mod Views
+pub mod Order
+pub mod Refusals
+pub mod Changes
+pub mod NetOf
+pub mod Flags
+pub mod Pairs
+pub mod Indexed
+pub mod Plain

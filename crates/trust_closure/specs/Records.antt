@@ -1,0 +1,49 @@
+-- Records of distrust by the numbers of domains
+use Rattle.std.specs.Prelude.{◌≡◌, ℕ, ◌<◌, ◌≤◌, List, [], map, length, slice_index_or, Contains}
+use Rattle.std.specs.declared.cmp.Ordering.{Ordering}
+use Rattle.std.specs.Ordering.{nat_cmp, ordering_then}
+use Rattle.std.specs.List.{AllByRecursion}
+use Rattle.std.specs.List.Sorted.{IsStrictlySortedBy}
+use Rattle.receipt_core.specs.declared.distrust.Distrust.{Distrust}
+use Rattle.receipt_core.specs.Receipt.{key_cmp}
+use Rattle.receipt_core.specs.Rising.{with_item}
+use Rattle.trust_closure.specs.declared.record.Record.{Record}
+use Rattle.trust_closure.specs.declared.records.Addition.{Addition}
+use Rattle.trust_closure.specs.declared.records.Addition.TheVariants.{Added, There, Full}
+
+abbrev pub distrust_by : List (List ℕ) → Record → Distrust
+distrust_by domains r = record { domain = slice_index_or domains r.domain []; key = r.key }
+
+abbrev pub distrusts_of : List (List ℕ) → List Record → List Distrust
+distrusts_of domains records = map (distrust_by domains) records
+
+-- each number is below this one
+abbrev pub AreWithin : ℕ → List Record → Type 0
+AreWithin count records = AllByRecursion (λ r. r.domain < count) records
+
+-- records are ordered by key, and then by the numbers of their domains
+abbrev pub record_cmp : Record → Record → Ordering
+record_cmp a b = ordering_then (key_cmp a.key b.key) (nat_cmp a.domain b.domain)
+
+-- what is kept of records
+pub record AreRecords (records : List Record) (capacity : ℕ) : Type 0 where
+  pub rising : IsStrictlySortedBy record_cmp records
+  pub few : length records ≤ 4096
+  pub room : 4096 ≤ capacity
+
+-- It is held now, and was not.
+pub record IsAdded (old : List Record) (r : Record) (new : List Record) : Type 0 where
+  pub unheld : Contains old r → ⊥
+  pub few : length old < 4096
+  pub now : new ≡ with_item record_cmp r old
+
+-- There is no place for it.
+pub record IsPast (old : List Record) (r : Record) (new : List Record) : Type 0 where
+  pub unheld : Contains old r → ⊥
+  pub full : 4096 ≤ length old
+  pub now : new ≡ old
+
+abbrev pub Adds : List Record → Record → List Record → Addition → Type 0
+Adds old r new Added = IsAdded old r new
+Adds old r new There = Contains old r × (new ≡ old)
+Adds old r new Full = IsPast old r new

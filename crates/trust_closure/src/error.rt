@@ -1,0 +1,24 @@
+//! Why a closure takes nothing.
+use thiserror::Error;
+
+/// Why a closure refuses. Of several causes the first of this list is answered; `ConfigDiffers` comes before all
+/// others, and `NoMemory` only where no other cause stands.
+#[derive(Clone, Copy, Debug, PartialEq, Eq, Error)]
+pub enum TakeError {
+    /// The configuration has no relationship with the receipt's domain, or the domain of a record of distrust is none
+    /// of the configuration.
+    #[error("G1 UnknownDomain")]
+    UnknownDomain,
+    /// The relationship with the receipt's domain has another endpoint.
+    #[error("G2 WrongEndpoint")]
+    WrongEndpoint,
+    /// 65,536 receipts, or 4,096 records of distrust, are the most that are held.
+    #[error("G3 Full")]
+    Full,
+    /// Memory ran out.
+    #[error("G4 NoMemory")]
+    NoMemory,
+    /// The configuration of the other closure has another digest.
+    #[error("G5 ConfigDiffers")]
+    ConfigDiffers,
+}

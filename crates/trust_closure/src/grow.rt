@@ -1,0 +1,135 @@
+//! What is held, its different documents and its index change together.
+ghost use Rattle.std.specs.Prelude.{◌≡◌, ℕ, ◌+◌, ◌^◌, ◌<◌, ◌≤◌, ◌∷◌, ◌++◌, [], false, length, take};
+ghost use Rattle.fed_config.specs.Configuration.{HasDomain};
+ghost use Rattle.receipt_core.specs.Receipt.{pair_of, offers_of, with_receipt};
+ghost use Rattle.trust_closure.specs.Changes.{IsGain, TakesDistrust};
+ghost use Rattle.trust_closure.specs.Held.{Hoard, meaning_of, IsAbsent};
+ghost use Rattle.trust_closure.specs.Indexed.{IsBuilt, IsIndexed, IsBefore, WasIndexed};
+
+use crate::error::TakeError;
+use crate::held::Held;
+use crate::outcome::Distrusted;
+use crate::pairs::Pairs;
+use crate::records::Addition;
+use crate::wire::{add_receipt, domain_number};
+use jwk_set::KeyId;
+use label_net::Wiring;
+use receipt_core::Receipt;
+use spiffe_name::TrustDomain;
+
+/// Holds a receipt that is absent, at its place, and answers how many documents of domains are accepted now and were not
+/// before. There is room for it: it takes no memory, and looks at its own edges and at what is marked from now on.
+pub(crate) fn add(
+    held: &mut Held,
+    pairs: &mut Pairs,
+    wiring: &mut Wiring,
+    place: usize,
+    receipt: Receipt,
+) -> usize
+    requires indexed { IsIndexed held.old pairs.old wiring.old }
+    requires absent { IsAbsent (meaning_of held.old) receipt place }
+    requires held_room { length held.old.arrived < held.old.capacity }
+    requires pairs_room { length pairs.old.firsts < pairs.old.capacity }
+    requires few { length pairs.old.firsts < 2 ^ 32 }
+    requires nodes { 0 < wiring.old.nodes }
+    requires edges { length (offers_of (pair_of receipt)) < wiring.old.edges }
+    ensures indexed { IsIndexed held.new pairs.new wiring.new }
+    ensures held { held.new ≡ record held.old { arrived = held.old.arrived ++ receipt ∷ []; held = with_receipt receipt held.old.held } }
+    ensures gain { IsGain (meaning_of held.old) (meaning_of held.new) result }
+    ensures firsts { length pairs.new.firsts ≡ length pairs.old.firsts + 1 }
+    ensures pairs_room { pairs.new.capacity ≡ pairs.old.capacity }
+    ensures nodes { wiring.old.nodes ≡ wiring.new.nodes + 1 }
+    ensures edges { wiring.old.edges ≤ wiring.new.edges + (length (offers_of (pair_of receipt)) + 1) }
+{
+    let count = wiring.reach().marked().len();
+    place_receipt(held, pairs, wiring, place, receipt);
+    pairs.raise(&wiring.reach().marked()[count..])
+}
+
+/// Holds a receipt that is absent, at its place, and adds its node.
+fn place_receipt(
+    held: &mut Held,
+    pairs: &mut Pairs,
+    wiring: &mut Wiring,
+    place: usize,
+    receipt: Receipt,
+)
+    requires built { IsBuilt held.old pairs.old wiring.old }
+    requires absent { IsAbsent (meaning_of held.old) receipt place }
+    requires held_room { length held.old.arrived < held.old.capacity }
+    requires pairs_room { length pairs.old.firsts < pairs.old.capacity }
+    requires few { length pairs.old.firsts < 2 ^ 32 }
+    requires nodes { 0 < wiring.old.nodes }
+    requires edges { length (offers_of (pair_of receipt)) < wiring.old.edges }
+    ensures built { IsBuilt held.new pairs.new wiring.new }
+    ensures held { held.new ≡ record held.old { arrived = held.old.arrived ++ receipt ∷ []; held = with_receipt receipt held.old.held } }
+    ensures firsts { (first : ℕ) × (pairs.new.firsts ≡ pairs.old.firsts ++ first ∷ []) }
+    ensures flags { pairs.new.flags ≡ pairs.old.flags ++ false ∷ [] }
+    ensures front { take (length wiring.old.marked) wiring.new.marked ≡ wiring.old.marked }
+    ensures pairs_room { pairs.new.capacity ≡ pairs.old.capacity }
+    ensures nodes { wiring.old.nodes ≡ wiring.new.nodes + 1 }
+    ensures edges { wiring.old.edges ≤ wiring.new.edges + (length (offers_of (pair_of receipt)) + 1) }
+{
+    let seeds = held.config().seeds();
+    pairs.add(seeds, held.arrived(), receipt.domain(), receipt.document());
+    add_receipt(wiring, held, &receipt);
+    held.insert(place, receipt);
+    let _valid = held.config();
+}
+
+/// Distrusts a key in a domain. It takes no memory: the labels of the key are closed in turn, and the flags are raised
+/// anew.
+///
+/// # Errors
+/// The domain is none of the configuration, or there are as many records as there may be.
+pub(crate) fn lose(
+    held: &mut Held,
+    pairs: &mut Pairs,
+    wiring: &mut Wiring,
+    domain: &TrustDomain,
+    key: KeyId,
+) -> Result<Distrusted, TakeError>
+    requires indexed { IsIndexed held.old pairs.old wiring.old }
+    ensures indexed { IsIndexed held.new pairs.new wiring.new }
+    ensures meaning { TakesDistrust (meaning_of held.old) (record { domain = domain.now; key = key }) (meaning_of held.new) result }
+    ensures arrived { held.new.arrived ≡ held.old.arrived }
+    ensures capacity { held.new.capacity ≡ held.old.capacity }
+    ensures firsts { pairs.new.firsts ≡ pairs.old.firsts }
+    ensures pairs_room { pairs.new.capacity ≡ pairs.old.capacity }
+    ensures nodes { wiring.new.nodes ≡ wiring.old.nodes }
+    ensures edges { wiring.new.edges ≡ wiring.old.edges }
+{
+    match held.add_record(domain, key)? {
+        Addition::Added => Ok(Distrusted::New {
+            lost: close(held, pairs, wiring, domain, key),
+        }),
+        Addition::There => Ok(Distrusted::Already),
+        Addition::Full => Err(TakeError::Full),
+    }
+}
+
+/// Closes the labels of a key that is distrusted from now on, and answers how many documents of domains were accepted
+/// and are not now.
+fn close(
+    held: &Held,
+    pairs: &mut Pairs,
+    wiring: &mut Wiring,
+    domain: &TrustDomain,
+    key: KeyId,
+) -> usize
+    requires domain { HasDomain held.now.config domain.now }
+    requires before { WasIndexed held.now (record { domain = domain.now; key = key }) pairs.old wiring.old }
+    ensures indexed { IsIndexed held.now pairs.new wiring.new }
+    ensures loss { (old : Hoard) → IsBefore old (record { domain = domain.now; key = key }) held.now
+        → IsIndexed old pairs.old wiring.old → IsGain (meaning_of held.now) (meaning_of old) result }
+    ensures firsts { pairs.new.firsts ≡ pairs.old.firsts }
+    ensures pairs_room { pairs.new.capacity ≡ pairs.old.capacity }
+    ensures nodes { wiring.new.nodes ≡ wiring.old.nodes }
+    ensures edges { wiring.new.edges ≡ wiring.old.edges }
+{
+    let number = domain_number(held.config(), domain);
+    wiring.close_key(number, key);
+    let before = pairs.lower();
+    let after = pairs.raise(wiring.reach().marked());
+    before - after
+}

@@ -1,0 +1,201 @@
+//! The closure that operators run.
+ghost use Rattle.std.specs.Prelude.{◌≡◌, ℕ, ◌↔◌, length, IsTrue, IsOk, OnOk, IfOk};
+ghost use Rattle.receipt_core.specs.Acceptance.{IsMeaning, IsMember};
+ghost use Rattle.wait_index.specs.Net.{ListsReached};
+ghost use Rattle.trust_closure.specs.Views.{IsAcceptedList, IsPendingCount, document_of, receipts_in};
+ghost use Rattle.trust_closure.specs.Changes.{empty_of, Takes, TakesDistrust};
+ghost use Rattle.trust_closure.specs.Refusals.{IsRoomier};
+
+use crate::closure::NoMemory;
+use crate::error::TakeError;
+use crate::grow::lose;
+use crate::held::Held;
+use crate::indexed::{Spare, reserve, take_into};
+use crate::lent::{Accepted, Distrusts, Receipts};
+use crate::outcome::{Distrusted, Refused, Taken};
+use crate::pairs::Pairs;
+use crate::seeding::add_seeds;
+use bundle_doc::Document;
+use fed_config::Config;
+use jwk_set::KeyId;
+use label_net::Wiring;
+use receipt_core::Receipt;
+use spiffe_name::TrustDomain;
+use std::alloc::Global;
+use std::marker::Model;
+use wait_index::Reach;
+
+/// A closure over an index of its receipts: a take within room looks at the receipt's own edges and at what is accepted
+/// from now on, and never at all receipts.
+#[derive(Drop)]
+pub struct IndexedClosure {
+    held: Held,
+    pairs: Pairs,
+    wiring: Wiring,
+    spare: Spare,
+}
+
+impl Model for IndexedClosure {
+    ghost use Rattle.trust_closure.specs.Indexed.{Indexed, IsKept, indexed_of};
+
+    ghost Value = { Indexed };
+
+    ghost view = { λ c. indexed_of c.held c.wiring c.spare };
+
+    ghost invariant = { λ c. IsKept c.held c.pairs c.wiring c.spare };
+}
+
+impl IndexedClosure {
+    ghost use Rattle.trust_closure.specs.Indexed.{IsIndexOf};
+
+    /// A closure of the configuration that holds no receipt and no record of distrust. It makes room for all records.
+    ///
+    /// # Errors
+    /// Memory ran out.
+    pub fn new(alloc: Global, config: &Config) -> Result<Self, NoMemory>
+        ensures { IfOk result (λ c. c.state.meaning ≡ empty_of config.now) }
+    {
+        let held = Held::new(alloc, config)?;
+        let mut pairs = Pairs::new(alloc);
+        let mut wiring = Wiring::new(alloc);
+        let _domains = held.config().domains();
+        add_seeds(alloc, &held, &mut pairs, &mut wiring, held.config().seeds())?;
+        pairs.raise(wiring.reach().marked());
+        Ok(IndexedClosure {
+            held,
+            pairs,
+            wiring,
+            spare: Spare {
+                receipts: 0,
+                offers: 0,
+            },
+        })
+    }
+
+    /// The configuration.
+    pub fn config(&self) -> &Config
+        ensures config { result.now ≡ self.now.state.meaning.config }
+        ensures valid { IsMeaning self.now.state.meaning }
+    {
+        self.held.config()
+    }
+
+    /// Takes a receipt: it is held from now on, whether or not an accepted document vouches for it.
+    pub fn take(&mut self, receipt: Receipt) -> Result<Taken, Refused>
+        ensures { Takes self.old.state receipt self.new.state result }
+    {
+        take_into(
+            &mut self.held,
+            &mut self.pairs,
+            &mut self.wiring,
+            &mut self.spare,
+            receipt,
+        )
+    }
+
+    /// Distrusts a key in a domain: it vouches for nothing there any more. It takes no memory.
+    pub fn distrust(&mut self, domain: &TrustDomain, key: KeyId) -> Result<Distrusted, TakeError>
+        ensures meaning { TakesDistrust self.old.state.meaning (record { domain = domain.now; key = key }) self.new.state.meaning result }
+        ensures room { self.new.state.room ≡ self.old.state.room }
+    {
+        lose(
+            &mut self.held,
+            &mut self.pairs,
+            &mut self.wiring,
+            domain,
+            key,
+        )
+    }
+
+    /// Whether the document is accepted as one of this domain.
+    pub fn is_accepted(&self, domain: &TrustDomain, document: &Document) -> bool
+        ensures { IsTrue result ↔ IsMember self.now.state.meaning (document_of domain.now document.now) }
+    {
+        let seeds = self.held.config().seeds();
+        self.pairs
+            .is_raised(seeds, self.held.arrived(), domain, document)
+    }
+
+    /// The accepted documents of the domain, each once, rising by rank, where an absent one comes first, and then by
+    /// canonical text.
+    pub fn accepted(&self, domain: &TrustDomain) -> Accepted<'_>
+        ensures { IsAcceptedList self.now.state.meaning domain.now result }
+    {
+        let seeds = self.held.config().seeds();
+        self.pairs.accepted(seeds, self.held.arrived(), domain)
+    }
+
+    /// The receipts, in the order of their lines' bytes.
+    pub fn receipts(&self) -> Receipts<'_>
+        ensures { result ≡ self.now.state.meaning.held }
+    {
+        self.held.receipts()
+    }
+
+    /// The receipts whose id begins with the byte, in the order of their lines' bytes.
+    pub fn receipts_of(&self, bucket: u8) -> Receipts<'_>
+        ensures { result ≡ receipts_in bucket self.now.state.meaning.held }
+    {
+        self.held.receipts_of(bucket)
+    }
+
+    /// The records of distrust, rising by key id and then by domain.
+    pub fn distrusts(&self) -> Distrusts<'_>
+        ensures { result ≡ self.now.state.meaning.records }
+    {
+        self.held.distrusts()
+    }
+
+    /// How many receipts are held.
+    pub fn receipt_count(&self) -> usize
+        ensures { result ≡ length self.now.state.meaning.held }
+    {
+        let _config = self.held.config();
+        self.held.arrived().len()
+    }
+
+    /// How many receipts are held that no accepted document vouches for.
+    pub fn pending_count(&self) -> usize
+        ensures { IsPendingCount self.now.state.meaning result }
+    {
+        let config = self.held.config();
+        let _domains = config.domains();
+        let nodes = config.seeds().len() + self.held.arrived().len();
+        nodes - self.wiring.reach().marked().len()
+    }
+
+    /// Makes room for so many receipts more, which have so many offers together.
+    pub fn try_reserve(&mut self, receipts: usize, offers: usize) -> Result<(), NoMemory>
+        ensures meaning { self.new.state.meaning ≡ self.old.state.meaning }
+        ensures room { IsRoomier self.old.state.room self.new.state.room }
+        ensures ok { OnOk result (IsRoomier (record { receipts = receipts; offers = offers }) self.new.state.room) }
+        ensures within { IsRoomier (record { receipts = receipts; offers = offers }) self.old.state.room → IsOk result }
+    {
+        reserve(
+            &mut self.held,
+            &mut self.pairs,
+            &mut self.wiring,
+            &mut self.spare,
+            receipts,
+            offers,
+        )
+    }
+
+    /// For how many receipts more there is room, and for how many offers of them.
+    pub fn room(&self) -> (usize, usize)
+        ensures receipts { result.0 ≡ self.now.state.room.receipts }
+        ensures offers { result.1 ≡ self.now.state.room.offers }
+    {
+        (self.spare.receipts, self.spare.offers)
+    }
+
+    /// The index.
+    pub fn index(&self) -> &Reach
+        ensures net { result.now.net ≡ self.now.wired.net }
+        ensures marked { result.now.marked ≡ self.now.wired.marked }
+        ensures is { IsIndexOf self.now }
+    {
+        let _config = self.held.config();
+        self.wiring.reach()
+    }
+}

@@ -1,0 +1,33 @@
+//! Which documents a replica accepts, by its configuration, its receipts and its records of distrust.
+#![tactic(auto)]
+
+mod closure;
+mod error;
+mod flags;
+mod grow;
+mod held;
+mod indexed;
+mod indexed_closure;
+pub mod laws;
+mod lent;
+mod nodes;
+mod outcome;
+mod pairs;
+mod plain;
+mod plain_closure;
+mod probes;
+mod record;
+mod records;
+mod rounds;
+mod seeding;
+mod sowing;
+#[cfg(test)]
+mod tests;
+mod wire;
+
+pub use closure::{Closure, NoMemory};
+pub use error::TakeError;
+pub use indexed_closure::IndexedClosure;
+pub use lent::{Accepted, Distrusts, Receipts};
+pub use outcome::{Distrusted, Refused, Taken};
+pub use plain_closure::PlainClosure;

@@ -1,0 +1,96 @@
+//! What is sought among receipts.
+ghost use Rattle.std.specs.Prelude.{◌≡◌};
+
+use receipt_core::Receipt;
+use sorted_order::{ItemProbe, Probe};
+use std::cmp::Ordering;
+
+/// A receipt by its line.
+#[derive(Drop)]
+pub(crate) struct OfReceipt<'a> {
+    receipt: &'a Receipt,
+}
+
+/// The place of a receipt among numbers of receipts in the order of buckets.
+#[derive(Drop)]
+pub(crate) struct SpotInBuckets<'a> {
+    receipts: &'a [Receipt],
+    receipt: &'a Receipt,
+}
+
+/// The receipts of a bucket among numbers of receipts.
+#[derive(Drop)]
+pub(crate) struct InBucket<'a> {
+    receipts: &'a [Receipt],
+    bucket: u8,
+}
+
+impl<'a> OfReceipt<'a> {
+    pub(crate) fn new(receipt: &'a Receipt) -> Self
+        ensures { result.receipt.now ≡ receipt.now }
+    {
+        OfReceipt { receipt }
+    }
+}
+
+impl<'a> SpotInBuckets<'a> {
+    pub(crate) fn new(receipts: &'a [Receipt], receipt: &'a Receipt) -> Self
+        ensures receipts { result.receipts.now ≡ receipts.now }
+        ensures receipt { result.receipt.now ≡ receipt.now }
+    {
+        SpotInBuckets { receipts, receipt }
+    }
+}
+
+impl<'a> InBucket<'a> {
+    pub(crate) fn new(receipts: &'a [Receipt], bucket: u8) -> Self
+        ensures receipts { result.receipts.now ≡ receipts.now }
+        ensures bucket { result.bucket ≡ bucket }
+    {
+        InBucket { receipts, bucket }
+    }
+}
+
+impl<'a> ItemProbe<Receipt> for OfReceipt<'a> {
+    ghost use Rattle.receipt_core.specs.Receipt.{receipt_cmp};
+
+    ghost compared = { λ sought r. receipt_cmp r sought.receipt.now };
+
+    fn compare(&self, item: &Receipt) -> Ordering {
+        item.cmp(self.receipt)
+    }
+}
+
+impl<'a> Probe for SpotInBuckets<'a> {
+    ghost use Rattle.std.specs.Prelude.{◌<◌, length};
+    ghost use Rattle.sorted_order.specs.Stock.{compared_at};
+    ghost use Rattle.trust_closure.specs.Held.{bucket_cmp};
+
+    ghost compared = { λ sought number. compared_at (λ r. bucket_cmp r sought.receipt.now) sought.receipts.now number };
+
+    ghost knows = { λ sought number. number < length sought.receipts.now };
+
+    fn compare(&self, number: u32) -> Ordering {
+        let item = &self.receipts[number as usize];
+        match item.id().0[0].cmp(&self.receipt.id().0[0]) {
+            Ordering::Equal => item.cmp(self.receipt),
+            unequal => unequal,
+        }
+    }
+}
+
+impl<'a> Probe for InBucket<'a> {
+    ghost use Rattle.std.specs.Prelude.{◌<◌, length};
+    ghost use Rattle.std.specs.Ordering.{nat_cmp};
+    ghost use Rattle.sorted_order.specs.Stock.{compared_at};
+    ghost use Rattle.trust_closure.specs.Held.{bucket_of};
+
+    ghost compared = { λ sought number. compared_at (λ r. nat_cmp (bucket_of r) sought.bucket) sought.receipts.now number };
+
+    ghost knows = { λ sought number. number < length sought.receipts.now };
+
+    fn compare(&self, number: u32) -> Ordering {
+        let item = &self.receipts[number as usize];
+        item.id().0[0].cmp(&self.bucket)
+    }
+}

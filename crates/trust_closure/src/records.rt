@@ -1,0 +1,78 @@
+//! The records of distrust that a closure keeps.
+ghost use Rattle.std.specs.Prelude.{◌≡◌, ◌≤◌, ◌↔◌, [], length, Contains, IfOk, IsTrue};
+ghost use Rattle.std.specs.List.Sorted.{IsStrictlySortedBy};
+ghost use Rattle.trust_closure.specs.Records.{Adds, record_cmp};
+
+use crate::record::Record;
+use std::alloc::{AllocError, Global};
+use std::marker::Model;
+
+/// The most records of distrust that are held.
+const MOST_RECORDS: usize = 4_096;
+
+/// What came of a record of distrust.
+pub(crate) enum Addition {
+    /// It was not held, and is held now.
+    Added,
+    /// It was held.
+    There,
+    /// It is not held, and there may be no more.
+    Full,
+}
+
+/// Records of distrust in their order, with room for as many as there may be.
+#[derive(Drop)]
+pub(crate) struct Records {
+    items: Vec<Record>,
+}
+
+impl Model for Records {
+    ghost use Rattle.std.specs.Prelude.{List, vec_capacity};
+    ghost use Rattle.trust_closure.specs.declared.record.Record.{Record};
+    ghost use Rattle.trust_closure.specs.Records.{AreRecords};
+
+    ghost Value = { List Record };
+
+    ghost view = { λ r. r.items.items };
+
+    ghost invariant = { λ r. AreRecords r.items.items (vec_capacity r.items) };
+}
+
+impl Records {
+    pub(crate) fn new(alloc: Global) -> Result<Records, AllocError>
+        ensures { IfOk result (λ r. r ≡ []) }
+    {
+        Ok(Records {
+            items: Vec::with_capacity(alloc, MOST_RECORDS)?,
+        })
+    }
+
+    pub(crate) fn as_slice(&self) -> &[Record]
+        ensures records { result.now ≡ self.now }
+        ensures rising { IsStrictlySortedBy record_cmp self.now }
+        ensures few { length self.now ≤ 4096 }
+    {
+        self.items.as_slice()
+    }
+
+    pub(crate) fn holds(&self, sought: &Record) -> bool
+        ensures { IsTrue result ↔ Contains self.now sought.now }
+    {
+        self.items.binary_search(sought).is_ok()
+    }
+
+    /// Takes no memory.
+    pub(crate) fn add(&mut self, entry: Record) -> Addition
+        ensures { Adds self.old entry self.new result }
+    {
+        match self.items.binary_search(&entry) {
+            Ok(_) => Addition::There,
+            Err(_) if self.items.len() >= MOST_RECORDS => Addition::Full,
+            Err(place) => {
+                // There is room, so it is never refused.
+                let _ = self.items.insert(place, entry);
+                Addition::Added
+            }
+        }
+    }
+}
