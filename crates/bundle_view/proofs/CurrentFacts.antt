@@ -1,0 +1,50 @@
+-- The last of the accepted documents is the current one, and the only one.
+use Rattle.std.proofs.Common.{◌≡◌, ℕ, inl, inr, List, [], ◌∷◌, Option, Some, None, Less, refl, sym, ap, subst}
+use Rattle.std.specs.List.{Contains, last_or}
+use Rattle.std.specs.List.Sorted.{IsStrictlySortedBy}
+use Rattle.bundle_doc.specs.Bundle.{Bundle}
+use Rattle.receipt_core.specs.Acceptance.{Meaning}
+use Rattle.trust_closure.specs.Views.{document_cmp, IsAcceptedList}
+use Rattle.trust_closure.specs.Order.{document_total}
+use Rattle.bundle_view.specs.Current.{IsCurrent}
+use Rattle.bundle_view.proofs.ListFacts.{contains_first, contains_later, contains_none, contains_cases, not_below_itself, not_both, rising_first, rising_rest, only_one}
+
+-- it is among them, and none is greater
+abbrev IsTop : List Bundle → Option Bundle → Type 0
+IsTop ds None = ⊥
+IsTop ds (Some d) = Contains ds d × ((e : Bundle) → Contains ds e → document_cmp d e ≡ Less → ⊥)
+
+top_more : (x : Bundle) (ds : List Bundle) (o : Option Bundle) → IsStrictlySortedBy document_cmp (x ∷ ds) → IsTop ds o → IsTop (x ∷ ds) o
+top_more x ds None rising top = top
+top_more x ds (Some d) rising top = (
+  contains_later x ds d top.0,
+  λ e has less. elim (contains_cases x ds e has) [
+    | inl same ↦ not_both document_total x d (rising_first document_cmp x ds d rising top.0) (subst (λ z. document_cmp d z ≡ Less) (sym same) less)
+    | inr later ↦ top.1 e later less
+  ],
+)
+
+top_last : (x : Bundle) (ds : List Bundle) → IsStrictlySortedBy document_cmp (x ∷ ds) → IsTop (x ∷ ds) (last_or (Some x) ds)
+top_last x [] rising = (
+  contains_first x [],
+  λ e has less. elim (contains_cases x [] e has) [
+    | inl same ↦ not_below_itself document_total x (subst (λ z. document_cmp x z ≡ Less) (sym same) less)
+    | inr none ↦ contains_none e none
+  ],
+)
+top_last x (y ∷ ds) rising = top_more x (y ∷ ds) (last_or (Some y) ds) rising (top_last y ds (rising_rest document_cmp x (y ∷ ds) rising))
+
+current_of_top : (m : Meaning) (domain : List ℕ) (ds : List Bundle) (o : Option Bundle) → IsAcceptedList m domain ds → IsTop ds o → IsCurrent m domain o
+current_of_top m domain ds None list top = absurd top
+current_of_top m domain ds (Some d) list top = record { accepted = list.sound d top.0; greatest = λ e is. top.1 e (list.complete e is) }
+
+pub last_current : (m : Meaning) (domain : List ℕ) (ds : List Bundle) → IsAcceptedList m domain ds → IsCurrent m domain (last_or None ds)
+last_current m domain [] list = λ d is. contains_none d (list.complete d is)
+last_current m domain (x ∷ ds) list = current_of_top m domain (x ∷ ds) (last_or (Some x) ds) list (top_last x ds list.rising)
+
+pub one_current : (m : Meaning) (domain : List ℕ) (ds : List Bundle) (a b : Option Bundle) → IsAcceptedList m domain ds → IsCurrent m domain a → IsCurrent m domain b → a ≡ b
+one_current m domain ds None None list p q = refl
+one_current m domain ds None (Some e) list p q = absurd (p e q.accepted)
+one_current m domain ds (Some d) None list p q = absurd (q d p.accepted)
+one_current m domain ds (Some d) (Some e) list p q =
+    ap Some (only_one document_cmp ds d e list.rising (list.complete d p.accepted) (list.complete e q.accepted) (p.greatest e q.accepted) (q.greatest d p.accepted))

@@ -1,0 +1,17 @@
+-- The current document of a domain
+use Rattle.std.specs.Prelude.{◌≡◌, ℕ, List, Option, Some, None}
+use Rattle.std.specs.declared.cmp.Ordering.TheVariants.{Less}
+use Rattle.bundle_doc.specs.Bundle.{Bundle}
+use Rattle.receipt_core.specs.Acceptance.{Meaning, IsMember}
+use Rattle.trust_closure.specs.Views.{document_cmp, document_of}
+
+-- It is accepted, and no accepted document of the domain is greater by rank and then by canonical text; an absent rank
+-- is below 0.
+pub record IsGreatest (m : Meaning) (domain : List ℕ) (d : Bundle) : Type 0 where
+  pub accepted : IsMember m (document_of domain d)
+  pub greatest : (e : Bundle) → IsMember m (document_of domain e) → document_cmp d e ≡ Less → ⊥
+
+-- the current document, or none where none of the domain is accepted
+abbrev pub IsCurrent : Meaning → List ℕ → Option Bundle → Type 0
+IsCurrent m domain None = (d : Bundle) → IsMember m (document_of domain d) → ⊥
+IsCurrent m domain (Some d) = IsGreatest m domain d

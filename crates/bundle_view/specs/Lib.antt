@@ -1,0 +1,5 @@
+pub mod Current
+pub mod Conflicts
+pub mod Report
+pub mod Groups
+pub mod Sections

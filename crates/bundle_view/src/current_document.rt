@@ -1,0 +1,22 @@
+//! The current document of a domain.
+ghost use Rattle.std.specs.Prelude.{option_copied};
+ghost use Rattle.bundle_view.specs.Current.{IsCurrent};
+
+use bundle_doc::Document;
+use spiffe_name::TrustDomain;
+use trust_closure::Closure;
+
+/// The current document of the domain: of its accepted documents the one with the greatest rank, where an absent one is
+/// below 0, and of one rank the one with the greatest canonical text, by its bytes. `None` exactly where none of the
+/// domain is accepted, so also for a domain that the configuration does not have.
+///
+/// It takes no memory. The work grows with the number of accepted documents of the domain.
+pub fn current<'a, C: Closure>(closure: &'a C, domain: &TrustDomain) -> Option<&'a Document>
+    ensures { IsCurrent (C.state closure.now).meaning domain.now (option_copied result) }
+{
+    let mut current = None;
+    for document in closure.accepted(domain) {
+        current = Some(document);
+    }
+    current
+}
