@@ -1,0 +1,10 @@
+mod Members
+mod Joins
+mod Kept
+mod Growing
+mod Tidy
+mod Exchanges
+mod Buckets
+mod Agreement
+mod Whole
+mod WorkedRuns

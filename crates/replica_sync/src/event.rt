@@ -1,0 +1,52 @@
+//! What happens to replicas.
+use receipt_core::{Distrust, Receipt};
+
+/// What can happen in a world of replicas that have one configuration. A replica is told by its number, a message by
+/// its place among all that were sent, both from 0.
+#[derive(Debug, Drop)]
+pub enum Event {
+    /// A replica takes a receipt, where it fits the configuration.
+    Take {
+        replica: usize,
+        receipt: Receipt,
+    },
+    /// A replica comes to distrust a key, where the record's domain is one of the configuration.
+    Revoke {
+        replica: usize,
+        record: Distrust,
+    },
+    /// A replica asks for the receipts of a bucket, and names the ids of those that it holds.
+    Ask {
+        replica: usize,
+        bucket: u8,
+    },
+    /// A replica answers a question with all its records and the bucket's receipts that the question doesn't name.
+    Answer {
+        replica: usize,
+        question: usize,
+    },
+    /// A replica takes all of an answer.
+    Absorb {
+        replica: usize,
+        answer: usize,
+    },
+    /// A replica takes the first records and receipts of an answer that was cut.
+    Part {
+        replica: usize,
+        answer: usize,
+        count: usize,
+    },
+    /// A replica takes all that another holds.
+    Join {
+        replica: usize,
+        other: usize,
+    },
+    /// A replica saves what it holds.
+    Save {
+        replica: usize,
+    },
+    /// A replica starts again from what it saved last.
+    Restart {
+        replica: usize,
+    },
+}

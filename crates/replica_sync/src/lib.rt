@@ -1,0 +1,7 @@
+//! How replicas come to hold the same receipts.
+#![tactic(auto)]
+
+mod event;
+pub mod laws;
+
+pub use event::Event;
