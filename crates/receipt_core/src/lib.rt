@@ -6,6 +6,8 @@
 #![tactic(auto)]
 
 mod chain;
+#[cfg(test)]
+mod chain_tests;
 mod distrust;
 mod error;
 mod from_read;
@@ -22,6 +24,8 @@ mod line_tests;
 mod mem_sink;
 mod mem_source;
 mod members;
+#[cfg(test)]
+mod named;
 mod offers;
 mod read_ahead;
 mod receipt;
@@ -31,6 +35,8 @@ mod receipt_tests;
 mod record_line;
 mod sink;
 mod source;
+#[cfg(test)]
+mod stream_tests;
 #[cfg(test)]
 mod tests;
 mod triple;

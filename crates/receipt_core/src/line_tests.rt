@@ -44,7 +44,7 @@ fn transcript<R: Source>(alloc: Global, source: &mut R) -> Result<Vec<u8>, NextL
 }
 
 // The text in pieces of `size` bytes.
-fn in_pieces(alloc: Global, text: &[u8], size: usize) -> Result<MemSource, AllocError> {
+pub(crate) fn in_pieces(alloc: Global, text: &[u8], size: usize) -> Result<MemSource, AllocError> {
     let mut cuts = Vec::new(alloc);
     let mut place = 0usize;
     for _ in 0..text.len() {

@@ -1,6 +1,6 @@
 //! Each device where all goes well and at its fault, and the texts of the errors.
 use super::*;
-use std::alloc::{AllocError, Global};
+use crate::line_tests::in_pieces;
 use std::io;
 use std::io::{ErrorKind, Read, Write};
 use std::test::Fail;
@@ -25,17 +25,6 @@ impl Write for Broken {
     fn flush(&mut self) -> io::Result<()> {
         Err(ErrorKind::Interrupted.into())
     }
-}
-
-// The text in pieces of `size` bytes.
-fn in_pieces(alloc: Global, text: &[u8], size: usize) -> Result<MemSource, AllocError> {
-    let mut cuts = Vec::new(alloc);
-    let mut place = 0usize;
-    for _ in 0..text.len() {
-        place = place.saturating_add(size);
-        cuts.push(place)?;
-    }
-    Ok(MemSource::new(Vec::from_slice(alloc, text)?, cuts))
 }
 
 #[test]
