@@ -1,5 +1,8 @@
 -- What is held
 use Rattle.std.proofs.Common.{◌≡◌, ℕ, zero, suc, ◌+◌, ◌<◌, ◌≤◌, inl, inr, List, [], ◌∷◌, ◌++◌, length, get_or, Option, Some, None, Bool, true, false, cond, ◌==◌, Less, Equal, Greater, refl, sym, ap, ◌∙◌, subst, arith}
+use Rattle.std.specs.Prelude.{◌↔◌, Result, Ok, Err}
+use Rattle.std.specs.Bool.{IsTrue}
+use Rattle.std.specs.Result.{is_ok}
 use Rattle.std.specs.Option.{IfSome}
 use Rattle.std.specs.declared.cmp.Ordering.{Ordering}
 use Rattle.std.specs.Cmp.{IsTotalOrder, then_total, on_total, nat_cmp_total}
@@ -19,7 +22,7 @@ use Rattle.receipt_core.specs.Acceptance.{IsFitting, Meaning}
 use Rattle.receipt_core.proofs.LineFacts.{one_receipt}
 use Rattle.receipt_core.proofs.OrderFacts.{both_equal, cmp_equal}
 use Rattle.sorted_order.specs.Sought.{IsMissing, IsGap, IsRising, is_equal}
-use Rattle.sorted_order.specs.Stock.{Stock, Arranges, in_order, picked, compared_at, IsNumber}
+use Rattle.sorted_order.specs.Stock.{Stock, Arranges, in_order, picked, compared_at, IsNumber, FindsNumber}
 use Rattle.sorted_order.proofs.PickedFacts.{length-picked, picked-at, picked-insert, rising_numbers, gap_of_items, Arranges-insert, filter-picked}
 use Rattle.trust_closure.proofs.RisingFacts.{with_item_at, with_item_rising, sought, sorted, rising_same, each_has, each_from}
 use Rattle.trust_closure.proofs.MemberFacts.{all_more}
@@ -62,6 +65,11 @@ missing_lacks xs r place missing has = split_lacks receipt_total xs r place miss
 
 pub missing_inserts : (xs : List Receipt) (r : Receipt) (place : ℕ) → IsMissing (λ s. receipt_cmp s r) xs place → with_receipt r xs ≡ insert xs place r
 missing_inserts xs r place missing = with_item_at receipt_total r xs place missing.within missing.before missing.after
+
+-- what a search answers
+pub finds_held : (stock : Stock Receipt) (r : Receipt) (found : Result ℕ ℕ) → AllByRecursion IsReceipt stock.items → IsReceipt r → FindsNumber (λ s. receipt_cmp s r) stock found → IsTrue (is_ok found) ↔ Contains (in_order stock) r
+finds_held stock r (Ok number) all is found = (λ t. found_held stock r number all is found, λ has. refl)
+finds_held stock r (Err place) all is missing = (λ t. absurd (cc), λ has. absurd (missing_lacks (in_order stock) r place missing has))
 
 -- ---- what is so of the items in their order is so of each
 

@@ -4,6 +4,8 @@ mod RisingFacts
 mod RecordFacts
 mod HeldFacts
 mod ConfigFacts
+mod MergeFacts
+mod JoinFacts
 mod NodeFacts
 mod StandardFacts
 pub mod Vouching

@@ -20,7 +20,7 @@ each_from P (y ∷ ys) all = (all y (contains_first y ys), each_from P ys (λ x 
 
 module _ {X : Type 0} {R : X → X → Ordering} (o : IsTotalOrder R) where
   -- the item is below each of these
-  abbrev Below : X → List X → Type 0
+  abbrev pub Below : X → List X → Type 0
   Below x others = AllByRecursion (λ y. R x y ≡ Less) others
 
   not_below_itself : (x : X) → R x x ≡ Less → ⊥
@@ -29,7 +29,7 @@ module _ {X : Type 0} {R : X → X → Ordering} (o : IsTotalOrder R) where
   not_both : (x y : X) → R x y ≡ Less → R y x ≡ Less → ⊥
   not_both x y p q = let above : R x y ≡ Greater = o.antisymm x y ∙ ap ordering_reverse q in cc
 
-  not_again : (x : X) (others : List X) → Below x others → Contains others x → ⊥
+  pub not_again : (x : X) (others : List X) → Below x others → Contains others x → ⊥
   not_again x others h has = not_below_itself x (each_has _ others x h has)
 
   same_first : (x y : X) (others more : List X) → Below x others → Below y more → Contains (y ∷ more) x → Contains (x ∷ others) y → x ≡ y

@@ -11,3 +11,4 @@ pub mod Flags
 pub mod Pairs
 pub mod Indexed
 pub mod Plain
+pub mod Merge

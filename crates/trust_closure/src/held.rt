@@ -1,5 +1,6 @@
 //! What a closure holds: its configuration, receipts, and records of distrust.
 ghost use Rattle.std.specs.Prelude.{◌≡◌, ℕ, ◌+◌, ◌<◌, ◌≤◌, ◌↔◌, [], ◌∷◌, ◌++◌, length, Contains, IsTrue, IsOk, OnOk, IfOk, MatchResult};
+ghost use Rattle.fed_config.specs.Configuration.{IsConfiguration};
 ghost use Rattle.receipt_core.specs.Receipt.{IsReceipt, with_receipt};
 ghost use Rattle.receipt_core.specs.Acceptance.{IsFitting, IsMeaning};
 ghost use Rattle.trust_closure.specs.Held.{Hoard, meaning_of, IsAbsent, Stands, Repels, Misfits, AddsOrRefuses, told};
@@ -77,6 +78,7 @@ impl Held {
     pub(crate) fn config(&self) -> &Config
         ensures config { result.now ≡ self.now.config }
         ensures valid { IsMeaning (meaning_of self.now) }
+        ensures form { IsConfiguration self.now.config }
         ensures size { length self.now.arrived ≡ length self.now.held }
     {
         &self.config
@@ -143,6 +145,14 @@ impl Held {
         answer_of(self.records.add(record_of(&key.0, number)))
     }
 
+    /// Whether the receipt is held.
+    pub(crate) fn holds(&self, receipt: &Receipt) -> bool
+        ensures { IsTrue result ↔ Contains self.now.held receipt.now }
+    {
+        let _form = receipt.domain();
+        self.receipts.find(&OfReceipt::new(receipt)).is_ok()
+    }
+
     /// The receipts in order of arrival.
     pub(crate) fn arrived(&self) -> &[Receipt]
         ensures { result.now ≡ self.now.arrived }
@@ -168,6 +178,25 @@ impl Held {
         ensures { result ≡ self.now.records }
     {
         Distrusts::new(self.config.domains(), self.records.as_slice())
+    }
+
+    /// How many more receipts there may be.
+    pub(crate) fn receipts_left(&self) -> usize
+        ensures { length self.now.held + result ≡ 65536 }
+    {
+        let _valid = self.config();
+        MOST_RECEIPTS - self.receipts.len()
+    }
+
+    /// How many more records of distrust there may be.
+    pub(crate) fn records_left(&self) -> usize
+        ensures { length self.now.records + result ≡ 4096 }
+    {
+        self.records.left()
+    }
+
+    pub(crate) fn alloc(&self) -> Global {
+        self.records.alloc()
     }
 
     /// Whether the key is distrusted in the domain.

@@ -3,7 +3,7 @@ ghost use Rattle.std.specs.Prelude.{◌≡◌, ℕ, ◌↔◌, length, IsTrue, I
 ghost use Rattle.receipt_core.specs.Acceptance.{IsMeaning, IsMember};
 ghost use Rattle.wait_index.specs.Net.{ListsReached};
 ghost use Rattle.trust_closure.specs.Views.{IsAcceptedList, IsPendingCount, document_of, receipts_in};
-ghost use Rattle.trust_closure.specs.Changes.{empty_of, Takes, TakesDistrust};
+ghost use Rattle.trust_closure.specs.Changes.{empty_of, Takes, TakesDistrust, Merges};
 ghost use Rattle.trust_closure.specs.Refusals.{IsRoomier};
 
 use crate::closure::NoMemory;
@@ -12,6 +12,7 @@ use crate::grow::lose;
 use crate::held::Held;
 use crate::indexed::{Spare, reserve, take_into};
 use crate::lent::{Accepted, Distrusts, Receipts};
+use crate::merge::{Mergeable, merge_into};
 use crate::outcome::{Distrusted, Refused, Taken};
 use crate::pairs::Pairs;
 use crate::seeding::add_seeds;
@@ -91,6 +92,17 @@ impl IndexedClosure {
             &mut self.spare,
             receipt,
         )
+    }
+
+    /// Takes all receipts and all records of distrust of another closure, or none, and answers how many receipts were
+    /// not held.
+    ///
+    /// # Errors
+    /// What is held stays. The causes and their order are those of [`crate::Closure::merge`].
+    pub fn merge(&mut self, other: &Self) -> Result<usize, TakeError>
+        ensures { Merges self.old.state other.now.state.meaning self.new.state result }
+    {
+        merge_into(self, other)
     }
 
     /// Distrusts a key in a domain: it vouches for nothing there any more. It takes no memory.
@@ -197,5 +209,25 @@ impl IndexedClosure {
     {
         let _config = self.held.config();
         self.wiring.reach()
+    }
+}
+
+impl Mergeable for IndexedClosure {
+    ghost state = { λ c. c.state };
+
+    fn held(&self) -> &Held {
+        &self.held
+    }
+
+    fn take_one(&mut self, receipt: Receipt) -> Result<Taken, Refused> {
+        self.take(receipt)
+    }
+
+    fn distrust_one(&mut self, domain: &TrustDomain, key: KeyId) -> Result<Distrusted, TakeError> {
+        self.distrust(domain, key)
+    }
+
+    fn make_room(&mut self, receipts: usize, offers: usize) -> Result<(), NoMemory> {
+        self.try_reserve(receipts, offers)
     }
 }

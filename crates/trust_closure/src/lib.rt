@@ -1,15 +1,24 @@
 //! Which documents a replica accepts, by its configuration, its receipts and its records of distrust.
 #![tactic(auto)]
 
+mod both;
+#[cfg(test)]
+mod chain_tests;
 mod closure;
+mod copies;
 mod error;
 mod flags;
+#[cfg(test)]
+mod given;
 mod grow;
 mod held;
 mod indexed;
 mod indexed_closure;
 pub mod laws;
 mod lent;
+mod merge;
+#[cfg(test)]
+mod named;
 mod nodes;
 mod outcome;
 mod pairs;
@@ -18,6 +27,8 @@ mod plain_closure;
 mod probes;
 mod record;
 mod records;
+#[cfg(test)]
+mod room_tests;
 mod rounds;
 mod seeding;
 mod sowing;

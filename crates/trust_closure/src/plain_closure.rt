@@ -2,13 +2,14 @@
 ghost use Rattle.std.specs.Prelude.{◌≡◌, ℕ, ◌↔◌, length, IsTrue, IsOk, OnOk, IfOk};
 ghost use Rattle.receipt_core.specs.Acceptance.{IsMeaning, IsMember};
 ghost use Rattle.trust_closure.specs.Views.{IsAcceptedList, IsPendingCount, document_of, receipts_in};
-ghost use Rattle.trust_closure.specs.Changes.{empty_of, Takes, TakesDistrust};
+ghost use Rattle.trust_closure.specs.Changes.{empty_of, Takes, TakesDistrust, Merges};
 ghost use Rattle.trust_closure.specs.Refusals.{IsRoomier};
 
 use crate::closure::NoMemory;
 use crate::error::TakeError;
 use crate::held::Held;
 use crate::lent::{Accepted, Distrusts, Receipts};
+use crate::merge::{Mergeable, merge_into};
 use crate::outcome::{Distrusted, Refused, Taken};
 use crate::pairs::Pairs;
 use crate::plain::{lose, reserve, take_into};
@@ -97,6 +98,17 @@ impl PlainClosure {
             &mut self.spare,
             receipt,
         )
+    }
+
+    /// Takes all receipts and all records of distrust of another closure, or none, and answers how many receipts were
+    /// not held.
+    ///
+    /// # Errors
+    /// What is held stays. The causes and their order are those of [`crate::Closure::merge`].
+    pub fn merge(&mut self, other: &Self) -> Result<usize, TakeError>
+        ensures { Merges self.old other.now.meaning self.new result }
+    {
+        merge_into(self, other)
     }
 
     /// Distrusts a key in a domain: it vouches for nothing there any more. It takes no memory.
@@ -199,5 +211,25 @@ impl PlainClosure {
         ensures offers { result.1 ≡ self.now.room.offers }
     {
         (self.spare, usize::MAX)
+    }
+}
+
+impl Mergeable for PlainClosure {
+    ghost state = { λ c. c };
+
+    fn held(&self) -> &Held {
+        &self.held
+    }
+
+    fn take_one(&mut self, receipt: Receipt) -> Result<Taken, Refused> {
+        self.take(receipt)
+    }
+
+    fn distrust_one(&mut self, domain: &TrustDomain, key: KeyId) -> Result<Distrusted, TakeError> {
+        self.distrust(domain, key)
+    }
+
+    fn make_room(&mut self, receipts: usize, offers: usize) -> Result<(), NoMemory> {
+        self.try_reserve(receipts, offers)
     }
 }

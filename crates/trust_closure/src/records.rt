@@ -1,5 +1,5 @@
 //! The records of distrust that a closure keeps.
-ghost use Rattle.std.specs.Prelude.{◌≡◌, ◌≤◌, ◌↔◌, [], length, Contains, IfOk, IsTrue};
+ghost use Rattle.std.specs.Prelude.{◌≡◌, ◌+◌, ◌≤◌, ◌↔◌, [], length, Contains, IfOk, IsTrue};
 ghost use Rattle.std.specs.List.Sorted.{IsStrictlySortedBy};
 ghost use Rattle.trust_closure.specs.Records.{Adds, record_cmp};
 
@@ -59,6 +59,17 @@ impl Records {
         ensures { IsTrue result ↔ Contains self.now sought.now }
     {
         self.items.binary_search(sought).is_ok()
+    }
+
+    /// How many more there may be.
+    pub(crate) fn left(&self) -> usize
+        ensures { length self.now + result ≡ 4096 }
+    {
+        MOST_RECORDS - self.items.len()
+    }
+
+    pub(crate) fn alloc(&self) -> Global {
+        *self.items.allocator()
     }
 
     /// Takes no memory.

@@ -1,111 +1,206 @@
-//! Receipts in reversed order, and distrust, over the index.
-use crate::{Distrusted, IndexedClosure, Taken};
-use fed_config::Config;
-use receipt_core::Receipt;
+//! Receipts and records of distrust in every order, over closures of both kinds.
+use crate::given::{Step, accepted, empty, give, given, given_to_both};
+use crate::named::*;
+use crate::{Closure, IndexedClosure, PlainClosure, Receipts, TakeError};
 use spiffe_name::TrustDomain;
 use std::alloc::Global;
 use std::process::Abort;
 use std::test::Fail;
 
-// One relationship, and one document of sequence number 1 with a first key.
-const CONFIG: &str =
-    r#"{"relationships":[{"domain":"a.example","endpoint":"spiffe://a.example/bundle","profile":"https_spiffe","url":"https://bundles.a.example/"}],"seeds":[{"bundle":{"keys":[{"e":"AQAB","kty":"RSA","n":"AQAB","use":"x509-svid","x5c":["YWJj"]}],"spiffe_sequence":1},"domain":"a.example"}]}"#;
-
-// Sequence number 2, with a first and a second key, served under the first key of the configured document.
-const R2: &str =
-    r#"{"doc":{"keys":[{"e":"AQAB","kty":"RSA","n":"AQAB","use":"x509-svid","x5c":["YWJj"]},{"e":"AQAB","kty":"RSA","n":"AQAB","use":"x509-svid","x5c":["aGVsbG8="]}],"spiffe_sequence":2},"domain":"a.example","endpoint":"spiffe://a.example/bundle","key":"ba7816bf8f01cfea414140de5dae2223b00361a396177a9cb410ff61f20015ad","voucher":"d66ae6bfe83b27d71cab4546239aac9c94a0fa0af3a67c6e2d31c2f54007e3db"}"#;
-
-// Sequence number 3, with the second key, served under the second key of that of R2.
-const R3: &str =
-    r#"{"doc":{"keys":[{"e":"AQAB","kty":"RSA","n":"AQAB","use":"x509-svid","x5c":["aGVsbG8="]}],"spiffe_sequence":3},"domain":"a.example","endpoint":"spiffe://a.example/bundle","key":"2cf24dba5fb0a30e26e83b2ac5b9e29e1b161e5c1fa7425e73043362938b9824","voucher":"19e6feadc057c007742c6d7f43d43eb0796e77e2fe5ef2efc3a2ab3bfee9e928"}"#;
-
-/// A closure of the configuration that holds nothing.
-fn empty(alloc: Global) -> Result<IndexedClosure, Fail> {
-    let config = Config::read(alloc, CONFIG.as_bytes())?;
-    Ok(IndexedClosure::new(alloc, &config)?)
-}
-
-/// Takes the receipt of a line.
-fn take(
-    rt: &impl Abort,
-    alloc: Global,
-    closure: &mut IndexedClosure,
-    line: &str,
-    expected: Taken,
-) -> Result<(), Fail> {
-    let receipt = Receipt::read_line(alloc, line.as_bytes())?;
-    match closure.take(receipt) {
-        Ok(taken) => assert_eq!(rt; taken, expected, "{line}"),
-        Err(_) => assert!(rt; false, "{line}"),
+#[test]
+fn receipts_in_every_order(rt: HostRuntime) -> Result<(), Fail> {
+    let rows: [(&[Step<'static>], &[u64]); 6] = [
+        (
+            &[(SECOND_RECEIPT, "New 1", 0), (THIRD_RECEIPT, "New 1", 0)],
+            &[1, 2, 3],
+        ),
+        (
+            &[(THIRD_RECEIPT, "New 0", 1), (SECOND_RECEIPT, "New 2", 0)],
+            &[1, 2, 3],
+        ),
+        (
+            &[
+                (THIRD_RECEIPT, "New 0", 1),
+                (THIRD_RECEIPT, "Already", 1),
+                (SECOND_RECEIPT, "New 2", 0),
+                (SECOND_RECEIPT, "Already", 0),
+            ],
+            &[1, 2, 3],
+        ),
+        (
+            &[
+                (WRONG_KEY_RECEIPT, "New 0", 1),
+                (SECOND_RECEIPT, "New 1", 1),
+            ],
+            &[1, 2],
+        ),
+        (
+            &[
+                (CYCLE_RECEIPT, "New 0", 1),
+                (OTHER_CYCLE_RECEIPT, "New 0", 2),
+            ],
+            &[1],
+        ),
+        (
+            &[
+                (SECOND_RECEIPT, "New 1", 0),
+                (THIRD_RECEIPT, "New 1", 0),
+                (SEVENTH_RECEIPT, "New 1", 0),
+            ],
+            &[1, 2, 3, 7],
+        ),
+    ];
+    for (steps, expected) in rows {
+        given_to_both(&rt, rt.alloc(), ONE_DOMAIN, steps, expected)?;
     }
     Ok(())
 }
 
-/// Takes the receipts, each with how many documents are accepted from it on, and answers how many are pending.
-fn pending_after(
-    rt: &impl Abort,
-    alloc: Global,
-    closure: &mut IndexedClosure,
-    steps: &[(&str, usize)],
-) -> Result<usize, Fail> {
-    for (line, accepted_now) in steps {
-        take(
-            rt,
-            alloc,
-            closure,
-            line,
-            Taken::New {
-                accepted_now: *accepted_now,
-            },
-        )?;
+#[test]
+fn keys_are_distrusted(rt: HostRuntime) -> Result<(), Fail> {
+    let rows: [(&[Step<'static>], &[u64]); 5] = [
+        (
+            &[
+                (SECOND_RECEIPT, "New 1", 0),
+                (THIRD_RECEIPT, "New 1", 0),
+                (FIRST_KEY_DISTRUSTED, "New 2", 2),
+                (FIRST_KEY_DISTRUSTED, "Already", 2),
+                (FIRST_KEY_DISTRUSTED_NOWHERE, "G1 UnknownDomain", 2),
+            ],
+            &[1],
+        ),
+        (
+            &[
+                (FIRST_KEY_DISTRUSTED, "New 0", 0),
+                (THIRD_RECEIPT, "New 0", 1),
+                (SECOND_RECEIPT, "New 0", 2),
+            ],
+            &[1],
+        ),
+        (
+            &[
+                (SECOND_RECEIPT, "New 1", 0),
+                (THIRD_RECEIPT, "New 1", 0),
+                (SECOND_KEY_DISTRUSTED, "New 1", 1),
+            ],
+            &[1, 2],
+        ),
+        (
+            &[
+                (SECOND_RECEIPT, "New 1", 0),
+                (THIRD_RECEIPT, "New 1", 0),
+                (SHORTCUT_RECEIPT, "New 0", 0),
+                (SECOND_KEY_DISTRUSTED, "New 0", 1),
+            ],
+            &[1, 2, 3],
+        ),
+        (
+            &[
+                (CYCLE_RECEIPT, "New 0", 1),
+                (OTHER_CYCLE_RECEIPT, "New 0", 2),
+                (CYCLE_ENTRY_RECEIPT, "New 2", 0),
+                (FIRST_KEY_DISTRUSTED, "New 2", 3),
+            ],
+            &[1],
+        ),
+    ];
+    for (steps, expected) in rows {
+        given_to_both(&rt, rt.alloc(), ONE_DOMAIN, steps, expected)?;
     }
-    Ok(closure.pending_count())
+    Ok(())
 }
 
-/// The documents with the sequence numbers up to this one are accepted, and no other.
-fn accepts_up_to(
-    rt: &impl Abort,
-    alloc: Global,
-    closure: &IndexedClosure,
-    last: u64,
-) -> Result<(), Fail> {
+#[test]
+fn a_document_vouches_across_domains(rt: HostRuntime) -> Result<(), Fail> {
+    let alloc = rt.alloc();
+    let known: [Step<'static>; 3] = [
+        (SECOND_RECEIPT, "New 1", 0),
+        (OTHER_DOMAIN_RECEIPT, "New 1", 0),
+        (OTHER_ENDPOINT_RECEIPT, "G2 WrongEndpoint", 0),
+    ];
+    let closure = given_to_both(&rt, alloc, TWO_DOMAINS, &known, &[1, 2])?;
+    let elsewhere = accepted(alloc, &closure, "b.example")?;
+    assert_eq!(rt; elsewhere.as_slice(), [5].as_slice());
+
+    let unknown = [(OTHER_DOMAIN_RECEIPT, "G1 UnknownDomain", 0)];
+    given_to_both(&rt, alloc, ONE_DOMAIN, &unknown, &[1])?;
+    Ok(())
+}
+
+// One that holds the third receipt merges one that holds the second.
+fn merges<C: Closure>(rt: &impl Abort, alloc: Global) -> Result<(), Fail> {
+    let mut closure: C = given(rt, alloc, ONE_DOMAIN, &[(THIRD_RECEIPT, "New 0", 1)])?;
+    let other: C = given(rt, alloc, ONE_DOMAIN, &[(SECOND_RECEIPT, "New 1", 0)])?;
+    for new in [1, 0] {
+        assert_eq!(rt; closure.merge(&other), Ok(new));
+        assert_eq!(rt; closure.pending_count(), 0);
+    }
+    let numbers = accepted(alloc, &closure, "a.example")?;
+    assert_eq!(rt; numbers.as_slice(), [1, 2, 3].as_slice());
+    differs(rt, alloc, &mut closure)
+}
+
+// A closure of another configuration is not merged.
+fn differs<C: Closure>(rt: &impl Abort, alloc: Global, closure: &mut C) -> Result<(), Fail> {
+    let mut stranger: C = empty(alloc, TWO_DOMAINS)?;
+    assert_eq!(rt; closure.merge(&stranger), Err(TakeError::ConfigDiffers));
+    assert_eq!(rt; stranger.merge(closure), Err(TakeError::ConfigDiffers));
+    assert_eq!(rt; closure.receipt_count(), 2);
+    assert_eq!(rt; stranger.receipt_count(), 0);
+    Ok(())
+}
+
+#[test]
+fn closures_are_merged(rt: HostRuntime) -> Result<(), Fail> {
+    merges::<PlainClosure>(&rt, rt.alloc())?;
+    merges::<IndexedClosure>(&rt, rt.alloc())
+}
+
+fn count_of(receipts: Receipts<'_>) -> usize {
+    let mut count = 0usize;
+    for _ in receipts {
+        count = count.wrapping_add(1);
+    }
+    count
+}
+
+// The ids of the two receipts begin with 230 and 97.
+fn lends<C: Closure>(rt: &impl Abort, alloc: Global) -> Result<(), Fail> {
     let domain = TrustDomain::read(alloc, "a.example")?;
-    let mut rank = 0u64;
+    let steps = [(SECOND_RECEIPT, "New 1", 0), (THIRD_RECEIPT, "New 1", 0)];
+    let mut closure: C = given(rt, alloc, ONE_DOMAIN, &steps)?;
+    assert_eq!(rt; count_of(closure.receipts()), 2);
+    for (bucket, count) in [(0, 0), (97, 1), (230, 1)] {
+        assert_eq!(rt; count_of(closure.receipts_of(bucket)), count);
+    }
     for document in closure.accepted(&domain) {
-        rank = rank.saturating_add(1);
-        assert_eq!(rt; document.rank(), Some(rank));
         assert!(rt; closure.is_accepted(&domain, document));
     }
-    assert_eq!(rt; rank, last);
+    let answer = give(alloc, &mut closure, SECOND_KEY_DISTRUSTED)?;
+    assert_eq!(rt; answer.as_str(), "New 1");
+    let mut records = closure.distrusts();
+    assert!(rt; records.next().is_some());
+    assert!(rt; records.next().is_none());
     Ok(())
 }
 
 #[test]
-fn in_reversed_order(rt: HostRuntime) -> Result<(), Fail> {
-    let alloc = rt.alloc();
-    let mut closure = empty(alloc)?;
-    assert_eq!(rt; pending_after(&rt, alloc, &mut closure, &[(R3, 0)])?, 1);
-    assert_eq!(rt; pending_after(&rt, alloc, &mut closure, &[(R2, 2)])?, 0);
-    assert_eq!(rt; closure.index().counts(), (3, 4, 2));
-    assert_eq!(rt; closure.index().visits(), 6);
-    accepts_up_to(&rt, alloc, &closure, 3)
+fn what_is_held_is_lent(rt: HostRuntime) -> Result<(), Fail> {
+    lends::<PlainClosure>(&rt, rt.alloc())?;
+    lends::<IndexedClosure>(&rt, rt.alloc())
 }
 
 #[test]
-fn distrust_of_the_first_key(rt: HostRuntime) -> Result<(), Fail> {
-    let alloc = rt.alloc();
-    let domain = TrustDomain::read(alloc, "a.example")?;
-    let mut closure = empty(alloc)?;
-    assert_eq!(rt;
-        pending_after(&rt, alloc, &mut closure, &[(R2, 1), (R3, 1)])?,
-        0
-    );
-    let key = Receipt::read_line(alloc, R2.as_bytes())?.key();
-    assert_eq!(rt;
-        closure.distrust(&domain, key),
-        Ok(Distrusted::New { lost: 2 })
-    );
-    assert_eq!(rt; closure.distrust(&domain, key), Ok(Distrusted::Already));
-    assert_eq!(rt; closure.pending_count(), 2);
-    accepts_up_to(&rt, alloc, &closure, 1)
+fn refusals_print_their_codes(rt: HostRuntime) -> Result<(), Fail> {
+    let rows = [
+        (TakeError::UnknownDomain, "G1 UnknownDomain"),
+        (TakeError::WrongEndpoint, "G2 WrongEndpoint"),
+        (TakeError::Full, "G3 Full"),
+        (TakeError::NoMemory, "G4 NoMemory"),
+        (TakeError::ConfigDiffers, "G5 ConfigDiffers"),
+    ];
+    for (error, text) in rows {
+        assert_eq!(rt; format!(in rt.alloc(); "{error}")?.as_str(), text);
+    }
+    Ok(())
 }

@@ -1,4 +1,5 @@
 use Rattle.std.proofs.Common.{◌≡◌, sym, subst, length}
+use Rattle.fed_config.specs.Configuration.{IsConfiguration}
 use Rattle.receipt_core.specs.Acceptance.{IsMeaning}
 use Rattle.trust_closure.specs.Held.{Hoard, meaning_of}
 use Rattle.trust_closure.proofs.HeldFacts.{length_in_order}
@@ -10,3 +11,6 @@ returns-clause-valid c = subst (λ (h : Hoard). IsMeaning (meaning_of h)) c.self
 
 pub returns-clause-size : goal.returns-clause-size
 returns-clause-size c = subst (λ (h : Hoard). length h.arrived ≡ length h.held) c.self.view_is (sym (length_in_order c.self.inside.receipts c.self.invariant.arranged))
+
+pub returns-clause-form : goal.returns-clause-form
+returns-clause-form c = subst (λ (h : Hoard). IsConfiguration h.config) c.self.view_is c.self.invariant.configuration

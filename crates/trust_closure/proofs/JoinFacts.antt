@@ -1,0 +1,287 @@
+-- All that another closure holds is taken in
+use Rattle.std.proofs.Common.{◌≡◌, ℕ, ◌+◌, ◌≤◌, inl, inr, true, false, List, [], ◌∷◌, length, Less, Equal, Greater, refl, sym, ap, ◌∙◌, subst, arith}
+use Rattle.std.specs.declared.cmp.Ordering.{Ordering}
+use Rattle.std.specs.Cmp.{tied_itself}
+use Rattle.std.specs.Cmp.Lexicographic.{on_texts}
+use Rattle.std.specs.List.{Contains}
+use Rattle.std.specs.List.Sorted.{IsStrictlySortedBy}
+use Rattle.std.specs.Prelude.{Result, Ok, Err, IsOk, OnOk}
+use Rattle.std.specs.Result.{is_err}
+use Rattle.std.proofs.lemmas.List.Sums.{sum_by-cons}
+use Rattle.std.proofs.lemmas.Map.Keys.{sorted_head, sorted_tail}
+use Rattle.fed_config.specs.Configuration.{Configuration, IsConfiguration, relationship_cmp}
+use Rattle.fed_config.specs.declared.relationship.Relationship.{Relationship}
+use Rattle.receipt_core.specs.declared.distrust.Distrust.{Distrust}
+use Rattle.receipt_core.specs.Order.{receipt_total}
+use Rattle.receipt_core.specs.Receipt.{Receipt, receipt_cmp, distrust_cmp, pair_of, offers_of}
+use Rattle.receipt_core.specs.Rising.{placed, with_item, with_items}
+use Rattle.receipt_core.specs.Acceptance.{IsFitting, Meaning, IsMeaning}
+use Rattle.trust_closure.specs.Changes.{State, Takes, TakesDistrust, HasMerged, Took, Distrusts}
+use Rattle.trust_closure.specs.Merge.{IsShare, AreKnown, AreWelcome, offers_count}
+use Rattle.trust_closure.specs.Refusals.{Room, IsRoomier, IsOfWrongEndpoint, RefusesReceipt, RefusesDistrust, RefusesMerge, WantsCopies, all_records}
+use Rattle.trust_closure.specs.declared.copies.Share.{Share}
+use Rattle.trust_closure.specs.declared.error.TakeError.{TakeError}
+use Rattle.trust_closure.specs.declared.error.TakeError.TheVariants.{UnknownDomain, WrongEndpoint, Full, NoMemory, ConfigDiffers}
+use Rattle.trust_closure.specs.declared.outcome.Refused.{Refused}
+use Rattle.trust_closure.specs.declared.outcome.Taken.{Taken}
+use Rattle.trust_closure.specs.declared.outcome.Taken.TheVariants.{New as TakenNew, Already as TakenAlready}
+use Rattle.trust_closure.specs.declared.outcome.Distrusted.{Distrusted}
+use Rattle.trust_closure.specs.declared.outcome.Distrusted.TheVariants.{New as DistrustedNew, Already as DistrustedAlready}
+use Rattle.trust_closure.proofs.CountFacts.{contains_first, contains_later, contains_none, contains_cases}
+use Rattle.trust_closure.proofs.RisingFacts.{with_item_longer, each_has}
+use Rattle.trust_closure.proofs.MergeFacts.{receipt_sets, record_sets, always}
+
+-- ---- a domain has one relationship
+
+same_relationship : (xs : List Relationship) (a b : Relationship) → IsStrictlySortedBy relationship_cmp xs → Contains xs a → Contains xs b → a.domain ≡ b.domain → a ≡ b
+same_relationship [] a b rising has holds e = absurd (contains_none a has)
+same_relationship (x ∷ xs) a b rising has holds e =
+    let tied : relationship_cmp a b ≡ Equal = ap (λ d. relationship_cmp a (record b { domain = d })) (sym e) ∙ tied_itself (on_texts (λ (r : Relationship). r.domain)) a in
+    let back : relationship_cmp b a ≡ Equal = ap (λ d. relationship_cmp b (record a { domain = d })) e ∙ tied_itself (on_texts (λ (r : Relationship). r.domain)) b in
+    elim (contains_cases x xs a has) [
+      | inl first ↦ elim (contains_cases x xs b holds) [
+        | inl here ↦ sym first ∙ here
+        | inr later ↦
+            let below : relationship_cmp a b ≡ Less = subst (λ (r : Relationship). relationship_cmp r b ≡ Less) first (each_has (λ y. relationship_cmp x y ≡ Less) xs b (sorted_head relationship_cmp x xs rising) later) in
+            absurd (cc)
+      ]
+      | inr after ↦ elim (contains_cases x xs b holds) [
+        | inl here ↦
+            let below : relationship_cmp b a ≡ Less = subst (λ (r : Relationship). relationship_cmp r a ≡ Less) here (each_has (λ y. relationship_cmp x y ≡ Less) xs a (sorted_head relationship_cmp x xs rising) after) in
+            absurd (cc)
+        | inr later ↦ same_relationship xs a b (sorted_tail relationship_cmp x xs rising) after later e
+      ]
+    ]
+
+fits_right : (c : Configuration) (r : Receipt) → IsConfiguration c → IsFitting c r → IsOfWrongEndpoint c r → ⊥
+fits_right c r is fits wrong =
+    let one : fits.relationship ≡ wrong.relationship = same_relationship c.relationships fits.relationship wrong.relationship is.rising_relationships fits.has wrong.has (fits.domain ∙ sym wrong.domain) in
+    wrong.other (sym (ap (λ (x : Relationship). x.endpoint) one) ∙ fits.endpoint)
+
+pub none_left : {X : Type 0} (xs : List X) → length xs ≡ 0 → xs ≡ []
+none_left [] e = refl
+none_left (x ∷ xs) e = absurd (omega arith)
+
+-- ---- sets grow
+
+placed_grows : {X : Type 0} (o : Ordering) (x h : X) (t longer : List X) → length t ≤ length longer → length t + 1 ≤ length (placed o x h t longer)
+placed_grows Less x h t longer rest = omega arith
+placed_grows Equal x h t longer rest = omega arith
+placed_grows Greater x h t longer rest = omega arith
+
+with_item_grows : {X : Type 0} (cmp : X → X → Ordering) (x : X) (xs : List X) → length xs ≤ length (with_item cmp x xs)
+with_item_grows cmp x [] = omega arith
+with_item_grows cmp x (h ∷ t) = let rest = placed_grows (cmp x h) x h t (with_item cmp x t) (with_item_grows cmp x t) in omega arith
+
+with_items_grows : {X : Type 0} (cmp : X → X → Ordering) (items xs : List X) → length xs ≤ length (with_items cmp items xs)
+with_items_grows cmp [] xs = omega arith
+with_items_grows cmp (i ∷ items) xs = let first = with_item_grows cmp i xs in let rest = with_items_grows cmp items (with_item cmp i xs) in omega arith
+
+-- ---- receipts in turn
+
+-- With those that are left the receipts will be those of all, and these are welcome.
+pub record IsJoining (start now : State) (all rest : List Receipt) : Type 0 where
+  pub config : now.meaning.config ≡ start.meaning.config
+  pub records : now.meaning.records ≡ start.meaning.records
+  pub held : with_items receipt_cmp rest now.meaning.held ≡ with_items receipt_cmp all start.meaning.held
+  pub welcome : AreWelcome now rest
+
+pub IsJoining-start : (start : State) (all : List Receipt) → AreWelcome start all → IsJoining start start all all
+IsJoining-start start all welcome = record { config = refl; records = refl; held = refl; welcome = welcome }
+
+offers_first : (r : Receipt) (later : List Receipt) → offers_count (r ∷ later) ≡ length (offers_of (pair_of r)) + offers_count later
+offers_first r later = sum_by-cons (λ s. length (offers_of (pair_of s))) r later
+
+took : (start now new : State) (all later : List Receipt) (r : Receipt) → IsMeaning now.meaning → IsJoining start now all (r ∷ later) → (taken : Taken) → Took now r new taken → IsJoining start new all later
+took start now new all later r is joining (TakenNew accepted) h =
+    let few = joining.welcome.few in
+    let receipts = joining.welcome.room.receipts in
+    let offers = joining.welcome.room.offers in
+    let left = h.receipts in
+    let left_offers = h.offers in
+    let size : length new.meaning.held ≤ length now.meaning.held + 1 = omega (arith, ap (λ (m : Meaning). length m.held) h.meaning, with_item_longer receipt_total r now.meaning.held) in
+    record {
+      config = ap (λ (m : Meaning). m.config) h.meaning ∙ joining.config;
+      records = ap (λ (m : Meaning). m.records) h.meaning ∙ joining.records;
+      held = ap (λ (m : Meaning). with_items receipt_cmp later m.held) h.meaning ∙ joining.held;
+      welcome = record {
+        fitting = λ s has. subst (λ (c : Configuration). IsFitting c s) (sym (ap (λ (m : Meaning). m.config) h.meaning)) (joining.welcome.fitting s (contains_later r later s has));
+        few = omega arith;
+        room = record { receipts = omega arith; offers = omega (arith, offers_first r later) };
+      };
+    }
+took start now new all later r is joining TakenAlready h =
+    let few = joining.welcome.few in
+    let receipts = joining.welcome.room.receipts in
+    let offers = joining.welcome.room.offers in
+    let stays : IsJoining start now all later = record {
+      config = joining.config;
+      records = joining.records;
+      held = ap (with_items receipt_cmp later) (sym (receipt_sets.present r now.meaning.held is.rising h.held)) ∙ joining.held;
+      welcome = record {
+        fitting = λ s has. joining.welcome.fitting s (contains_later r later s has);
+        few = omega arith;
+        room = record { receipts = omega arith; offers = omega (arith, offers_first r later) };
+      };
+    } in
+    subst (λ (s : State). IsJoining start s all later) (sym h.same) stays
+
+never : (start now : State) (all later : List Receipt) (r : Receipt) → IsConfiguration now.meaning.config → IsJoining start now all (r ∷ later) → (why : TakeError) → RefusesReceipt now.meaning now.room r why → ⊥
+never start now all later r is joining UnknownDomain h =
+    let fits : IsFitting now.meaning.config r = joining.welcome.fitting r (contains_first r later) in
+    h fits.relationship fits.has fits.domain
+never start now all later r is joining WrongEndpoint h = fits_right now.meaning.config r is (joining.welcome.fitting r (contains_first r later)) h
+never start now all later r is joining Full h =
+    let few = joining.welcome.few in
+    let full = h.full in
+    absurd (omega arith)
+never start now all later r is joining NoMemory h =
+    let receipts = joining.welcome.room.receipts in
+    let offers = joining.welcome.room.offers in
+    h.beyond (omega arith) (omega (arith, offers_first r later))
+never start now all later r is joining ConfigDiffers h = h
+
+takes_next : (start now new : State) (all later : List Receipt) (r : Receipt) → IsMeaning now.meaning → IsConfiguration now.meaning.config → IsJoining start now all (r ∷ later) → (result : Result Taken Refused) → Takes now r new result → IsJoining start new all later
+takes_next start now new all later r is form joining (Ok taken) h = took start now new all later r is joining taken h
+takes_next start now new all later r is form joining (Err refused) h = absurd (never start now all later r form joining refused.why h.cause)
+
+pub IsJoining-next : (start now new : State) (m : Meaning) (all rest later : List Receipt) (r : Receipt) (result : Result Taken Refused) → m ≡ now.meaning → IsMeaning m → IsConfiguration m.config → IsJoining start now all rest → rest ≡ r ∷ later → Takes now r new result → IsJoining start new all later
+IsJoining-next start now new m all rest later r result same is form joining e h =
+    takes_next start now new all later r (subst IsMeaning same is) (subst (λ (k : Meaning). IsConfiguration k.config) same form) (subst (IsJoining start now all) e joining) result h
+
+pub IsJoining-end : (start now : State) (all rest : List Receipt) → IsJoining start now all rest → rest ≡ [] → now.meaning ≡ record start.meaning { held = with_items receipt_cmp all start.meaning.held }
+IsJoining-end start now all rest joining e =
+    let held : now.meaning.held ≡ with_items receipt_cmp all start.meaning.held = sym (ap (λ xs. with_items receipt_cmp xs now.meaning.held) e) ∙ joining.held in
+    let config = joining.config in
+    let records = joining.records in
+    λ i. record { config = config i; held = held i; records = records i }
+
+-- ---- records in turn
+
+pub record IsDistrusting (start now : State) (all rest : List Distrust) : Type 0 where
+  pub config : now.meaning.config ≡ start.meaning.config
+  pub held : now.meaning.held ≡ start.meaning.held
+  pub records : with_items distrust_cmp rest now.meaning.records ≡ with_items distrust_cmp all start.meaning.records
+  pub known : AreKnown now.meaning rest
+  pub room : now.room ≡ start.room
+
+pub IsDistrusting-start : (start : State) (all : List Distrust) → AreKnown start.meaning all → IsDistrusting start start all all
+IsDistrusting-start start all known = record { config = refl; held = refl; records = refl; known = known; room = refl }
+
+distrusted : (start now new : State) (all later : List Distrust) (x : Distrust) → IsMeaning now.meaning → IsDistrusting start now all (x ∷ later) → new.room ≡ now.room → (done : Distrusted) → Distrusts now.meaning x new.meaning done → IsDistrusting start new all later
+distrusted start now new all later x is joining room (DistrustedNew lost) h = record {
+  config = ap (λ (m : Meaning). m.config) h.meaning ∙ joining.config;
+  held = ap (λ (m : Meaning). m.held) h.meaning ∙ joining.held;
+  records = ap (λ (m : Meaning). with_items distrust_cmp later m.records) h.meaning ∙ joining.records;
+  known = subst (λ (m : Meaning). AreKnown m later) (sym h.meaning) (record { domains = λ y has. joining.known.domains y (contains_later x later y has); few = joining.known.few });
+  room = room ∙ joining.room;
+}
+distrusted start now new all later x is joining room DistrustedAlready h =
+    let same : with_item distrust_cmp x now.meaning.records ≡ now.meaning.records = record_sets.present x now.meaning.records is.records_rising h.held in
+    let few = joining.known.few in
+    let size = ap (λ xs. length (with_items distrust_cmp later xs)) same in
+    record {
+      config = ap (λ (m : Meaning). m.config) h.meaning ∙ joining.config;
+      held = ap (λ (m : Meaning). m.held) h.meaning ∙ joining.held;
+      records = ap (λ (m : Meaning). with_items distrust_cmp later m.records) h.meaning ∙ ap (with_items distrust_cmp later) (sym same) ∙ joining.records;
+      known = subst (λ (m : Meaning). AreKnown m later) (sym h.meaning) (record { domains = λ y has. joining.known.domains y (contains_later x later y has); few = omega arith });
+      room = room ∙ joining.room;
+    }
+
+never_distrusts : (start now : State) (all later : List Distrust) (x : Distrust) → IsDistrusting start now all (x ∷ later) → (why : TakeError) → RefusesDistrust now.meaning x why → ⊥
+never_distrusts start now all later x joining UnknownDomain h = h (joining.known.domains x (contains_first x later))
+never_distrusts start now all later x joining WrongEndpoint h = h
+never_distrusts start now all later x joining Full h =
+    let few = joining.known.few in
+    let full = h.full in
+    let longer = record_sets.longer x now.meaning.records tt (always now.meaning.records) h.unheld in
+    let grows = with_items_grows distrust_cmp later (with_item distrust_cmp x now.meaning.records) in
+    absurd (omega arith)
+never_distrusts start now all later x joining NoMemory h = h
+never_distrusts start now all later x joining ConfigDiffers h = h
+
+distrusts_next : (start now new : State) (all later : List Distrust) (x : Distrust) → IsMeaning now.meaning → IsDistrusting start now all (x ∷ later) → new.room ≡ now.room → (result : Result Distrusted TakeError) → TakesDistrust now.meaning x new.meaning result → IsDistrusting start new all later
+distrusts_next start now new all later x is joining room (Ok done) h = distrusted start now new all later x is joining room done h
+distrusts_next start now new all later x is joining room (Err why) h = absurd (never_distrusts start now all later x joining why h.cause)
+
+pub IsDistrusting-next : (start now new : State) (m : Meaning) (all rest later : List Distrust) (x : Distrust) (result : Result Distrusted TakeError) → m ≡ now.meaning → IsMeaning m → IsDistrusting start now all rest → rest ≡ x ∷ later → new.room ≡ now.room → TakesDistrust now.meaning x new.meaning result → IsDistrusting start new all later
+IsDistrusting-next start now new m all rest later x result same is joining e room h =
+    distrusts_next start now new all later x (subst IsMeaning same is) (subst (IsDistrusting start now all) e joining) room result h
+
+pub IsDistrusting-end : (start now : State) (all rest : List Distrust) → IsDistrusting start now all rest → rest ≡ [] → now.meaning ≡ record start.meaning { records = with_items distrust_cmp all start.meaning.records }
+IsDistrusting-end start now all rest joining e =
+    let records : now.meaning.records ≡ with_items distrust_cmp all start.meaning.records = sym (ap (λ xs. with_items distrust_cmp xs now.meaning.records) e) ∙ joining.records in
+    let config = joining.config in
+    let held = joining.held in
+    λ i. record { config = config i; held = held i; records = records i }
+
+-- ---- all in turn
+
+pub share_known : (m now other : Meaning) (share : Share) (records : List Distrust) → IsShare m other share → now ≡ m → records ≡ other.records → AreKnown now records
+share_known m now other share records is same e =
+    subst (λ (k : Meaning). AreKnown k records) (sym same)
+    (subst (AreKnown m) (sym e) (record { domains = is.mergeable.of_config.domains; few = is.mergeable.few_records }))
+
+pub share_welcome : (m other : Meaning) (roomy now : State) (share : Share) (records : List Distrust) → IsShare m other share → roomy.meaning ≡ m → now.meaning ≡ record roomy.meaning { records = with_items distrust_cmp records roomy.meaning.records } → now.room ≡ roomy.room → IsRoomier (record { receipts = length share.copies.items; offers = share.offers }) roomy.room → AreWelcome now share.copies.items
+share_welcome m other roomy now share records is same e room roomier =
+    let config : now.meaning.config ≡ m.config = ap (λ (k : Meaning). k.config) e ∙ ap (λ (k : Meaning). k.config) same in
+    let held : now.meaning.held ≡ m.held = ap (λ (k : Meaning). k.held) e ∙ ap (λ (k : Meaning). k.held) same in
+    let few = is.mergeable.few in
+    let count = is.copies.count in
+    let size = ap length held in
+    let offers = is.offers in
+    let more = roomier.receipts in
+    let more_offers = roomier.offers in
+    record {
+      fitting = λ r has. subst (λ (c : Configuration). IsFitting c r) (sym config) (is.mergeable.of_config.fitting r (is.copies.each r has));
+      few = omega arith;
+      room = subst (λ (k : Room). IsRoomier (record { receipts = length share.copies.items; offers = offers_count share.copies.items }) k) (sym room) (record { receipts = more; offers = omega arith });
+    }
+
+pub share_merged : (m other roomy less new : Meaning) (share : Share) (records : List Distrust) (n : ℕ) → IsShare m other share → n ≡ length share.copies.items → records ≡ other.records → roomy ≡ m → less ≡ record roomy { records = with_items distrust_cmp records roomy.records } → new ≡ record less { held = with_items receipt_cmp share.copies.items less.held } → HasMerged m other new n
+share_merged m other roomy less new share records n is size own e1 e2 e3 =
+    let joined = is.copies.all in
+    let count = is.copies.count in
+    record {
+      of_config = is.mergeable.of_config;
+      few = is.mergeable.few;
+      few_records = is.mergeable.few_records;
+      meaning = e3 ∙ ap (λ (k : Meaning). record k { held = with_items receipt_cmp share.copies.items k.held }) (e2 ∙ ap (λ xs. record roomy { records = with_items distrust_cmp xs roomy.records }) own ∙ ap (λ (k : Meaning). record k { records = with_items distrust_cmp other.records k.records }) e1)
+          ∙ (λ i. record { config = m.config; held = joined i; records = all_records m other });
+      count = omega arith;
+    }
+
+no_ok : {T E : Type 0} (r : Result T E) → is_err r ≡ true → IsOk r → ⊥
+no_ok (Ok v) e ok = absurd (cc)
+no_ok (Err v) e ok = absurd (cc)
+
+wants : (m other : Meaning) (share : Share) (room : Room) (xs : List Receipt) → xs ≡ share.copies.items → IsShare m other share → (IsRoomier (record { receipts = length share.copies.items; offers = share.offers }) room → ⊥) → WantsCopies m other
+wants m other share room [] e is beyond =
+    let offers = is.offers in
+    let none = ap length e in
+    let none_offers = ap offers_count e in
+    absurd (beyond (record { receipts = omega arith; offers = omega arith }))
+wants m other share room (r ∷ rest) e is beyond =
+    let has : Contains share.copies.items r = subst (λ (xs : List Receipt). Contains xs r) e (contains_first r rest) in
+    record {
+      of_config = is.mergeable.of_config;
+      few = is.mergeable.few;
+      few_records = is.mergeable.few_records;
+      receipt = r;
+      has = is.copies.each r has;
+      unheld = is.copies.unheld r has;
+    }
+
+pub share_wants : {T E : Type 0} (m other : Meaning) (share : Share) (room : Room) (n : ℕ) (r : Result T E) → IsShare m other share → n ≡ length share.copies.items → is_err r ≡ true → (IsRoomier (record { receipts = n; offers = share.offers }) room → IsOk r) → WantsCopies m other
+share_wants m other share room n r is size err within =
+    wants m other share room share.copies.items refl is (λ roomier. no_ok r err (within (subst (λ k. IsRoomier (record { receipts = k; offers = share.offers }) room) (sym size) roomier)))
+
+pub on_ok : {T E : Type 0} (r : Result T E) (P : Type 0) → is_err r ≡ false → OnOk r P → P
+on_ok (Ok v) P e h = h
+on_ok (Err v) P e h = absurd (cc)
+
+pub refuses_same : (m n other same : Meaning) (why : TakeError) → m ≡ n → other ≡ same → RefusesMerge m other why → RefusesMerge n same why
+refuses_same m n other same why e f h = subst (λ (k : Meaning). RefusesMerge k same why) e (subst (λ (k : Meaning). RefusesMerge m k why) f h)
+
+pub share_same : (m n other same : Meaning) (share : Share) → m ≡ n → other ≡ same → IsShare m other share → IsShare n same share
+share_same m n other same share e f h = subst (λ (k : Meaning). IsShare k same share) e (subst (λ (k : Meaning). IsShare m k share) f h)

@@ -1,0 +1,59 @@
+-- What a closure takes in from another one
+use Rattle.std.specs.Prelude.{◌≡◌, ℕ, ◌+◌, ◌≤◌, List, length, Contains, sum_by}
+use Rattle.fed_config.specs.Configuration.{Configuration, HasDomain}
+use Rattle.receipt_core.specs.declared.distrust.Distrust.{Distrust}
+use Rattle.receipt_core.specs.Receipt.{Receipt, receipt_cmp, distrust_cmp, pair_of, offers_of}
+use Rattle.receipt_core.specs.Rising.{with_items}
+use Rattle.receipt_core.specs.Acceptance.{IsFitting, Meaning}
+use Rattle.trust_closure.specs.Refusals.{IsRoomier, IsOfConfig, IsOfUnknownDomain, IsOfWrongEndpoint, all_receipts, all_records}
+use Rattle.trust_closure.specs.Changes.{State}
+use Rattle.trust_closure.specs.declared.error.TakeError.{TakeError}
+use Rattle.trust_closure.specs.declared.error.TakeError.TheVariants.{UnknownDomain, WrongEndpoint, Full, NoMemory, ConfigDiffers}
+use Rattle.trust_closure.specs.declared.copies.Share.{Share}
+
+-- Both together are of one configuration, and no more than one holds.
+pub record IsMergeable (m other : Meaning) : Type 0 where
+  pub of_config : IsOfConfig m other
+  pub few : length (all_receipts m other) ≤ 65536
+  pub few_records : length (all_records m other) ≤ 4096
+
+-- The other has a receipt that is not held.
+abbrev pub HasNew : Meaning → Meaning → Type 0
+HasNew m other = (r : Receipt) × Contains other.held r × (Contains m.held r → ⊥)
+
+-- These are the receipts of the other that are not held, each once.
+pub record AreCopies (m other : Meaning) (copies : List Receipt) : Type 0 where
+  pub all : with_items receipt_cmp copies m.held ≡ all_receipts m other
+  pub each : (r : Receipt) → Contains copies r → Contains other.held r
+  pub unheld : (r : Receipt) → Contains copies r → Contains m.held r → ⊥
+  pub count : length (all_receipts m other) ≡ length m.held + length copies
+
+-- how many offers these receipts have together
+abbrev pub offers_count : List Receipt → ℕ
+offers_count receipts = sum_by (λ r. length (offers_of (pair_of r))) receipts
+
+-- What is to be taken in, and that it may be.
+pub record IsShare (m other : Meaning) (share : Share) : Type 0 where
+  pub mergeable : IsMergeable m other
+  pub copies : AreCopies m other share.copies.items
+  pub offers : offers_count share.copies.items ≡ share.offers
+
+-- Each receipt fits, or the first cause of these that stands of one of them: its domain is unknown, or its endpoint is
+-- another.
+abbrev pub MisfitsOne : Configuration → List Receipt → TakeError → Type 0
+MisfitsOne c receipts UnknownDomain = (r : Receipt) × Contains receipts r × IsOfUnknownDomain c r
+MisfitsOne c receipts WrongEndpoint = ((r : Receipt) → Contains receipts r → IsOfUnknownDomain c r → ⊥) × ((r : Receipt) × Contains receipts r × IsOfWrongEndpoint c r)
+MisfitsOne c receipts Full = ⊥
+MisfitsOne c receipts NoMemory = ⊥
+MisfitsOne c receipts ConfigDiffers = ⊥
+
+-- These are of domains of the configuration, and together with what is held no more than one holds.
+pub record AreKnown (m : Meaning) (records : List Distrust) : Type 0 where
+  pub domains : (x : Distrust) → Contains records x → HasDomain m.config x.domain
+  pub few : length (with_items distrust_cmp records m.records) ≤ 4096
+
+-- These fit, there may be so many more, and there is room for them.
+pub record AreWelcome (old : State) (receipts : List Receipt) : Type 0 where
+  pub fitting : (r : Receipt) → Contains receipts r → IsFitting old.meaning.config r
+  pub few : length old.meaning.held + length receipts ≤ 65536
+  pub room : IsRoomier (record { receipts = length receipts; offers = offers_count receipts }) old.room
