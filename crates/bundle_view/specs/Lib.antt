@@ -3,3 +3,12 @@ pub mod Conflicts
 pub mod Report
 pub mod Groups
 pub mod Sections
+pub mod Explain
+pub mod Search
+pub mod PollErrors
+pub mod PollLines
+pub mod PollSteps
+pub mod Polling
+pub mod Standings
+pub mod Observe
+pub mod Observing

@@ -1,12 +1,26 @@
 //! What holds of every report. A call that needs a law calls its function, which does nothing, and cites what it
 //! ensures.
-ghost use Rattle.std.specs.Prelude.{◌≡◌, ℕ, List, Option};
+ghost use Rattle.std.specs.Prelude.{◌≡◌, ◌++◌, ◌∷◌, [], ◌<◌, ℕ, List, Option, length, Contains};
+ghost use Rattle.fed_config.specs.declared.seed.Seed.{Seed};
+ghost use Rattle.receipt_core.specs.Receipt.{Receipt, Pair, pair_of};
+ghost use Rattle.receipt_core.specs.Chain.{IsChain};
+ghost use Rattle.bundle_view.specs.Explain.{IsShortest};
 ghost use Rattle.bundle_doc.specs.Bundle.{Bundle};
-ghost use Rattle.receipt_core.specs.Acceptance.{Meaning};
+ghost use Rattle.receipt_core.specs.Acceptance.{Meaning, IsMember, pair_of_seed};
 ghost use Rattle.trust_closure.specs.Views.{IsAcceptedList};
 ghost use Rattle.bundle_view.specs.Current.{IsCurrent};
 ghost use Rattle.bundle_view.specs.Conflicts.{Clash, AreConflicts, Told, AreAllConflicts};
 ghost use Rattle.bundle_view.specs.Report.{IsReport};
+ghost use Rattle.trust_closure.specs.declared.error.TakeError.TheVariants.{Full, NoMemory};
+ghost use Rattle.bundle_view.specs.Observe.{IsObservation, RefusesObservation};
+ghost use Rattle.bundle_view.specs.declared.observation.Verdict.{Verdict};
+ghost use Rattle.bundle_view.specs.declared.observe_error.ObserveError.{ObserveError};
+ghost use Rattle.bundle_view.specs.declared.observe_error.ObserveError.TheVariants.{Take};
+ghost use Rattle.fed_config.specs.Configuration.{Configuration, IsConfiguration};
+ghost use Rattle.bundle_view.specs.Polling.{Standing, polled};
+ghost use Rattle.bundle_view.specs.PollLines.{IsLogOf, RefusesPolls};
+ghost use Rattle.bundle_view.specs.declared.poll_error.PollError.{PollError};
+ghost use Rattle.bundle_view.specs.declared.poll_error.PollError.TheVariants.{NoMemory as NoMemoryToPoll, Io};
 
 /// The configuration, the receipts and the records of distrust determine the whole report, and each part of it: there is
 /// one report, one list of conflicts, and one current document of a domain.
@@ -18,3 +32,34 @@ pub fn one_view()
 {
     trust_closure::laws::one_number();
 }
+
+/// What explains a document is a chain to anybody who has the configuration and the records of distrust, unless it is
+/// empty; it ends in the document; only an accepted document has one, only a configured one an empty one, and all that
+/// explain one document have the same length.
+pub fn explanations()
+    ensures chain { (m : Meaning) (p : Pair) (chain : List Receipt) → IsShortest m p chain → 0 < length chain → IsChain m.config m.records chain }
+    ensures end { (m : Meaning) (p : Pair) (front : List Receipt) (last : Receipt) → IsShortest m p (front ++ last ∷ []) → pair_of last ≡ p }
+    ensures accepted { (m : Meaning) (p : Pair) (chain : List Receipt) → IsShortest m p chain → IsMember m p }
+    ensures configured { (m : Meaning) (s : Seed) (chain : List Receipt) → Contains m.config.seeds s → IsShortest m (pair_of_seed s) chain → chain ≡ [] }
+    ensures one_length { (m : Meaning) (p : Pair) (chain other : List Receipt) → IsShortest m p chain → IsShortest m p other → length chain ≡ length other }
+{}
+
+/// What is observed is determined: there is one receipt of a verdict and of bytes, and one cause for which they are
+/// refused, beside want of memory. A receipt that there is is refused for the store's sake alone.
+pub fn one_observation()
+    ensures receipt { (m : Meaning) (domain bytes : List ℕ) (verdict : Verdict) (documents : List Bundle) (r s : Receipt) → IsConfiguration m.config → IsAcceptedList m verdict.endpoint.domain documents
+        → IsObservation m domain bytes verdict r → IsObservation m domain bytes verdict s → r ≡ s }
+    ensures cause { (m : Meaning) (domain bytes : List ℕ) (verdict : Verdict) (documents : List Bundle) (d e : ObserveError) → IsConfiguration m.config → IsAcceptedList m verdict.endpoint.domain documents
+        → RefusesObservation m domain bytes verdict d → RefusesObservation m domain bytes verdict e → (d ≡ Take NoMemory → ⊥) → (e ≡ Take NoMemory → ⊥) → d ≡ e }
+    ensures store { (m : Meaning) (domain bytes : List ℕ) (verdict : Verdict) (documents : List Bundle) (r : Receipt) (e : ObserveError) → IsConfiguration m.config → IsAcceptedList m verdict.endpoint.domain documents
+        → IsObservation m domain bytes verdict r → RefusesObservation m domain bytes verdict e → (e ≡ Take Full → ⊥) → (e ≡ Take NoMemory → ⊥) → ⊥ }
+{}
+
+/// Poll lines have one log at most under a configuration, and lines that are refused, but for want of memory or a fault of
+/// their source, have none.
+pub fn one_log()
+    ensures one { (c : Configuration) (bytes : List ℕ) (a b : List Standing) → IsConfiguration c → IsLogOf (polled c) bytes a
+        → IsLogOf (polled c) bytes b → a ≡ b }
+    ensures none { (c : Configuration) (bytes : List ℕ) (e : PollError) (log : List Standing) → IsConfiguration c
+        → RefusesPolls (polled c) bytes e → (e ≡ NoMemoryToPoll → ⊥) → (e ≡ Io → ⊥) → IsLogOf (polled c) bytes log → ⊥ }
+{}

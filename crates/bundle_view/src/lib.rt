@@ -1,14 +1,43 @@
-//! What a replica tells of what it accepts: the current document of a domain, conflicts, and the report.
+//! What a replica shows of what it accepts: the current documents, conflicts between documents, the report, why a document
+//! is accepted, what is observed, and when a bundle is fetched next.
 #![tactic(auto)]
 
 mod conflict;
 mod current_document;
 mod error;
+#[cfg(test)]
+mod explain_tests;
+mod explanation;
 pub mod laws;
 mod listed;
+mod observation;
+#[cfg(test)]
+mod observation_tests;
+mod observe_error;
+mod poll_error;
+mod poll_lines;
+mod poll_log;
+#[cfg(test)]
+mod poll_tests;
+mod poll_wait;
 mod report;
+#[cfg(test)]
+mod report_rows;
+#[cfg(test)]
+mod report_tests;
+#[cfg(test)]
+mod rows;
+mod steps;
+mod waiting;
 
 pub use conflict::{Conflict, ConflictKind, conflicts};
 pub use current_document::current;
 pub use error::ReportError;
+pub use explanation::explain;
+pub use observation::{Verdict, observe};
+pub use observe_error::ObserveError;
+pub use poll_error::PollError;
+pub use poll_lines::{read_polls, read_seconds};
+pub use poll_log::PollLog;
+pub use poll_wait::{interval, wait};
 pub use report::write_report;

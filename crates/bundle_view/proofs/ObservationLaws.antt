@@ -1,0 +1,129 @@
+-- One receipt of an observation, and one cause of a refusal
+use Rattle.std.proofs.Common.{◌≡◌, ℕ, inl, inr, List, Some, None, refl, sym, ap, ◌∙◌, subst}
+use Rattle.bundle_doc.specs.Bundle.{Bundle, HasKeyId}
+use Rattle.bundle_doc.proofs.BundleFacts.{one_document}
+use Rattle.bundle_doc.proofs.RefusalFacts.{one_cause as one_cause_of_bytes, refused_none}
+use Rattle.fed_config.specs.Configuration.{IsConfiguration, IsFound}
+use Rattle.fed_config.specs.declared.relationship.Relationship.{Relationship}
+use Rattle.receipt_core.specs.Receipt.{Receipt}
+use Rattle.receipt_core.specs.Acceptance.{Meaning}
+use Rattle.trust_closure.specs.declared.error.TakeError.TheVariants.{UnknownDomain, WrongEndpoint as OtherEndpoint, Full, NoMemory, ConfigDiffers}
+use Rattle.trust_closure.specs.Views.{IsAcceptedList}
+use Rattle.bundle_view.specs.Current.{IsCurrent}
+use Rattle.bundle_view.specs.Observe.{IsEndpointOf, HasOtherEndpoint, IsVouchedFor, IsObservation, receipt_of, RefusesObservation}
+use Rattle.bundle_view.specs.declared.observation.Verdict.{Verdict}
+use Rattle.bundle_view.specs.declared.observe_error.ObserveError.{ObserveError}
+use Rattle.bundle_view.specs.declared.observe_error.ObserveError.TheVariants.{NoRelationship, WrongEndpoint, NoVoucherBundle, KeyNotInCurrent, Document, Take}
+use Rattle.bundle_view.proofs.CurrentFacts.{one_current}
+use Rattle.bundle_view.proofs.ObserveFacts.{one_relationship}
+
+module _ (m : Meaning) (domain bytes : List ℕ) (verdict : Verdict) (documents : List Bundle)
+    (form : IsConfiguration m.config) (list : IsAcceptedList m verdict.endpoint.domain documents) where
+  abbrev Refuses : ObserveError → Type 0
+  Refuses = RefusesObservation m domain bytes verdict
+
+  -- ---- each cause has what those before it lacked
+
+  found : (e : ObserveError) → (e ≡ NoRelationship → ⊥) → Refuses e → (x : Relationship) × IsFound m.config domain (Some x)
+  found NoRelationship n h = absurd (n refl)
+  found WrongEndpoint n h = (h.relationship, h.found)
+  found NoVoucherBundle n h = (h.0.relationship, h.0.found)
+  found KeyNotInCurrent n h = (h.endpoint.relationship, h.endpoint.found)
+  found (Document d) n h = (h.0.1.endpoint.relationship, h.0.1.endpoint.found)
+  found (Take Full) n h = (h.1.authentic.endpoint.relationship, h.1.authentic.endpoint.found)
+  found (Take NoMemory) n h = (h.0.1.endpoint.relationship, h.0.1.endpoint.found)
+  found (Take e) n h = absurd h
+
+  served : (e : ObserveError) → (e ≡ NoRelationship → ⊥) → (e ≡ WrongEndpoint → ⊥) → Refuses e → IsEndpointOf m.config domain verdict.endpoint
+  served NoRelationship n o h = absurd (n refl)
+  served WrongEndpoint n o h = absurd (o refl)
+  served NoVoucherBundle n o h = h.0
+  served KeyNotInCurrent n o h = h.endpoint
+  served (Document d) n o h = h.0.1.endpoint
+  served (Take Full) n o h = h.1.authentic.endpoint
+  served (Take NoMemory) n o h = h.0.1.endpoint
+  served (Take e) n o h = absurd h
+
+  vouched : (e : ObserveError) → (e ≡ NoRelationship → ⊥) → (e ≡ WrongEndpoint → ⊥) → (e ≡ NoVoucherBundle → ⊥) → (e ≡ KeyNotInCurrent → ⊥) → Refuses e → IsVouchedFor m domain verdict
+  vouched NoRelationship n o p q h = absurd (n refl)
+  vouched WrongEndpoint n o p q h = absurd (o refl)
+  vouched NoVoucherBundle n o p q h = absurd (p refl)
+  vouched KeyNotInCurrent n o p q h = absurd (q refl)
+  vouched (Document d) n o p q h = h.0
+  vouched (Take Full) n o p q h = (h.1.voucher, h.1.authentic)
+  vouched (Take NoMemory) n o p q h = h.0
+  vouched (Take e) n o p q h = absurd h
+
+  some_current : (e : ObserveError) → (e ≡ NoRelationship → ⊥) → (e ≡ WrongEndpoint → ⊥) → (e ≡ NoVoucherBundle → ⊥) → Refuses e → (d : Bundle) × IsCurrent m verdict.endpoint.domain (Some d)
+  some_current NoRelationship n o p h = absurd (n refl)
+  some_current WrongEndpoint n o p h = absurd (o refl)
+  some_current NoVoucherBundle n o p h = absurd (p refl)
+  some_current KeyNotInCurrent n o p h = (h.voucher, h.current)
+  some_current (Document d) n o p h = (h.0.0, h.0.1.current)
+  some_current (Take Full) n o p h = (h.1.voucher, h.1.authentic.current)
+  some_current (Take NoMemory) n o p h = (h.0.0, h.0.1.current)
+  some_current (Take e) n o p h = absurd h
+
+  -- ---- so no two stand together
+
+  no_relationship : IsFound m.config domain None → (x : Relationship) → IsFound m.config domain (Some x) → ⊥
+  no_relationship none x is = none x is.0 is.1
+
+  two_endpoints : HasOtherEndpoint m.config domain verdict.endpoint → IsEndpointOf m.config domain verdict.endpoint → ⊥
+  two_endpoints other is =
+      let same : other.relationship ≡ is.relationship = one_relationship m.config domain other.relationship is.relationship form other.found.0 is.found.0 other.found.1 is.found.1 in
+      other.other (ap (λ (x : Relationship). x.endpoint) same ∙ is.endpoint_is)
+
+  one_voucher : (a b : Bundle) → IsCurrent m verdict.endpoint.domain (Some a) → IsCurrent m verdict.endpoint.domain (Some b) → a ≡ b
+  one_voucher a b p q = let same : Some a ≡ Some b = one_current m verdict.endpoint.domain documents (Some a) (Some b) list p q in cc
+
+  foreign_and_own : Refuses KeyNotInCurrent → IsVouchedFor m domain verdict → ⊥
+  foreign_and_own foreign is =
+      let same : foreign.voucher ≡ is.0 = one_voucher foreign.voucher is.0 foreign.current is.1.current in
+      elim foreign.foreign [
+        | inl lacks ↦ lacks (subst (λ (d : Bundle). HasKeyId d.authorities verdict.key) (sym same) is.1.key)
+        | inr distrusted ↦ is.1.trusted distrusted
+      ]
+
+  -- ---- the laws
+
+  pub one_receipt : (r s : Receipt) → IsObservation m domain bytes verdict r → IsObservation m domain bytes verdict s → r ≡ s
+  one_receipt r s p q =
+      let voucher : p.voucher ≡ q.voucher = one_voucher p.voucher q.voucher p.authentic.current q.authentic.current in
+      let document : p.document ≡ q.document = one_document bytes p.document q.document p.read q.read in
+      p.is ∙ ap (λ (v : Bundle). receipt_of domain verdict v p.document) voucher ∙ ap (receipt_of domain verdict q.voucher) document ∙ sym q.is
+
+  pub one_cause : (e f : ObserveError) → Refuses e → Refuses f → (e ≡ Take NoMemory → ⊥) → (f ≡ Take NoMemory → ⊥) → e ≡ f
+  one_cause NoRelationship NoRelationship p q l k = refl
+  one_cause NoRelationship f p q l k = let is : (x : Relationship) × IsFound m.config domain (Some x) = found f (λ h. cc) q in absurd (no_relationship p is.0 is.1)
+  one_cause e NoRelationship p q l k = let is : (x : Relationship) × IsFound m.config domain (Some x) = found e (λ h. cc) p in absurd (no_relationship q is.0 is.1)
+  one_cause WrongEndpoint WrongEndpoint p q l k = refl
+  one_cause WrongEndpoint f p q l k = absurd (two_endpoints p (served f (λ h. cc) (λ h. cc) q))
+  one_cause e WrongEndpoint p q l k = absurd (two_endpoints q (served e (λ h. cc) (λ h. cc) p))
+  one_cause NoVoucherBundle NoVoucherBundle p q l k = refl
+  one_cause NoVoucherBundle f p q l k = let is : (d : Bundle) × IsCurrent m verdict.endpoint.domain (Some d) = some_current f (λ h. cc) (λ h. cc) (λ h. cc) q in absurd (p.1 is.0 is.1.accepted)
+  one_cause e NoVoucherBundle p q l k = let is : (d : Bundle) × IsCurrent m verdict.endpoint.domain (Some d) = some_current e (λ h. cc) (λ h. cc) (λ h. cc) p in absurd (q.1 is.0 is.1.accepted)
+  one_cause KeyNotInCurrent KeyNotInCurrent p q l k = refl
+  one_cause KeyNotInCurrent f p q l k = absurd (foreign_and_own p (vouched f (λ h. cc) (λ h. cc) (λ h. cc) (λ h. cc) q))
+  one_cause e KeyNotInCurrent p q l k = absurd (foreign_and_own q (vouched e (λ h. cc) (λ h. cc) (λ h. cc) (λ h. cc) p))
+  one_cause (Document d) (Document e) p q l k = ap Document (one_cause_of_bytes bytes d e p.2 q.2 p.1 q.1)
+  one_cause (Document d) (Take Full) p q l k = absurd (refused_none bytes d q.1.document p.2 p.1 q.1.read)
+  one_cause (Take Full) (Document d) p q l k = absurd (refused_none bytes d p.1.document q.2 q.1 p.1.read)
+  one_cause (Take Full) (Take Full) p q l k = refl
+  one_cause (Take NoMemory) f p q l k = absurd (l refl)
+  one_cause e (Take NoMemory) p q l k = absurd (k refl)
+  one_cause (Take UnknownDomain) f p q l k = absurd p
+  one_cause (Take OtherEndpoint) f p q l k = absurd p
+  one_cause (Take ConfigDiffers) f p q l k = absurd p
+  one_cause e (Take f) p q l k = absurd q
+
+  -- what is refused for another cause than the store's is no observation
+  pub refused_or_observed : (r : Receipt) (e : ObserveError) → IsObservation m domain bytes verdict r → Refuses e → (e ≡ Take Full → ⊥) → (e ≡ Take NoMemory → ⊥) → ⊥
+  refused_or_observed r NoRelationship is h n k = no_relationship h is.authentic.endpoint.relationship is.authentic.endpoint.found
+  refused_or_observed r WrongEndpoint is h n k = two_endpoints h is.authentic.endpoint
+  refused_or_observed r NoVoucherBundle is h n k = h.1 is.voucher is.authentic.current.accepted
+  refused_or_observed r KeyNotInCurrent is h n k = foreign_and_own h (is.voucher, is.authentic)
+  refused_or_observed r (Document d) is h n k = refused_none bytes d is.document h.2 h.1 is.read
+  refused_or_observed r (Take Full) is h n k = n refl
+  refused_or_observed r (Take NoMemory) is h n k = k refl
+  refused_or_observed r (Take e) is h n k = h

@@ -1,0 +1,121 @@
+-- Receipts whose key is not distrusted, in the order of what they need
+use Rattle.std.proofs.Common.{◌≡◌, ℕ, zero, suc, ◌+◌, ◌<◌, ◌≤◌, ◌⊎◌, inl, inr, true, false, List, [], ◌∷◌, ◌++◌, length, get_or, Result, Ok, Err, Less, Equal, Greater, arith, refl, sym, ap, ◌∙◌, subst, length-append, add-one}
+use Rattle.std.specs.Prelude.{Contains, ◌↔◌, is_ok}
+use Rattle.std.specs.declared.cmp.Ordering.{Ordering}
+use Rattle.std.specs.Ordering.{is_lt}
+use Rattle.std.specs.List.Sorted.{IsStrictlySortedBy, IsSorted, IsBinarySearchResult, IsSearchInRange, IsPermutation}
+use Rattle.std.proofs.lemmas.Bool.{both_ways, cases_lt}
+use Rattle.std.proofs.lemmas.Cmp.{tied_itself}
+use Rattle.std.proofs.lemmas.List.Sorted.{searchable_from_sorted, Contains-permutation, IsPermutation-sym, length_permutation}
+use Rattle.std.proofs.lemmas.List.Elements.{Contains-append_left, Contains-push, Contains-push_cases}
+use Rattle.receipt_core.specs.declared.distrust.Distrust.{Distrust}
+use Rattle.receipt_core.specs.Receipt.{Receipt, distrust_cmp}
+use Rattle.receipt_core.specs.Order.{distrust_total}
+use Rattle.receipt_core.specs.Acceptance.{Meaning, distrust_of}
+use Rattle.receipt_core.proofs.LineFacts.{one_distrust}
+use Rattle.bundle_view.specs.Search.{AreTrusted}
+use Rattle.bundle_view.proofs.ListFacts.{contains_first, contains_later, contains_none, contains_cases, rising_first, rising_rest, not_both}
+
+-- ---- a record is among those that rise
+
+next_above : (xs : List Distrust) (k : ℕ) (d : Distrust) → IsStrictlySortedBy distrust_cmp xs → suc k < length xs → is_lt (distrust_cmp (get_or xs (suc k) d) (get_or xs k d)) ≡ false
+next_above [] k d rising l = absurd (omega (arith, l))
+next_above (x ∷ []) k d rising l = absurd (omega (arith, l))
+next_above (x ∷ y ∷ ys) zero d rising l = not_less (distrust_cmp y x) (λ e. not_both distrust_total x y (rising_first distrust_cmp x (y ∷ ys) y rising (contains_first y ys)) e)
+  where
+    not_less : (o : Ordering) → (o ≡ Less → ⊥) → is_lt o ≡ false
+    not_less Less h = absurd (h refl)
+    not_less Equal h = refl
+    not_less Greater h = refl
+next_above (x ∷ y ∷ ys) (suc k) d rising l = next_above (y ∷ ys) k d (rising_rest distrust_cmp x (y ∷ ys) rising) (omega (arith, l))
+
+sorted_records : (xs : List Distrust) → IsStrictlySortedBy distrust_cmp xs → IsSorted distrust_cmp xs
+sorted_records xs rising k d low l = subst (λ n. is_lt (distrust_cmp (get_or xs n d) (get_or xs k d)) ≡ false) (sym (add-one k)) (next_above xs k d rising (omega (arith, l)))
+
+pub found_record : (xs : List Distrust) (x : Distrust) (r : Result ℕ ℕ) → IsStrictlySortedBy distrust_cmp xs → IsSearchInRange r (length xs) → IsBinarySearchResult (λ y. distrust_cmp y x) xs r → (is_ok r ≡ true) ↔ Contains xs x
+found_record xs x (Ok k) rising l here = (λ e. (k, l, one_distrust (get_or xs k x) x (here x)), λ has. refl)
+found_record xs x (Err k) rising l parts = (
+  λ e. absurd (both_ways false refl e),
+  λ has.
+      let split = parts (searchable_from_sorted distrust_total (λ (y : Distrust). y) xs x (sorted_records xs rising)) in
+      absurd (elim (cases_lt has.0 k) [
+        | inl below ↦ less_not_equal (distrust_cmp (get_or xs has.0 x) x) (split.0 has.0 x (omega arith) below) (same has.0 has.2)
+        | inr above ↦ greater_not_equal (distrust_cmp (get_or xs has.0 x) x) (split.1 has.0 x above has.1) (same has.0 has.2)
+      ]),
+)
+  where
+    same : (k : ℕ) → get_or xs k x ≡ x → distrust_cmp (get_or xs k x) x ≡ Equal
+    same k e = ap (λ y. distrust_cmp y x) e ∙ tied_itself distrust_total x
+
+    less_not_equal : (o : Ordering) → o ≡ Less → o ≡ Equal → ⊥
+    less_not_equal o p q = cc
+
+    greater_not_equal : (o : Ordering) → o ≡ Greater → o ≡ Equal → ⊥
+    greater_not_equal o p q = cc
+
+-- ---- receipts one after another
+
+-- Of all receipts, those that are done with and are not distrusted were taken, and the rest are still to come.
+pub record AreSifted (records : List Distrust) (all taken rest : List Receipt) : Type 0 where
+  pub there : (r : Receipt) → Contains all r → (Contains records (distrust_of r.endpoint.domain r) → ⊥) → Contains taken r ⊎ Contains rest r
+  pub trusted : (r : Receipt) → Contains taken r → Contains all r × (Contains records (distrust_of r.endpoint.domain r) → ⊥)
+  pub coming : (r : Receipt) → Contains rest r → Contains all r
+  pub few : length taken + length rest ≤ length all
+
+pub sifted_none : (records : List Distrust) (all taken : List Receipt) → taken ≡ [] → AreSifted records all taken all
+sifted_none records all taken e = record {
+  there = λ r has t. inr has;
+  trusted = λ r has. absurd (contains_none r (subst (λ rs. Contains rs r) e has));
+  coming = λ r has. has;
+  few = omega (arith, ap length e);
+}
+
+module _ (records : List Distrust) (all taken rest others : List Receipt) (x : Receipt) (is : rest ≡ x ∷ others) (s : AreSifted records all taken rest) where
+  pub sifted_takes : (Contains records (distrust_of x.endpoint.domain x) → ⊥) → AreSifted records all (taken ++ x ∷ []) others
+  sifted_takes t = record {
+    there = λ r has u. elim (s.there r has u) [
+      | inl old ↦ inl (Contains-append_left taken (x ∷ []) r old)
+      | inr new ↦ elim (contains_cases x others r (subst (λ rs. Contains rs r) is new)) [
+        | inl e ↦ inl (subst (Contains (taken ++ x ∷ [])) e (Contains-push taken x))
+        | inr later ↦ inr later
+      ]
+    ];
+    trusted = λ r has. elim (Contains-push_cases taken x r has) [
+      | inl old ↦ s.trusted r old
+      | inr e ↦ subst (λ (q : Receipt). Contains all q × (Contains records (distrust_of q.endpoint.domain q) → ⊥)) e (s.coming x (subst (λ rs. Contains rs x) (sym is) (contains_first x others)), t)
+    ];
+    coming = λ r has. s.coming r (subst (λ rs. Contains rs r) (sym is) (contains_later x others r has));
+    few = omega (arith, s.few, length-append taken (x ∷ []), ap length is);
+  }
+
+  pub sifted_skips : Contains records (distrust_of x.endpoint.domain x) → AreSifted records all taken others
+  sifted_skips d = record {
+    there = λ r has u. elim (s.there r has u) [
+      | inl old ↦ inl old
+      | inr new ↦ elim (contains_cases x others r (subst (λ rs. Contains rs r) is new)) [
+        | inl e ↦ absurd (u (subst (λ (q : Receipt). Contains records (distrust_of q.endpoint.domain q)) e d))
+        | inr later ↦ inr later
+      ]
+    ];
+    trusted = s.trusted;
+    coming = λ r has. s.coming r (subst (λ rs. Contains rs r) (sym is) (contains_later x others r has));
+    few = omega (arith, s.few, ap length is);
+  }
+
+pub sifted_all : (m : Meaning) (records : List Distrust) (all taken rest : List Receipt) → records ≡ m.records → all ≡ m.held → rest ≡ [] → length m.held ≤ 65536 → AreSifted records all taken rest → AreTrusted m taken
+sifted_all m records all taken rest e f none few s = record {
+  exactly = λ r. (
+    λ has. let h = s.trusted r has in (subst (λ rs. Contains rs r) f h.0, λ d. h.1 (subst (λ xs. Contains xs (distrust_of r.endpoint.domain r)) (sym e) d)),
+    λ h. elim (s.there r (subst (λ rs. Contains rs r) (sym f) h.0) (λ d. h.1 (subst (λ xs. Contains xs (distrust_of r.endpoint.domain r)) e d))) [
+      | inl has ↦ has
+      | inr more ↦ absurd (contains_none r (subst (λ rs. Contains rs r) none more))
+    ],
+  );
+  few = omega (arith, s.few, few, ap length f, ap length none);
+}
+
+pub trusted_moved : (m : Meaning) (xs ys : List Receipt) → IsPermutation xs ys → AreTrusted m xs → AreTrusted m ys
+trusted_moved m xs ys p t = record {
+  exactly = λ r. (λ has. (t.exactly r).0 (Contains-permutation ys xs r (IsPermutation-sym xs ys p) has), λ h. Contains-permutation xs ys r p ((t.exactly r).1 h));
+  few = omega (arith, t.few, length_permutation xs ys p);
+}

@@ -1,0 +1,41 @@
+-- An observation as far as it is made
+use Rattle.std.specs.Prelude.{◌≡◌, ℕ, ◌⊎◌, List}
+use Rattle.bundle_doc.specs.Bundle.{Bundle}
+use Rattle.bundle_doc.specs.declared.document.DocId.{DocId}
+use Rattle.jwk_set.specs.declared.authority.KeyId.{KeyId}
+use Rattle.receipt_core.specs.declared.distrust.Distrust.{Distrust}
+use Rattle.receipt_core.specs.Receipt.{Receipt}
+use Rattle.receipt_core.specs.Acceptance.{Meaning}
+use Rattle.trust_closure.specs.declared.error.TakeError.{TakeError}
+use Rattle.trust_closure.specs.declared.error.TakeError.TheVariants.{NoMemory}
+use Rattle.trust_closure.specs.declared.outcome.Taken.{Taken}
+use Rattle.trust_closure.specs.Refusals.{RefusesReceipt}
+use Rattle.trust_closure.specs.Changes.{State, Took, IsUnchanged}
+use Rattle.bundle_view.specs.Conflicts.{id_in}
+use Rattle.bundle_view.specs.Observe.{IsAuthentic}
+use Rattle.bundle_view.specs.declared.observation.Verdict.{Verdict}
+use Rattle.bundle_view.specs.declared.observe_error.ObserveError.{ObserveError}
+use Rattle.bundle_view.specs.declared.observe_error.ObserveError.TheVariants.{Take}
+
+-- a record of distrust
+abbrev pub distrust : List ℕ → KeyId → Distrust
+distrust domain key = record { domain = domain; key = key }
+
+-- the id is that of the document that makes the verdict authentic
+pub record IsVoucher (m : Meaning) (domain : List ℕ) (verdict : Verdict) (id : DocId) : Type 0 where
+  pub voucher : Bundle
+  pub authentic : IsAuthentic m domain verdict voucher
+  pub is : id ≡ id_in verdict.endpoint.domain voucher
+
+-- The receipt was taken, and comes back.
+pub record HasKept (old : State) (r : Receipt) (new : State) (copy : Receipt) : Type 0 where
+  pub same : copy ≡ r
+  pub taken : Taken
+  pub took : Took old r new taken
+
+-- It was not, or there was no memory to copy it.
+pub record HasNotKept (old : State) (r : Receipt) (new : State) (why : ObserveError) : Type 0 where
+  pub error : TakeError
+  pub is : why ≡ Take error
+  pub cause : (error ≡ NoMemory) ⊎ RefusesReceipt old.meaning old.room r error
+  pub unchanged : IsUnchanged old new

@@ -1,0 +1,20 @@
+-- Refusals of a source, as those of a log
+use Rattle.std.specs.Prelude.{Bool, true, false, Result, Ok, Err}
+use Rattle.receipt_core.specs.declared.line_buf.NextLineError.{NextLineError}
+use Rattle.receipt_core.specs.declared.line_buf.NextLineError.TheVariants as line
+use Rattle.bundle_view.specs.declared.poll_error.PollError.{PollError}
+use Rattle.bundle_view.specs.declared.poll_error.PollError.TheVariants.{NoRelationship, PastRange, NoMemory, BadLine, BadMoment, Io}
+
+abbrev pub poll_error_of : NextLineError → PollError
+poll_error_of line.Io = Io
+poll_error_of line.NoMemory = NoMemory
+
+-- the source was at fault
+abbrev pub is_poll_fault : {T : Type 0} → Result T PollError → Bool
+is_poll_fault (Ok value) = false
+is_poll_fault (Err NoRelationship) = false
+is_poll_fault (Err PastRange) = false
+is_poll_fault (Err NoMemory) = false
+is_poll_fault (Err (BadLine n)) = false
+is_poll_fault (Err (BadMoment n)) = false
+is_poll_fault (Err Io) = true

@@ -1,0 +1,149 @@
+//! What is made of the bytes that an endpoint served, and of TLS's verdict on the endpoint.
+ghost use Rattle.std.specs.Prelude.{◌≡◌, ◌↔◌, IsTrue, MatchResult, Contains};
+ghost use Rattle.fed_config.specs.Configuration.{IsConfiguration};
+ghost use Rattle.receipt_core.specs.Acceptance.{IsMeaning};
+ghost use Rattle.receipt_core.specs.Receipt.{IsReceipt};
+ghost use Rattle.bundle_view.specs.Observe.{HasNotObserved, HasObserved, IsEndpointOf, RefusesEndpoint, RefusesVerdict};
+ghost use Rattle.bundle_view.specs.Observing.{HasKept, HasNotKept, IsVoucher, distrust};
+
+use crate::current_document::current;
+use crate::observe_error::ObserveError;
+use bundle_doc::{DocId, Document};
+use fed_config::Config;
+use jwk_set::KeyId;
+use receipt_core::Receipt;
+use spiffe_name::{SpiffeId, TrustDomain};
+use std::alloc::Global;
+use trust_closure::Closure;
+
+/// What TLS found out of the endpoint that served a bundle, by validating its X.509-SVID (SPIFFE X.509-SVID, section 5).
+/// It is believed.
+#[derive(Debug, Drop)]
+pub struct Verdict {
+    /// The SPIFFE ID of the endpoint.
+    pub endpoint: SpiffeId,
+    /// The key of the authority under which the endpoint's certificate was validated.
+    pub key: KeyId,
+}
+
+/// Takes the receipt of a bundle that was fetched: the bytes as a document of the domain, served by the verdict's
+/// endpoint, with the current document of the endpoint's trust domain as voucher and the verdict's key (SPIFFE
+/// Federation, section 5.2, profile `https_spiffe`). Answers that receipt, which is held from now on, as it may have
+/// been before. Its document is accepted, and may be the current one of its domain, even of the endpoint's: the voucher
+/// is the document that was current before.
+///
+/// # Errors
+/// What is held stays. Of these the first that holds:
+/// - [`ObserveError::NoRelationship`]: the configuration has no relationship with the domain,
+/// - [`ObserveError::WrongEndpoint`]: that relationship has another endpoint than the verdict,
+/// - [`ObserveError::NoVoucherBundle`]: no document of the endpoint's trust domain is accepted,
+/// - [`ObserveError::KeyNotInCurrent`]: no X.509 authority of its current document has the verdict's key, or the key is
+///   distrusted there,
+/// - [`ObserveError::Document`]: the bytes are no document, for the cause of [`Document::read`] that is in it,
+/// - [`ObserveError::Take`] with `Full`: the receipt is not held, and 65,536 are.
+///
+/// Where memory ran out it is [`ObserveError::Take`] with `NoMemory`, which never comes where the verdict is refused or
+/// the bytes are too many.
+pub fn observe<C: Closure>(
+    alloc: Global,
+    closure: &mut C,
+    domain: &TrustDomain,
+    bytes: &[u8],
+    verdict: &Verdict,
+) -> Result<Receipt, ObserveError>
+    ensures { MatchResult result
+        (HasObserved (C.state closure.old).meaning domain.now bytes.now verdict.now (C.state closure.new).meaning)
+        (HasNotObserved (C.state closure.old) domain.now bytes.now verdict.now (C.state closure.new)) }
+{
+    let voucher = find_voucher(closure, domain, verdict)?;
+    let document = Document::read(alloc, bytes)?;
+    let receipt = Receipt::new(
+        alloc,
+        domain.try_clone(alloc)?,
+        verdict.endpoint.try_clone(alloc)?,
+        document,
+        voucher,
+        verdict.key,
+    )?;
+    keep(alloc, closure, receipt)
+}
+
+/// The id of the current document of the endpoint's trust domain, where the verdict is one that the configuration asks
+/// for, and the key is that of an X.509 authority of this document and trusted.
+fn find_voucher<C: Closure>(
+    closure: &C,
+    domain: &TrustDomain,
+    verdict: &Verdict,
+) -> Result<DocId, ObserveError>
+    ensures { MatchResult result (IsVoucher (C.state closure.now).meaning domain.now verdict.now) (RefusesVerdict (C.state closure.now).meaning domain.now verdict.now) }
+{
+    check_endpoint(closure.config(), domain, &verdict.endpoint)?;
+    let home = verdict.endpoint.domain();
+    let Some(voucher) = current(closure, home) else {
+        return Err(ObserveError::NoVoucherBundle);
+    };
+    if !voucher.has_key(&verdict.key) {
+        return Err(ObserveError::KeyNotInCurrent);
+    }
+    if is_distrusted(closure, home, &verdict.key) {
+        return Err(ObserveError::KeyNotInCurrent);
+    }
+    Ok(voucher.id(home))
+}
+
+/// Whether the configuration has a relationship with the domain, and this endpoint in it.
+fn check_endpoint(
+    config: &Config,
+    domain: &TrustDomain,
+    endpoint: &SpiffeId,
+) -> Result<(), ObserveError>
+    ensures { MatchResult result (λ _. IsEndpointOf config.now domain.now endpoint.now) (RefusesEndpoint config.now domain.now endpoint.now) }
+{
+    let Some(relationship) = config.relationship(domain) else {
+        return Err(ObserveError::NoRelationship);
+    };
+    if relationship.endpoint.as_str() == endpoint.as_str() {
+        Ok(())
+    } else {
+        Err(ObserveError::WrongEndpoint)
+    }
+}
+
+/// Whether the key is distrusted in the domain.
+fn is_distrusted<C: Closure>(closure: &C, domain: &TrustDomain, key: &KeyId) -> bool
+    ensures { IsTrue result ↔ Contains (C.state closure.now).meaning.records (record { domain = domain.now; key = key.now }) }
+{
+    for (of, distrusted) in closure.distrusts() {
+        if is_record(of, distrusted, domain, key) {
+            return true;
+        }
+    }
+    false
+}
+
+fn is_record(of: &TrustDomain, distrusted: &KeyId, domain: &TrustDomain, key: &KeyId) -> bool
+    ensures { IsTrue result ↔ (distrust of.now distrusted.now ≡ distrust domain.now key.now) }
+{
+    distrusted == key && of.as_str() == domain.as_str()
+}
+
+/// Takes the receipt, and answers a copy of it, which is made before: so nothing is refused once it is taken.
+fn keep<C: Closure>(
+    alloc: Global,
+    closure: &mut C,
+    receipt: Receipt,
+) -> Result<Receipt, ObserveError>
+    ensures kept { MatchResult result (HasKept (C.state closure.old) receipt (C.state closure.new)) (HasNotKept (C.state closure.old) receipt (C.state closure.new)) }
+    ensures form { IsReceipt receipt }
+    ensures valid { IsMeaning (C.state closure.old).meaning }
+    ensures configuration { IsConfiguration (C.state closure.old).meaning.config }
+{
+    // What these lend tells the form of the receipt and of the configuration.
+    let _domain = receipt.domain();
+    let _domains = closure.config().domains();
+    let copy = receipt.try_clone(alloc)?;
+    match closure.take(receipt) {
+        Ok(_) => Ok(copy),
+        Err(refused) => Err(ObserveError::Take(refused.why)),
+    }
+}
