@@ -22,7 +22,7 @@ both-bytes : (xs ys : List ℕ) → AreBytes xs → AreBytes ys → AreBytes (xs
 both-bytes [] ys a b = b
 both-bytes (x ∷ xs) ys a b = (a.0, both-bytes xs ys a.1 b)
 
-digest-bytes : (h : List ℕ) (n : ℕ) → AreBytes (digest_bytes h n)
+pub digest-bytes : (h : List ℕ) (n : ℕ) → AreBytes (digest_bytes h n)
 unfolding digest_bytes
 digest-bytes h zero = tt
 digest-bytes h (suc n) = both-bytes (digest_bytes h n) (to_be_bytes w32 (slice_index h n)) (digest-bytes h n) (high-bytes 4 (slice_index h n))

@@ -8,3 +8,17 @@ mod Buckets
 mod Agreement
 mod Whole
 mod WorkedRuns
+pub mod HeaderFacts
+pub mod HeldFacts
+pub mod SnapshotFacts
+pub mod WritingFacts
+pub mod FeedFacts
+pub mod OneFacts
+mod QuestionFacts
+mod Glue
+mod ReplyFacts
+mod Written
+mod DigestFacts
+mod CountFacts
+mod NextFacts
+pub mod ApartFacts

@@ -80,6 +80,14 @@ map-from f (z ∷ zs) y c =
       | inr d ↦ let rest = map-from f zs y d in (rest.0, contains-later z zs rest.0 rest.1, rest.2)
     ]
 
+pub map-to : {X Y : Type 0} (f : X → Y) (xs : List X) (x : X) → Contains xs x → Contains (map f xs) (f x)
+map-to f [] x c = absurd (contains-none x c)
+map-to f (z ∷ zs) x c =
+    elim (contains-cases z zs x c) [
+      | inl e ↦ subst (λ y. Contains (map f (z ∷ zs)) (f y)) (sym e) (contains-here (f z) (map f zs))
+      | inr d ↦ contains-later (f z) (map f zs) (f x) (map-to f zs x d)
+    ]
+
 pub any-from : {X : Type 0} (p : X → Bool) (xs : List X) → list_any p xs ≡ true → (x : X) × Contains xs x × (p x ≡ true)
 any-from p [] e = absurd (let f : false ≡ true = e in cc)
 any-from p (y ∷ ys) e =

@@ -1,3 +1,10 @@
 pub mod State
 pub mod World
 pub mod Convergence
+pub mod Entries
+pub mod Snapshots
+pub mod Reading
+pub mod Writing
+pub mod Session
+pub mod Lacking
+pub mod Spelling

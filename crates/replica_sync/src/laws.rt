@@ -1,11 +1,14 @@
-//! What is so of every world of replicas.
-ghost use Rattle.std.specs.Prelude.{◌≡◌, ◌≢◌, ℕ, ◌<◌, ◌≤◌, ◌++◌, ◌∷◌, [], List, Bool, true, length};
-ghost use Rattle.fed_config.specs.Configuration.{Configuration};
+//! What is so of every world of replicas, and of every snapshot.
+ghost use Rattle.std.specs.Prelude.{◌≡◌, ◌≢◌, ℕ, ◌<◌, ◌≤◌, ◌++◌, ◌∷◌, [], List, Bool, Some, true, length};
+ghost use Rattle.fed_config.specs.Configuration.{Configuration, IsConfiguration};
 ghost use Rattle.receipt_core.specs.Receipt.{Pair};
-ghost use Rattle.receipt_core.specs.Acceptance.{IsMeaning, IsMember, IsClosed};
+ghost use Rattle.receipt_core.specs.Acceptance.{Meaning, IsMeaning, IsMember, IsClosed};
 ghost use Rattle.replica_sync.specs.State.{State, no_state, meaning_of};
 ghost use Rattle.replica_sync.specs.World.{rules_of, run};
 ghost use Rattle.replica_sync.specs.Convergence.{AreEvents, Lacks, ComesFrom, IsPartOf, Exchange, HasAll, Settles, at_answer, after_taking};
+ghost use Rattle.replica_sync.specs.Snapshots.{IsSnapshot, RefusesSnapshot};
+ghost use Rattle.replica_sync.specs.declared.error.SyncError.{SyncError};
+ghost use Rattle.replica_sync.specs.declared.error.SyncError.TheVariants.{Io, NoMemory};
 ghost use Rattle.replica_sync.specs.declared.event.Event.{Event};
 ghost use Rattle.replica_sync.specs.declared.event.Event.TheVariants.{Save, Restart};
 
@@ -57,3 +60,15 @@ pub fn world()
 {
     receipt_core::laws::sets();
 }
+
+/// What a stream says is one: it is the text of one set at most, and none that a replica of a valid configuration reads
+/// has a fault. Only a source that fails, or want of memory, may keep it from being read.
+///
+/// - `one`: of two sets whose text it is, both are the same.
+/// - `read`: it has no fault where it is the text of a set.
+pub fn snapshots()
+    ensures one { (config : Configuration) (bytes : List ℕ) (m n : Meaning)
+        → IsSnapshot config (Some bytes) m → IsSnapshot config (Some bytes) n → m ≡ n }
+    ensures read { (config : Configuration) (bytes : List ℕ) (m : Meaning) (e : SyncError) → IsConfiguration config → e ≢ Io → e ≢ NoMemory
+        → IsSnapshot config (Some bytes) m → RefusesSnapshot config (Some bytes) e → ⊥ }
+{}

@@ -1,0 +1,9 @@
+use Rattle.replica_sync.proofs.OneFacts.{one_set}
+use Rattle.replica_sync.proofs.ApartFacts.{not_refused}
+use Rattle.replica_sync.proofs.laws.snapshots.Goals as goal
+
+pub returns-clause-one : goal.returns-clause-one
+returns-clause-one c = one_set
+
+pub returns-clause-read : goal.returns-clause-read
+returns-clause-read c = not_refused

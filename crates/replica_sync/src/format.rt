@@ -1,0 +1,10 @@
+//! The formats of snapshots.
+
+/// A format of snapshots.
+#[derive(Clone, Copy, Debug, PartialEq, Eq)]
+pub(crate) enum Format {
+    /// Receipts alone. It is read, and not written.
+    First,
+    /// Records of distrust and receipts.
+    Second,
+}
