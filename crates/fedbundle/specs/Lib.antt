@@ -1,3 +1,13 @@
 pub mod Canon
+pub mod CurrentBundle
+pub mod Distrust
+pub mod Explain
 pub mod Fault
+pub mod Judging
+pub mod Merge
+pub mod Observe
+pub mod Polls
+pub mod Run
 pub mod Status
+pub mod Stream
+pub mod Words

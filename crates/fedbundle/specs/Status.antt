@@ -1,13 +1,18 @@
 -- The exit status of each refusal.
 use Rattle.std.specs.Prelude.{ℕ}
-use Rattle.spiffe_name.specs.declared.error.NameError.{NameError}
 use Rattle.spiffe_name.specs.declared.error.NameError.TheVariants.{NoMemory as NoMemoryForName}
-use Rattle.bundle_doc.specs.declared.error.DocError.{DocError}
 use Rattle.bundle_doc.specs.declared.error.DocError.TheVariants.{NoMemory as NoMemoryForDocument}
+use Rattle.fed_config.specs.declared.error.ConfigError.TheVariants.{NoMemory as NoMemoryForConfig}
+use Rattle.trust_closure.specs.declared.error.TakeError.TheVariants.{NoMemory as NoMemoryToTake}
+use Rattle.bundle_view.specs.declared.observe_error.ObserveError.TheVariants.{Take as TakeFailed}
+use Rattle.bundle_view.specs.declared.poll_error.PollError.TheVariants.{NoMemory as NoMemoryToPoll, Io as PollIo}
+use Rattle.replica_sync.specs.declared.error.SyncError.TheVariants.{NoMemory as NoMemoryToSync, Io as SyncIo}
 use Rattle.receipt_core.specs.declared.error.ReadUpToError.{ReadUpToError}
 use Rattle.receipt_core.specs.declared.error.ReadUpToError.TheVariants.{Io as SourceFailed, NoMemory as NoMemoryForBytes}
 use Rattle.fedbundle.specs.declared.error.CommandError.{CommandError}
-use Rattle.fedbundle.specs.declared.error.CommandError.TheVariants.{Name, Document, Full, NoMemory, Io}
+use Rattle.fedbundle.specs.declared.error.CommandError.TheVariants.{Name, Document, Config, Take, Observe, Poll, Sync, Full, NoMemory, Io}
+use Rattle.fedbundle.specs.declared.run_error.RunError.{RunError}
+use Rattle.fedbundle.specs.declared.run_error.RunError.TheVariants.{Full as RunFull, NoMemory as RunNoMemory, Io as RunIo}
 
 -- 4 for want of memory of any kind, 3 for a failed device, else 1
 abbrev pub status_of : CommandError → ℕ
@@ -15,6 +20,18 @@ status_of (Name NoMemoryForName) = 4
 status_of (Name e) = 1
 status_of (Document NoMemoryForDocument) = 4
 status_of (Document e) = 1
+status_of (Config NoMemoryForConfig) = 4
+status_of (Config e) = 1
+status_of (Take NoMemoryToTake) = 4
+status_of (Take e) = 1
+status_of (Observe (TakeFailed NoMemoryToTake)) = 4
+status_of (Observe e) = 1
+status_of (Poll NoMemoryToPoll) = 4
+status_of (Poll PollIo) = 3
+status_of (Poll e) = 1
+status_of (Sync NoMemoryToSync) = 4
+status_of (Sync SyncIo) = 3
+status_of (Sync e) = 1
 status_of Full = 1
 status_of NoMemory = 4
 status_of Io = 3
@@ -23,3 +40,9 @@ status_of Io = 3
 abbrev pub of_read : ReadUpToError → CommandError
 of_read SourceFailed = Io
 of_read NoMemoryForBytes = NoMemory
+
+-- the error for a run that gave no report
+abbrev pub of_run : RunError → CommandError
+of_run RunFull = Full
+of_run RunNoMemory = NoMemory
+of_run RunIo = Io

@@ -1,13 +1,18 @@
 //! Why a command ends without its result, and the exit status that says so.
 ghost use Rattle.std.specs.Prelude.{◌≡◌};
-ghost use Rattle.fedbundle.specs.Status.{of_read, status_of};
-ghost use Rattle.fedbundle.specs.declared.error.CommandError.TheVariants.{Name, Document, NoMemory, Io};
+ghost use Rattle.fedbundle.specs.Status.{of_read, of_run, status_of};
+ghost use Rattle.fedbundle.specs.declared.error.CommandError.TheVariants.{Name, Document, Config, Take, Observe, Poll, Sync, NoMemory, Io};
 
+use crate::run_error::RunError;
 use bundle_doc::DocError;
+use bundle_view::{ObserveError, PollError};
+use fed_config::ConfigError;
 use receipt_core::{Fault, ReadUpToError};
+use replica_sync::SyncError;
 use spiffe_name::NameError;
 use std::alloc::AllocError;
 use thiserror::Error;
+use trust_closure::TakeError;
 
 /// Why a command ends without its result: the refusal of the part that it stands on, or a cause of
 /// its own.
@@ -19,6 +24,21 @@ pub enum CommandError {
     /// The input is no bundle document.
     #[error("{0}")]
     Document(DocError),
+    /// The configuration is none.
+    #[error("{0}")]
+    Config(ConfigError),
+    /// A record is not taken.
+    #[error("{0}")]
+    Take(TakeError),
+    /// Nothing is observed.
+    #[error("{0}")]
+    Observe(ObserveError),
+    /// The lines of polls have no log.
+    #[error("{0}")]
+    Poll(PollError),
+    /// A snapshot, a state file or a message of another replica is refused.
+    #[error("{0}")]
+    Sync(SyncError),
     /// The store is full.
     #[error("E1 Full")]
     Full,
@@ -38,9 +58,18 @@ pub fn status(error: &CommandError) -> u8
     match error {
         CommandError::Name(NameError::NoMemory) => 4,
         CommandError::Document(DocError::NoMemory) => 4,
+        CommandError::Config(ConfigError::NoMemory) => 4,
+        CommandError::Take(TakeError::NoMemory) => 4,
+        CommandError::Observe(ObserveError::Take(TakeError::NoMemory)) => 4,
+        CommandError::Poll(PollError::NoMemory) => 4,
+        CommandError::Sync(SyncError::NoMemory) => 4,
         CommandError::NoMemory => 4,
+        CommandError::Poll(PollError::Io) => 3,
+        CommandError::Sync(SyncError::Io) => 3,
         CommandError::Io => 3,
-        CommandError::Name(_) | CommandError::Document(_) | CommandError::Full => 1,
+        CommandError::Name(_) | CommandError::Document(_) | CommandError::Config(_) => 1,
+        CommandError::Take(_) | CommandError::Observe(_) | CommandError::Poll(_) => 1,
+        CommandError::Sync(_) | CommandError::Full => 1,
     }
 }
 
@@ -57,6 +86,58 @@ impl From<DocError> for CommandError {
 
     fn from(error: DocError) -> CommandError {
         CommandError::Document(error)
+    }
+}
+
+impl From<TakeError> for CommandError {
+    ghost from_gives = { λ e c. c ≡ Take e };
+
+    fn from(error: TakeError) -> CommandError {
+        CommandError::Take(error)
+    }
+}
+
+impl From<ObserveError> for CommandError {
+    ghost from_gives = { λ e c. c ≡ Observe e };
+
+    fn from(error: ObserveError) -> CommandError {
+        CommandError::Observe(error)
+    }
+}
+
+impl From<PollError> for CommandError {
+    ghost from_gives = { λ e c. c ≡ Poll e };
+
+    fn from(error: PollError) -> CommandError {
+        CommandError::Poll(error)
+    }
+}
+
+impl From<SyncError> for CommandError {
+    ghost from_gives = { λ e c. c ≡ Sync e };
+
+    fn from(error: SyncError) -> CommandError {
+        CommandError::Sync(error)
+    }
+}
+
+impl From<ConfigError> for CommandError {
+    ghost from_gives = { λ e c. c ≡ Config e };
+
+    fn from(error: ConfigError) -> CommandError {
+        CommandError::Config(error)
+    }
+}
+
+impl From<RunError> for CommandError {
+    ghost from_gives = { λ e c. c ≡ of_run e };
+
+    fn from(error: RunError) -> CommandError {
+        match error {
+            RunError::Full => CommandError::Full,
+            RunError::NoMemory => CommandError::NoMemory,
+            RunError::Io => CommandError::Io,
+        }
     }
 }
 

@@ -2,12 +2,45 @@
 //! streams.
 #![tactic(auto)]
 
+mod bundle;
 mod canon;
+mod command_name;
+mod complaint;
+mod distrust;
 mod error;
+mod explain;
 mod fault;
+mod judge;
+pub mod laws;
+mod merge;
+mod observe;
+mod polls;
+#[cfg(test)]
+mod polls_tests;
+mod report;
+#[cfg(test)]
+mod report_rows;
+#[cfg(test)]
+mod report_tests;
+mod run_error;
+mod state;
 #[cfg(test)]
 mod tests;
+mod words;
+#[cfg(test)]
+mod words_tests;
 
+pub use bundle::run_bundle;
 pub use canon::run_canon;
+pub use command_name::{CommandName, OptionName};
+pub use distrust::run_distrust;
 pub use error::{CommandError, status};
+pub use explain::run_explain;
 pub use fault::write_fault;
+pub use merge::run_merge;
+pub use observe::run_observe;
+pub use polls::run_polls;
+pub use report::{run_report, run_report_with};
+pub use run_error::RunError;
+pub use state::{StateLock, load_state, lock_state, save_state};
+pub use words::{Call, WordsError, read_words};

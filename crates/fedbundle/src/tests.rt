@@ -2,6 +2,8 @@
 //! every refusal.
 use super::*;
 use bundle_doc::DocError;
+use bundle_view::PollError;
+use fed_config::ConfigError;
 use receipt_core::{MemSink, MemSource};
 use spiffe_name::{NameError, TrustDomain};
 use std::alloc::{AllocError, Global};
@@ -108,7 +110,7 @@ fn tells(
 
 #[test]
 fn every_refusal_has_its_line_and_status(rt: HostRuntime) -> Result<(), Fail> {
-    use CommandError::{Document, Name};
+    use CommandError::{Config, Document, Name, Poll};
     let rows = [
         (Name(NameError::Empty), 1, "fedbundle: N1 Empty\n"),
         (Name(NameError::TooLong), 1, "fedbundle: N2 TooLong\n"),
@@ -148,6 +150,41 @@ fn every_refusal_has_its_line_and_status(rt: HostRuntime) -> Result<(), Fail> {
             "fedbundle: B7 CanonicalTooLong\n",
         ),
         (Document(DocError::NoMemory), 4, "fedbundle: B8 NoMemory\n"),
+        (Config(ConfigError::NotJson), 1, "fedbundle: C1 NotJson\n"),
+        (Config(ConfigError::Shape), 1, "fedbundle: C2 Shape\n"),
+        (Config(ConfigError::BadName), 1, "fedbundle: C3 BadName\n"),
+        (Config(ConfigError::BadUrl), 1, "fedbundle: C4 BadUrl\n"),
+        (
+            Config(ConfigError::BadProfile),
+            1,
+            "fedbundle: C5 BadProfile\n",
+        ),
+        (
+            Config(ConfigError::DoubleRelationship),
+            1,
+            "fedbundle: C6 DoubleRelationship\n",
+        ),
+        (Config(ConfigError::BadSeed), 1, "fedbundle: C7 BadSeed\n"),
+        (Config(ConfigError::TooMany), 1, "fedbundle: C8 TooMany\n"),
+        (Config(ConfigError::NoMemory), 4, "fedbundle: C9 NoMemory\n"),
+        (
+            Poll(PollError::NoRelationship),
+            1,
+            "fedbundle: P1 NoRelationship\n",
+        ),
+        (Poll(PollError::PastRange), 1, "fedbundle: P2 PastRange\n"),
+        (Poll(PollError::NoMemory), 4, "fedbundle: P3 NoMemory\n"),
+        (
+            Poll(PollError::BadLine(2)),
+            1,
+            "fedbundle: P4 BadLine line 2\n",
+        ),
+        (
+            Poll(PollError::BadMoment(u64::MAX)),
+            1,
+            "fedbundle: P5 BadMoment line 18446744073709551615\n",
+        ),
+        (Poll(PollError::Io), 3, "fedbundle: P6 Io\n"),
         (CommandError::Full, 1, "fedbundle: E1 Full\n"),
         (CommandError::NoMemory, 4, "fedbundle: E2 NoMemory\n"),
         (CommandError::Io, 3, "fedbundle: E3 Io\n"),

@@ -1,49 +1,39 @@
-// The program `fedbundle`: it reads its words, hands its standard streams to the command's function, and ends with
-// the exit status that the function's answer has.
+// The program `fedbundle`: it reads its words, hands its files, sockets and standard streams to the command's function,
+// and ends with the exit status that the function's answer has.
 #![tactic(auto)]
 
+mod commands;
+mod options;
+mod stop;
 mod words;
 
-use fedbundle::{CommandError, run_canon, status, write_fault};
-use receipt_core::{FromRead, FromWrite, write_all};
-use spiffe_name::TrustDomain;
-use std::io;
-use std::io::Stderr;
+use receipt_core::{FromWrite, write_all};
 use std::process::ExitCode;
-use std::rt::Env;
-use words::{Call, Stop};
+use stop::Stop;
 
 fn main(rt: HostRuntime) -> ExitCode {
-    let ended = match run(&rt) {
-        Ok(()) => 0,
-        Err(stop) => tell(&rt, rt.stderr(), &stop),
+    let ended = match commands::run(&rt) {
+        Ok(status) => status,
+        Err(stop) => tell(&rt, &stop),
     };
     ExitCode::from(ended)
 }
 
-fn run<R: Env + AllocGlobal + Input + Print>(rt: &R) -> Result<(), Stop> {
-    let words = words::of_process(rt)?;
-    match words::read_call(rt.alloc(), words.as_slice())? {
-        Call::Canon { domain } => Ok(canon(rt, domain)?),
-    }
-}
-
-fn canon<R: AllocGlobal + Input + Print>(rt: &R, domain: &str) -> Result<(), CommandError> {
-    let alloc = rt.alloc();
-    let domain = TrustDomain::read(alloc, domain)?;
-    let mut source = FromRead::new(rt.reader());
-    let mut sink = FromWrite::new(io::writer(rt));
-    run_canon(alloc, &domain, &mut source, &mut sink)
-}
-
 // Tells on standard error why the program stops, and answers its exit status. Help goes to standard output.
-fn tell<R: Print + Eprint>(rt: &R, stderr: Stderr, stop: &Stop) -> u8 {
-    let mut sink = FromWrite::new(stderr);
+fn tell(rt: &HostRuntime, stop: &Stop) -> u8 {
     let (ended, told) = match stop {
         Stop::Words(error) if error.use_stderr() => (2, error.print(rt).is_ok()),
         Stop::Words(error) => (0, error.print(rt).is_ok()),
-        Stop::Usage => (2, write_all(&mut sink, b"fedbundle: usage\n").is_ok()),
-        Stop::Refused(error) => (status(error), write_fault(error, &mut sink).is_ok()),
+        Stop::Usage => (2, say(rt, b"fedbundle: usage\n")),
+        Stop::BadKey => (1, say(rt, b"fedbundle: bad key\n")),
+        Stop::BadMoment => (1, say(rt, b"fedbundle: bad moment\n")),
+        Stop::NoBundle => (1, say(rt, b"fedbundle: no current bundle\n")),
+        Stop::NotAccepted => (1, say(rt, b"fedbundle: not accepted\n")),
+        Stop::Refused(error) => return stop::tell_fault(rt, error),
     };
     if told { ended } else { ended.max(3) }
+}
+
+fn say(rt: &HostRuntime, line: &[u8]) -> bool {
+    write_all(&mut FromWrite::new(rt.stderr()), line).is_ok()
 }

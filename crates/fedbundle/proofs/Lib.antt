@@ -1,0 +1,6 @@
+mod WordsFacts
+mod TakenFacts
+mod ComplaintFacts
+mod RunFacts
+mod OrderedFacts
+mod PollsFacts

@@ -1,0 +1,16 @@
+-- What was read is judged, each line took at least one byte, and at most one complaint comes of a line.
+use Rattle.std.proofs.Common.{◌+◌, ◌^◌, ◌<◌, ◌≤◌}
+use Rattle.receipt_core.specs.Streams.{stream_of, left_of}
+use Rattle.fedbundle.proofs.RunFacts.{SoFar}
+use Rattle.fedbundle.proofs.judge.take_lines.Given as goal
+
+abbrev pub invariant-lines : goal.invariant-lines
+invariant-lines g l = record {
+  so_far : SoFar (g.C.Closure.state l.fn.closure).meaning.config (g.R.Source.remaining l.fn.source) (stream_of g.R.Source.remaining l.lines l.source)
+      (g.C.Closure.state l.closure).meaning (g.E.Sink.contents l.fn.complaints) (g.E.Sink.contents l.complaints) l.number l.count;
+  below : l.number + left_of g.R.Source.budget l.lines l.source < 2 ^ 64;
+  few : l.count ≤ l.number;
+}
+
+abbrev pub decreases-lines : goal.decreases-lines
+decreases-lines g l = left_of g.R.Source.budget l.lines l.source

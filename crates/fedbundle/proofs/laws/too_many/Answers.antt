@@ -1,0 +1,5 @@
+use Rattle.fedbundle.proofs.OrderedFacts.{too_many_for_all}
+use Rattle.fedbundle.proofs.laws.too_many.Goals as goal
+
+pub returns : goal.returns
+returns c = too_many_for_all

@@ -1,0 +1,91 @@
+-- What the lines of a stream come to under a configuration: the receipts that are taken, and what is told of the others.
+use Rattle.std.specs.Prelude.{◌≡◌, ℕ, ◌+◌, ◌<◌, ◌≤◌, ◌⊎◌, ◌++◌, List, length, codes, decimal, Contains, Some, slice_get}
+use Rattle.std.specs.declared.cmp.Ordering.{Ordering}
+use Rattle.std.specs.Ordering.{nat_cmp}
+use Rattle.std.specs.List.Sorted.{IsStrictlySortedBy}
+use Rattle.fed_config.specs.Configuration.{Configuration}
+use Rattle.receipt_core.specs.Acceptance.{IsFitting}
+use Rattle.receipt_core.specs.Line.{IsLine, IsNoLine}
+use Rattle.receipt_core.specs.Lines.{Lines}
+use Rattle.receipt_core.specs.Receipt.{Receipt, IsReceipt, line, receipt_cmp}
+use Rattle.trust_closure.specs.Refusals.{IsOfUnknownDomain, IsOfWrongEndpoint}
+use Rattle.fedbundle.specs.declared.complaint.LineFault.{LineFault}
+use Rattle.fedbundle.specs.declared.complaint.LineFault.TheVariants.{NotCanonical, TooLong, UnknownDomain, WrongEndpoint, Cut}
+
+-- ---- what is taken
+
+-- The receipt fits, and its line is one of these.
+pub record IsTaken (c : Configuration) (texts : List (List ℕ)) (r : Receipt) : Type 0 where
+  pub is : IsReceipt r
+  pub fits : IsFitting c r
+  pub stands : Contains texts (line r)
+
+-- all of them: a set, kept as the list that rises
+pub record AreTaken (c : Configuration) (texts : List (List ℕ)) (receipts : List Receipt) : Type 0 where
+  pub rising : IsStrictlySortedBy receipt_cmp receipts
+  pub sound : (r : Receipt) → Contains receipts r → IsTaken c texts r
+  pub complete : (r : Receipt) → IsTaken c texts r → Contains receipts r
+
+-- There are more of them than a closure holds.
+pub record AreTooMany (c : Configuration) (texts : List (List ℕ)) : Type 0 where
+  pub some : List Receipt
+  pub rising : IsStrictlySortedBy receipt_cmp some
+  pub each : (r : Receipt) → Contains some r → IsTaken c texts r
+  pub many : 65536 < length some
+
+-- ---- what is told
+
+-- a line without a receipt that fits, and the cause
+abbrev pub IsRefused : Configuration → List ℕ → LineFault → Type 0
+IsRefused c text NotCanonical = (length text ≤ 8388608) × IsNoLine text
+IsRefused c text TooLong = 8388608 < length text
+IsRefused c text UnknownDomain = (r : Receipt) × IsLine text r × IsOfUnknownDomain c r
+IsRefused c text WrongEndpoint = (r : Receipt) × IsLine text r × IsOfWrongEndpoint c r
+IsRefused c text Cut = ⊥
+
+pub record Complaint : Type 0 where
+  pub number : ℕ
+  pub why : LineFault
+
+-- The line of this number, counted from 1, is refused for this cause.
+pub record IsOfLine (c : Configuration) (texts : List (List ℕ)) (x : Complaint) : Type 0 where
+  pub place : ℕ
+  pub number : x.number ≡ place + 1
+  pub text : List ℕ
+  pub stands : slice_get texts place ≡ Some text
+  pub refused : IsRefused c text x.why
+
+-- The lines are followed by bytes that no line feed ends, whatever they are.
+pub record IsOfRest (lines : Lines) (x : Complaint) : Type 0 where
+  pub number : x.number ≡ length lines.whole + 1
+  pub why : x.why ≡ Cut
+  pub more : 0 < length lines.rest
+
+abbrev pub IsComplaint : Configuration → Lines → Complaint → Type 0
+IsComplaint c lines x = IsOfLine c lines.whole x ⊎ IsOfRest lines x
+
+abbrev pub complaint_cmp : Complaint → Complaint → Ordering
+complaint_cmp x y = nat_cmp x.number y.number
+
+-- all complaints of the lines and their rest, in order
+pub record AreComplaints (c : Configuration) (lines : Lines) (complaints : List Complaint) : Type 0 where
+  pub rising : IsStrictlySortedBy complaint_cmp complaints
+  pub sound : (x : Complaint) → Contains complaints x → IsComplaint c lines x
+  pub complete : (x : Complaint) → IsComplaint c lines x → Contains complaints x
+
+-- the first of them, perhaps none and perhaps all
+pub record AreFirstComplaints (c : Configuration) (lines : Lines) (complaints : List Complaint) : Type 0 where
+  pub rising : IsStrictlySortedBy complaint_cmp complaints
+  pub sound : (x : Complaint) → Contains complaints x → IsComplaint c lines x
+  pub before : (x y : Complaint) → Contains complaints x → IsComplaint c lines y → y.number < x.number → Contains complaints y
+
+abbrev pub why_text : LineFault → List ℕ
+why_text NotCanonical = codes ": not canonical\n"
+why_text TooLong = codes ": too long\n"
+why_text UnknownDomain = codes ": unknown domain\n"
+why_text WrongEndpoint = codes ": wrong endpoint\n"
+why_text Cut = codes ": cut\n"
+
+-- a complaint's line, as `line 2: not canonical`
+abbrev pub complaint_text : Complaint → List ℕ
+complaint_text x = codes "line " ++ (decimal x.number ++ why_text x.why)

@@ -1,0 +1,46 @@
+//! `bundle`: the current document of a domain.
+ghost use Rattle.std.specs.Prelude.{◌≡◌, true, OnOk, IfOk, IfErr, IsErr};
+ghost use Rattle.std.specs.Io.KnownBytes.{Appends};
+ghost use Rattle.receipt_core.specs.Device.{AppendsBeginning};
+ghost use Rattle.fedbundle.specs.CurrentBundle.{PrintsCurrent, BeginsCurrent, bundle_text};
+ghost use Rattle.fedbundle.specs.declared.error.CommandError.TheVariants.{Io};
+
+use crate::error::CommandError;
+use bundle_doc::Document;
+use bundle_view::current;
+use receipt_core::{Fault, Sink, write_all};
+use spiffe_name::TrustDomain;
+use trust_closure::Closure;
+
+/// Writes the canonical text of the domain's current document as a line, and answers whether there is one. Where there
+/// is none, as for a domain that the configuration does not have, nothing is written. It takes no memory.
+///
+/// # Errors
+/// `Io` where the sink failed, which then holds a beginning of the line.
+pub fn run_bundle<C: Closure, W: Sink>(
+    closure: &C,
+    domain: &TrustDomain,
+    sink: &mut W,
+) -> Result<bool, CommandError>
+    ensures ok { IfOk result (PrintsCurrent (C.state closure.now).meaning domain.now (W.contents sink.old) (W.contents sink.new)) }
+    ensures io { IfErr result (λ e. (e ≡ Io) × (W.has_failed sink.new ≡ true)
+        × BeginsCurrent (C.state closure.now).meaning domain.now (W.contents sink.old) (W.contents sink.new)) }
+{
+    match current(closure, domain) {
+        Some(document) => {
+            write_document(document, sink)?;
+            Ok(true)
+        }
+        None => Ok(false),
+    }
+}
+
+fn write_document<W: Sink>(document: &Document, sink: &mut W) -> Result<(), Fault>
+    ensures ok { OnOk result (Appends (W.contents sink.old) (W.contents sink.new) (bundle_text document.now)) }
+    ensures beginning { AppendsBeginning (W.contents sink.old) (W.contents sink.new) (bundle_text document.now) }
+    ensures io { IsErr result → W.has_failed sink.new ≡ true }
+{
+    receipt_core::laws::pieces();
+    write_all(sink, document.canonical())?;
+    write_all(sink, b"\n")
+}

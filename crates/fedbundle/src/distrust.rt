@@ -1,0 +1,29 @@
+//! `distrust`: a key that vouches for nothing any more.
+ghost use Rattle.std.specs.Prelude.{◌≡◌, MatchResult};
+ghost use Rattle.fedbundle.specs.Distrust.{HoldsRecord, RefusesRecord};
+
+use crate::error::CommandError;
+use jwk_set::KeyId;
+use spiffe_name::TrustDomain;
+use trust_closure::{Closure, Distrusted};
+
+/// Distrusts the key in the domain, where it may have been distrusted before. It takes no memory.
+///
+/// # Errors
+/// `Take` with `UnknownDomain` where the domain is none of the configuration, or with `Full` where the record is not held
+/// and 4,096 are: then what is held is as it was.
+pub fn run_distrust<C: Closure>(
+    closure: &mut C,
+    domain: &TrustDomain,
+    key: KeyId,
+) -> Result<(), CommandError>
+    ensures { MatchResult result
+        (λ _. HoldsRecord (C.state closure.old).meaning (record { domain = domain.now; key = key }) (C.state closure.new).meaning)
+        (RefusesRecord (C.state closure.old).meaning (record { domain = domain.now; key = key }) (C.state closure.new).meaning) }
+{
+    match closure.distrust(domain, key) {
+        Ok(Distrusted::New { .. }) => Ok(()),
+        Ok(Distrusted::Already) => Ok(()),
+        Err(why) => Err(CommandError::Take(why)),
+    }
+}

@@ -1,0 +1,65 @@
+//! `explain`: the receipts by which a document is accepted.
+ghost use Rattle.std.specs.Prelude.{◌≡◌, ◌++◌, flat_map, IfErr, IfOk, IsErrOf, OnOk};
+ghost use Rattle.fedbundle.specs.Canon.{RefusesCanon};
+ghost use Rattle.fedbundle.specs.Explain.{Explains, FailsExplanation, receipt_line};
+ghost use Rattle.fedbundle.specs.declared.error.CommandError.TheVariants.{Io, NoMemory};
+
+use crate::error::CommandError;
+use bundle_doc::{Document, MAX_DOCUMENT_BYTES};
+use bundle_view::explain;
+use receipt_core::{Receipt, Sink, Source, read_up_to, write_all};
+use spiffe_name::TrustDomain;
+use std::alloc::{AllocError, Global};
+use trust_closure::Closure;
+
+/// Reads a bundle document and writes why it is accepted as one of the domain: the lines of the receipts of a shortest
+/// chain from a configured document to it, none for a configured one. Answers whether it is accepted; where it is not,
+/// nothing is written. It reads at most one byte more than a document may have, and nothing is written before the whole
+/// text is made.
+///
+/// # Errors
+/// `Document` where the bytes are no document, `NoMemory` where memory ran out: then nothing was written. `Io` where the
+/// source failed, and nothing was written, or where the sink failed, which then holds a beginning of the lines.
+pub fn run_explain<C: Closure, R: Source, W: Sink>(
+    alloc: Global,
+    closure: &C,
+    domain: &TrustDomain,
+    source: &mut R,
+    sink: &mut W,
+) -> Result<bool, CommandError>
+    ensures ok { IfOk result (Explains (R.remaining source.old) (R.remaining source.new) (C.state closure.now).meaning domain.now (W.contents sink.old) (W.contents sink.new)) }
+
+    // Every error but these two is the cause for which the bytes are refused.
+    ensures refused { IfErr result (λ e. (e ≡ Io → ⊥) → (e ≡ NoMemory → ⊥)
+        → RefusesCanon (R.remaining source.old) (R.remaining source.new) (W.contents sink.old) (W.contents sink.new) e) }
+    ensures io { IsErrOf result Io
+        → FailsExplanation (R.remaining source.old) (R.remaining source.new) (C.state closure.now).meaning domain.now (W.contents sink.old) (W.contents sink.new) (R.has_failed source.new) (W.has_failed sink.new) }
+    ensures memory { IsErrOf result NoMemory → W.contents sink.new ≡ W.contents sink.old }
+{
+    let bytes = read_up_to(alloc, source, MAX_DOCUMENT_BYTES + 1)?;
+    let document = Document::read(alloc, bytes.as_slice())?;
+    let Some(chain) = explain(alloc, closure, domain, &document)? else {
+        return Ok(false);
+    };
+    let text = render(alloc, chain.as_slice())?;
+    write_all(sink, text.as_slice())?;
+    Ok(true)
+}
+
+fn render(alloc: Global, chain: &[Receipt]) -> Result<Vec<u8>, AllocError>
+    ensures { IfOk result (λ text. text.items ≡ flat_map receipt_line chain.now) }
+{
+    let mut text = Vec::new(alloc);
+    'chain: for receipt in chain {
+        push_receipt(alloc, &mut text, receipt)?;
+    }
+    Ok(text)
+}
+
+fn push_receipt(alloc: Global, text: &mut Vec<u8>, receipt: &Receipt) -> Result<(), AllocError>
+    ensures { OnOk result (text.new.items ≡ text.old.items ++ receipt_line receipt.now) }
+{
+    let line = receipt.write_line(alloc)?;
+    text.extend_from_slice(line.as_slice())?;
+    text.extend_from_slice(b"\n")
+}

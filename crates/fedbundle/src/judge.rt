@@ -1,0 +1,108 @@
+//! The lines of a stream, taken one after another.
+ghost use Rattle.std.specs.Prelude.{◌≡◌, ◌⊎◌, ℕ, [], true, IfOk, IfErr, OnOk, IfSome, IsErrOf, MatchResult, List};
+ghost use Rattle.std.specs.Io.KnownBytes.{IsAtEnd};
+ghost use Rattle.fed_config.specs.Configuration.{IsConfiguration};
+ghost use Rattle.receipt_core.specs.Lines.{lines_of};
+ghost use Rattle.receipt_core.specs.Line.{IsLine};
+ghost use Rattle.fedbundle.specs.Judging.{JudgesText, FailsText, TriesText, HasJudged, StopsJudging};
+ghost use Rattle.fedbundle.specs.declared.run_error.RunError.TheVariants.{Io};
+
+use crate::complaint::{LineFault, complain};
+use crate::run_error::RunError;
+use receipt_core::{Line, LineBuf, LineError, Receipt, Sink, Source};
+use std::alloc::Global;
+use trust_closure::{Closure, TakeError};
+
+/// Takes every receipt that fits, and complains of each other line and of a rest that no line feed
+/// ends. Answers the number of complaints.
+pub(crate) fn take_lines<C: Closure, R: Source, E: Sink>(
+    alloc: Global,
+    closure: &mut C,
+    source: &mut R,
+    complaints: &mut E,
+) -> Result<u64, RunError>
+    requires config { IsConfiguration (C.state closure.old).meaning.config }
+    requires receipts { (C.state closure.old).meaning.held ≡ [] }
+    requires records { (C.state closure.old).meaning.records ≡ [] }
+    ensures ok { IfOk result (λ n. IfSome (R.remaining source.old) (λ bytes.
+        HasJudged (C.state closure.old).meaning.config (lines_of bytes) (C.state closure.new).meaning (E.contents complaints.old) (E.contents complaints.new) n)) }
+    ensures read { OnOk result (IsAtEnd (R.remaining source.new)) }
+    ensures stops { IfErr result (λ e. IfSome (R.remaining source.old) (λ bytes.
+        StopsJudging (C.state closure.old).meaning.config (lines_of bytes) (E.contents complaints.old) (E.contents complaints.new) e)) }
+    ensures io { IsErrOf result Io → (R.has_failed source.new ≡ true) ⊎ (E.has_failed complaints.new ≡ true) }
+{
+    let mut lines = LineBuf::new(alloc);
+    let mut number = 0u64;
+    let mut count = 0u64;
+    'lines: loop {
+        match lines.next_line(source)? {
+            Line::Text(text) => {
+                number += 1;
+                count += take_text(alloc, closure, complaints, number, text)?;
+            }
+            Line::TooLong => {
+                number += 1;
+                complain(complaints, number, LineFault::TooLong)?;
+                count += 1;
+            }
+            Line::Cut => {
+                complain(complaints, number + 1, LineFault::Cut)?;
+                return Ok(count + 1);
+            }
+            Line::End => return Ok(count),
+        }
+    }
+}
+
+/// Takes the receipt of a line, or complains of the line. Answers the number of complaints.
+fn take_text<C: Closure, E: Sink>(
+    alloc: Global,
+    closure: &mut C,
+    complaints: &mut E,
+    number: u64,
+    text: &[u8],
+) -> Result<u64, RunError>
+    ensures { TriesText (C.state closure.old) text.now number (C.state closure.new) (E.contents complaints.old) (E.contents complaints.new) (E.has_failed complaints.new) result }
+{
+    match judge(alloc, closure, text)? {
+        Some(why) => {
+            complain(complaints, number, why)?;
+            Ok(1)
+        }
+        None => Ok(0),
+    }
+}
+
+fn judge<C: Closure>(
+    alloc: Global,
+    closure: &mut C,
+    text: &[u8],
+) -> Result<Option<LineFault>, RunError>
+    ensures { MatchResult result (JudgesText (C.state closure.old) text.now (C.state closure.new)) (FailsText (C.state closure.old) text.now) }
+{
+    match Receipt::read_line(alloc, text) {
+        Ok(receipt) => take_receipt(closure, receipt),
+        Err(LineError::NotCanonical) => Ok(Some(LineFault::NotCanonical)),
+        Err(LineError::TooLong) => Ok(Some(LineFault::TooLong)),
+        Err(LineError::NoMemory) => Err(RunError::NoMemory),
+    }
+}
+
+fn take_receipt<C: Closure>(
+    closure: &mut C,
+    receipt: Receipt,
+) -> Result<Option<LineFault>, RunError>
+    ensures { (text : List ℕ) → IsLine text receipt
+        → MatchResult result (JudgesText (C.state closure.old) text (C.state closure.new)) (FailsText (C.state closure.old) text) }
+{
+    let refused = match closure.take(receipt) {
+        Ok(_) => return Ok(None),
+        Err(refused) => refused,
+    };
+    match refused.why {
+        TakeError::UnknownDomain => Ok(Some(LineFault::UnknownDomain)),
+        TakeError::WrongEndpoint => Ok(Some(LineFault::WrongEndpoint)),
+        TakeError::Full => Err(RunError::Full),
+        TakeError::NoMemory | TakeError::ConfigDiffers => Err(RunError::NoMemory),
+    }
+}

@@ -1,0 +1,119 @@
+//! The state file: the snapshot of what a replica holds, kept between two commands.
+//!
+//! What a file holds is outside all contracts: these calls are tested, and proved only to be safe and to return.
+use fed_config::Config;
+use receipt_core::{FromRead, FromWrite};
+use replica_sync::{SyncError, read_snapshot, write_snapshot};
+use std::alloc::{AllocError, Global};
+use std::fs::{File, Files, OpenFile, OpenOptions};
+use std::io::BufWriter;
+use std::{fs, io};
+use trust_closure::Closure;
+
+/// The bytes that are gathered before they are written to the file.
+const BUFFER_BYTES: usize = 65_536;
+
+/// Keeps other commands that write the same state file waiting, until it is dropped or the process ends. It is an
+/// exclusive lock of the file named like the state file with `.lock` behind it, which stays where it is.
+#[derive(Drop)]
+pub struct StateLock {
+    _file: File,
+}
+
+/// Waits until no other command that writes this state file is at work.
+///
+/// # Errors
+/// - [`SyncError::Io`]: the lock's file cannot be made or locked,
+/// - [`SyncError::NoMemory`]: memory ran out.
+pub fn lock_state<R: Files<File = File>>(
+    files: &R,
+    alloc: Global,
+    path: &str,
+) -> Result<StateLock, SyncError> {
+    let name = with_ending(alloc, path, ".lock")?;
+    let mut options = OpenOptions::new();
+    options.write(true).create(true);
+    let file = told(options.open(files, name.as_str()))?;
+    told(file.lock())?;
+    Ok(StateLock { _file: file })
+}
+
+/// The closure whose snapshot stands in the file. A file that is not there stands for one that holds nothing.
+///
+/// # Errors
+/// Those of [`read_snapshot`]. `Io` also where the file cannot be opened for another cause than that it is not there.
+pub fn load_state<C: Closure, R: Files>(
+    files: &R,
+    alloc: Global,
+    config: &Config,
+    path: &str,
+) -> Result<C, SyncError> {
+    match fs::open(files, path) {
+        Ok(file) => read_snapshot(alloc, config, &mut FromRead::new(file)),
+        Err(error) if error.kind() == io::ErrorKind::NotFound => Ok(C::new(alloc, config)?),
+        Err(_) => Err(SyncError::Io),
+    }
+}
+
+/// Writes the closure's snapshot to the file named like the state file with `.new` behind it, has the system write that
+/// to the disk, gives it the state file's name, and has the system write the folder. So at any fault, and where the
+/// process is killed, the state file is as it was or as it is to be.
+///
+/// # Errors
+/// - [`SyncError::Io`]: the system refused a step,
+/// - [`SyncError::NoMemory`]: memory ran out.
+pub fn save_state<C: Closure, R: Files>(
+    files: &R,
+    alloc: Global,
+    closure: &C,
+    path: &str,
+) -> Result<(), SyncError> {
+    let name = with_ending(alloc, path, ".new")?;
+    let file = told(fs::create(files, name.as_str()))?;
+    let buffer = told(BufWriter::with_capacity(alloc, BUFFER_BYTES, file))?;
+    let mut sink = FromWrite::new(buffer);
+    write_snapshot(alloc, closure, &mut sink)?;
+    let file = flushed(sink)?;
+    told(file.sync_all())?;
+    drop(file);
+    told(fs::rename(files, name.as_str(), path))?;
+    sync_folder(files, path)
+}
+
+// The file behind the buffer, once the buffer has given it all.
+fn flushed<W: io::Write + Drop>(mut sink: FromWrite<BufWriter<W>>) -> Result<W, SyncError> {
+    if sink.flush().is_err() {
+        return Err(SyncError::Io);
+    }
+    match sink.into_inner().into_inner() {
+        Ok(file) => Ok(file),
+        Err(_) => Err(SyncError::Io),
+    }
+}
+
+// Has the system write the folder in which the file lies, so that the new name outlasts a loss of power.
+fn sync_folder<R: Files>(files: &R, path: &str) -> Result<(), SyncError> {
+    let folder = match path.rfind('/') {
+        Some(0) => "/",
+        Some(end) => &path[..end],
+        None => ".",
+    };
+    let opened = told(fs::open(files, folder))?;
+    told(opened.sync_all())
+}
+
+fn with_ending(alloc: Global, path: &str, ending: &str) -> Result<String, AllocError> {
+    let mut name = String::new(alloc);
+    name.push_str(path)?;
+    name.push_str(ending)?;
+    Ok(name)
+}
+
+// Of all faults of the system want of memory alone has a name of its own.
+fn told<T: Drop>(answer: io::Result<T>) -> Result<T, SyncError> {
+    match answer {
+        Ok(value) => Ok(value),
+        Err(error) if error.kind() == io::ErrorKind::OutOfMemory => Err(SyncError::NoMemory),
+        Err(_) => Err(SyncError::Io),
+    }
+}

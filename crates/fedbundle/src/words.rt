@@ -1,0 +1,128 @@
+//! Reads the words of the command line.
+ghost use Rattle.std.specs.Prelude.{◌≡◌, ℕ, false, Some, IfOk, IfSome, map};
+ghost use Rattle.clap.specs.Words.{app_of, found_of, rule_of, rows_of};
+ghost use Rattle.fedbundle.specs.Words.{Calls, given, leaf, name_text, rule_of_option, the_command};
+
+use crate::command_name::{COMMANDS, CommandName, OptionName};
+use clap::error::ErrorKind;
+use clap::{Arg, ArgAction, ArgMatches, Command};
+use std::alloc::{AllocError, AllocFailed, Global};
+
+/// What the words ask for.
+#[derive(Debug, Drop)]
+pub struct Call<'a> {
+    /// The subcommand.
+    pub name: CommandName,
+    /// The texts of its options, in the order of [`CommandName::options`].
+    pub texts: Vec<&'a str>,
+}
+
+/// Why words are no call.
+#[derive(Debug, Drop)]
+pub enum WordsError {
+    /// They are none that the command has, or ask for its help or version.
+    Words(clap::Error),
+    /// The subcommand, or one of its options, is missing.
+    Usage,
+    /// Memory ran out.
+    NoMemory,
+}
+
+/// Reads the words behind the program's name, as `clap` reads them for the command with these subcommands, each of
+/// whose options has one text: the subcommand, and the text of each of its options, all of which it wants.
+///
+/// # Errors
+/// - [`WordsError::Words`]: `clap` refuses the words, or they ask for help or for the version,
+/// - [`WordsError::Usage`]: `clap` takes the words, and the subcommand or an option of it is missing,
+/// - [`WordsError::NoMemory`]: memory ran out.
+pub fn read_words<'a>(alloc: Global, words: &'a [&'a str]) -> Result<Call<'a>, WordsError>
+    ensures { IfOk result (λ call. Calls (map (λ w. w.now) words.now) call.name (map (λ t. t.now) call.texts.items)) }
+{
+    let matches = command(alloc)?.try_get_matches_from(words)?;
+    let Some((word, options)) = matches.subcommand() else {
+        return Err(WordsError::Usage);
+    };
+    let Some(name) = name_of(word) else {
+        return Err(WordsError::Usage);
+    };
+    let texts = texts_of(alloc, options, name.options())?;
+    Ok(Call { name, texts })
+}
+
+impl From<AllocError> for WordsError {
+    fn from(_error: AllocError) -> WordsError {
+        WordsError::NoMemory
+    }
+}
+
+impl From<clap::Error> for WordsError {
+    fn from(error: clap::Error) -> WordsError {
+        match error.kind() {
+            ErrorKind::OutOfMemory => WordsError::NoMemory,
+            _ => WordsError::Words(error),
+        }
+    }
+}
+
+impl<T: Drop> From<AllocFailed<T>> for WordsError {
+    fn from(_error: AllocFailed<T>) -> WordsError {
+        WordsError::NoMemory
+    }
+}
+
+fn command<'a>(alloc: Global) -> Result<Command<'a>, AllocError>
+    ensures { IfOk result (λ c. app_of c ≡ the_command) }
+{
+    let mut command = Command::new(alloc, "fedbundle")
+        .version("0.1.0")
+        .about("Holds the federated trust bundles of one replica")
+        .no_binary_name(true);
+    'names: for &name in COMMANDS.as_slice() {
+        command = command.subcommand(subcommand(alloc, name)?)?;
+    }
+    Ok(command)
+}
+
+fn subcommand<'a>(alloc: Global, name: CommandName) -> Result<Command<'a>, AllocError>
+    ensures app { IfOk result (λ c. app_of c ≡ leaf name) }
+{
+    let mut command = Command::new(alloc, name.text()).about(name.about());
+    'options: for &option in name.options() {
+        command = command.arg(argument(alloc, option))?;
+    }
+    Ok(command)
+}
+
+fn argument<'a>(alloc: Global, option: OptionName) -> Arg<'a>
+    ensures rule { rule_of result ≡ rule_of_option option }
+    ensures local { result.global ≡ false }
+{
+    Arg::new(alloc, option.text())
+        .long(option.text())
+        .value_name(option.value_name())
+        .help(option.help())
+        .action(ArgAction::Set)
+}
+
+fn name_of(word: &str) -> Option<CommandName>
+    ensures { IfSome result (λ name. word.now ≡ name_text name) }
+{
+    COMMANDS.iter().find(|name| name.text() == word).copied()
+}
+
+fn texts_of<'a>(
+    alloc: Global,
+    matches: &ArgMatches<'a>,
+    options: &[OptionName],
+) -> Result<Vec<&'a str>, WordsError>
+    ensures { IfOk result (λ texts. map (given (rows_of (found_of matches.now))) options.now ≡ map Some (map (λ t. t.now) texts.items)) }
+{
+    let mut texts = Vec::new(alloc);
+    'options: for &option in options {
+        let Some(text) = matches.get_str(option.text()) else {
+            return Err(WordsError::Usage);
+        };
+        texts.push(text)?;
+    }
+    Ok(texts)
+}

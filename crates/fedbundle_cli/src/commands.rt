@@ -1,0 +1,217 @@
+// The subcommands: each reads its options in their order, then its state, runs the command's function over the streams,
+// and writes its state.
+use crate::stop::Stop;
+use crate::{options, words};
+use bundle_view::Verdict;
+use fed_config::Config;
+use fedbundle::{
+    Call, CommandError, CommandName, StateLock, load_state, lock_state, read_words, run_bundle,
+    run_canon, run_distrust, run_explain, run_merge, run_observe, run_polls, run_report,
+    save_state,
+};
+use receipt_core::{FromRead, FromWrite};
+use std::io::{Stdin, Stdout};
+use trust_closure::IndexedClosure;
+
+/// What the words ask for, done: the exit status 0, or 1 where an input was refused and the rest is done.
+pub(crate) fn run(rt: &HostRuntime) -> Result<u8, Stop> {
+    let words = words::of_process(rt)?;
+    let texts = words::texts(rt.alloc(), words.as_slice())?;
+    let call = read_words(rt.alloc(), texts.as_slice())?;
+    carry_out(rt, &call)
+}
+
+fn carry_out(rt: &HostRuntime, call: &Call<'_>) -> Result<u8, Stop> {
+    match call.texts.as_slice() {
+        [domain] if call.name == CommandName::Canon => canon(rt, domain),
+        [config, given @ ..] => {
+            let config = options::config(rt, rt.alloc(), config)?;
+            carry_out_under(rt, call.name, &config, given)
+        }
+        _ => Err(Stop::Usage),
+    }
+}
+
+fn carry_out_under(
+    rt: &HostRuntime,
+    name: CommandName,
+    config: &Config,
+    given: &[&str],
+) -> Result<u8, Stop> {
+    match (name, given) {
+        (CommandName::Report, []) => report(rt, config),
+        (CommandName::Merge, [state]) => merge(rt, config, state),
+        (CommandName::Bundle, [state, domain]) => bundle(rt, config, state, domain),
+        (CommandName::Explain, [state, domain]) => explain(rt, config, state, domain),
+        (CommandName::Polls, [state, now]) => polls(rt, config, state, now),
+        (CommandName::Distrust, [state, domain, key]) => distrust(rt, config, state, domain, key),
+        (CommandName::Observe, [state, domain, endpoint, key]) => {
+            observe(rt, config, state, domain, endpoint, key)
+        }
+        _ => Err(Stop::Usage),
+    }
+}
+
+fn canon(rt: &HostRuntime, domain: &str) -> Result<u8, Stop> {
+    let domain = options::domain(rt.alloc(), domain)?;
+    run_canon(rt.alloc(), &domain, &mut input(rt), &mut output(rt))?;
+    Ok(0)
+}
+
+fn report(rt: &HostRuntime, config: &Config) -> Result<u8, Stop> {
+    let mut errors = FromWrite::new(rt.stderr());
+    match run_report(
+        rt.alloc(),
+        config,
+        &mut input(rt),
+        &mut output(rt),
+        &mut errors,
+    ) {
+        Ok(0) => Ok(0),
+        Ok(_) => Ok(1),
+        Err(error) => Err(Stop::Refused(CommandError::from(error))),
+    }
+}
+
+fn bundle(rt: &HostRuntime, config: &Config, state: &str, domain: &str) -> Result<u8, Stop> {
+    let closure = held(rt, config, state)?;
+    bundle_of(rt, &closure, domain)
+}
+
+fn bundle_of(rt: &HostRuntime, closure: &IndexedClosure, domain: &str) -> Result<u8, Stop> {
+    let domain = options::domain(rt.alloc(), domain)?;
+    if run_bundle(closure, &domain, &mut output(rt))? {
+        Ok(0)
+    } else {
+        Err(Stop::NoBundle)
+    }
+}
+
+fn explain(rt: &HostRuntime, config: &Config, state: &str, domain: &str) -> Result<u8, Stop> {
+    let closure = held(rt, config, state)?;
+    explain_in(rt, &closure, domain)
+}
+
+fn explain_in(rt: &HostRuntime, closure: &IndexedClosure, domain: &str) -> Result<u8, Stop> {
+    let domain = options::domain(rt.alloc(), domain)?;
+    if run_explain(
+        rt.alloc(),
+        closure,
+        &domain,
+        &mut input(rt),
+        &mut output(rt),
+    )? {
+        Ok(0)
+    } else {
+        Err(Stop::NotAccepted)
+    }
+}
+
+fn observe(
+    rt: &HostRuntime,
+    config: &Config,
+    state: &str,
+    domain: &str,
+    endpoint: &str,
+    key: &str,
+) -> Result<u8, Stop> {
+    let _lock = locked(rt, state)?;
+    let mut closure = held(rt, config, state)?;
+    let observed = observe_in(rt, &mut closure, domain, endpoint, key);
+    saved(rt, &closure, state, observed)
+}
+
+fn observe_in(
+    rt: &HostRuntime,
+    closure: &mut IndexedClosure,
+    domain: &str,
+    endpoint: &str,
+    key: &str,
+) -> Result<(), Stop> {
+    let domain = options::domain(rt.alloc(), domain)?;
+    let endpoint = options::endpoint(rt.alloc(), endpoint)?;
+    let key = options::key(key)?;
+    let verdict = Verdict { endpoint, key };
+    run_observe(
+        rt.alloc(),
+        closure,
+        &domain,
+        &verdict,
+        &mut input(rt),
+        &mut output(rt),
+    )?;
+    Ok(())
+}
+
+fn merge(rt: &HostRuntime, config: &Config, state: &str) -> Result<u8, Stop> {
+    let _lock = locked(rt, state)?;
+    let mut closure = held(rt, config, state)?;
+    let merged = run_merge(rt.alloc(), &mut closure, &mut input(rt), &mut output(rt));
+    saved(rt, &closure, state, merged.map_err(Stop::Refused))
+}
+
+fn distrust(
+    rt: &HostRuntime,
+    config: &Config,
+    state: &str,
+    domain: &str,
+    key: &str,
+) -> Result<u8, Stop> {
+    let _lock = locked(rt, state)?;
+    let mut closure = held(rt, config, state)?;
+    let distrusted = distrust_in(rt, &mut closure, domain, key);
+    saved(rt, &closure, state, distrusted)
+}
+
+fn distrust_in(
+    rt: &HostRuntime,
+    closure: &mut IndexedClosure,
+    domain: &str,
+    key: &str,
+) -> Result<(), Stop> {
+    let domain = options::domain(rt.alloc(), domain)?;
+    let key = options::key(key)?;
+    run_distrust(closure, &domain, key)?;
+    Ok(())
+}
+
+fn polls(rt: &HostRuntime, config: &Config, state: &str, now: &str) -> Result<u8, Stop> {
+    let closure = held(rt, config, state)?;
+    polls_of(rt, &closure, now)
+}
+
+fn polls_of(rt: &HostRuntime, closure: &IndexedClosure, now: &str) -> Result<u8, Stop> {
+    let now = options::moment(now)?;
+    run_polls(rt.alloc(), closure, now, &mut input(rt), &mut output(rt))?;
+    Ok(0)
+}
+
+fn input(rt: &HostRuntime) -> FromRead<Stdin> {
+    FromRead::new(rt.stdin())
+}
+
+fn output(rt: &HostRuntime) -> FromWrite<Stdout> {
+    FromWrite::new(rt.stdout())
+}
+
+fn held(rt: &HostRuntime, config: &Config, state: &str) -> Result<IndexedClosure, CommandError> {
+    Ok(load_state(rt, rt.alloc(), config, state)?)
+}
+
+fn locked(rt: &HostRuntime, state: &str) -> Result<StateLock, CommandError> {
+    Ok(lock_state(rt, rt.alloc(), state)?)
+}
+
+// Writes the state where the command is done.
+fn saved(
+    rt: &HostRuntime,
+    closure: &IndexedClosure,
+    state: &str,
+    done: Result<(), Stop>,
+) -> Result<u8, Stop> {
+    done?;
+    match save_state(rt, rt.alloc(), closure, state) {
+        Ok(()) => Ok(0),
+        Err(error) => Err(Stop::Refused(CommandError::Sync(error))),
+    }
+}

@@ -1,0 +1,54 @@
+// The texts of options, read.
+use crate::stop::Stop;
+use bundle_view::read_seconds;
+use fed_config::Config;
+use fedbundle::CommandError;
+use jiff::Timestamp;
+use jwk_set::KeyId;
+use receipt_core::{FromRead, read_up_to};
+use spiffe_name::{SpiffeId, TrustDomain};
+use std::alloc::Global;
+use std::fs;
+use std::fs::Files;
+
+/// The configuration in the file.
+pub(crate) fn config<R: Files>(
+    files: &R,
+    alloc: Global,
+    path: &str,
+) -> Result<Config, CommandError> {
+    let Ok(file) = fs::open(files, path) else {
+        return Err(CommandError::Io);
+    };
+    let bytes = read_up_to(alloc, &mut FromRead::new(file), usize::MAX)?;
+    Ok(Config::read(alloc, bytes.as_slice())?)
+}
+
+pub(crate) fn domain(alloc: Global, text: &str) -> Result<TrustDomain, CommandError> {
+    Ok(TrustDomain::read(alloc, text)?)
+}
+
+pub(crate) fn endpoint(alloc: Global, text: &str) -> Result<SpiffeId, CommandError> {
+    Ok(SpiffeId::read(alloc, text)?)
+}
+
+/// The key id of 64 lower-case hexadecimal digits.
+pub(crate) fn key(text: &str) -> Result<KeyId, Stop> {
+    let is_lower = text
+        .bytes()
+        .all(|b| b.is_ascii_digit() || (b'a'..=b'f').contains(&b));
+    let mut id = [0; 32];
+    if is_lower && hex::decode_to_slice(text, &mut id).is_ok() {
+        Ok(KeyId(id))
+    } else {
+        Err(Stop::BadKey)
+    }
+}
+
+/// The moment of so many Unix seconds.
+pub(crate) fn moment(text: &str) -> Result<Timestamp, Stop> {
+    let Some(seconds) = read_seconds(text.as_bytes()) else {
+        return Err(Stop::BadMoment);
+    };
+    Timestamp::from_second(seconds).map_err(|_| Stop::BadMoment)
+}
