@@ -1,5 +1,5 @@
-//! The command's functions, each over a source and a sink: the program hands them its standard
-//! streams.
+//! The command's functions, each over sources and sinks: the program hands them its standard
+//! streams. Beside them the words of the command line, and the state file.
 #![tactic(auto)]
 
 mod bundle;

@@ -1,6 +1,7 @@
 //! The state file: the snapshot of what a replica holds, kept between two commands.
 //!
-//! What a file holds is outside all contracts: these calls are tested, and proved only to be safe and to return.
+//! What a file holds is outside all contracts: these calls are proved only to be safe and to return, and shown by runs
+//! of the program.
 use fed_config::Config;
 use receipt_core::{FromRead, FromWrite};
 use replica_sync::{SyncError, read_snapshot, write_snapshot};
@@ -56,8 +57,8 @@ pub fn load_state<C: Closure, R: Files>(
 }
 
 /// Writes the closure's snapshot to the file named like the state file with `.new` behind it, has the system write that
-/// to the disk, gives it the state file's name, and has the system write the folder. So at any fault, and where the
-/// process is killed, the state file is as it was or as it is to be.
+/// to the disk, gives it the state file's name, and has the system write the folder. So where a rename is one step, the
+/// state file is as it was or as it is to be, at any fault and wherever the process is killed. No test shows this.
 ///
 /// # Errors
 /// - [`SyncError::Io`]: the system refused a step,
