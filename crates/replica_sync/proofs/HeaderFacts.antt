@@ -1,10 +1,10 @@
 -- First lines, from their parts and back.
-use Rattle.std.proofs.Common.{◌≡◌, ℕ, ◌≤◌, ◌<◌, ◌+◌, List, [], ◌∷◌, ◌++◌, length, length-append, length-take, take, drop, codes, refl, ap, sym, ◌∙◌, subst, arith, append_assoc}
+use Rattle.std.proofs.Common.{◌≡◌, ℕ, ◌≤◌, ◌<◌, ◌+◌, List, [], ◌++◌, length, length-append, length-take, take, drop, codes, ap, sym, ◌∙◌, arith, append_assoc}
 use Rattle.std.proofs.lemmas.List.{append_cancel_left, append_cancel_right, take-append-drop}
 use Rattle.std.proofs.Math.Seq.{drop-append_seam, take-append_seam}
-use Rattle.std.specs.Prelude.{decimal, ◌^◌}
+use Rattle.std.specs.Prelude.{decimal}
 use Rattle.std.proofs.lemmas.Fmt.{decimal_injective}
-use Rattle.replica_sync.specs.Snapshots.{AreDigits, IsSplit, IsHeader, IsNoHeader, header_of, count_of, count_beginning, records_part, ended}
+use Rattle.replica_sync.specs.Snapshots.{IsSplit, IsHeader, header_of, count_beginning}
 use Rattle.replica_sync.specs.declared.format.Format.{Format}
 
 abbrev first_label : List ℕ

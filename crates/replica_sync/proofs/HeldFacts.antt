@@ -1,9 +1,9 @@
 -- The lines of what is held rise, and a line above the last one joins them at their end.
-use Rattle.std.proofs.Common.{◌≡◌, ℕ, ◌+◌, ◌<◌, List, [], ◌∷◌, ◌++◌, length, map, ◌⊎◌, inl, inr, refl, sym, ap, ◌∙◌, subst, arith, fold, append_assoc, append-nil, length-append}
+use Rattle.std.proofs.Common.{◌≡◌, ℕ, ◌+◌, List, [], ◌∷◌, ◌++◌, length, map, refl, sym, ap, ◌∙◌, subst, arith, fold, append_assoc, append-nil, length-append}
 use Rattle.std.specs.declared.cmp.Ordering.{Ordering}
-use Rattle.std.specs.declared.cmp.Ordering.TheVariants.{Less, Equal, Greater}
-use Rattle.std.specs.Ordering.{nat_cmp, ordering_reverse}
-use Rattle.std.specs.Cmp.{IsTotalOrder, tied_itself}
+use Rattle.std.specs.declared.cmp.Ordering.TheVariants.{Less, Greater}
+use Rattle.std.specs.Ordering.{nat_cmp}
+use Rattle.std.specs.Cmp.{IsTotalOrder}
 use Rattle.std.specs.Cmp.Lexicographic.{slice_cmp, nat_list_cmp_total}
 use Rattle.std.specs.List.{AllByRecursion}
 use Rattle.std.specs.List.Sorted.{IsStrictlySortedBy}
@@ -14,8 +14,8 @@ use Rattle.receipt_core.specs.Receipt.{Receipt, IsReceipt, line, receipt_cmp, Is
 use Rattle.receipt_core.specs.Acceptance.{Meaning, IsMeaning}
 use Rattle.receipt_core.specs.Rising.{with_item, placed}
 use Rattle.receipt_core.proofs.RisingFacts.{turned}
-use Rattle.replica_sync.specs.Entries.{IsEntry, IsNextEntry, TakesEntry, TakesText, IsAbove, IsWanted, entry_line, with_entry}
-use Rattle.replica_sync.specs.Snapshots.{IsTold, held_lines, last_of, last_line, next_number, wanted_of}
+use Rattle.replica_sync.specs.Entries.{TakesText, IsAbove, IsWanted, entry_line, with_entry}
+use Rattle.replica_sync.specs.Snapshots.{IsTold, held_lines, last_of, last_line, wanted_of}
 use Rattle.replica_sync.specs.Reading.{IsFurther}
 use Rattle.replica_sync.specs.declared.entry.Entry.{Entry}
 use Rattle.replica_sync.specs.declared.entry.Entry.TheVariants.{Record, Receipt as AReceipt}

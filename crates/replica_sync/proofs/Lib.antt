@@ -15,10 +15,15 @@ pub mod WritingFacts
 pub mod FeedFacts
 pub mod OneFacts
 mod QuestionFacts
-mod Glue
 mod ReplyFacts
-mod Written
 mod DigestFacts
 mod CountFacts
+mod PlaceFacts
+mod JudgeFacts
+mod JoiningFacts
+mod AbsorbFacts
 mod NextFacts
 pub mod ApartFacts
+mod GatheringFacts
+mod SoundFacts
+mod PlayingFacts

@@ -53,7 +53,7 @@ same_relationship (x ∷ xs) a b rising has holds e =
       ]
     ]
 
-fits_right : (c : Configuration) (r : Receipt) → IsConfiguration c → IsFitting c r → IsOfWrongEndpoint c r → ⊥
+pub fits_right : (c : Configuration) (r : Receipt) → IsConfiguration c → IsFitting c r → IsOfWrongEndpoint c r → ⊥
 fits_right c r is fits wrong =
     let one : fits.relationship ≡ wrong.relationship = same_relationship c.relationships fits.relationship wrong.relationship is.rising_relationships fits.has wrong.has (fits.domain ∙ sym wrong.domain) in
     wrong.other (sym (ap (λ (x : Relationship). x.endpoint) one) ∙ fits.endpoint)

@@ -1,16 +1,15 @@
--- Ids of receipts, and their texts.
-use Rattle.std.proofs.Common.{◌≡◌, ◌∙◌, ℕ, ◌⊎◌, ◌+◌, ◌<◌, ◌≤◌, ⊎_elim, inl, inr, List, [], ◌∷◌, ◌++◌, map, length, refl, sym, ap, Less, Equal, Greater, append_assoc, get_or, subst, arith, drop}
-use Rattle.std.specs.Prelude.{codes, decimal, ◌↔◌, Contains, Result, Ok, Err, IsTrue}
+-- Ids of receipts.
+use Rattle.std.proofs.Common.{◌≡◌, ◌∙◌, ℕ, ◌-◌, Bool, true, false, ◌+◌, ◌<◌, ◌≤◌, ⊎_elim, List, [], ◌∷◌, map, length, refl, sym, ap, Less, Equal, Greater, get_or, subst, arith}
+use Rattle.std.specs.Prelude.{◌↔◌, Contains, Result, Ok, Err, IsTrue}
 use Rattle.std.specs.Result.{is_ok}
-use Rattle.std.specs.List.{flat_map, join_by}
 use Rattle.std.specs.List.{AllByRecursion}
 use Rattle.std.specs.List.Sorted.{IsStrictlySortedBy, IsPartitionPoint, IsBinarySearchResult, IsSearchInRange, IsSorted}
 use Rattle.std.specs.Cmp.{IsTotalOrder}
 use Rattle.std.specs.Cmp.Lexicographic.{on_texts}
 use Rattle.std.proofs.lemmas.Map.Lookups.{exact_bytes}
-use Rattle.std.specs.Ordering.{ordering_index, is_lt}
-use Rattle.std.specs.List.{AllWithin, HoldsAt}
-use Rattle.std.proofs.lemmas.Map.Keys.{Less-from_sorted}
+use Rattle.std.specs.Ordering.{is_lt}
+use Rattle.std.specs.List.{IsAllAdjacentAnswer}
+use Rattle.std.proofs.lemmas.Map.Keys.{Less-from_sorted, sorted_from_all_adjacent}
 use Rattle.std.proofs.lemmas.List.Sorted.{searchable_from_sorted}
 use Rattle.std.proofs.lemmas.List.{get_or_default}
 use Rattle.std.proofs.lemmas.Cmp.{tied_itself}
@@ -24,11 +23,7 @@ use Rattle.receipt_core.specs.declared.receipt_id.ReceiptId.{ReceiptId}
 use Rattle.receipt_core.specs.Receipt.{Receipt, receipt_id_of}
 use Rattle.receipt_core.specs.Rising.{placed, with_item, with_items}
 use Rattle.std.specs.List.{filter}
-use Rattle.receipt_core.proofs.KeyIdFacts.{insert_key-with_item}
 use Rattle.replica_sync.specs.State.{State, id_cmp, ids_held, is_in_bucket}
-use Rattle.hex.specs.Hex.{encode_lower}
-use Rattle.replica_sync.specs.Session.{quoted, Asked, asked_text}
-use Rattle.replica_sync.proofs.Glue.{glue}
 
 -- the order of ids is that of their bytes
 abbrev pub bytes_of : ReceiptId → List ℕ
@@ -36,21 +31,6 @@ bytes_of id = id.0
 
 abbrev pub named_cmp : ReceiptId → ReceiptId → Ordering
 named_cmp a b = slice_cmp nat_cmp a.0 b.0
-
--- an id that is not the first, with the comma before it
-abbrev pub later_id : ReceiptId → List ℕ
-later_id id = codes "," ++ quoted id.0
-
-flat_map-map : {X Y A : Type 0} (f : Y → List A) (g : X → Y) (xs : List X) → flat_map f (map g xs) ≡ flat_map (λ x. f (g x)) xs
-flat_map-map f g [] = refl
-flat_map-map f g (x ∷ xs) = ap (λ t. f (g x) ++ t) (flat_map-map f g xs)
-
--- the ids as they are written, one by one
-pub join-ids : (out new last : List ℕ) (ids others : List ReceiptId) (first : ReceiptId) → ids ≡ first ∷ others → new ≡ out ++ quoted first.0 → last ≡ new ++ flat_map later_id others → last ≡ out ++ join_by quoted (codes ",") (map bytes_of ids)
-join-ids out new last ids others first e n l =
-    l ∙ ap (λ t. t ++ flat_map later_id others) n ∙ append_assoc out (quoted first.0) (flat_map later_id others)
-    ∙ ap (λ t. out ++ (quoted first.0 ++ t)) (sym (flat_map-map (λ y. codes "," ++ quoted y) bytes_of others))
-    ∙ ap (λ xs. out ++ join_by quoted (codes ",") (map bytes_of xs)) (sym e)
 
 placed-map : (o : Ordering) (x h : ReceiptId) (t longer : List ReceiptId) → map bytes_of (placed o x h t longer) ≡ placed o x.0 h.0 (map bytes_of t) (map bytes_of longer)
 placed-map Less x h t longer = refl
@@ -122,12 +102,58 @@ more-ids r id rest others old new all e i n h =
     ∙ ap (λ t. with_items id_cmp (map receipt_id_of others) (with_item id_cmp t (map bytes_of old))) i
     ∙ ap (λ rs. with_items id_cmp (map receipt_id_of rs) (map bytes_of old)) (sym e) ∙ h
 
--- the question's line, piece by piece
-pub asked-pushed : (a : Asked) (s0 s1 s2 s3 s4 s5 s6 s7 s8 s9 s10 s11 : List ℕ) → s1 ≡ s0 ++ codes "{\"bucket\":" → s2 ≡ s1 ++ decimal a.question.bucket → s3 ≡ s2 ++ codes ",\"config\":\""
-    → s4 ≡ s3 ++ encode_lower a.question.config → s5 ≡ s4 ++ codes "\",\"format\":" → s6 ≡ s5 ++ decimal a.format → s7 ≡ s6 ++ codes ",\"have\":["
-    → s8 ≡ s7 ++ join_by quoted (codes ",") a.question.ids → s9 ≡ s8 ++ codes "],\"of\":" → s10 ≡ s9 ++ decimal a.buckets → s11 ≡ s10 ++ codes "}"
-    → s11 ≡ s0 ++ asked_text a
-unfolding asked_text
-asked-pushed a s0 s1 s2 s3 s4 s5 s6 s7 s8 s9 s10 s11 e1 e2 e3 e4 e5 e6 e7 e8 e9 e10 e11 =
-    glue s0 s1 s11 _ _ e1 (glue s1 s2 s11 _ _ e2 (glue s2 s3 s11 _ _ e3 (glue s3 s4 s11 _ _ e4 (glue s4 s5 s11 _ _ e5 (glue s5 s6 s11 _ _ e6
-    (glue s6 s7 s11 _ _ e7 (glue s7 s8 s11 _ _ e8 (glue s8 s9 s11 _ _ e9 (glue s9 s10 s11 _ _ e10 e11)))))))))
+-- ---- whether ids rise
+
+abbrev pub below : ReceiptId → ReceiptId → Bool
+below earlier later = is_lt (named_cmp earlier later)
+
+less : (o : Ordering) → is_lt o ≡ true → o ≡ Less
+less Less e = refl
+less Equal e = absurd (let f : false ≡ true = e in cc)
+less Greater e = absurd (let f : false ≡ true = e in cc)
+
+bytes-all : (x : ReceiptId) (ids : List ReceiptId) → AllByRecursion (λ y. named_cmp x y ≡ Less) ids → AllByRecursion (λ y. id_cmp x.0 y ≡ Less) (map bytes_of ids)
+bytes-all x [] a = tt
+bytes-all x (h ∷ t) a = (a.0, bytes-all x t a.1)
+
+bytes-rising : (ids : List ReceiptId) → IsStrictlySortedBy named_cmp ids → IsStrictlySortedBy id_cmp (map bytes_of ids)
+unfolding IsStrictlySortedBy
+bytes-rising [] r = tt
+bytes-rising (h ∷ t) r = (bytes-all h t r.0, bytes-rising t r.1)
+
+-- what the comparison of neighbours tells
+pub rising_told : (ids : List ReceiptId) (told : Bool) → IsAllAdjacentAnswer (λ x y b. b ≡ below x y) ids told → IsTrue told ↔ IsStrictlySortedBy id_cmp (map bytes_of ids)
+unfolding IsStrictlySortedBy
+rising_told [] true all = (λ t. bytes-rising [] tt, λ r. refl)
+rising_told (first ∷ others) true all =
+    (λ t. bytes-rising (first ∷ others) (sorted_from_all_adjacent named_total (first ∷ others) first (λ k within. less _ (sym (all k first within)))), λ r. refl)
+rising_told [] false (k, within, falls) = absurd (omega arith)
+rising_told (first ∷ others) false (k, within, falls) = (
+  λ t. absurd (cc),
+  λ r.
+      let up = named-rising (first ∷ others) r in
+      let rises = ap is_lt (Less-from_sorted named_cmp (first ∷ others) k (k + 1) first up (omega arith) within) in
+      absurd (let f : false ≡ true = falls first ∙ rises in cc),
+)
+
+-- Each of the first so many is below the one after it.
+pub record RisesTo (ids : List ReceiptId) (place : ℕ) : Type 0 where
+  pub some : 0 < place
+  pub each : (k : ℕ) (d : ReceiptId) → k + 1 < place → true ≡ below (get_or ids k d) (get_or ids (k + 1) d)
+
+pub rises-all : (ids : List ReceiptId) (place : ℕ) → RisesTo ids place → length ids ≤ place → IsStrictlySortedBy id_cmp (map bytes_of ids)
+rises-all ids place r h = (rising_told ids true (λ k d within. r.each k d (omega arith))).0 refl
+
+same-pair : (ids : List ReceiptId) (j k : ℕ) (d e : ReceiptId) → j < length ids → k < length ids → below (get_or ids j d) (get_or ids k d) ≡ below (get_or ids j e) (get_or ids k e)
+same-pair ids j k d e hj hk =
+    ap (λ x. below x (get_or ids k d)) (get_or_default ids j d e hj) ∙ ap (below (get_or ids j e)) (get_or_default ids k d e hk)
+
+pub falls-at : (ids : List ReceiptId) (place : ℕ) (other : ReceiptId) → 0 < place → place < length ids → false ≡ below (get_or ids (place - 1) other) (get_or ids place other) → IsStrictlySortedBy id_cmp (map bytes_of ids) → ⊥
+falls-at ids place other some h e rising =
+    let at : place ≡ place - 1 + 1 = omega arith in
+    let f : false ≡ true = (rising_told ids false (
+      place - 1,
+      omega arith,
+      λ d.
+          subst (λ n. false ≡ below (get_or ids (place - 1) d) (get_or ids n d)) at (e ∙ same-pair ids (place - 1) place other d (omega arith) h),
+    )).1 rising in cc

@@ -1,31 +1,15 @@
--- Receipts that are not named, and the texts of answers.
-use Rattle.std.proofs.Common.{◌≡◌, ◌∙◌, ℕ, ◌+◌, ◌<◌, ◌≤◌, ◌||◌, ◌&&◌, inl, inr, Bool, true, false, cond, List, [], ◌∷◌, ◌++◌, map, length, refl, sym, ap, subst, append-nil, append_assoc, arith}
-use Rattle.std.specs.Prelude.{codes, decimal, ◌↔◌, Contains, IsTrue, filter, not, bytes_eq, Option, Some, None, Result, Ok, Err}
-use Rattle.std.specs.List.{list_any, flat_map}
-use Rattle.std.specs.Io.KnownBytes.{Appends}
-use Rattle.hex.specs.Hex.{encode_lower}
+-- Receipts that are not named.
+use Rattle.std.proofs.Common.{◌≡◌, ◌∙◌, ℕ, ◌+◌, ◌≤◌, ◌||◌, ◌&&◌, inl, inr, Bool, true, false, cond, List, [], ◌∷◌, length, refl, sym, ap, subst, arith}
+use Rattle.std.specs.Prelude.{◌↔◌, Contains, IsTrue, filter, not, bytes_eq}
+use Rattle.std.specs.List.{list_any}
 use Rattle.receipt_core.specs.Receipt.{Receipt, receipt_id_of}
-use Rattle.receipt_core.specs.Device.{AppendsBeginning}
 use Rattle.receipt_core.specs.Acceptance.{Meaning, IsMeaning}
 use Rattle.replica_sync.specs.State.{is_named, is_in_bucket, receipts_lacking}
-use Rattle.replica_sync.specs.Session.{Told, distrusts_part, told_text, Writes, state_of}
+use Rattle.replica_sync.specs.Session.{state_of}
 use Rattle.replica_sync.specs.Lacking.{not_named}
-use Rattle.replica_sync.proofs.Glue.{glue}
 use Rattle.replica_sync.proofs.Members.{contains-none, contains-cases, any-from}
 use Rattle.std.proofs.lemmas.Bool.{cases_Bool}
 use Rattle.std.proofs.lemmas.Slice.Eq.{bytes_eq-Decides}
-
--- the first line of an answer, piece by piece
-pub told-pushed : (t : Told) (s0 s1 s2 s3 s4 s5 s6 s7 s8 s9 s10 s11 s12 : List ℕ) → s1 ≡ s0 ++ codes "{\"bucket\":" → s2 ≡ s1 ++ decimal t.bucket → s3 ≡ s2 ++ codes ",\"config\":\""
-    → s4 ≡ s3 ++ encode_lower t.config → s5 ≡ s4 ++ codes "\",\"count\":" → s6 ≡ s5 ++ decimal t.count → s7 ≡ s6 ++ distrusts_part t.distrusts
-    → s8 ≡ s7 ++ codes ",\"format\":" → s9 ≡ s8 ++ decimal t.format → s10 ≡ s9 ++ codes ",\"of\":" → s11 ≡ s10 ++ decimal t.buckets → s12 ≡ s11 ++ codes "}"
-    → s12 ≡ s0 ++ told_text t
-unfolding told_text
-told-pushed t s0 s1 s2 s3 s4 s5 s6 s7 s8 s9 s10 s11 s12 e1 e2 e3 e4 e5 e6 e7 e8 e9 e10 e11 e12 =
-    glue s0 s1 s12 _ _ e1 (glue s1 s2 s12 _ _ e2 (glue s2 s3 s12 _ _ e3 (glue s3 s4 s12 _ _ e4 (glue s4 s5 s12 _ _ e5 (glue s5 s6 s12 _ _ e6
-    (glue s6 s7 s12 _ _ e7 (glue s7 s8 s12 _ _ e8 (glue s8 s9 s12 _ _ e9 (glue s9 s10 s12 _ _ e10 (glue s10 s11 s12 _ _ e11 e12))))))))))
-
--- ---- receipts that are not named
 
 filter-both : (b : Bool) (p q : Receipt → Bool) (r : Receipt) (rs kept : List Receipt) → p r ≡ b → filter q kept ≡ filter (λ s. p s && q s) rs → filter q (cond b (r ∷ kept) kept) ≡ cond (b && q r) (r ∷ filter (λ s. p s && q s) rs) (filter (λ s. p s && q s) rs)
 filter-both true p q r rs kept e h = ap (λ t. cond (q r) (r ∷ t) t) h

@@ -1,10 +1,10 @@
 -- A first line, the lines of what is held, and what follows them.
-use Rattle.std.proofs.Common.{◌≡◌, ℕ, List, [], ◌∷◌, ◌++◌, Option, None, Some, inl, inr, refl, ap, sym, ◌∙◌, subst, append_assoc, append-nil}
+use Rattle.std.proofs.Common.{◌≡◌, ℕ, List, [], ◌∷◌, ◌++◌, Option, None, Some, inr, refl, ap, sym, ◌∙◌, subst, append_assoc, append-nil}
 use Rattle.std.specs.Prelude.{IfSome, IfErr, IsErrAnd, Result, Ok, Err}
 use Rattle.std.specs.Io.KnownBytes.{Consumes, IsAtEnd, prepend_known}
 use Rattle.fed_config.specs.Configuration.{Configuration}
 use Rattle.receipt_core.specs.Acceptance.{Meaning}
-use Rattle.replica_sync.specs.Snapshots.{IsSnapshot, HasFaultBehind, RefusesNext, RefusesSnapshot, begun_text, snapshot_text, count_line, ended, header_line, held_lines, text_of_lines}
+use Rattle.replica_sync.specs.Snapshots.{IsSnapshot, HasFaultBehind, RefusesNext, RefusesSnapshot, begun_text, count_line, ended, header_line, held_lines, text_of_lines}
 use Rattle.replica_sync.specs.Reading.{FailsBehind, HoldsAll, RefusesEnd}
 use Rattle.replica_sync.specs.declared.format.Format.{Format}
 use Rattle.replica_sync.specs.declared.error.SyncError.{SyncError}

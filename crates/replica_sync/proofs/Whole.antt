@@ -68,7 +68,7 @@ same-ids a b e =
     let path : a.path ≡ b.path = (bytes_eq-Decides a.path b.path).0 parts.1 in
     ap (λ t. record a { text = t }) text ∙ ap (λ t. record { text = b.text; domain = t; path = a.path }) domain ∙ ap (λ t. record { text = b.text; domain = b.domain; path = t }) path
 
-fits-from : (config : Configuration) (r : Receipt) → is_fitting config r ≡ true → IsFitting config r
+pub fits-from : (config : Configuration) (r : Receipt) → is_fitting config r ≡ true → IsFitting config r
 fits-from config r e =
     let found = any-from (λ (o : Relationship). bytes_eq o.domain r.domain && same_id o.endpoint r.endpoint) config.relationships e in
     let both = and_parts (bytes_eq found.0.domain r.domain) (same_id found.0.endpoint r.endpoint) found.2 in
@@ -79,7 +79,7 @@ known-cases true b c e = inl refl
 known-cases false true c e = inr (inl refl)
 known-cases false false c e = inr (inr e)
 
-knows-from : (config : Configuration) (domain : List ℕ) → is_known config domain ≡ true → HasDomain config domain
+pub knows-from : (config : Configuration) (domain : List ℕ) → is_known config domain ≡ true → HasDomain config domain
 knows-from config domain e =
     elim (known-cases (list_any (λ (r : Relationship). bytes_eq r.domain domain) config.relationships) (list_any (λ (r : Relationship). bytes_eq r.endpoint.domain domain) config.relationships) (list_any (λ (s : Seed). bytes_eq s.domain domain) config.seeds) e) [
       | inl h ↦ let found = any-from (λ (r : Relationship). bytes_eq r.domain domain) config.relationships h in inl (found.0, found.1, (bytes_eq-Decides found.0.domain domain).0 found.2)

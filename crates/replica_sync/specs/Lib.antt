@@ -7,4 +7,5 @@ pub mod Reading
 pub mod Writing
 pub mod Session
 pub mod Lacking
-pub mod Spelling
+pub mod Absorbing
+pub mod Playing

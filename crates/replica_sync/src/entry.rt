@@ -11,14 +11,14 @@ use trust_closure::{Closure, Distrusted, TakeError, Taken};
 
 /// What a line says.
 #[derive(Debug, Drop)]
-pub(crate) enum Entry {
+pub enum Entry {
     Record(Distrust),
     Receipt(Receipt),
 }
 
 /// Which lines may stand at a place.
 #[derive(Clone, Copy, Debug)]
-pub(crate) enum Wanted {
+pub enum Wanted {
     Records,
     Receipts,
     Either,
@@ -26,7 +26,7 @@ pub(crate) enum Wanted {
 
 /// Reads the line with this number, where `last` is the line before it, which is empty for the first, and takes what it
 /// says. Answers how many receipts are held now and were not.
-pub(crate) fn take_line<C: Closure>(
+pub fn take_line<C: Closure>(
     alloc: Global,
     closure: &mut C,
     wanted: Wanted,
@@ -46,7 +46,7 @@ pub(crate) fn take_line<C: Closure>(
 }
 
 /// What the line with this number says, where `last` is the line before it, which is empty for the first.
-pub(crate) fn next_entry(
+pub fn next_entry(
     alloc: Global,
     wanted: Wanted,
     last: &[u8],
@@ -69,7 +69,7 @@ pub(crate) fn next_entry(
 }
 
 /// Takes what a line says, and answers how many receipts are held now and were not.
-pub(crate) fn take_entry<C: Closure>(closure: &mut C, entry: Entry) -> Result<u64, TakeError>
+fn take_entry<C: Closure>(closure: &mut C, entry: Entry) -> Result<u64, TakeError>
     ensures { MatchResult result (TakesEntry (C.state closure.old).meaning entry (C.state closure.new).meaning)
         (HasRefusedEntry (C.state closure.old).meaning entry (C.state closure.new).meaning) }
 {

@@ -9,7 +9,7 @@ use std::alloc::AllocError;
 use std::str;
 
 /// The number of these decimal digits: `0`, or without a leading zero, and at most 2^64 - 1.
-pub(crate) fn read_number(text: &[u8]) -> Option<u64>
+pub fn read_number(text: &[u8]) -> Option<u64>
     ensures { Finds result (λ n. (n < 2 ^ 64) × (text.now ≡ decimal n)) }
 {
     let number = parsed(text)?;
@@ -51,7 +51,7 @@ fn is_hex_digit(byte: u8) -> bool
 }
 
 /// Writes a number after what is there.
-pub(crate) fn push_number(out: &mut Vec<u8>, number: u64) -> Result<(), AllocError>
+pub fn push_number(out: &mut Vec<u8>, number: u64) -> Result<(), AllocError>
     ensures { OnOk result (out.new.items ≡ out.old.items ++ decimal number) }
 {
     let mut buffer = Buffer::new();
@@ -59,7 +59,7 @@ pub(crate) fn push_number(out: &mut Vec<u8>, number: u64) -> Result<(), AllocErr
 }
 
 /// Writes the digits of a digest after what is there.
-pub(crate) fn push_digits(out: &mut Vec<u8>, digest: &[u8; 32]) -> Result<(), AllocError>
+pub fn push_digits(out: &mut Vec<u8>, digest: &[u8; 32]) -> Result<(), AllocError>
     ensures { OnOk result (out.new.items ≡ out.old.items ++ encode_lower digest.now) }
 {
     let mut text = [0; 64];

@@ -55,11 +55,32 @@ impl<'a> Model for Lacking<'a> {
 }
 
 impl<'a> Answer<'a> {
+    /// The bucket.
+    pub fn bucket(&self) -> u8
+        ensures { result ≡ self.now.bucket }
+    {
+        self.bucket
+    }
+
+    /// The digest of the answerer's configuration.
+    pub fn config(&self) -> ConfigId
+        ensures { result.0 ≡ self.now.config }
+    {
+        self.config
+    }
+
     /// How many receipts it has.
     pub fn receipt_count(&self) -> usize
         ensures { result ≡ length self.now.content.held }
     {
         self.count
+    }
+
+    /// How many records of distrust it has.
+    pub fn record_count(&self) -> usize
+        ensures { result ≡ length self.now.content.records }
+    {
+        self.records
     }
 
     /// The records of distrust, and the receipts, each in their order.

@@ -1,13 +1,11 @@
 //! Snapshots, whose expected texts were computed by an independent program.
+use crate::rows::{CONFIG, OTHER_DOMAIN, RECORD, RECORD_OF_OTHER, SECOND_RECEIPT, THIRD_RECEIPT};
 use crate::{SyncError, read_snapshot, write_snapshot};
 use fed_config::Config;
 use receipt_core::{FuseSource, MemSink, MemSource, Sink, Source};
 use std::alloc::{AllocError, Global};
 use std::test::Fail;
 use trust_closure::{Closure, IndexedClosure, PlainClosure};
-
-const CONFIG: &str =
-    r#"{"relationships":[{"domain":"a.example","endpoint":"spiffe://a.example/bundle","profile":"https_spiffe","url":"https://bundles.a.example/"}],"seeds":[{"bundle":{"keys":[{"e":"AQAB","kty":"RSA","n":"AQAB","use":"x509-svid","x5c":["YWJj"]}],"spiffe_sequence":1},"domain":"a.example"}]}"#;
 
 const FIRST_FORMAT: &str =
     r#"{"config":"127170bd6cb9c8d3af6ee9abcba74d3cde19fe741f949e915dfe82e340ac3c52","format":1}"#;
@@ -21,23 +19,8 @@ const NINTH_FORMAT: &str =
 const OTHER_CONFIG: &str =
     r#"{"config":"ac1742a1b1d1d71af4611d05079faef044df62806f5671de34ac86ca2ac15640","format":1}"#;
 
-const SECOND_RECEIPT: &str =
-    r#"{"doc":{"keys":[{"e":"AQAB","kty":"RSA","n":"AQAB","use":"x509-svid","x5c":["YWJj"]},{"e":"AQAB","kty":"RSA","n":"AQAB","use":"x509-svid","x5c":["aGVsbG8="]}],"spiffe_sequence":2},"domain":"a.example","endpoint":"spiffe://a.example/bundle","key":"ba7816bf8f01cfea414140de5dae2223b00361a396177a9cb410ff61f20015ad","voucher":"d66ae6bfe83b27d71cab4546239aac9c94a0fa0af3a67c6e2d31c2f54007e3db"}"#;
-
-const THIRD_RECEIPT: &str =
-    r#"{"doc":{"keys":[{"e":"AQAB","kty":"RSA","n":"AQAB","use":"x509-svid","x5c":["aGVsbG8="]}],"spiffe_sequence":3},"domain":"a.example","endpoint":"spiffe://a.example/bundle","key":"2cf24dba5fb0a30e26e83b2ac5b9e29e1b161e5c1fa7425e73043362938b9824","voucher":"19e6feadc057c007742c6d7f43d43eb0796e77e2fe5ef2efc3a2ab3bfee9e928"}"#;
-
-const OTHER_DOMAIN: &str =
-    r#"{"doc":{"keys":[{"e":"AQAB","kty":"RSA","n":"AQAB","use":"x509-svid","x5c":["aGVsbG8gd29ybGQ="]}],"spiffe_sequence":5},"domain":"b.example","endpoint":"spiffe://a.example/bundle","key":"2cf24dba5fb0a30e26e83b2ac5b9e29e1b161e5c1fa7425e73043362938b9824","voucher":"19e6feadc057c007742c6d7f43d43eb0796e77e2fe5ef2efc3a2ab3bfee9e928"}"#;
-
 const SPACED: &str =
     r#"{ "doc":{"keys":[{"e":"AQAB","kty":"RSA","n":"AQAB","use":"x509-svid","x5c":["YWJj"]},{"e":"AQAB","kty":"RSA","n":"AQAB","use":"x509-svid","x5c":["aGVsbG8="]}],"spiffe_sequence":2},"domain":"a.example","endpoint":"spiffe://a.example/bundle","key":"ba7816bf8f01cfea414140de5dae2223b00361a396177a9cb410ff61f20015ad","voucher":"d66ae6bfe83b27d71cab4546239aac9c94a0fa0af3a67c6e2d31c2f54007e3db"}"#;
-
-const RECORD: &str =
-    r#"{"distrust":"2cf24dba5fb0a30e26e83b2ac5b9e29e1b161e5c1fa7425e73043362938b9824","domain":"a.example"}"#;
-
-const RECORD_OF_OTHER: &str =
-    r#"{"distrust":"2cf24dba5fb0a30e26e83b2ac5b9e29e1b161e5c1fa7425e73043362938b9824","domain":"c.example"}"#;
 
 const WITHOUT_RECORDS: &str = r#"{"count":2,"distrusts":0}"#;
 

@@ -1,5 +1,4 @@
-use Rattle.std.proofs.Common.{ℕ, ◌+◌, ◌≤◌, ◌<◌, ◌^◌, arith, length, inl, ap, subst}
-use Rattle.receipt_core.specs.Acceptance.{IsMeaning}
+use Rattle.std.proofs.Common.{◌+◌, ◌<◌, ◌^◌, arith, length, inl, ap}
 use Rattle.replica_sync.proofs.ReplyFacts.{few-lacking}
 use Rattle.replica_sync.proofs.answering.answer.Goals as goal
 

@@ -1,6 +1,5 @@
 use Rattle.std.proofs.Common.{◌∙◌, ℕ, ap}
 use Rattle.std.specs.Prelude.{not, filter}
-use Rattle.receipt_core.specs.Receipt.{Receipt}
 use Rattle.replica_sync.specs.State.{is_in_bucket, is_named}
 use Rattle.replica_sync.specs.Lacking.{not_named}
 use Rattle.replica_sync.proofs.ReplyFacts.{filter-filter}

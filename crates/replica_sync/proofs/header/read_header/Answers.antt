@@ -1,4 +1,4 @@
-use Rattle.std.proofs.Common.{◌≡◌, true, false, ap, subst, sym, ◌∙◌}
+use Rattle.std.proofs.Common.{◌≡◌, true, false, subst, sym}
 use Rattle.std.specs.Prelude.{decimal}
 use Rattle.replica_sync.specs.Snapshots.{AreDigits}
 use Rattle.replica_sync.proofs.HeaderFacts.{header_split, one_split}

@@ -1,4 +1,4 @@
-use Rattle.std.proofs.Common.{◌≡◌, ◌++◌, ℕ, List, ap, sym, ◌∙◌, subst, map, rules}
+use Rattle.std.proofs.Common.{◌≡◌, ℕ, List, ap, ◌∙◌, subst, map, rules}
 use Rattle.std.specs.Io.KnownBytes.{Appends}
 use Rattle.receipt_core.specs.Device.{AppendsBeginning}
 use Rattle.receipt_core.specs.Receipt.{line, distrust_line}
