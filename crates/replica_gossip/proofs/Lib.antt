@@ -1,0 +1,13 @@
+mod AnswerFacts
+mod AskedFacts
+mod ContentFacts
+mod GatherFacts
+mod Glue
+mod IdFacts
+mod PieceFacts
+mod PullingFacts
+mod ScanFacts
+mod ServingFacts
+mod TakingFacts
+mod ToldFacts
+mod Written

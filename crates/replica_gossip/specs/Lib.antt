@@ -1,0 +1,11 @@
+pub mod Messages
+pub mod Spelling
+pub mod FirstLines
+pub mod Questions
+pub mod Answers
+pub mod Pulling
+pub mod Taking
+pub mod Gathering
+pub mod IdList
+pub mod Asking
+pub mod Serving
