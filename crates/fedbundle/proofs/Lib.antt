@@ -4,3 +4,4 @@ mod ComplaintFacts
 mod RunFacts
 mod OrderedFacts
 mod PollsFacts
+mod SessionsFacts

@@ -32,6 +32,8 @@ plain_leaf command.Observe = refl
 plain_leaf command.Merge = refl
 plain_leaf command.Polls = refl
 plain_leaf command.Distrust = refl
+plain_leaf command.Serve = refl
+plain_leaf command.Pull = refl
 
 pub simple_command : is_simple the_command ≡ true
 simple_command = refl

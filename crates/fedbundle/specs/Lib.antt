@@ -1,4 +1,5 @@
 pub mod Canon
+pub mod Counts
 pub mod CurrentBundle
 pub mod Distrust
 pub mod Explain
@@ -7,7 +8,10 @@ pub mod Judging
 pub mod Merge
 pub mod Observe
 pub mod Polls
+pub mod Pull
 pub mod Run
+pub mod Serve
+pub mod Sessions
 pub mod Status
 pub mod Stream
 pub mod Words

@@ -1,5 +1,5 @@
 -- What a run of `merge` does to what is held, and to its two devices.
-use Rattle.std.specs.Prelude.{◌≡◌, ℕ, ◌++◌, ◌⊎◌, List, codes, decimal, Option}
+use Rattle.std.specs.Prelude.{◌≡◌, ℕ, ◌⊎◌, List, codes, Option}
 use Rattle.std.specs.Io.KnownBytes.{Appends}
 use Rattle.receipt_core.specs.Acceptance.{Meaning}
 use Rattle.receipt_core.specs.Device.{AppendsBeginning}
@@ -7,11 +7,12 @@ use Rattle.trust_closure.specs.Changes.{State, HasMerged, HasRefusedMerge}
 use Rattle.trust_closure.specs.declared.error.TakeError.{TakeError}
 use Rattle.replica_sync.specs.Snapshots.{IsSnapshot, RefusesSnapshot}
 use Rattle.replica_sync.specs.declared.error.SyncError.{SyncError}
+use Rattle.fedbundle.specs.Counts.{counted}
 use Rattle.fedbundle.specs.declared.error.CommandError.{CommandError}
 use Rattle.fedbundle.specs.declared.error.CommandError.TheVariants.{Sync, Take}
 
 abbrev pub count_text : ℕ → List ℕ
-count_text n = codes "new " ++ (decimal n ++ codes "\n")
+count_text n = counted (codes "new ") n
 
 -- The stream is a snapshot, and what is held has become the union with what it holds; n receipts were not held.
 pub record Joins (stream : Option (List ℕ)) (old new : Meaning) (n : ℕ) : Type 0 where

@@ -6,13 +6,19 @@ use Rattle.fed_config.specs.declared.error.ConfigError.TheVariants.{NoMemory as 
 use Rattle.trust_closure.specs.declared.error.TakeError.TheVariants.{NoMemory as NoMemoryToTake}
 use Rattle.bundle_view.specs.declared.observe_error.ObserveError.TheVariants.{Take as TakeFailed}
 use Rattle.bundle_view.specs.declared.poll_error.PollError.TheVariants.{NoMemory as NoMemoryToPoll, Io as PollIo}
+use Rattle.replica_sync.specs.declared.error.SyncError.{SyncError}
 use Rattle.replica_sync.specs.declared.error.SyncError.TheVariants.{NoMemory as NoMemoryToSync, Io as SyncIo}
 use Rattle.receipt_core.specs.declared.error.ReadUpToError.{ReadUpToError}
 use Rattle.receipt_core.specs.declared.error.ReadUpToError.TheVariants.{Io as SourceFailed, NoMemory as NoMemoryForBytes}
 use Rattle.fedbundle.specs.declared.error.CommandError.{CommandError}
-use Rattle.fedbundle.specs.declared.error.CommandError.TheVariants.{Name, Document, Config, Take, Observe, Poll, Sync, Full, NoMemory, Io}
+use Rattle.fedbundle.specs.declared.error.CommandError.TheVariants.{Name, Document, Config, Take, Observe, Poll, Sync, Pull, Full, NoMemory, Io}
 use Rattle.fedbundle.specs.declared.run_error.RunError.{RunError}
 use Rattle.fedbundle.specs.declared.run_error.RunError.TheVariants.{Full as RunFull, NoMemory as RunNoMemory, Io as RunIo}
+
+abbrev pub status_of_sync : SyncError → ℕ
+status_of_sync NoMemoryToSync = 4
+status_of_sync SyncIo = 3
+status_of_sync e = 1
 
 -- 4 for want of memory of any kind, 3 for a failed device, else 1
 abbrev pub status_of : CommandError → ℕ
@@ -29,9 +35,8 @@ status_of (Observe e) = 1
 status_of (Poll NoMemoryToPoll) = 4
 status_of (Poll PollIo) = 3
 status_of (Poll e) = 1
-status_of (Sync NoMemoryToSync) = 4
-status_of (Sync SyncIo) = 3
-status_of (Sync e) = 1
+status_of (Sync why) = status_of_sync why
+status_of (Pull fault) = status_of_sync fault.why
 status_of Full = 1
 status_of NoMemory = 4
 status_of Io = 3

@@ -5,7 +5,7 @@ use Rattle.clap.specs.declared.builder.action.ArgAction.TheVariants.{Set}
 use Rattle.fedbundle.specs.declared.command_name.CommandName.{CommandName}
 use Rattle.fedbundle.specs.declared.command_name.CommandName.TheVariants as command
 use Rattle.fedbundle.specs.declared.command_name.OptionName.{OptionName}
-use Rattle.fedbundle.specs.declared.command_name.OptionName.TheVariants.{Config, State, Domain, Endpoint, Key, Now}
+use Rattle.fedbundle.specs.declared.command_name.OptionName.TheVariants.{Config, State, Domain, Endpoint, Key, Now, Listen, Sessions, Peer}
 
 abbrev pub option_text : OptionName → List ℕ
 option_text Config = codes "config"
@@ -14,6 +14,9 @@ option_text Domain = codes "domain"
 option_text Endpoint = codes "endpoint"
 option_text Key = codes "key"
 option_text Now = codes "now"
+option_text Listen = codes "listen"
+option_text Sessions = codes "sessions"
+option_text Peer = codes "peer"
 
 abbrev pub name_text : CommandName → List ℕ
 name_text command.Canon = codes "canon"
@@ -24,6 +27,8 @@ name_text command.Observe = codes "observe"
 name_text command.Merge = codes "merge"
 name_text command.Polls = codes "polls"
 name_text command.Distrust = codes "distrust"
+name_text command.Serve = codes "serve"
+name_text command.Pull = codes "pull"
 
 abbrev pub options_of : CommandName → List OptionName
 options_of command.Canon = Domain ∷ []
@@ -34,9 +39,11 @@ options_of command.Observe = Config ∷ State ∷ Domain ∷ Endpoint ∷ Key �
 options_of command.Merge = Config ∷ State ∷ []
 options_of command.Polls = Config ∷ State ∷ Now ∷ []
 options_of command.Distrust = Config ∷ State ∷ Domain ∷ Key ∷ []
+options_of command.Serve = Config ∷ State ∷ Listen ∷ Sessions ∷ []
+options_of command.Pull = Config ∷ State ∷ Peer ∷ []
 
 abbrev pub all_names : List CommandName
-all_names = command.Canon ∷ command.Report ∷ command.Bundle ∷ command.Explain ∷ command.Observe ∷ command.Merge ∷ command.Polls ∷ command.Distrust ∷ []
+all_names = command.Canon ∷ command.Report ∷ command.Bundle ∷ command.Explain ∷ command.Observe ∷ command.Merge ∷ command.Polls ∷ command.Distrust ∷ command.Serve ∷ command.Pull ∷ []
 
 -- ---- the command, as clap knows it
 

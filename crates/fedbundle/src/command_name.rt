@@ -11,6 +11,9 @@ pub enum OptionName {
     Endpoint,
     Key,
     Now,
+    Listen,
+    Sessions,
+    Peer,
 }
 
 /// A subcommand.
@@ -32,10 +35,14 @@ pub enum CommandName {
     Polls,
     /// Distrusts a key.
     Distrust,
+    /// Answers other replicas.
+    Serve,
+    /// Asks another replica, and takes what it answers.
+    Pull,
 }
 
 /// All subcommands, in the order in which help lists them.
-pub(crate) static COMMANDS: [CommandName; 8] = [
+pub(crate) static COMMANDS: [CommandName; 10] = [
     CommandName::Canon,
     CommandName::Report,
     CommandName::Bundle,
@@ -44,6 +51,8 @@ pub(crate) static COMMANDS: [CommandName; 8] = [
     CommandName::Merge,
     CommandName::Polls,
     CommandName::Distrust,
+    CommandName::Serve,
+    CommandName::Pull,
 ];
 
 impl OptionName {
@@ -58,6 +67,9 @@ impl OptionName {
             OptionName::Endpoint => "endpoint",
             OptionName::Key => "key",
             OptionName::Now => "now",
+            OptionName::Listen => "listen",
+            OptionName::Sessions => "sessions",
+            OptionName::Peer => "peer",
         }
     }
 
@@ -70,6 +82,9 @@ impl OptionName {
             OptionName::Endpoint => "SPIFFE_ID",
             OptionName::Key => "KEY_ID",
             OptionName::Now => "SECONDS",
+            OptionName::Listen => "ADDRESS",
+            OptionName::Sessions => "COUNT",
+            OptionName::Peer => "ADDRESS",
         }
     }
 
@@ -82,6 +97,10 @@ impl OptionName {
             OptionName::Endpoint => "The SPIFFE ID that the endpoint was authenticated as",
             OptionName::Key => "The SHA-256 of an authority's certificate, 64 lower-case digits",
             OptionName::Now => "The present moment, in Unix seconds",
+            OptionName::Listen => "The address to wait at: an IP address and a port",
+            OptionName::Sessions => "How many sessions to serve, from 1 to 1000000",
+            OptionName::Peer =>
+                "The address at which the other replica serves: an IP address and a port",
         }
     }
 }
@@ -111,6 +130,39 @@ static DISTRUST: [OptionName; 4] = [
     OptionName::Key,
 ];
 
+static SERVE: [OptionName; 4] = [
+    OptionName::Config,
+    OptionName::State,
+    OptionName::Listen,
+    OptionName::Sessions,
+];
+
+static PULL: [OptionName; 3] = [OptionName::Config, OptionName::State, OptionName::Peer];
+
+const SERVE_NOTES: &str = "\
+It reads the configuration and the state once, and changes no file. It waits at the
+address for one client after another, as long as it takes, and answers the questions of
+each until the client closes its end.
+
+A session ends with the fault S9 where a read or a write moves no byte for 30 seconds,
+or where it takes more than 600 seconds in all. The fault of a session is a line on
+standard error, and the session counts as served.
+
+It prints `served` and how many sessions there were. The exit status is the greatest of
+all sessions.";
+
+const PULL_NOTES: &str = "\
+It asks the other replica, which has to have the same configuration, for the receipts
+and the records of distrust that this one lacks, and takes what is answered.
+
+It prints `new` and how many receipts were not held, and writes the state. Where the
+session ends with a fault, what was answered before it is taken and written too, and the
+fault's line ends with how many receipts were new.
+
+To connect takes 30 seconds at most: else, and where nobody serves at the address, it
+ends with the fault S9, and writes nothing. The session ends with S9 where a read or a
+write moves no byte for 30 seconds, or where it takes more than 600 seconds in all.";
+
 impl CommandName {
     /// The subcommand's word.
     pub fn text<'a>(self) -> &'a str
@@ -125,6 +177,8 @@ impl CommandName {
             CommandName::Merge => "merge",
             CommandName::Polls => "polls",
             CommandName::Distrust => "distrust",
+            CommandName::Serve => "serve",
+            CommandName::Pull => "pull",
         }
     }
 
@@ -149,6 +203,17 @@ impl CommandName {
                 "Reads poll lines on standard input and prints when each bundle is to be fetched next"
             }
             CommandName::Distrust => "Distrusts a key in a domain, for good",
+            CommandName::Serve => "Answers other replicas that pull from this one",
+            CommandName::Pull => "Asks another replica, and takes what this one lacks",
+        }
+    }
+
+    /// What help says beside the subcommand and its options, where there is more to say.
+    pub(crate) fn notes<'a>(self) -> Option<&'a str> {
+        match self {
+            CommandName::Serve => Some(SERVE_NOTES),
+            CommandName::Pull => Some(PULL_NOTES),
+            _ => None,
         }
     }
 
@@ -165,6 +230,8 @@ impl CommandName {
             CommandName::Merge => STATE.as_slice(),
             CommandName::Polls => POLLS.as_slice(),
             CommandName::Distrust => DISTRUST.as_slice(),
+            CommandName::Serve => SERVE.as_slice(),
+            CommandName::Pull => PULL.as_slice(),
         }
     }
 }

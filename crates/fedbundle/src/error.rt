@@ -1,13 +1,14 @@
 //! Why a command ends without its result, and the exit status that says so.
 ghost use Rattle.std.specs.Prelude.{◌≡◌};
-ghost use Rattle.fedbundle.specs.Status.{of_read, of_run, status_of};
-ghost use Rattle.fedbundle.specs.declared.error.CommandError.TheVariants.{Name, Document, Config, Take, Observe, Poll, Sync, NoMemory, Io};
+ghost use Rattle.fedbundle.specs.Status.{of_read, of_run, status_of, status_of_sync};
+ghost use Rattle.fedbundle.specs.declared.error.CommandError.TheVariants.{Name, Document, Config, Take, Observe, Poll, Sync, Pull, NoMemory, Io};
 
 use crate::run_error::RunError;
 use bundle_doc::DocError;
 use bundle_view::{ObserveError, PollError};
 use fed_config::ConfigError;
 use receipt_core::{Fault, ReadUpToError};
+use replica_gossip::PullFault;
 use replica_sync::SyncError;
 use spiffe_name::NameError;
 use std::alloc::AllocError;
@@ -39,6 +40,9 @@ pub enum CommandError {
     /// A snapshot, a state file or a message of another replica is refused.
     #[error("{0}")]
     Sync(SyncError),
+    /// A session with another replica ended before its last answer was taken.
+    #[error("{0}")]
+    Pull(PullFault),
     /// The store is full.
     #[error("E1 Full")]
     Full,
@@ -62,14 +66,24 @@ pub fn status(error: &CommandError) -> u8
         CommandError::Take(TakeError::NoMemory) => 4,
         CommandError::Observe(ObserveError::Take(TakeError::NoMemory)) => 4,
         CommandError::Poll(PollError::NoMemory) => 4,
-        CommandError::Sync(SyncError::NoMemory) => 4,
         CommandError::NoMemory => 4,
         CommandError::Poll(PollError::Io) => 3,
-        CommandError::Sync(SyncError::Io) => 3,
         CommandError::Io => 3,
         CommandError::Name(_) | CommandError::Document(_) | CommandError::Config(_) => 1,
         CommandError::Take(_) | CommandError::Observe(_) | CommandError::Poll(_) => 1,
-        CommandError::Sync(_) | CommandError::Full => 1,
+        CommandError::Sync(why) => sync_status(why),
+        CommandError::Pull(fault) => sync_status(&fault.why),
+        CommandError::Full => 1,
+    }
+}
+
+fn sync_status(why: &SyncError) -> u8
+    ensures { result ≡ status_of_sync why.now }
+{
+    match why {
+        SyncError::NoMemory => 4,
+        SyncError::Io => 3,
+        _ => 1,
     }
 }
 
@@ -118,6 +132,14 @@ impl From<SyncError> for CommandError {
 
     fn from(error: SyncError) -> CommandError {
         CommandError::Sync(error)
+    }
+}
+
+impl From<PullFault> for CommandError {
+    ghost from_gives = { λ e c. c ≡ Pull e };
+
+    fn from(fault: PullFault) -> CommandError {
+        CommandError::Pull(fault)
     }
 }
 

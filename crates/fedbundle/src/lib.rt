@@ -6,8 +6,11 @@ mod bundle;
 mod canon;
 mod command_name;
 mod complaint;
+mod counts;
 mod distrust;
 mod error;
+#[cfg(test)]
+mod exchange_tests;
 mod explain;
 mod fault;
 mod judge;
@@ -17,12 +20,15 @@ mod observe;
 mod polls;
 #[cfg(test)]
 mod polls_tests;
+mod pull;
 mod report;
 #[cfg(test)]
 mod report_rows;
 #[cfg(test)]
 mod report_tests;
 mod run_error;
+mod serve;
+mod sessions;
 mod state;
 #[cfg(test)]
 mod tests;
@@ -40,7 +46,10 @@ pub use fault::write_fault;
 pub use merge::run_merge;
 pub use observe::run_observe;
 pub use polls::run_polls;
+pub use pull::run_pull;
 pub use report::{run_report, run_report_with};
 pub use run_error::RunError;
+pub use serve::{run_serve, write_served};
+pub use sessions::read_sessions;
 pub use state::{StateLock, load_state, lock_state, save_state};
 pub use words::{Call, WordsError, read_words};

@@ -1,13 +1,12 @@
 //! `merge`: what a snapshot holds, taken into what is held.
-ghost use Rattle.std.specs.Prelude.{◌≡◌, true, IfErr, IsErr, IsErrOf, OnOk};
-ghost use Rattle.std.specs.Io.KnownBytes.{Appends, IsAtEnd};
-ghost use Rattle.receipt_core.specs.Device.{AppendsBeginning};
-ghost use Rattle.fedbundle.specs.Merge.{BeginsMerged, Merged, RefusesMergeRun, count_text};
+ghost use Rattle.std.specs.Prelude.{◌≡◌, true, IfErr, IsErrOf, OnOk};
+ghost use Rattle.std.specs.Io.KnownBytes.{IsAtEnd};
+ghost use Rattle.fedbundle.specs.Merge.{BeginsMerged, Merged, RefusesMergeRun};
 ghost use Rattle.fedbundle.specs.declared.error.CommandError.TheVariants.{Io};
 
+use crate::counts::write_counted;
 use crate::error::CommandError;
-use itoa::Buffer;
-use receipt_core::{Fault, Sink, Source, write_all};
+use receipt_core::{Sink, Source};
 use replica_sync::read_snapshot;
 use std::alloc::Global;
 use trust_closure::Closure;
@@ -34,19 +33,6 @@ pub fn run_merge<C: Closure, R: Source, W: Sink>(
 {
     let other: C = read_snapshot(alloc, closure.config(), source)?;
     let count = closure.merge(&other)?;
-    write_count(count as u64, sink)?;
+    write_counted(b"new ", count as u64, sink)?;
     Ok(())
-}
-
-/// Writes a line `new` with the number. It takes no memory.
-pub(crate) fn write_count<W: Sink>(count: u64, sink: &mut W) -> Result<(), Fault>
-    ensures ok { OnOk result (Appends (W.contents sink.old) (W.contents sink.new) (count_text count)) }
-    ensures beginning { AppendsBeginning (W.contents sink.old) (W.contents sink.new) (count_text count) }
-    ensures io { IsErr result → W.has_failed sink.new ≡ true }
-{
-    receipt_core::laws::pieces();
-    let mut buffer = Buffer::new();
-    write_all(sink, b"new ")?;
-    write_all(sink, buffer.format(count).as_bytes())?;
-    write_all(sink, b"\n")
 }

@@ -58,7 +58,8 @@ pub fn load_state<C: Closure, R: Files>(
 
 /// Writes the closure's snapshot to the file named like the state file with `.new` behind it, has the system write that
 /// to the disk, gives it the state file's name, and has the system write the folder. So where a rename is one step, the
-/// state file is as it was or as it is to be, at any fault and wherever the process is killed. No test shows this.
+/// state file is as it was or as it is to be, at any fault and wherever the process is killed. No clause says this: it is
+/// shown by refusing each call of the system, and by killing the program before and behind each.
 ///
 /// # Errors
 /// - [`SyncError::Io`]: the system refused a step,

@@ -5,10 +5,13 @@ use bundle_doc::DocError;
 use bundle_view::PollError;
 use fed_config::ConfigError;
 use receipt_core::{MemSink, MemSource};
+use replica_gossip::PullFault;
+use replica_sync::SyncError;
 use spiffe_name::{NameError, TrustDomain};
 use std::alloc::{AllocError, Global};
 use std::process::Abort;
 use std::test::Fail;
+use trust_closure::TakeError;
 
 const EMPTY: &str =
     "{\"keys\":[]}\nid 29bdce69a4dab30046231e8b903636aeea421141616696fa743f241f47f42a1a\n";
@@ -108,9 +111,13 @@ fn tells(
     Ok(())
 }
 
+fn pull_fault(why: SyncError, taken: u64) -> PullFault {
+    PullFault { why, taken }
+}
+
 #[test]
 fn every_refusal_has_its_line_and_status(rt: HostRuntime) -> Result<(), Fail> {
-    use CommandError::{Config, Document, Name, Poll};
+    use CommandError::{Config, Document, Name, Poll, Pull, Sync};
     let rows = [
         (Name(NameError::Empty), 1, "fedbundle: N1 Empty\n"),
         (Name(NameError::TooLong), 1, "fedbundle: N2 TooLong\n"),
@@ -185,6 +192,23 @@ fn every_refusal_has_its_line_and_status(rt: HostRuntime) -> Result<(), Fail> {
             "fedbundle: P5 BadMoment line 18446744073709551615\n",
         ),
         (Poll(PollError::Io), 3, "fedbundle: P6 Io\n"),
+        (Sync(SyncError::Io), 3, "fedbundle: S9 Io\n"),
+        (Sync(SyncError::NoMemory), 4, "fedbundle: S10 NoMemory\n"),
+        (
+            Pull(pull_fault(SyncError::Refused(3, TakeError::UnknownDomain), 5)),
+            1,
+            "fedbundle: S8 Refused line 3 G1 UnknownDomain taken 5\n",
+        ),
+        (
+            Pull(pull_fault(SyncError::Io, 0)),
+            3,
+            "fedbundle: S9 Io taken 0\n",
+        ),
+        (
+            Pull(pull_fault(SyncError::NoMemory, u64::MAX)),
+            4,
+            "fedbundle: S10 NoMemory taken 18446744073709551615\n",
+        ),
         (CommandError::Full, 1, "fedbundle: E1 Full\n"),
         (CommandError::NoMemory, 4, "fedbundle: E2 NoMemory\n"),
         (CommandError::Io, 3, "fedbundle: E3 Io\n"),

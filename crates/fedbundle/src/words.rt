@@ -86,11 +86,23 @@ fn command<'a>(alloc: Global) -> Result<Command<'a>, AllocError>
 fn subcommand<'a>(alloc: Global, name: CommandName) -> Result<Command<'a>, AllocError>
     ensures app { IfOk result (λ c. app_of c ≡ leaf name) }
 {
-    let mut command = Command::new(alloc, name.text()).about(name.about());
+    let mut command = with_notes(
+        Command::new(alloc, name.text()).about(name.about()),
+        name.notes(),
+    );
     'options: for &option in name.options() {
         command = command.arg(argument(alloc, option))?;
     }
     Ok(command)
+}
+
+fn with_notes<'a>(bare: Command<'a>, notes: Option<&'a str>) -> Command<'a>
+    ensures { app_of result ≡ app_of bare.entry }
+{
+    match notes {
+        Some(notes) => bare.after_help(notes),
+        None => bare,
+    }
 }
 
 fn argument<'a>(alloc: Global, option: OptionName) -> Arg<'a>

@@ -23,7 +23,7 @@ fn asked(rt: &HostRuntime, words: &[&str]) -> Result<String, Fail> {
 
 #[test]
 fn words_ask_for_a_call(rt: HostRuntime) -> Result<(), Fail> {
-    let rows: [(&[&str], &str); 8] = [
+    let rows: [(&[&str], &str); 10] = [
         (&["canon", "--domain", "a.example"], "canon a.example"),
         (&["canon"], "usage"),
         (&[], "usage"),
@@ -33,6 +33,20 @@ fn words_ask_for_a_call(rt: HostRuntime) -> Result<(), Fail> {
             "polls c s -5",
         ),
         (&["bundle", "--config", "c"], "usage"),
+        (
+            &[
+                "serve",
+                "--sessions=3",
+                "--listen=l",
+                "--state=s",
+                "--config=c",
+            ],
+            "serve c s l 3",
+        ),
+        (
+            &["pull", "--peer=p", "--state=s", "--config=c"],
+            "pull c s p",
+        ),
         (&["canon", "--state", "s"], "refused"),
         (&["help"], "refused"),
     ];

@@ -1,7 +1,7 @@
 // The subcommands: each reads its options in their order, then its state, runs the command's function over the streams,
 // and writes its state.
 use crate::stop::Stop;
-use crate::{options, words};
+use crate::{exchange, options, words};
 use bundle_view::Verdict;
 use fed_config::Config;
 use fedbundle::{
@@ -22,11 +22,16 @@ pub(crate) fn run(rt: &HostRuntime) -> Result<u8, Stop> {
 }
 
 fn carry_out(rt: &HostRuntime, call: &Call<'_>) -> Result<u8, Stop> {
-    match call.texts.as_slice() {
-        [domain] if call.name == CommandName::Canon => canon(rt, domain),
-        [config, given @ ..] => {
+    match (call.name, call.texts.as_slice()) {
+        (CommandName::Canon, [domain]) => canon(rt, domain),
+        (CommandName::Serve, [config, state, address, sessions]) => {
+            let sessions = options::sessions(sessions)?;
             let config = options::config(rt, rt.alloc(), config)?;
-            carry_out_under(rt, call.name, &config, given)
+            exchange::serve(rt, &config, state, address, sessions)
+        }
+        (name, [config, given @ ..]) => {
+            let config = options::config(rt, rt.alloc(), config)?;
+            carry_out_under(rt, name, &config, given)
         }
         _ => Err(Stop::Usage),
     }
@@ -44,6 +49,7 @@ fn carry_out_under(
         (CommandName::Bundle, [state, domain]) => bundle(rt, config, state, domain),
         (CommandName::Explain, [state, domain]) => explain(rt, config, state, domain),
         (CommandName::Polls, [state, now]) => polls(rt, config, state, now),
+        (CommandName::Pull, [state, address]) => exchange::pull(rt, config, state, address),
         (CommandName::Distrust, [state, domain, key]) => distrust(rt, config, state, domain, key),
         (CommandName::Observe, [state, domain, endpoint, key]) => {
             observe(rt, config, state, domain, endpoint, key)
@@ -190,15 +196,19 @@ fn input(rt: &HostRuntime) -> FromRead<Stdin> {
     FromRead::new(rt.stdin())
 }
 
-fn output(rt: &HostRuntime) -> FromWrite<Stdout> {
+pub(crate) fn output(rt: &HostRuntime) -> FromWrite<Stdout> {
     FromWrite::new(rt.stdout())
 }
 
-fn held(rt: &HostRuntime, config: &Config, state: &str) -> Result<IndexedClosure, CommandError> {
+pub(crate) fn held(
+    rt: &HostRuntime,
+    config: &Config,
+    state: &str,
+) -> Result<IndexedClosure, CommandError> {
     Ok(load_state(rt, rt.alloc(), config, state)?)
 }
 
-fn locked(rt: &HostRuntime, state: &str) -> Result<StateLock, CommandError> {
+pub(crate) fn locked(rt: &HostRuntime, state: &str) -> Result<StateLock, CommandError> {
     Ok(lock_state(rt, rt.alloc(), state)?)
 }
 

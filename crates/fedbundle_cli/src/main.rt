@@ -3,10 +3,13 @@
 #![tactic(auto)]
 
 mod commands;
+mod connection;
+mod exchange;
 mod options;
 mod stop;
 mod words;
 
+use fedbundle::CommandError;
 use receipt_core::{FromWrite, write_all};
 use std::process::ExitCode;
 use stop::Stop;
@@ -19,19 +22,29 @@ fn main(rt: HostRuntime) -> ExitCode {
     ExitCode::from(ended)
 }
 
-// Tells on standard error why the program stops, and answers its exit status. Help goes to standard output.
+// Tells on standard error why the program stops, and answers its exit status.
 fn tell(rt: &HostRuntime, stop: &Stop) -> u8 {
     let (ended, told) = match stop {
         Stop::Words(error) if error.use_stderr() => (2, error.print(rt).is_ok()),
-        Stop::Words(error) => (0, error.print(rt).is_ok()),
+        Stop::Words(error) => return show(rt, error),
         Stop::Usage => (2, say(rt, b"fedbundle: usage\n")),
         Stop::BadKey => (1, say(rt, b"fedbundle: bad key\n")),
         Stop::BadMoment => (1, say(rt, b"fedbundle: bad moment\n")),
+        Stop::BadAddress => (1, say(rt, b"fedbundle: bad address\n")),
         Stop::NoBundle => (1, say(rt, b"fedbundle: no current bundle\n")),
         Stop::NotAccepted => (1, say(rt, b"fedbundle: not accepted\n")),
         Stop::Refused(error) => return stop::tell_fault(rt, error),
     };
     if told { ended } else { ended.max(3) }
+}
+
+// Shows help or the version on standard output, and answers the exit status.
+fn show(rt: &HostRuntime, shown: &clap::Error) -> u8 {
+    if shown.print(rt).is_ok() {
+        0
+    } else {
+        stop::tell_fault(rt, &CommandError::Io)
+    }
 }
 
 fn say(rt: &HostRuntime, line: &[u8]) -> bool {

@@ -2,7 +2,7 @@
 use crate::stop::Stop;
 use bundle_view::read_seconds;
 use fed_config::Config;
-use fedbundle::CommandError;
+use fedbundle::{CommandError, read_sessions};
 use jiff::Timestamp;
 use jwk_set::KeyId;
 use receipt_core::{FromRead, read_up_to};
@@ -10,6 +10,7 @@ use spiffe_name::{SpiffeId, TrustDomain};
 use std::alloc::Global;
 use std::fs;
 use std::fs::Files;
+use std::net::SocketAddr;
 
 /// The configuration in the file.
 pub(crate) fn config<R: Files>(
@@ -51,4 +52,14 @@ pub(crate) fn moment(text: &str) -> Result<Timestamp, Stop> {
         return Err(Stop::BadMoment);
     };
     Timestamp::from_second(seconds).map_err(|_| Stop::BadMoment)
+}
+
+/// The address of an IP address and a port.
+pub(crate) fn address(text: &str) -> Result<SocketAddr, Stop> {
+    text.parse::<SocketAddr>().map_err(|_| Stop::BadAddress)
+}
+
+/// How many sessions are served.
+pub(crate) fn sessions(text: &str) -> Result<u32, Stop> {
+    read_sessions(text).ok_or(Stop::Usage)
 }

@@ -8,12 +8,14 @@ use std::alloc::AllocError;
 pub(crate) enum Stop {
     /// The words are none that the command has, or ask for its help or version.
     Words(clap::Error),
-    /// A word is no text, or the subcommand or an option is missing.
+    /// A word is no text, the subcommand or an option is missing, or `--sessions` is no number from 1 to 1,000,000.
     Usage,
     /// `--key` is not 64 lower-case hexadecimal digits.
     BadKey,
     /// `--now` is no moment.
     BadMoment,
+    /// `--listen` or `--peer` is no address of a socket.
+    BadAddress,
     /// The domain has no current bundle.
     NoBundle,
     /// The document is not accepted.

@@ -1,0 +1,21 @@
+//! Lines that tell a number.
+ghost use Rattle.std.specs.Prelude.{◌≡◌, true, IsErr, OnOk};
+ghost use Rattle.std.specs.Io.KnownBytes.{Appends};
+ghost use Rattle.receipt_core.specs.Device.{AppendsBeginning};
+ghost use Rattle.fedbundle.specs.Counts.{counted};
+
+use itoa::Buffer;
+use receipt_core::{Fault, Sink, write_all};
+
+/// Writes a line of the label and the number. It takes no memory.
+pub(crate) fn write_counted<W: Sink>(label: &[u8], count: u64, sink: &mut W) -> Result<(), Fault>
+    ensures ok { OnOk result (Appends (W.contents sink.old) (W.contents sink.new) (counted label.now count)) }
+    ensures beginning { AppendsBeginning (W.contents sink.old) (W.contents sink.new) (counted label.now count) }
+    ensures io { IsErr result → W.has_failed sink.new ≡ true }
+{
+    receipt_core::laws::pieces();
+    let mut buffer = Buffer::new();
+    write_all(sink, label)?;
+    write_all(sink, buffer.format(count).as_bytes())?;
+    write_all(sink, b"\n")
+}

@@ -1,0 +1,46 @@
+//! `serve`: the questions of other replicas, answered.
+ghost use Rattle.std.specs.Prelude.{◌≡◌, ◌⊎◌, true, IfErr, IsErrOf, OnOk};
+ghost use Rattle.std.specs.Io.KnownBytes.{Appends};
+ghost use Rattle.receipt_core.specs.Device.{AppendsBeginning};
+ghost use Rattle.replica_sync.specs.declared.error.SyncError.TheVariants.{Io as DeviceFailed};
+ghost use Rattle.fedbundle.specs.Serve.{ServesSession, served_text};
+ghost use Rattle.fedbundle.specs.declared.error.CommandError.TheVariants.{Io, Sync};
+
+use crate::counts::write_counted;
+use crate::error::CommandError;
+use receipt_core::{Sink, Source};
+use replica_gossip::serve_one;
+use std::alloc::Global;
+use trust_closure::Closure;
+
+/// Serves one session: answers the questions of the source, one after another, until it ends where a question would
+/// begin. Answers how many there were.
+///
+/// # Errors
+/// `Sync`, as [`serve_one`] tells it. The questions before the fault are answered, and nothing else is written; where the
+/// sink failed or memory ran out, a beginning of that.
+pub fn run_serve<C: Closure, R: Source, W: Sink>(
+    alloc: Global,
+    closure: &C,
+    source: &mut R,
+    sink: &mut W,
+) -> Result<u64, CommandError>
+    ensures serves { ServesSession (C.state closure.now).meaning (R.remaining source.old) (W.contents sink.old) (W.contents sink.new) result }
+    ensures io { IsErrOf result (Sync DeviceFailed) → (R.has_failed source.new ≡ true) ⊎ (W.has_failed sink.new ≡ true) }
+{
+    let count = serve_one(alloc, closure, source, sink)?;
+    Ok(count)
+}
+
+/// Writes a line `served` with the number of sessions. It takes no memory.
+///
+/// # Errors
+/// `Io` where the sink failed, which then holds a beginning of the line.
+pub fn write_served<W: Sink>(sessions: u64, sink: &mut W) -> Result<(), CommandError>
+    ensures ok { OnOk result (Appends (W.contents sink.old) (W.contents sink.new) (served_text sessions)) }
+    ensures io { IfErr result (λ e. (e ≡ Io) × (W.has_failed sink.new ≡ true)
+        × AppendsBeginning (W.contents sink.old) (W.contents sink.new) (served_text sessions)) }
+{
+    write_counted(b"served ", sessions, sink)?;
+    Ok(())
+}

@@ -1,0 +1,115 @@
+// Connections with other replicas, and how long they may keep this one.
+use crate::stop::Stop;
+use fedbundle::CommandError;
+use replica_sync::SyncError;
+use std::io;
+use std::io::{ErrorKind, Read, Write};
+use std::net::{SocketAddr, TcpListener, TcpStream};
+use std::time::{Duration, Instant};
+
+/// How many seconds a connect may take, and a read or a write in which no byte moves.
+const MAX_IDLE_SECONDS: u64 = 30;
+
+/// How many seconds a session may take in all. It ends with the first read or write that begins later.
+const MAX_SESSION_SECONDS: u64 = 600;
+
+/// A connection with another replica, for one session.
+#[derive(Drop)]
+pub(crate) struct Connection {
+    stream: TcpStream,
+    deadline: Instant,
+}
+
+/// One direction of a connection. Past the session's time each call fails.
+#[derive(Drop)]
+pub(crate) struct Way<'a> {
+    rt: &'a HostRuntime,
+    connection: &'a Connection,
+}
+
+/// Waits at the address. It is at fault where another program does so already.
+pub(crate) fn listen(rt: &HostRuntime, address: SocketAddr) -> Result<TcpListener, Stop> {
+    match TcpListener::bind(rt, address) {
+        Ok(listener) => Ok(listener),
+        Err(_) => Err(Stop::Refused(CommandError::Sync(SyncError::Io))),
+    }
+}
+
+/// The connection that the next client makes. How long it is waited for has no limit.
+pub(crate) fn accept(rt: &HostRuntime, listener: &TcpListener) -> Result<Connection, CommandError> {
+    match accepted(rt, listener) {
+        Ok(connection) => Ok(connection),
+        Err(_) => Err(CommandError::Sync(SyncError::Io)),
+    }
+}
+
+/// A connection to the replica that serves at the address.
+pub(crate) fn connect(rt: &HostRuntime, address: SocketAddr) -> Result<Connection, Stop> {
+    match connected(rt, address) {
+        Ok(connection) => Ok(connection),
+        Err(_) => Err(Stop::Refused(CommandError::Sync(SyncError::Io))),
+    }
+}
+
+impl Connection {
+    /// A direction of the connection; either serves for both.
+    pub(crate) fn way<'a>(&'a self, rt: &'a HostRuntime) -> Way<'a> {
+        Way {
+            rt,
+            connection: self,
+        }
+    }
+}
+
+impl Way<'_> {
+    fn check_time(&self) -> io::Result<()> {
+        if Instant::now(self.rt)? < self.connection.deadline {
+            Ok(())
+        } else {
+            Err(io::Error::from(ErrorKind::TimedOut))
+        }
+    }
+}
+
+impl Read for Way<'_> {
+    fn read(&mut self, buffer: &mut [u8]) -> io::Result<usize> {
+        self.check_time()?;
+        let mut stream = &self.connection.stream;
+        stream.read(buffer)
+    }
+}
+
+impl Write for Way<'_> {
+    fn write(&mut self, bytes: &[u8]) -> io::Result<usize> {
+        self.check_time()?;
+        let mut stream = &self.connection.stream;
+        stream.write(bytes)
+    }
+
+    fn flush(&mut self) -> io::Result<()> {
+        Ok(())
+    }
+}
+
+fn accepted(rt: &HostRuntime, listener: &TcpListener) -> io::Result<Connection> {
+    let (stream, _) = listener.accept()?;
+    limited(rt, stream)
+}
+
+fn connected(rt: &HostRuntime, address: SocketAddr) -> io::Result<Connection> {
+    let idle = Duration::from_secs(MAX_IDLE_SECONDS);
+    let stream = TcpStream::connect_timeout(rt, &address, idle)?;
+    limited(rt, stream)
+}
+
+// A session whose time begins now. Each write goes out at once, since the other side waits for it.
+fn limited(rt: &HostRuntime, stream: TcpStream) -> io::Result<Connection> {
+    let idle = Duration::from_secs(MAX_IDLE_SECONDS);
+    stream.set_nodelay(true)?;
+    stream.set_read_timeout(Some(idle))?;
+    stream.set_write_timeout(Some(idle))?;
+    match Instant::now(rt)?.checked_add(Duration::from_secs(MAX_SESSION_SECONDS)) {
+        Some(deadline) => Ok(Connection { stream, deadline }),
+        None => Err(io::Error::from(ErrorKind::TimedOut)),
+    }
+}

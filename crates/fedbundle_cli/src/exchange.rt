@@ -1,0 +1,104 @@
+// `serve` and `pull`: a replica's two ends of a session, over sockets.
+use crate::commands::{held, locked, output};
+use crate::connection::{Connection, accept, connect, listen};
+use crate::options;
+use crate::stop::{Stop, tell_fault};
+use fed_config::Config;
+use fedbundle::{CommandError, run_pull, run_serve, save_state, write_served};
+use receipt_core::{FromRead, FromWrite};
+use std::net::TcpListener;
+use trust_closure::IndexedClosure;
+
+/// Serves so many sessions, one after another, with what the state file holds at the start. The fault of a session is told
+/// at its end, and the answer is the greatest exit status of all.
+pub(crate) fn serve(
+    rt: &HostRuntime,
+    config: &Config,
+    state: &str,
+    address: &str,
+    sessions: u32,
+) -> Result<u8, Stop> {
+    let closure = held(rt, config, state)?;
+    let listener = listen(rt, options::address(address)?)?;
+    Ok(serve_all(rt, &closure, &listener, sessions))
+}
+
+fn serve_all(
+    rt: &HostRuntime,
+    closure: &IndexedClosure,
+    listener: &TcpListener,
+    sessions: u32,
+) -> u8 {
+    let mut ended = 0;
+    for _ in 0..sessions {
+        ended = status_of(rt, serve_next(rt, closure, listener)).max(ended);
+    }
+    let told = write_served(u64::from(sessions), &mut output(rt));
+    status_of(rt, told).max(ended)
+}
+
+fn serve_next(
+    rt: &HostRuntime,
+    closure: &IndexedClosure,
+    listener: &TcpListener,
+) -> Result<(), CommandError> {
+    let connection = accept(rt, listener)?;
+    serve_over(rt, closure, &connection)
+}
+
+fn serve_over(
+    rt: &HostRuntime,
+    closure: &IndexedClosure,
+    connection: &Connection,
+) -> Result<(), CommandError> {
+    let mut source = FromRead::new(connection.way(rt));
+    let mut sink = FromWrite::new(connection.way(rt));
+    run_serve(rt.alloc(), closure, &mut source, &mut sink)?;
+    Ok(())
+}
+
+/// Takes what the replica at the address has, and writes the state, also where the session ends with a fault. Where there is
+/// no connection the state file stays as it is.
+pub(crate) fn pull(
+    rt: &HostRuntime,
+    config: &Config,
+    state: &str,
+    address: &str,
+) -> Result<u8, Stop> {
+    let _lock = locked(rt, state)?;
+    let mut closure = held(rt, config, state)?;
+    let connection = connect(rt, options::address(address)?)?;
+    let pulled = pull_over(rt, &mut closure, &connection);
+    drop(connection);
+    Ok(kept(rt, &closure, state, pulled))
+}
+
+fn pull_over(
+    rt: &HostRuntime,
+    closure: &mut IndexedClosure,
+    connection: &Connection,
+) -> Result<(), CommandError> {
+    let mut source = FromRead::new(connection.way(rt));
+    let mut peer = FromWrite::new(connection.way(rt));
+    run_pull(rt.alloc(), closure, &mut source, &mut peer, &mut output(rt))
+}
+
+// The state is written before a fault of the session is told.
+fn kept(
+    rt: &HostRuntime,
+    closure: &IndexedClosure,
+    state: &str,
+    pulled: Result<(), CommandError>,
+) -> u8 {
+    let saved = save_state(rt, rt.alloc(), closure, state);
+    let ended = status_of(rt, pulled);
+    status_of(rt, saved.map_err(CommandError::Sync)).max(ended)
+}
+
+// The exit status of what was done, where a fault is told.
+fn status_of(rt: &HostRuntime, done: Result<(), CommandError>) -> u8 {
+    match done {
+        Ok(()) => 0,
+        Err(error) => tell_fault(rt, &error),
+    }
+}
