@@ -2,8 +2,10 @@
 //! standard library for what is lent in order.
 use crate::receipt::{offers_of, read_document, Document, Id, Receipt, Triple};
 use serde_json::Value;
+use std::borrow::Borrow;
 use std::cmp::Ordering;
 use std::collections::{BTreeMap, BTreeSet, HashMap};
+use std::ops::Bound;
 use std::rc::Rc;
 
 const MOST_RECEIPTS: usize = 65_536;
@@ -23,6 +25,13 @@ enum Pair {
 
 /// A receipt in the order of buckets: by the first byte of its id, and then by line.
 struct InBucket(Rc<Receipt>);
+
+/// A place in the order of buckets: that of a receipt, or the one before all receipts of a bucket.
+trait Spot {
+    fn spot(&self) -> (u8, Option<&Receipt>);
+}
+
+struct Start(u8);
 
 struct Node {
     pair: Pair,
@@ -107,6 +116,44 @@ impl Ord for InBucket {
         self.0.id[0].cmp(&other.0.id[0]).then_with(|| self.0.cmp(&other.0))
     }
 }
+
+impl Spot for InBucket {
+    fn spot(&self) -> (u8, Option<&Receipt>) {
+        (self.0.id[0], Some(&self.0))
+    }
+}
+
+impl Spot for Start {
+    fn spot(&self) -> (u8, Option<&Receipt>) {
+        (self.0, None)
+    }
+}
+
+impl<'a> Borrow<dyn Spot + 'a> for InBucket {
+    fn borrow(&self) -> &(dyn Spot + 'a) {
+        self
+    }
+}
+
+impl Ord for dyn Spot + '_ {
+    fn cmp(&self, other: &Self) -> Ordering {
+        self.spot().cmp(&other.spot())
+    }
+}
+
+impl PartialOrd for dyn Spot + '_ {
+    fn partial_cmp(&self, other: &Self) -> Option<Ordering> {
+        Some(self.cmp(other))
+    }
+}
+
+impl PartialEq for dyn Spot + '_ {
+    fn eq(&self, other: &Self) -> bool {
+        self.cmp(other) == Ordering::Equal
+    }
+}
+
+impl Eq for dyn Spot + '_ {}
 
 macro_rules! ordered {
     ($($name:ty),*) => {$(
@@ -220,8 +267,9 @@ impl Closure {
     }
 
     pub fn receipts_of(&self, bucket: u8) -> impl Iterator<Item = &Receipt> {
-        let bound = self.buckets.iter().map(|receipt| &*receipt.0);
-        bound.skip_while(move |receipt| receipt.id[0] < bucket).take_while(move |receipt| receipt.id[0] == bucket)
+        let start: Bound<&dyn Spot> = Bound::Included(&Start(bucket));
+        let behind = self.buckets.range::<dyn Spot, _>((start, Bound::Unbounded)).map(|receipt| &*receipt.0);
+        behind.take_while(move |receipt| receipt.id[0] == bucket)
     }
 
     pub fn accepted(&self, domain: &str) -> impl Iterator<Item = &Document> {

@@ -75,13 +75,13 @@ fn digest_of(text: &str) -> Option<Id> {
     hex::decode(text).ok()?.try_into().ok()
 }
 
-fn is_domain(text: &str) -> bool {
+pub fn is_domain(text: &str) -> bool {
     let is_domain_byte = |byte: u8| byte.is_ascii_lowercase() || byte.is_ascii_digit() || b".-_".contains(&byte);
     !text.is_empty() && text.len() <= 255 && text.bytes().all(is_domain_byte)
 }
 
 /// The trust domain of a SPIFFE ID.
-fn domain_of(text: &str) -> Option<&str> {
+pub fn domain_of(text: &str) -> Option<&str> {
     let rest = text.strip_prefix("spiffe://")?;
     let (domain, path) = rest.split_once('/').map_or((rest, None), |(domain, path)| (domain, Some(path)));
     let is_id = text.len() <= 2_048 && path.map_or(true, |path| path.split('/').all(is_segment));
@@ -202,7 +202,7 @@ fn key_of(mut kept: Map<String, Value>) -> Option<PublicKey> {
     }
 }
 
-fn is_url_text(text: &str) -> bool {
+pub fn is_url_text(text: &str) -> bool {
     let is_symbol = |byte: u8| byte.is_ascii_alphanumeric() || byte == b'-' || byte == b'_';
     !text.is_empty() && text.len() % 4 != 1 && text.bytes().all(is_symbol)
 }

@@ -1,0 +1,285 @@
+"""What `refusals` and `kills` share: the program, the library that is preloaded under it, the worked runs of
+examples/rows that are given to both, the peers of sessions, and what a run showed."""
+import hashlib
+import json
+import os
+import socket
+import struct
+import subprocess
+import sys
+import tempfile
+import threading
+import time
+from contextlib import nullcontext
+from dataclasses import dataclass, field, replace
+from importlib.machinery import SourceFileLoader
+from importlib.util import module_from_spec, spec_from_loader
+from itertools import count
+from pathlib import Path
+
+TOP = Path(__file__).resolve().parent.parent
+SECONDS = 10
+
+# As `struct told` of refusals.c.
+KINDS = ["alloc", "open", "read", "write", "sync", "rename", "lock", "close", "change", "socket", "system"]
+TOLD = struct.Struct("<11Qqq24s4000s")
+
+# What the program may ask of the C library behind the preloaded one: what asks for no memory and changes no file.
+UNSEEN = {
+    "__errno_location", "__libc_start_main", "__stack_chk_fail", "__sysv_signal", "__tls_get_addr",
+    "__x86_get_cpuid_feature_leaf", "__xpg_strerror_r", "abort", "bcmp", "clock_gettime", "exit", "_exit", "free",
+    "getauxval", "getenv", "getpid", "ioctl", "lseek", "memchr", "memcmp", "memcpy", "memmove", "memset", "poll",
+    "pthread_sigmask", "sigaddset", "sigemptyset", "sigismember", "signal", "sigpending", "sigtimedwait", "statx",
+    "strlen", "sysconf",
+}
+
+
+def stop(text):
+    sys.exit(f"{Path(sys.argv[0]).name}: {text}")
+
+
+def find_program():
+    """The program that $FEDBUNDLE names, or else the one that ./fedbundle builds."""
+    named = os.environ.get("FEDBUNDLE")
+    if not named:
+        if subprocess.run([TOP / "fedbundle", "--version"], stdout=subprocess.DEVNULL).returncode != 0:
+            stop("the program is not built")
+        named = TOP / "crates/fedbundle_cli/out/fedbundle"
+    return str(Path(named).resolve())
+
+
+def temporary():
+    """A folder that goes away with its holder, in memory where that is possible: files are put on the disk in each run,
+    and a disk would take its time."""
+    memory = Path("/dev/shm")
+    return tempfile.TemporaryDirectory(prefix="fedbundle-", dir=memory if os.access(memory, os.W_OK) else None)
+
+
+def symbols(file, which):
+    lines = subprocess.run(["nm", "-D", which, file], capture_output=True, text=True, check=True).stdout.splitlines()
+    return {line.split()[-1].split("@")[0] for line in lines if line.split()[-2] in "TU"}
+
+
+def build_library(folder, program):
+    """Builds the library, and stops where the program calls what the library does not see."""
+    library = str(Path(folder) / "refusals.so")
+    source = Path(__file__).resolve().parent / "refusals.c"
+    if subprocess.run(["cc", "-O2", "-fPIC", "-shared", "-o", library, source]).returncode != 0:
+        stop("the library is not built")
+    called = symbols(program, "--undefined-only")
+    if "malloc" not in called:
+        stop(f"{program} does not take its memory from the C library, so nothing can be refused")
+    unknown = called - symbols(library, "--defined-only") - UNSEEN
+    if unknown:
+        stop(f"the program calls what refusals.c does not know: {' '.join(sorted(unknown))}")
+    return library
+
+
+PORTS = count()
+
+
+def listener_of_own():
+    """A listener at a port that no other process of a test takes: each has 200 of its own, below those that the system
+    gives away."""
+    while True:
+        port = 10_000 + os.getpid() % 100 * 200 + next(PORTS) % 200
+        try:
+            return socket.create_server(("127.0.0.1", port)), port
+        except OSError:
+            continue
+
+
+class Peer:
+    """The other side of a session over a socket, in a thread: a replica of the state's configuration that holds these
+    receipts. A run whose words have PEER meets it there: it answers a `pull`, and asks a `serve`."""
+
+    def __init__(self, state, receipts, asks):
+        self.config = json.loads(state.splitlines()[0])["config"]
+        self.receipts = receipts
+        self.asks = asks
+
+    def __enter__(self):
+        self.listener, self.port = listener_of_own()
+        self.listener.settimeout(0.01)
+        if self.asks:
+            self.listener.close()
+        self.ended = threading.Event()
+        self.thread = threading.Thread(target=self.ask if self.asks else self.answer)
+        self.thread.start()
+        return f"127.0.0.1:{self.port}"
+
+    def __exit__(self, *_):
+        self.ended.set()
+        if not self.asks:
+            self.listener.close()
+        self.thread.join()
+
+    def question(self, bucket):
+        return f'{{"bucket":{bucket},"config":"{self.config}","format":2,"have":[],"of":256}}\n'.encode()
+
+    def answer_of(self, bucket):
+        lines = [line for line in self.receipts if hashlib.sha256(line.rstrip(b"\n")).digest()[0] == bucket]
+        head = f'{{"bucket":{bucket},"config":"{self.config}","count":{len(lines)},"distrusts":0,"format":2,"of":256}}\n'
+        return head.encode() + b"".join(lines)
+
+    def answer(self):
+        while not self.ended.is_set():
+            try:
+                stream, _ = self.listener.accept()
+            except OSError:
+                continue
+            with stream, stream.makefile("rb") as lines:
+                stream.settimeout(SECONDS)
+                try:
+                    for bucket, _ in enumerate(lines):
+                        stream.sendall(self.answer_of(bucket))
+                except OSError:
+                    pass
+
+    def ask(self):
+        while not self.ended.is_set():
+            try:
+                stream = socket.create_connection(("127.0.0.1", self.port), SECONDS)
+                break
+            except OSError:
+                time.sleep(0.002)
+        else:
+            return
+        with stream, stream.makefile("rb") as lines:
+            try:
+                for bucket in range(256):
+                    stream.sendall(self.question(bucket))
+                    head = json.loads(lines.readline())
+                    for _ in range(head["count"] + head["distrusts"]):
+                        lines.readline()
+                stream.shutdown(socket.SHUT_WR)
+                lines.read()
+            except (OSError, ValueError):
+                pass
+
+
+@dataclass
+class Run:
+    """Words, files and input that are given to the program; whether it writes its state, and whether by steps, as by a
+    session that is cut: then a fault may leave a state between the two. A run over a socket has a peer, a function that
+    makes it."""
+
+    name: str
+    words: list
+    files: dict = field(default_factory=dict)
+    stdin: bytes = b""
+    writes: bool = False
+    steps: bool = False
+    peer: object = None
+
+    def over(self, state):
+        """The same run where the state file has these bytes, or is not there."""
+        files = {name: text for name, text in self.files.items() if name != "state"}
+        return replace(self, files=files if state is None else {**files, "state": state})
+
+
+@dataclass
+class Seen:
+    """What a run showed: how it ended (below 0: by that signal), what it wrote, and what it left."""
+
+    status: int
+    out: bytes
+    err: bytes
+    state: bytes
+    new: bytes
+    calls: dict
+    order: list
+    met: bool
+    name: str
+    descriptor: int
+
+    def answer(self):
+        return self.status, self.out, self.err, self.state
+
+
+def content(path):
+    try:
+        return path.read_bytes()
+    except FileNotFoundError:
+        return None
+
+
+def lay(folder, files):
+    """Leaves these files alone in the folder."""
+    for path in folder.iterdir():
+        if path.is_dir():
+            path.rmdir()
+        elif path.name not in files:
+            path.unlink()
+    for name, text in files.items():
+        (folder / name).write_bytes(text)
+
+
+class Place:
+    """A folder to run the program in, one run after another."""
+
+    def __init__(self, program, library, above):
+        self.program = program
+        self.library = library
+        above = Path(tempfile.mkdtemp(dir=above))
+        self.folder = above / "run"
+        self.folder.mkdir()
+        self.told = above / "told"
+        self.told.write_bytes(bytes(TOLD.size))
+
+    def see(self, run, fault=None, anew=True):
+        """Runs the program. `fault` is a kind, a number of a call, how it is refused, and the number of the error."""
+        if anew:
+            lay(self.folder, run.files)
+        kind, call, how, error = fault or ("none", 0, "once", 0)
+        environment = {
+            "LD_PRELOAD": self.library,
+            "REFUSE_TOLD": str(self.told),
+            "REFUSE_KIND": kind,
+            "REFUSE_CALL": str(call),
+            "REFUSE_HOW": how,
+            "REFUSE_ERROR": str(error),
+            "REFUSE_SECONDS": str(SECONDS),
+        }
+        with run.peer() if run.peer else nullcontext() as address:
+            words = [address if word == "PEER" else word for word in run.words]
+            ran = subprocess.run(
+                [self.program, *words], input=run.stdin, capture_output=True, cwd=self.folder, env=environment
+            )
+        told = TOLD.unpack(self.told.read_bytes())
+        return Seen(
+            ran.returncode,
+            ran.stdout,
+            ran.stderr,
+            content(self.folder / "state"),
+            content(self.folder / "state.new"),
+            dict(zip(KINDS, told)),
+            told[14].rstrip(b"\0").decode().split(),
+            told[11] == 1,
+            told[13].rstrip(b"\0").decode(),
+            told[12],
+        )
+
+
+def worked_runs():
+    """The rows of examples/rows, by name."""
+    loader = SourceFileLoader("rows", str(TOP / "examples/rows/check"))
+    rows = module_from_spec(spec_from_loader("rows", loader))
+    loader.exec_module(rows)
+    stored = json.loads((TOP / "examples/rows/rows.json").read_text())
+    texts = stored["texts"]
+    return {
+        row["row"]: Run(
+            row["row"],
+            row["args"],
+            {name: rows.bytes_of(text, texts) for name, text in row.get("files", {}).items()},
+            rows.bytes_of(row.get("stdin", ""), texts),
+            row["args"][:1] in (["observe"], ["merge"], ["distrust"], ["pull"]),
+        )
+        for row in stored["rows"]
+    }
+
+
+def shown(value):
+    text = repr(value)
+    return text if len(text) <= 300 else text[:300] + ".."
