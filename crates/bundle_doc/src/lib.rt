@@ -14,8 +14,3 @@ mod numbers;
 
 pub use document::{DocId, Document, MAX_DOCUMENT_BYTES};
 pub use error::DocError;
-
-#[cfg(test)]
-mod canonical_tests;
-#[cfg(test)]
-mod tests;

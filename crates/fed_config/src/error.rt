@@ -15,7 +15,7 @@ pub enum ConfigError {
     /// The value, a relationship or a seed is no object with exactly its members, or a member is not what it has to be.
     #[error("C2 Shape")]
     Shape,
-    /// A `domain` is no trust domain name, or an `endpoint` is no SPIFFE ID.
+    /// A `domain` does not name a trust domain, or what stands as an `endpoint` is no SPIFFE ID.
     #[error("C3 BadName")]
     BadName,
     /// A `url` is no URL, has more than 2,048 bytes, another scheme than `https`, a user name or a password.

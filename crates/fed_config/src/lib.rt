@@ -2,11 +2,19 @@
 #![tactic(auto)]
 
 mod canonical;
+#[cfg(test)]
+mod canonical_tests;
 mod config;
+#[cfg(test)]
+mod document_tests;
 mod domains;
+#[cfg(test)]
+mod element_tests;
 mod error;
 mod id;
 pub mod laws;
+#[cfg(test)]
+mod name_tests;
 mod names;
 mod read;
 mod relationship;

@@ -30,10 +30,10 @@ impl Config {
     /// The configuration that a JSON text (RFC 8259) says: of members with one name the last counts, and arrays and
     /// objects may nest 127 levels deep.
     ///
-    /// It is an object with exactly the members `relationships` and `seeds`, both arrays. A relationship is an object with
-    /// exactly the members `domain`, `endpoint`, `profile` and `url`, all texts: a trust domain name, a SPIFFE ID,
-    /// `https_spiffe`, and a URL of at most 2,048 bytes with the scheme `https`, which has neither a user name nor a
-    /// password. A seed is an object with exactly the members `bundle`, a document, and `domain`, a trust domain name.
+    /// Objects have the members named here and no other: the whole has the arrays `relationships` and `seeds`. In each
+    /// relationship there are four texts: in `domain` a trust domain name, in `endpoint` a SPIFFE ID, in `profile`
+    /// `https_spiffe`, and in `url` a URL of at most 2,048 bytes with the scheme `https`, which has neither a user name
+    /// nor a password. In each seed there are `bundle`, a document, and `domain`, a trust domain name.
     ///
     /// # Errors
     /// The first of [`ConfigError`]'s causes that holds anywhere. Where memory ran out it is [`ConfigError::NoMemory`],

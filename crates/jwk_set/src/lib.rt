@@ -11,6 +11,3 @@ mod text;
 pub use authority::{Authority, KeyId, PublicKey};
 pub use element::read_element;
 pub use forms::{Certificate, NonEmptyText, UrlText};
-
-#[cfg(test)]
-mod tests;

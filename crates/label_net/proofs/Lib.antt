@@ -3,3 +3,4 @@ pub mod Mirroring
 pub mod Edges
 pub mod InOrder
 pub mod Closing
+mod SequenceFacts

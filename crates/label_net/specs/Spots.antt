@@ -37,7 +37,7 @@ abbrev pub wait_arrow : {A : Type 0} → List A → Edge → Arrow A
 wait_arrow labels edge = record { node = edge.to; label = slice_get labels edge.from }
 
 -- The net has one node for each spot, one label for each of `labels`, which are different, closed exactly where it is
--- shut, one offer edge for each offer of each spot, one wait edge for each spot that awaits, and no other.
+-- shut, for each spot as many offer edges as it has offers and a wait edge where it awaits, and no other.
 pub record Mirrors {A : Type 0} (spots : List (Spot A)) (labels : List A) (IsShut : A → Type 0) (net : Net) : Type 0 where
   pub roots : net.roots ≡ map (λ spot. spot.rooted) spots
   pub sizes : length net.closed ≡ length labels

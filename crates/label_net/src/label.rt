@@ -1,5 +1,7 @@
 //! What labels stand for.
 ghost use Rattle.std.specs.Prelude.{◌≡◌};
+ghost use Rattle.std.specs.Ordering.{nat_cmp, ordering_then};
+ghost use Rattle.std.specs.Cmp.Lexicographic.{slice_cmp};
 ghost use Rattle.label_net.specs.Labels.{label_cmp};
 
 use bundle_doc::DocId;
@@ -27,9 +29,19 @@ impl ItemProbe<Label> for SoughtLabel {
     ghost compared = { λ sought item. label_cmp item sought.label };
 
     fn compare(&self, item: &Label) -> Ordering {
-        item.domain
-            .cmp(&self.label.domain)
-            .then(item.document.cmp(&self.label.document))
-            .then(item.key.cmp(&self.label.key))
+        match item.domain.cmp(&self.label.domain) {
+            Ordering::Equal => compare_ids(item, &self.label),
+            unequal => unequal,
+        }
+    }
+}
+
+// Labels of one domain are ordered by the document, and by the key only where that is the same.
+fn compare_ids(a: &Label, b: &Label) -> Ordering
+    ensures { result ≡ ordering_then (slice_cmp nat_cmp a.now.document.0 b.now.document.0) (slice_cmp nat_cmp a.now.key.0 b.now.key.0) }
+{
+    match a.document.cmp(&b.document) {
+        Ordering::Equal => a.key.cmp(&b.key),
+        unequal => unequal,
     }
 }

@@ -3,4 +3,3 @@ pub mod SearchFacts
 pub mod PickedFacts
 pub mod OrderFacts
 mod StandardFacts
-mod SizeFacts

@@ -17,6 +17,3 @@ pub use lent::Lent;
 pub use numbers::Numbers;
 pub use order::Order;
 pub use probe::{ByItem, ItemProbe, Probe};
-
-#[cfg(test)]
-mod tests;

@@ -32,7 +32,7 @@ pub record IsPath (path : List ℕ) : Type 0 where
   pub each : AllByRecursion IsSegment segments
   pub whole : path ≡ joined segments
 
--- Sections 2 and 2.3: the text is spiffe://, a trust domain name and a path, and has at most 2,048 bytes.
+-- Sections 2 and 2.3: the text is the scheme, the name of a trust domain and a path, of at most 2,048 bytes together.
 pub record IsIdText (text domain path : List ℕ) : Type 0 where
   pub whole : text ≡ scheme ++ (domain ++ path)
   pub limit : length text ≤ 2048

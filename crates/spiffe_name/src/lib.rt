@@ -9,6 +9,3 @@ pub mod laws;
 pub use domain::TrustDomain;
 pub use error::NameError;
 pub use id::SpiffeId;
-
-#[cfg(test)]
-mod tests;

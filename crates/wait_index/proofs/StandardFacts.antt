@@ -84,7 +84,7 @@ label_2 = record { not_closed = refl; offered = (3, 2, record { within = omega a
 pub not_label_0 : IsOpen less 0 → ⊥
 not_label_0 o = both_ways true o.not_closed refl
 
--- Counts: all offer edges of marked nodes, also those to closed labels, and the wait edges of open labels
+-- What is counted: a marked node's offers, though the label be closed, and what awaits a label that is open
 
 pub visits_before : visits_of net (0 ∷ 1 ∷ 2 ∷ 3 ∷ []) ≡ 7
 visits_before = refl

@@ -34,7 +34,7 @@ pub record ListsReached (net : Net) (nodes : List ℕ) : Type 0 where
   pub all : (node : ℕ) → IsReached net node → Contains nodes node
   pub once : AllPairs ◌≢◌ nodes
 
--- the set has the roots and, where it has a node that offers a label that is not closed, each node that awaits the label
+-- the set has the roots, and with a node each one that awaits what the node offers, by a label that is not closed
 pub record IsClosedUnder (net : Net) (nodes : ℕ → Bool) : Type 0 where
   pub roots : (node : ℕ) → is_root net node ≡ true → nodes node ≡ true
   pub steps : (node label next i j : ℕ) → nodes node ≡ true → IsEdge net.offers i node label → is_closed net label ≡ false → IsEdge net.waits j label next → nodes next ≡ true

@@ -11,7 +11,7 @@ use crate::graph::Graph;
 use crate::marks::Marks;
 
 impl Marks {
-    /// Closes the label, and answers the number of turns, each of which looks at one edge.
+    /// Closes the label, and answers how many turns that took, where a turn looks at one edge.
     pub(crate) fn close(&mut self, graph: &mut Graph, label: usize) -> usize
         requires settled { IsSettled (net_of graph.old) (tally_of self.old) }
         requires label { label < length graph.old.closed.items }

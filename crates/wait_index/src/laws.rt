@@ -3,8 +3,8 @@ ghost use Rattle.std.specs.Prelude.{◌≡◌, ℕ, ◌+◌, ◌<◌, ◌≤◌,
 ghost use Rattle.wait_index.specs.Edge.{IsEdge};
 ghost use Rattle.wait_index.specs.Net.{Net, is_root, is_closed, IsReached, IsMore, IsClosedUnder, ClosesIn, with_closed, with_all_closed, visits_of};
 
-/// What is reached is the least set that has the roots and, where it has a node that offers a label
-/// that is not closed, each node that awaits the label.
+/// What is reached is the least set that has the roots, and with a node each one that awaits what the
+/// node offers, by a label that is not closed.
 pub fn least()
     ensures roots { (net : Net) (node : ℕ) → is_root net node ≡ true → IsReached net node }
     ensures steps { (net : Net) (node label next i j : ℕ) → IsReached net node → IsEdge net.offers i node label

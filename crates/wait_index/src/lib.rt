@@ -17,6 +17,3 @@ mod room;
 
 pub use number::{LabelNo, NodeNo};
 pub use reach::{NoMemory, Reach};
-
-#[cfg(test)]
-mod tests;

@@ -1,5 +1,5 @@
 //! Names and IDs that the standard accepts or refuses, in the profile of this crate.
-use super::{NameError, SpiffeId, TrustDomain};
+use spiffe_name::{NameError, SpiffeId, TrustDomain};
 use std::alloc::{AllocError, Global};
 use std::collections::{BTreeSet, HashSet};
 use std::hash::Hash;

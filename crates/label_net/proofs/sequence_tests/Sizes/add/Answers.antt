@@ -4,8 +4,8 @@ use Rattle.std.specs.Ordering.{nat_cmp}
 use Rattle.sorted_order.specs.Sought.{IsRising}
 use Rattle.sorted_order.specs.Stock.{in_order}
 use Rattle.sorted_order.proofs.PickedFacts.{length-in_order, same_in_order}
-use Rattle.sorted_order.proofs.SizeFacts.{sizes_rise, sizes_insert}
-use Rattle.sorted_order.proofs.tests.Sizes.add.Goals as goal
+use Rattle.label_net.proofs.SequenceFacts.{sizes_rise, sizes_insert}
+use Rattle.label_net.proofs.sequence_tests.Sizes.add.Goals as goal
 
 pub find-requires : goal.find-requires
 find-requires c =

@@ -1,5 +1,5 @@
 //! Which texts the direct reader takes, since no clause says that it takes any.
-use super::{Document, MAX_DOCUMENT_BYTES};
+use bundle_doc::{Document, MAX_DOCUMENT_BYTES};
 use serde_json::Value;
 use std::alloc::{AllocError, Global};
 use std::fmt::Write;

@@ -1,6 +1,6 @@
 use Rattle.sorted_order.specs.Stock.{in_order}
-use Rattle.sorted_order.proofs.SizeFacts.{sizes_rise}
-use Rattle.sorted_order.proofs.tests.Sizes.has.Goals as goal
+use Rattle.label_net.proofs.SequenceFacts.{sizes_rise}
+use Rattle.label_net.proofs.sequence_tests.Sizes.has.Goals as goal
 
 pub matching-found-requires : goal.matching-found-requires
 matching-found-requires c = sizes_rise (in_order c.self.inside.arena) c.args.number c.self.invariant

@@ -1,5 +1,5 @@
 //! Elements as servers publish them, and the texts that are written of them.
-use super::{Authority, Certificate, NonEmptyText, PublicKey, UrlText, read_element};
+use jwk_set::{Authority, Certificate, NonEmptyText, PublicKey, UrlText, read_element};
 use serde_json::Value;
 use std::alloc::{AllocError, Global};
 use std::process::Abort;

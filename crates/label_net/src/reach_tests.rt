@@ -1,9 +1,9 @@
 //! Worked nets, with the marked nodes, the visits and the turns that are wanted of each. The
 //! helpers test at run time what a call requires.
 
-use crate::{LabelNo, NodeNo, Reach};
 use std::process::Abort;
 use std::test::Fail;
+use wait_index::{LabelNo, NodeNo, Reach};
 
 fn offer(rt: &impl Abort, reach: &mut Reach, node: usize, label: usize) {
     assert!(rt; reach.room().2 > 0);

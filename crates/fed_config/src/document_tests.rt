@@ -1,5 +1,5 @@
 //! Documents as servers publish them, their canonical texts and ids, and texts that are no documents.
-use super::{DocError, Document, MAX_DOCUMENT_BYTES};
+use bundle_doc::{DocError, Document, MAX_DOCUMENT_BYTES};
 use hex::FromHex;
 use jwk_set::KeyId;
 use serde_json::Value;

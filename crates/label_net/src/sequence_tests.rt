@@ -1,7 +1,7 @@
 //! The sequence and the arena beside plain vectors.
 ghost use Rattle.std.specs.Prelude.{◌≤◌};
 
-use crate::{Arena, ItemProbe, Order};
+use sorted_order::{Arena, ItemProbe, Order};
 use std::alloc::{AllocError, Global};
 use std::cmp::Ordering;
 use std::marker::Model;
