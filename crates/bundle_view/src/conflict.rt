@@ -21,7 +21,7 @@ pub enum ConflictKind {
     HintOnly,
 }
 
-/// Two or more accepted documents of one domain with one sequence number, though a server is to change that number with
+/// Two or more accepted documents of a domain that have the same sequence number, though a server is to change it with
 /// each change of its bundle (SPIFFE Trust Domain and Bundle, section 4.1.1). A document without one is in no conflict.
 #[derive(Debug, Drop)]
 pub struct Conflict {

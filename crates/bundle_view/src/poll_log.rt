@@ -73,7 +73,7 @@ impl PollLog {
     }
 
     /// When the domain is polled next: the moment of its last poll and then the [`wait`]. `None` where it was never polled.
-    /// The hint is that of the domain's current document. It takes no memory.
+    /// The hint is the one in the document that is current for the domain. It takes no memory.
     ///
     /// # Errors
     /// - [`PollError::NoRelationship`]: there is no relationship with the domain.

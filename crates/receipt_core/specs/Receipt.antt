@@ -19,8 +19,8 @@ use Rattle.receipt_core.specs.Rising.{with_item}
 use Rattle.receipt_core.specs.declared.distrust.Distrust.{Distrust}
 use Rattle.receipt_core.specs.declared.triple.Triple.{Triple}
 
--- This document of this domain was served by this endpoint, which was authenticated by this key of that earlier bundle
--- of the endpoint's domain (SPIFFE Federation, section 5.2, profile https_spiffe).
+-- What was noted of one fetch: which document came for which domain, from which endpoint; and which key of which bundle
+-- (the voucher) of the endpoint's trust domain proved that endpoint (SPIFFE Federation, section 5.2, https_spiffe).
 pub record Receipt : Type 0 where
   pub domain : List ℕ
   pub endpoint : Id

@@ -1,7 +1,7 @@
 //! Devices: where bytes come from and where they go.
 //!
 //! A `Source` gives bytes and a `Sink` takes them. Unlike std's readers and writers, a device that
-//! failed once stays failed and says so, and a source gives at most 2^64 - 1 bytes, so that a call
+//! failed once stays failed and says so, and a source has less than 2^64 bytes to give, so that a call
 //! over devices can promise when it answers a fault, and that it ends.
 #![tactic(auto)]
 

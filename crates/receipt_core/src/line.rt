@@ -37,11 +37,15 @@ pub(crate) fn id_of(
     ReceiptId(hasher.finalize())
 }
 
+// The bytes of a line beside the document, the domain and the endpoint: the two digests and what stands between all, and
+// a line feed, which most callers add.
+const OTHER_BYTES: usize = 185;
+
 // The line of a receipt.
 pub(crate) fn write_receipt(alloc: Global, receipt: &Receipt) -> Result<Vec<u8>, AllocError>
     ensures { IfOk result (λ text. text.items ≡ line receipt.now) }
 {
-    let mut text = Vec::new(alloc);
+    let mut text = Vec::with_capacity(alloc, room_of_line(receipt))?;
     text.extend_from_slice(b"{\"doc\":")?;
     text.extend_from_slice(receipt.document().canonical())?;
     text.extend_from_slice(b",\"domain\":\"")?;
@@ -54,6 +58,17 @@ pub(crate) fn write_receipt(alloc: Global, receipt: &Receipt) -> Result<Vec<u8>,
     text.extend_from_slice(&digits(&receipt.voucher().0))?;
     text.extend_from_slice(b"\"}")?;
     Ok(text)
+}
+
+// Room for the line and a line feed, so that the text never grows.
+fn room_of_line(receipt: &Receipt) -> usize {
+    let domain = receipt.domain().as_str().len();
+    let endpoint = receipt.endpoint().as_str().len();
+    let document = receipt.document().canonical().len();
+    document
+        .saturating_add(domain)
+        .saturating_add(endpoint)
+        .saturating_add(OTHER_BYTES)
 }
 
 // The digest as 64 lower-case hexadecimal digits.

@@ -70,8 +70,8 @@ pub(crate) const SECOND_KEY_DISTRUSTED: &str =
 pub(crate) const SECOND_KEY_DISTRUSTED_ELSEWHERE: &str =
     r#"{"distrust":"2cf24dba5fb0a30e26e83b2ac5b9e29e1b161e5c1fa7425e73043362938b9824","domain":"b.example"}"#;
 
-// The second receipt with its members in another order, with an upper-case digit, with an authority twice, and with a
-// space at its end; and what is no receipt at all.
+// The second receipt, spelt otherwise: its members turned, a digit in upper case, an authority twice, a space at the
+// end; and what is no receipt at all.
 pub(crate) const OTHER_SPELLINGS: [&str; 7] = [
     r#"{"domain":"a.example","endpoint":"spiffe://a.example/bundle","key":"ba7816bf8f01cfea414140de5dae2223b00361a396177a9cb410ff61f20015ad","voucher":"d66ae6bfe83b27d71cab4546239aac9c94a0fa0af3a67c6e2d31c2f54007e3db","doc":{"keys":[{"e":"AQAB","kty":"RSA","n":"AQAB","use":"x509-svid","x5c":["YWJj"]},{"e":"AQAB","kty":"RSA","n":"AQAB","use":"x509-svid","x5c":["aGVsbG8="]}],"spiffe_sequence":2}}"#,
     r#"{"doc":{"keys":[{"e":"AQAB","kty":"RSA","n":"AQAB","use":"x509-svid","x5c":["YWJj"]},{"e":"AQAB","kty":"RSA","n":"AQAB","use":"x509-svid","x5c":["aGVsbG8="]}],"spiffe_sequence":2},"domain":"a.example","endpoint":"spiffe://a.example/bundle","key":"Ba7816bf8f01cfea414140de5dae2223b00361a396177a9cb410ff61f20015ad","voucher":"d66ae6bfe83b27d71cab4546239aac9c94a0fa0af3a67c6e2d31c2f54007e3db"}"#,

@@ -19,8 +19,8 @@ use std::alloc::{AllocError, Global};
 use std::cmp::Ordering;
 use std::marker::Model;
 
-/// A receipt says: this document of this domain was served by this endpoint, and the endpoint was authenticated by this
-/// key of that earlier document of the endpoint's trust domain (SPIFFE Federation, section 5.2, profile `https_spiffe`).
+/// What was noted of one fetch: which document came for which domain, from which endpoint; and which key of which
+/// document of the endpoint's trust domain proved it (SPIFFE Federation, section 5.2, profile `https_spiffe`).
 ///
 /// Receipts are equal exactly when their five parts are, which is when their lines are, and are ordered by their lines'
 /// bytes. A receipt keeps its document once, and beside it its id, what it needs and what it offers, which are computed

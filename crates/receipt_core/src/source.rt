@@ -39,7 +39,7 @@ pub trait Source {
     fn failed(&self) -> bool
         ensures { result ≡ has_failed self.now };
 
-    // A source gives at most 2^64 - 1 bytes in all.
+    // How many bytes are still to come is a number below 2^64.
     ghost bounded: { (source : Self) → budget source < 2 ^ 64 };
 }
 

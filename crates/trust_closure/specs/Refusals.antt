@@ -58,7 +58,7 @@ RefusesReceipt m room r ConfigDiffers = ⊥
 
 -- ---- one record of distrust
 
--- The domain is one of the configuration, the record is new, and 4,096 are held.
+-- The configuration has the domain, and the record would be one more than the 4,096 that are held.
 pub record IsOneRecordTooMany (m : Meaning) (x : Distrust) : Type 0 where
   pub domain : HasDomain m.config x.domain
   pub unheld : Contains m.records x → ⊥
@@ -89,7 +89,7 @@ pub record IsOfConfig (m other : Meaning) : Type 0 where
   pub fitting : (r : Receipt) → Contains other.held r → IsFitting m.config r
   pub domains : (x : Distrust) → Contains other.records x → HasDomain m.config x.domain
 
--- A receipt or a record of the other has a domain that this configuration does not know.
+-- Of what the other holds, a receipt or a record is of a domain unknown here.
 abbrev pub HasUnknownDomain : Meaning → Meaning → Type 0
 HasUnknownDomain m other = ((r : Receipt) × Contains other.held r × IsOfUnknownDomain m.config r)
     ⊎ ((x : Distrust) × Contains other.records x × (HasDomain m.config x.domain → ⊥))

@@ -1,8 +1,9 @@
 //! Long chains: documents of rising sequence numbers with one key, each served under that key of the one before.
-use crate::given::{Step, empty, give, given_to_both};
+use crate::given::{Answer, Step, configured, distrust, give, give_all, take};
 use crate::named::*;
-use crate::{Closure, Distrusted, IndexedClosure, PlainClosure, TakeError, Taken};
+use crate::{Closure, IndexedClosure, PlainClosure, TakeError};
 use bundle_doc::Document;
+use fed_config::Config;
 use jwk_set::KeyId;
 use receipt_core::{Distrust, Receipt};
 use spiffe_name::{SpiffeId, TrustDomain};
@@ -39,117 +40,156 @@ pub(crate) fn link(alloc: Global, number: u64) -> Result<Receipt, Fail> {
 }
 
 // What comes of the receipt with this number.
-fn take<C: Closure>(
-    alloc: Global,
-    closure: &mut C,
-    number: u64,
-) -> Result<Result<Taken, TakeError>, Fail> {
-    let receipt = link(alloc, number)?;
-    Ok(closure.take(receipt).map_err(|refused| refused.why))
+fn take_link<C: Closure>(alloc: Global, closure: &mut C, number: u64) -> Result<Answer, Fail> {
+    Ok(take(closure, link(alloc, number)?))
 }
 
 // Takes a chain from its last receipt down to its first: all are pending until that one comes.
-fn reversed<C: Closure>(rt: &impl Abort, alloc: Global) -> Result<C, Fail> {
-    let mut closure: C = empty(alloc, ONE_DOMAIN)?;
+fn reverse<C: Closure>(rt: &impl Abort, alloc: Global, closure: &mut C) -> Result<(), Fail> {
     for number in (3..1_003).rev() {
-        let taken = take(alloc, &mut closure, number)?;
-        assert_eq!(rt; taken, Ok(Taken::New { accepted_now: 0 }), "{number}");
+        assert!(rt;
+            take_link(alloc, closure, number)? == Ok(Some(0)),
+            "{number}"
+        );
     }
-    let taken = take(alloc, &mut closure, 2)?;
-    let accepted_now = 1_001;
-    assert_eq!(rt; taken, Ok(Taken::New { accepted_now }));
-    assert_eq!(rt; closure.pending_count(), 0);
-    Ok(closure)
+    assert!(rt; take_link(alloc, closure, 2)? == Ok(Some(1_001)));
+    assert!(rt; closure.pending_count() == 0);
+    Ok(())
 }
 
-// Distrusts the one key of a chain, of which so many documents are lost.
+// Distrusts the one key of that chain, of which all documents but the configured one are lost.
 fn distrust_first_key<C: Closure>(
     rt: &impl Abort,
     alloc: Global,
     closure: &mut C,
-    lost: usize,
 ) -> Result<(), Fail> {
-    let answer = closure.distrust(&domain(alloc)?, first_key(alloc)?);
-    assert_eq!(rt; answer, Ok(Distrusted::New { lost }));
-    assert_eq!(rt; closure.pending_count(), lost);
+    let record = Distrust::read_line(alloc, FIRST_KEY_DISTRUSTED.as_bytes())?;
+    assert!(rt; distrust(closure, &record) == Ok(Some(1_001)));
+    assert!(rt; closure.pending_count() == 1_001);
     Ok(())
 }
 
-#[test]
-fn a_reversed_chain_over_the_index(rt: HostRuntime) -> Result<(), Fail> {
-    let mut closure: IndexedClosure = reversed(&rt, rt.alloc())?;
-    assert_eq!(rt; closure.index().counts(), (1_002, 1_002, 1_001));
-    assert_eq!(rt; closure.index().visits(), 2_003);
-    distrust_first_key(&rt, rt.alloc(), &mut closure, 1_001)
+fn reverse_by_rounds(rt: &impl Abort, alloc: Global, config: &Config) -> Result<(), Fail> {
+    let mut closure = PlainClosure::new(alloc, config)?;
+    reverse(rt, alloc, &mut closure)?;
+    distrust_first_key(rt, alloc, &mut closure)
+}
+
+fn reverse_the_index(
+    rt: &impl Abort,
+    alloc: Global,
+    closure: &mut IndexedClosure,
+) -> Result<(), Fail> {
+    reverse(rt, alloc, closure)?;
+    assert!(rt; closure.index().counts() == (1_002, 1_002, 1_001));
+    assert!(rt; closure.index().visits() == 2_003);
+    distrust_first_key(rt, alloc, closure)
+}
+
+fn reverse_over_the_index(rt: &impl Abort, alloc: Global, config: &Config) -> Result<(), Fail> {
+    let mut closure = IndexedClosure::new(alloc, config)?;
+    reverse_the_index(rt, alloc, &mut closure)
 }
 
 #[test]
-fn a_reversed_chain_by_rounds(rt: HostRuntime) -> Result<(), Fail> {
-    let mut closure: PlainClosure = reversed(&rt, rt.alloc())?;
-    distrust_first_key(&rt, rt.alloc(), &mut closure, 1_001)
+fn a_reversed_chain(rt: HostRuntime) -> Result<(), Fail> {
+    let config = configured(rt.alloc(), ONE_DOMAIN)?;
+    reverse_by_rounds(&rt, rt.alloc(), &config)?;
+    reverse_over_the_index(&rt, rt.alloc(), &config)
+}
+
+// Takes so many receipts that no other has room.
+fn fill(rt: &impl Abort, alloc: Global, closure: &mut IndexedClosure) -> Result<(), Fail> {
+    for number in 2..65_538 {
+        assert!(rt;
+            take_link(alloc, closure, number)? == Ok(Some(1)),
+            "{number}"
+        );
+    }
+    assert!(rt; closure.receipt_count() == 65_536);
+    Ok(())
+}
+
+fn is_full(rt: &impl Abort, alloc: Global, closure: &mut IndexedClosure) -> Result<(), Fail> {
+    fill(rt, alloc, closure)?;
+    assert!(rt; take_link(alloc, closure, 4_711)? == Ok(None));
+    assert!(rt; take_link(alloc, closure, 65_538)? == Err(TakeError::Full));
+    assert!(rt; give(alloc, closure, OTHER_DOMAIN_RECEIPT)? == Err(TakeError::UnknownDomain));
+    Ok(())
 }
 
 // By rounds over all receipts it would take hours.
 #[test]
 fn a_full_store_over_the_index(rt: HostRuntime) -> Result<(), Fail> {
-    let alloc = rt.alloc();
-    let mut closure: IndexedClosure = empty(alloc, ONE_DOMAIN)?;
-    for number in 2..65_538 {
-        let taken = take(alloc, &mut closure, number)?;
-        assert_eq!(rt; taken, Ok(Taken::New { accepted_now: 1 }), "{number}");
-    }
-    assert_eq!(rt; closure.receipt_count(), 65_536);
-    assert_eq!(rt; take(alloc, &mut closure, 4_711)?, Ok(Taken::Already));
-    assert_eq!(rt; take(alloc, &mut closure, 65_538)?, Err(TakeError::Full));
-    let answer = give(alloc, &mut closure, OTHER_DOMAIN_RECEIPT)?;
-    assert_eq!(rt; answer.as_str(), "G1 UnknownDomain");
+    let config = configured(rt.alloc(), ONE_DOMAIN)?;
+    let mut closure = IndexedClosure::new(rt.alloc(), &config)?;
+    is_full(&rt, rt.alloc(), &mut closure)
+}
+
+// A configuration, lines that a closure of it is given, and the visits of its index then.
+type Row = (&'static str, &'static [Step<'static>], usize);
+
+fn rows() -> [Row; 4] {
+    [
+        (
+            ONE_DOMAIN,
+            &[
+                (THIRD_RECEIPT, Ok(Some(0)), 1),
+                (SECOND_RECEIPT, Ok(Some(2)), 0),
+            ],
+            6,
+        ),
+        (
+            TWO_DOMAINS,
+            &[
+                (SECOND_RECEIPT, Ok(Some(1)), 0),
+                (OTHER_DOMAIN_RECEIPT, Ok(Some(1)), 0),
+            ],
+            6,
+        ),
+        (
+            TWO_DOMAINS,
+            &[
+                (SECOND_RECEIPT, Ok(Some(1)), 0),
+                (OTHER_DOMAIN_RECEIPT, Ok(Some(1)), 0),
+                (SECOND_KEY_DISTRUSTED_ELSEWHERE, Ok(Some(0)), 0),
+            ],
+            6,
+        ),
+        (
+            TWO_DOMAINS,
+            &[
+                (SECOND_RECEIPT, Ok(Some(1)), 0),
+                (OTHER_DOMAIN_RECEIPT, Ok(Some(1)), 0),
+                (SECOND_KEY_DISTRUSTED, Ok(Some(1)), 1),
+            ],
+            4,
+        ),
+    ]
+}
+
+fn count(
+    rt: &impl Abort,
+    alloc: Global,
+    closure: &mut IndexedClosure,
+    row: &Row,
+) -> Result<(), Fail> {
+    give_all(rt, alloc, closure, row.1)?;
+    assert!(rt; closure.index().counts() == (3, 4, 2));
+    assert!(rt; closure.index().visits() == row.2);
     Ok(())
 }
 
-// The counts of the index, and its visits.
+fn counts(rt: &impl Abort, alloc: Global, row: &Row) -> Result<(), Fail> {
+    let config = configured(alloc, row.0)?;
+    let mut closure = IndexedClosure::new(alloc, &config)?;
+    count(rt, alloc, &mut closure, row)
+}
+
 #[test]
 fn the_index_counts_its_edges(rt: HostRuntime) -> Result<(), Fail> {
-    let rows: [(&str, &[Step<'static>], &[u64], usize); 4] = [
-        (
-            ONE_DOMAIN,
-            &[(THIRD_RECEIPT, "New 0", 1), (SECOND_RECEIPT, "New 2", 0)],
-            &[1, 2, 3],
-            6,
-        ),
-        (
-            TWO_DOMAINS,
-            &[
-                (SECOND_RECEIPT, "New 1", 0),
-                (OTHER_DOMAIN_RECEIPT, "New 1", 0),
-            ],
-            &[1, 2],
-            6,
-        ),
-        (
-            TWO_DOMAINS,
-            &[
-                (SECOND_RECEIPT, "New 1", 0),
-                (OTHER_DOMAIN_RECEIPT, "New 1", 0),
-                (SECOND_KEY_DISTRUSTED_ELSEWHERE, "New 0", 0),
-            ],
-            &[1, 2],
-            6,
-        ),
-        (
-            TWO_DOMAINS,
-            &[
-                (SECOND_RECEIPT, "New 1", 0),
-                (OTHER_DOMAIN_RECEIPT, "New 1", 0),
-                (SECOND_KEY_DISTRUSTED, "New 1", 1),
-            ],
-            &[1, 2],
-            4,
-        ),
-    ];
-    for (config, steps, expected, visits) in rows {
-        let closure = given_to_both(&rt, rt.alloc(), config, steps, expected)?;
-        assert_eq!(rt; closure.index().counts(), (3, 4, 2));
-        assert_eq!(rt; closure.index().visits(), visits);
+    for row in &rows() {
+        counts(&rt, rt.alloc(), row)?;
     }
     Ok(())
 }

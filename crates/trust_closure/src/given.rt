@@ -1,5 +1,5 @@
 //! Closures that are given receipts and records of distrust, line by line.
-use crate::{Closure, Distrusted, IndexedClosure, PlainClosure, Taken};
+use crate::{Closure, Distrusted, IndexedClosure, PlainClosure, TakeError, Taken};
 use fed_config::Config;
 use receipt_core::{Distrust, Receipt};
 use spiffe_name::TrustDomain;
@@ -7,107 +7,132 @@ use std::alloc::Global;
 use std::process::Abort;
 use std::test::Fail;
 
+/// What a closure answers to a line: how many documents are accepted now, or no longer, nothing where it held the line,
+/// or why it refuses it.
+pub(crate) type Answer = Result<Option<usize>, TakeError>;
+
 /// A line of a receipt or of a record of distrust, what the closure answers, and how many receipts are pending then.
-pub(crate) type Step<'a> = (&'a str, &'a str, usize);
+pub(crate) type Step<'a> = (&'a str, Answer, usize);
 
-/// A closure of a configuration that holds nothing.
-pub(crate) fn empty<C: Closure>(alloc: Global, config: &str) -> Result<C, Fail> {
-    let config = Config::read(alloc, config.as_bytes())?;
-    Ok(C::new(alloc, &config)?)
+/// The sequence numbers of the accepted documents of `a.example` and of `b.example`, in order.
+pub(crate) type Numbers<'a> = (&'a [u64], &'a [u64]);
+
+/// A configuration.
+pub(crate) fn configured(alloc: Global, config: &str) -> Result<Config, Fail> {
+    Ok(Config::read(alloc, config.as_bytes())?)
 }
 
-fn take<C: Closure>(alloc: Global, closure: &mut C, line: &str) -> Result<String, Fail> {
-    let receipt = Receipt::read_line(alloc, line.as_bytes())?;
-    let answer = match closure.take(receipt) {
-        Ok(Taken::New { accepted_now }) => format!(in alloc; "New {accepted_now}"),
-        Ok(Taken::Already) => format!(in alloc; "Already"),
-        Err(refused) => format!(in alloc; "{}", refused.why),
-    };
-    Ok(answer?)
-}
-
-fn distrust<C: Closure>(alloc: Global, closure: &mut C, line: &str) -> Result<String, Fail> {
-    let record = Distrust::read_line(alloc, line.as_bytes())?;
-    let answer = match closure.distrust(&record.domain, record.key) {
-        Ok(Distrusted::New { lost }) => format!(in alloc; "New {lost}"),
-        Ok(Distrusted::Already) => format!(in alloc; "Already"),
-        Err(why) => format!(in alloc; "{why}"),
-    };
-    Ok(answer?)
-}
-
-/// What the closure answers to a line.
-pub(crate) fn give<C: Closure>(alloc: Global, closure: &mut C, line: &str) -> Result<String, Fail> {
-    if line.starts_with("{\"distrust\"") {
-        distrust(alloc, closure, line)
-    } else {
-        take(alloc, closure, line)
+/// What the closure answers to a receipt.
+pub(crate) fn take<C: Closure>(closure: &mut C, receipt: Receipt) -> Answer {
+    match closure.take(receipt) {
+        Ok(Taken::New { accepted_now }) => Ok(Some(accepted_now)),
+        Ok(Taken::Already) => Ok(None),
+        Err(refused) => Err(refused.why),
     }
 }
 
-/// The sequence numbers of the accepted documents of a domain, in order.
-pub(crate) fn accepted<C: Closure>(
+/// What the closure answers to a record of distrust.
+pub(crate) fn distrust<C: Closure>(closure: &mut C, record: &Distrust) -> Answer {
+    match closure.distrust(&record.domain, record.key) {
+        Ok(Distrusted::New { lost }) => Ok(Some(lost)),
+        Ok(Distrusted::Already) => Ok(None),
+        Err(why) => Err(why),
+    }
+}
+
+/// What the closure answers to a line.
+pub(crate) fn give<C: Closure>(alloc: Global, closure: &mut C, line: &str) -> Result<Answer, Fail> {
+    if line.starts_with("{\"distrust\"") {
+        let record = Distrust::read_line(alloc, line.as_bytes())?;
+        Ok(distrust(closure, &record))
+    } else {
+        Ok(take(closure, Receipt::read_line(alloc, line.as_bytes())?))
+    }
+}
+
+/// Gives the closure the lines in turn.
+pub(crate) fn give_all<C: Closure>(
+    rt: &impl Abort,
+    alloc: Global,
+    closure: &mut C,
+    steps: &[Step<'_>],
+) -> Result<(), Fail> {
+    for (line, expected, pending) in steps {
+        let answer = give(alloc, closure, line)?;
+        assert!(rt; answer == *expected, "{line}: {answer:?}");
+        assert!(rt; closure.pending_count() == *pending, "{line}");
+    }
+    Ok(())
+}
+
+fn has_accepted_of<C: Closure>(
     alloc: Global,
     closure: &C,
     domain: &str,
-) -> Result<Vec<u64>, Fail> {
+    expected: &[u64],
+) -> Result<bool, Fail> {
     let domain = TrustDomain::read(alloc, domain)?;
     let mut numbers = Vec::new(alloc);
     for document in closure.accepted(&domain) {
         numbers.push(document.rank().unwrap_or(0))?;
     }
-    Ok(numbers)
+    Ok(numbers.as_slice() == expected)
 }
 
-/// A closure that was given the lines in turn.
-pub(crate) fn given<C: Closure>(
-    rt: &impl Abort,
+/// Whether the documents with these numbers are accepted, and no others.
+pub(crate) fn has_accepted<C: Closure>(
     alloc: Global,
-    config: &str,
-    steps: &[Step<'_>],
-) -> Result<C, Fail> {
-    let mut closure: C = empty(alloc, config)?;
-    for (line, expected, pending) in steps {
-        let answer = give(alloc, &mut closure, line)?;
-        assert_eq!(rt; answer.as_str(), *expected, "{line}");
-        assert_eq!(rt; closure.pending_count(), *pending, "{line}");
-    }
-    Ok(closure)
+    closure: &C,
+    expected: &Numbers<'_>,
+) -> Result<bool, Fail> {
+    let first = has_accepted_of(alloc, closure, "a.example", expected.0)?;
+    let second = has_accepted_of(alloc, closure, "b.example", expected.1)?;
+    Ok(first && second)
 }
 
-/// The same, with the sequence numbers that `a.example` has then.
-fn given_and_seen<C: Closure>(
+fn give_and_see<C: Closure>(
     rt: &impl Abort,
     alloc: Global,
-    config: &str,
+    closure: &mut C,
     steps: &[Step<'_>],
-    expected: &[u64],
-) -> Result<C, Fail> {
-    let closure: C = given(rt, alloc, config, steps)?;
-    let numbers = accepted(alloc, &closure, "a.example")?;
-    assert_eq!(rt; numbers.as_slice(), expected);
-    Ok(closure)
-}
-
-fn given_to_rounds(
-    rt: &impl Abort,
-    alloc: Global,
-    config: &str,
-    steps: &[Step<'_>],
-    expected: &[u64],
+    expected: &Numbers<'_>,
 ) -> Result<(), Fail> {
-    given_and_seen::<PlainClosure>(rt, alloc, config, steps, expected)?;
+    give_all(rt, alloc, closure, steps)?;
+    assert!(rt; has_accepted(alloc, closure, expected)?, "{expected:?}");
     Ok(())
 }
 
-/// Gives the lines to a closure of each kind. The one over the index is answered.
-pub(crate) fn given_to_both(
+fn give_to_rounds(
+    rt: &impl Abort,
+    alloc: Global,
+    config: &Config,
+    steps: &[Step<'_>],
+    expected: &Numbers<'_>,
+) -> Result<(), Fail> {
+    let mut closure = PlainClosure::new(alloc, config)?;
+    give_and_see(rt, alloc, &mut closure, steps, expected)
+}
+
+fn give_to_index(
+    rt: &impl Abort,
+    alloc: Global,
+    config: &Config,
+    steps: &[Step<'_>],
+    expected: &Numbers<'_>,
+) -> Result<(), Fail> {
+    let mut closure = IndexedClosure::new(alloc, config)?;
+    give_and_see(rt, alloc, &mut closure, steps, expected)
+}
+
+/// Gives the lines to a new closure of each kind.
+pub(crate) fn give_to_both(
     rt: &impl Abort,
     alloc: Global,
     config: &str,
     steps: &[Step<'_>],
-    expected: &[u64],
-) -> Result<IndexedClosure, Fail> {
-    given_to_rounds(rt, alloc, config, steps, expected)?;
-    given_and_seen(rt, alloc, config, steps, expected)
+    expected: &Numbers<'_>,
+) -> Result<(), Fail> {
+    let config = configured(alloc, config)?;
+    give_to_rounds(rt, alloc, &config, steps, expected)?;
+    give_to_index(rt, alloc, &config, steps, expected)
 }

@@ -62,11 +62,13 @@ impl<'a> Probe for SoughtPair<'a> {
     ghost knows = { λ s number. number < length (pairs_of s.seeds.now s.receipts.now) };
 
     fn compare(&self, number: u32) -> Ordering {
-        let domain = domain_at(self.seeds, self.receipts, number as usize);
-        let document = document_at(self.seeds, self.receipts, number as usize);
-        domain
-            .cmp(self.domain)
-            .then(compare_documents(document, self.document))
+        match domain_at(self.seeds, self.receipts, number as usize).cmp(self.domain) {
+            Ordering::Equal => {
+                let document = document_at(self.seeds, self.receipts, number as usize);
+                compare_documents(document, self.document)
+            }
+            unequal => unequal,
+        }
     }
 }
 
@@ -93,13 +95,14 @@ impl<'a> Probe for SoughtDomain<'a> {
     }
 }
 
-/// Documents are ordered by rank and then by canonical text.
+/// Documents are ordered by rank and then by canonical text, which is read only where the ranks are equal.
 fn compare_documents(a: &Document, b: &Document) -> Ordering
     ensures { result ≡ document_cmp a.now b.now }
 {
-    a.rank()
-        .cmp(&b.rank())
-        .then(a.canonical().cmp(b.canonical()))
+    match a.rank().cmp(&b.rank()) {
+        Ordering::Equal => a.canonical().cmp(b.canonical()),
+        unequal => unequal,
+    }
 }
 
 impl Pairs {

@@ -8,7 +8,7 @@ use Rattle.receipt_core.proofs.line.write_receipt.Goals as goal
 pub returns : goal.returns
 returns c =
     pieces_pushed _ _ _ _ _ _ _ _ _ _ _ _ c.canonical.result.now c.as_bytes.result.now c.as_bytes-2.result.now c.digits.result c.digits-2.result
-    c.new-text.ensures.items
+    c.in_ok-text.ensures.items
     c.in_ok-extend_from_slice.ensures.items c.in_ok-extend_from_slice-2.ensures.items c.in_ok-extend_from_slice-3.ensures.items c.in_ok-extend_from_slice-4.ensures.items
     c.in_ok-extend_from_slice-5.ensures.items c.in_ok-extend_from_slice-6.ensures.items c.in_ok-extend_from_slice-7.ensures.items c.in_ok-extend_from_slice-8.ensures.items
     c.in_ok-extend_from_slice-9.ensures.items c.in_ok-extend_from_slice-10.ensures.items c.in_ok-extend_from_slice-11.ensures.items
