@@ -15,6 +15,7 @@ pub mod WritingFacts
 pub mod FeedFacts
 pub mod OneFacts
 mod QuestionFacts
+mod IdFacts
 mod ReplyFacts
 mod DigestFacts
 mod CountFacts
@@ -27,3 +28,4 @@ pub mod ApartFacts
 mod GatheringFacts
 mod SoundFacts
 mod PlayingFacts
+mod StandardFacts

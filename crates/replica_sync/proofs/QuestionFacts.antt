@@ -21,7 +21,6 @@ use Rattle.std.specs.Ordering.{nat_cmp}
 use Rattle.std.specs.Cmp.Lexicographic.{slice_cmp}
 use Rattle.receipt_core.specs.declared.receipt_id.ReceiptId.{ReceiptId}
 use Rattle.receipt_core.specs.Receipt.{Receipt, receipt_id_of}
-use Rattle.receipt_core.specs.Rising.{placed, with_item, with_items}
 use Rattle.std.specs.List.{filter}
 use Rattle.replica_sync.specs.State.{State, id_cmp, ids_held, is_in_bucket}
 
@@ -31,16 +30,6 @@ bytes_of id = id.0
 
 abbrev pub named_cmp : ReceiptId → ReceiptId → Ordering
 named_cmp a b = slice_cmp nat_cmp a.0 b.0
-
-placed-map : (o : Ordering) (x h : ReceiptId) (t longer : List ReceiptId) → map bytes_of (placed o x h t longer) ≡ placed o x.0 h.0 (map bytes_of t) (map bytes_of longer)
-placed-map Less x h t longer = refl
-placed-map Equal x h t longer = refl
-placed-map Greater x h t longer = refl
-
--- one id more, by its bytes
-pub with_id-map : (x : ReceiptId) (ids : List ReceiptId) → map bytes_of (with_item named_cmp x ids) ≡ with_item id_cmp x.0 (map bytes_of ids)
-with_id-map x [] = refl
-with_id-map x (h ∷ t) = placed-map (named_cmp x h) x h t (with_item named_cmp x t) ∙ ap (placed (id_cmp x.0 h.0) x.0 h.0 (map bytes_of t)) (with_id-map x t)
 
 -- ---- where an id stands
 
@@ -93,15 +82,6 @@ pub held-rising : (state : State) (bucket : ℕ) → IsStrictlySortedBy id_cmp (
 unfolding IsStrictlySortedBy
 held-rising state bucket = with_items-rising id_cmp id_total (map receipt_id_of (filter (is_in_bucket bucket) state.held)) [] tt
 
--- one id more of those that are still to come
-pub more-ids : (r : Receipt) (id : ReceiptId) (rest others : List Receipt) (old new : List ReceiptId) (all : List (List ℕ)) → rest ≡ r ∷ others → id.0 ≡ receipt_id_of r → new ≡ with_item named_cmp id old
-    → with_items id_cmp (map receipt_id_of rest) (map bytes_of old) ≡ all → with_items id_cmp (map receipt_id_of others) (map bytes_of new) ≡ all
-more-ids r id rest others old new all e i n h =
-    ap (λ ids. with_items id_cmp (map receipt_id_of others) (map bytes_of ids)) n
-    ∙ ap (with_items id_cmp (map receipt_id_of others)) (with_id-map id old)
-    ∙ ap (λ t. with_items id_cmp (map receipt_id_of others) (with_item id_cmp t (map bytes_of old))) i
-    ∙ ap (λ rs. with_items id_cmp (map receipt_id_of rs) (map bytes_of old)) (sym e) ∙ h
-
 -- ---- whether ids rise
 
 abbrev pub below : ReceiptId → ReceiptId → Bool
@@ -116,7 +96,7 @@ bytes-all : (x : ReceiptId) (ids : List ReceiptId) → AllByRecursion (λ y. nam
 bytes-all x [] a = tt
 bytes-all x (h ∷ t) a = (a.0, bytes-all x t a.1)
 
-bytes-rising : (ids : List ReceiptId) → IsStrictlySortedBy named_cmp ids → IsStrictlySortedBy id_cmp (map bytes_of ids)
+pub bytes-rising : (ids : List ReceiptId) → IsStrictlySortedBy named_cmp ids → IsStrictlySortedBy id_cmp (map bytes_of ids)
 unfolding IsStrictlySortedBy
 bytes-rising [] r = tt
 bytes-rising (h ∷ t) r = (bytes-all h t r.0, bytes-rising t r.1)

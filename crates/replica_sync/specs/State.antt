@@ -26,7 +26,7 @@ joined state gain = record { held = with_items receipt_cmp gain.held state.held;
 abbrev pub is_within_limits : State → Bool
 is_within_limits state = nat_le (length state.held) 65536 && nat_le (length state.records) 4096
 
--- the bucket of a receipt is the first byte of its id
+-- the byte with which the receipt's id begins
 abbrev pub bucket_of : Receipt → ℕ
 bucket_of r = slice_index_or (receipt_id_of r) 0 0
 

@@ -79,7 +79,7 @@ takes_part replica count None = nothing
 takes_part replica count (Some (question asker bucket ids)) = nothing
 takes_part replica count (Some (answer answerer place content)) = gains replica (first_of count content)
 
--- Places of messages count from 0. An event that names no replica, no bucket, or no message of its kind, does nothing.
+-- Messages count from 0. Nothing happens where what an event names is not there, or is a message of another kind.
 abbrev pub effect_of : Rules → World → Event → Effect
 effect_of rules w (Take i r) = where_so (is_replica rules i && rules.fits r) (gains i (record { held = r ∷ []; records = [] }))
 effect_of rules w (Revoke i x) = where_so (is_replica rules i && rules.knows x.domain) (gains i (record { held = []; records = x ∷ [] }))

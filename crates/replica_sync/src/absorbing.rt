@@ -14,7 +14,8 @@ use receipt_core::Receipt;
 use std::alloc::AllocError;
 use trust_closure::{Closure, TakeError};
 
-/// Takes all of an answer, or nothing, and answers how many receipts were not held.
+/// Takes all of an answer, or nothing, and answers how many receipts were not held. Its work is that of its takes; where
+/// its lines may pass a limit, each is also compared with those before it.
 ///
 /// # Errors
 /// What is held stays. Of these the first that holds:

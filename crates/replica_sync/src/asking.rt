@@ -1,6 +1,8 @@
 //! What a replica has of a bucket.
 ghost use Rattle.std.specs.Prelude.{◌≡◌, ◌↔◌, IsTrue, IfOk, IfErr, map, Contains};
 ghost use Rattle.std.specs.List.Sorted.{IsStrictlySortedBy};
+ghost use Rattle.receipt_core.specs.Receipt.{receipt_id_of};
+ghost use Rattle.trust_closure.specs.Views.{receipts_in};
 ghost use Rattle.replica_sync.specs.State.{id_cmp, ids_held};
 ghost use Rattle.replica_sync.specs.Session.{question_of, state_of};
 ghost use Rattle.replica_sync.specs.declared.error.SyncError.TheVariants.{NoMemory};
@@ -9,7 +11,6 @@ use crate::error::SyncError;
 use crate::question::Have;
 use receipt_core::ReceiptId;
 use std::alloc::{AllocError, Global};
-use std::collections::BTreeSet;
 use trust_closure::Closure;
 
 /// What the closure holds of the bucket.
@@ -20,36 +21,36 @@ pub fn have<C: Closure>(alloc: Global, closure: &C, bucket: u8) -> Result<Have, 
     ensures ok { IfOk result (λ h. h ≡ question_of (C.state closure.now).meaning bucket) }
     ensures refused { IfErr result (λ e. e ≡ NoMemory) }
 {
-    let ids = ids_of(alloc, closure, bucket)?;
     Ok(Have {
         bucket,
         config: closure.config().digest(),
-        ids: listed(alloc, ids)?,
+        ids: ids_of(alloc, closure, bucket)?,
     })
 }
 
-fn ids_of<C: Closure>(
-    alloc: Global,
-    closure: &C,
-    bucket: u8,
-) -> Result<BTreeSet<ReceiptId>, AllocError>
-    ensures { IfOk result (λ ids. map (λ id. id.0) ids.keys ≡ ids_held (state_of (C.state closure.now).meaning) bucket) }
+// The ids of the bucket's receipts, rising, each once.
+fn ids_of<C: Closure>(alloc: Global, closure: &C, bucket: u8) -> Result<Vec<ReceiptId>, AllocError>
+    ensures { IfOk result (λ ids. map (λ id. id.0) ids.items ≡ ids_held (state_of (C.state closure.now).meaning) bucket) }
 {
-    let mut ids = BTreeSet::new(alloc);
-    for receipt in closure.receipts_of(bucket) {
-        ids.insert(receipt.id())?;
-    }
+    let mut ids = gathered(alloc, closure, bucket)?;
+    ids.sort_unstable();
+    ids.dedup();
     Ok(ids)
 }
 
-fn listed(alloc: Global, ids: BTreeSet<ReceiptId>) -> Result<Vec<ReceiptId>, AllocError>
-    ensures { IfOk result (λ v. v.items ≡ ids.keys) }
+// The same in the order of the receipts' lines.
+fn gathered<C: Closure>(
+    alloc: Global,
+    closure: &C,
+    bucket: u8,
+) -> Result<Vec<ReceiptId>, AllocError>
+    ensures { IfOk result (λ ids. map (λ id. id.0) ids.items ≡ map receipt_id_of (receipts_in bucket (C.state closure.now).meaning.held)) }
 {
-    let mut list = Vec::with_capacity(alloc, ids.len())?;
-    for id in ids {
-        list.push(id)?;
+    let mut ids = Vec::new(alloc);
+    for receipt in closure.receipts_of(bucket) {
+        ids.push(receipt.id())?;
     }
-    Ok(list)
+    Ok(ids)
 }
 
 /// Whether the id is among these.

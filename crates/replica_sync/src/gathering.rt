@@ -109,6 +109,7 @@ pub(crate) fn offer_record<C: Closure>(closure: &mut C, distrust: &Distrust)
     ensures next { (later : List Distrust) → let m = (C.state closure.old).meaning in CanHoldRecords m.config (m.records ++ distrust.now ∷ later)
         → (C.state closure.new).meaning ≡ record m { records = m.records ++ distrust.now ∷ [] } }
 {
+    // What is refused is no part of what the replica gathers.
     let _refusal = closure.distrust(&distrust.domain, distrust.key);
 }
 

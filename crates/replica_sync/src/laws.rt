@@ -57,9 +57,7 @@ pub fn world()
     ensures same_texts { (config : Configuration) (n : ℕ) (first since : List Event) (i j : ℕ) (text : State → List ℕ)
         → AreEvents first → i < n → j < n → Settles (rules_of config n) (run (rules_of config n) first) since
         → text ((run (rules_of config n) (first ++ since)).now i) ≡ text ((run (rules_of config n) (first ++ since)).now j) }
-{
-    receipt_core::laws::sets();
-}
+{}
 
 /// What a stream says is one: it is the text of one set at most, and none that a replica of a valid configuration reads
 /// has a fault. Only a source that fails, or want of memory, may keep it from being read.

@@ -47,7 +47,7 @@ pub(crate) fn are_digits(text: &[u8]) -> bool
 fn is_hex_digit(byte: u8) -> bool
     ensures { result ≡ is_digit byte }
 {
-    (48 <= byte && byte <= 57) || (97 <= byte && byte <= 102)
+    (b'0' <= byte && byte <= b'9') || (b'a' <= byte && byte <= b'f')
 }
 
 /// Writes a number after what is there.

@@ -24,7 +24,7 @@ use trust_closure::Closure;
 /// The work is linear in the bytes. Beside what is held, memory is taken for one line.
 ///
 /// # Errors
-/// The first fault in the order of the stream, and no closure:
+/// There is no closure then. Of several faults the one that comes first in the bytes:
 /// - [`SyncError::Truncated`]: it ends before the last line's line feed,
 /// - [`SyncError::BadHeader`]: the first line is none, or has more than 8,388,608 bytes,
 /// - [`SyncError::ConfigDiffers`]: it is of another configuration,

@@ -11,7 +11,7 @@ use fed_config::Config;
 use std::alloc::Global;
 use trust_closure::{Closure, IndexedClosure, NoMemory};
 
-/// Plays a list of events, one after another, on `n` replicas of one configuration, which hold nothing at first, and
+/// Lets the events happen, one after another, to `n` replicas of one configuration, which hold nothing at first, and
 /// answers what each then holds, by its number. It is a model of replicas that talk: to try what may happen to them, and
 /// for tests. It is not made for speed.
 ///

@@ -1,9 +1,12 @@
-use Rattle.std.proofs.Common.{◌∙◌}
-use Rattle.receipt_core.proofs.KeyIdFacts.{insert_key-with_item}
-use Rattle.replica_sync.proofs.QuestionFacts.{named_cmp, more-ids}
+use Rattle.std.proofs.Common.{ap, ◌∙◌}
+use Rattle.std.specs.Prelude.{map}
+use Rattle.std.proofs.lemmas.List.Filters.{dedup_is}
+use Rattle.trust_closure.specs.Views.{receipts_in}
+use Rattle.replica_sync.proofs.QuestionFacts.{bytes_of}
+use Rattle.replica_sync.proofs.IdFacts.{are-held}
 use Rattle.replica_sync.proofs.asking.ids_of.Goals as goal
 
-pub loop-receipt-preserved : goal.loop-receipt-preserved
-loop-receipt-preserved g c =
-    more-ids c.in-Some.receipt.now c.id.result c.loop-receipt.receipt-iterator c.next.new.self c.loop-receipt.ids.keys c.insert.new.self.keys _
-    c.in-Some.ensures.steps c.id.ensures (c.in_ok-insert.ensures.keys ∙ insert_key-with_item named_cmp c.loop-receipt.ids.keys c.id.result) c.loop-receipt.invariant
+pub returns : goal.returns
+returns g c =
+    ap (map bytes_of) (dedup_is _ _ _ c.dedup.ensures.filtered)
+    ∙ are-held (receipts_in c.args.bucket (g.C.Closure.state c.args.closure.now).meaning.held) _ _ c.in_ok-ids.ensures c.sort_unstable.ensures.permutation c.sort_unstable.ensures.sorted
