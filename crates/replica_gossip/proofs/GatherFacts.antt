@@ -20,10 +20,10 @@ use Rattle.replica_sync.specs.declared.error.SyncError.{SyncError}
 use Rattle.replica_sync.proofs.HeldFacts.{AllBelow, below_last, rising_head, rising_tail, text_cmp}
 use Rattle.replica_sync.proofs.SnapshotFacts.{consumes_both}
 use Rattle.replica_gossip.specs.Messages.{receipt_text, record_text, reply_text, told_of, told_text}
-use Rattle.replica_gossip.specs.FirstLines.{Expected}
-use Rattle.replica_gossip.specs.Answers.{Heads, IsBegun, RefusesGive, Wants, content_lines}
+use Rattle.replica_gossip.specs.FirstLines.{Expected, IsTold}
+use Rattle.replica_gossip.specs.Answers.{Heads, IsAnswer, IsBegun, RefusesGive, Wants, content_lines}
 use Rattle.replica_gossip.specs.Spelling.{HasHead, TellsHead, told_by_head}
-use Rattle.replica_gossip.specs.Gathering.{FailsWithin, Gathers, GathersAll, IsFurther, IsWhole, Pushes, pushed}
+use Rattle.replica_gossip.specs.Gathering.{StopsGathering, Gathers, GathersAll, IsFurther, IsWhole, Pushes, pushed}
 use Rattle.replica_gossip.specs.declared.told_reader.Head.{Head}
 
 -- ---- the bound of a line that says something
@@ -184,10 +184,18 @@ whole-reply old middle new h content head all =
     subst (Consumes old new) ((λ i. ended (first i) ++ content-text content i))
     (consumes_both old middle new (ended head.text) (text_of_lines (content_lines content)) head.is.1 all.gathers.text)
 
+pub whole-answer : (old middle new : Option (List ℕ)) (h : Head) (content : State) → HasHead None old middle h → GathersAll h.count h.distrusts middle content new
+    → IsAnswer (record { bucket = h.bucket; config = h.config.0; content = content })
+whole-answer old middle new h content head all = record {
+  told = subst IsTold (told-whole h content all.whole) head.tells.tells.line.is;
+  valid = all.gathers.begun.valid;
+  rising = all.gathers.begun.rising;
+}
+
 pub heads-told : (expected : Option Expected) (text : List ℕ) (h : Head) → TellsHead expected text h → Heads expected text h.count h.distrusts
 heads-told expected text h t = record { told = told_by_head h; tells = t.tells; own = t.own; spoken = (refl, refl); receipts = refl; records = refl }
 
-pub fails-behind : (old middle new : Option (List ℕ)) (h : Head) (e : SyncError) → HasHead None old middle h → FailsWithin h.count h.distrusts middle new e → RefusesGive old new e
+pub fails-behind : (old middle new : Option (List ℕ)) (h : Head) (e : SyncError) → HasHead None old middle h → StopsGathering h.count h.distrusts middle new e → RefusesGive old new e
 fails-behind old middle new h e head fails = inr (record {
   count = h.count;
   distrusts = h.distrusts;

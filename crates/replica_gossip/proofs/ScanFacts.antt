@@ -13,7 +13,7 @@ use Rattle.receipt_core.proofs.HexFacts.{length-encode_lower}
 
 -- ---- decimal digits
 
-abbrev AreDecimal : List ℕ → Type 0
+abbrev pub AreDecimal : List ℕ → Type 0
 AreDecimal = AllByRecursion (λ b. is_ascii_digit b ≡ true)
 
 are_decimal_both : (xs ys : List ℕ) → AreDecimal xs → AreDecimal ys → AreDecimal (xs ++ ys)
@@ -23,7 +23,7 @@ are_decimal_both (x ∷ xs) ys h k = (h.0, are_decimal_both xs ys h.1 k)
 digit-below : (d : ℕ) → d < 10 → is_ascii_digit (48 + d) ≡ true
 digit-below d h = grind (arith, nat_tests)
 
-each-decimal : (n : ℕ) → n < 2 ^ 64 → AreDecimal (decimal n)
+pub each-decimal : (n : ℕ) → n < 2 ^ 64 → AreDecimal (decimal n)
 each-decimal =
     decimal_by_steps (λ n ds. AreDecimal ds) (λ n h. (digit-below n h, tt))
     (λ n ds h before. are_decimal_both ds ((48 + n % 10) ∷ []) before (digit-below (n % 10) (omega arith), tt))
@@ -31,7 +31,7 @@ each-decimal =
 pub digits-decimal : (n : ℕ) → n < 2 ^ 64 → AllPass is_ascii_digit (decimal n)
 digits-decimal n h = All-from_recursion (λ b. is_ascii_digit b ≡ true) (decimal n) (each-decimal n h)
 
-both-truths : (b : Bool) → b ≡ true → b ≡ false → ⊥
+pub both-truths : (b : Bool) → b ≡ true → b ≡ false → ⊥
 both-truths b t f = let no : true ≡ false = sym t ∙ f in cc
 
 later-pass : (x : ℕ) (xs : List ℕ) → AllPass is_ascii_digit (x ∷ xs) → AllPass is_ascii_digit xs

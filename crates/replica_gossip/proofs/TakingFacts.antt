@@ -19,7 +19,7 @@ use Rattle.replica_sync.proofs.HeldFacts.{text_cmp, last_pushed}
 use Rattle.replica_gossip.specs.Answers.{content_lines, IsBegun, IsContent, RefusesNext, Wants, next_number}
 use Rattle.replica_gossip.specs.Gathering.{pushed}
 use Rattle.replica_gossip.specs.Pulling.{refused_line}
-use Rattle.replica_gossip.specs.Taking.{gained, HasNotTaken, HasTaken, IsNextOf, RefusesFurther, StopsWithin, TakesNext}
+use Rattle.replica_gossip.specs.Taking.{gained, HasNotTaken, HasTaken, IsNextOf, RefusesTaking, StopsWithin, TakesNext}
 use Rattle.replica_gossip.proofs.ContentFacts.{HasPlace, all_pushed, consumes_one, gained_pushed, lines_pushed, rising_pushed}
 
 -- ---- so much of an answer
@@ -180,7 +180,7 @@ cause_at wanted m now before last next number text e p q r h =
     subst (λ (x : Meaning). RefusesLine wanted x before next text e) p (subst (λ (l : List ℕ). RefusesLine wanted now l next text e) q (subst (λ (n : ℕ). RefusesLine wanted now last n text e) r h))
 
 bad_next : (wanted : Wanted) (old : Meaning) (first count distrusts : ℕ) (content : State) (now : Meaning) (last : List ℕ) (number : ℕ) (left after : Option (List ℕ)) (e : SyncError) → Wants count distrusts content wanted
-    → now ≡ gained old content → last ≡ last_of (content_lines content) → number ≡ next_number first content → RefusesFurther wanted now last number left after e
+    → now ≡ gained old content → last ≡ last_of (content_lines content) → number ≡ next_number first content → RefusesTaking wanted now last number left after e
     → RefusesNext (refused_line old.config (state_of old) first content) count distrusts content left after e
 bad_next wanted old first count distrusts content now last number left after BadHeader w m l n h = absurd h
 bad_next wanted old first count distrusts content now last number left after ConfigDiffers w m l n h = absurd h

@@ -20,7 +20,7 @@ pub few-records : (format : ℕ) (distrusts : Option ℕ) → IsRecordCount form
 few-records format None h = tt
 few-records format (Some n) h = h
 
-no-records : (text rest more : List ℕ) → text ≡ records_label ++ rest → text ≡ format_label ++ more → ⊥
+pub no-records : (text rest more : List ℕ) → text ≡ records_label ++ rest → text ≡ format_label ++ more → ⊥
 no-records text rest more e f = let no : 100 ≡ 102 = sym (ap (λ (t : List ℕ). get_or t 2 0) e) ∙ ap (λ (t : List ℕ). get_or t 2 0) f in omega (arith, no)
 
 pub some-records : (text rest behind : List ℕ) (number : ℕ) → text ≡ records_label ++ rest

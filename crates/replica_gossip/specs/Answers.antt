@@ -8,12 +8,13 @@ use Rattle.std.specs.Cmp.Lexicographic.{slice_cmp}
 use Rattle.receipt_core.specs.Lines.{HasLine, HasNoLine}
 use Rattle.receipt_core.specs.Receipt.{IsReceipt, line, IsDistrust, distrust_line}
 use Rattle.replica_sync.specs.State.{State}
+use Rattle.replica_sync.specs.Session.{Reply}
 use Rattle.replica_sync.specs.Snapshots.{ended, last_of, text_of_lines}
 use Rattle.replica_sync.specs.Entries.{RefusesText}
 use Rattle.replica_sync.specs.declared.entry.Wanted.{Wanted}
 use Rattle.replica_sync.specs.declared.entry.Wanted.TheVariants.{Records, Receipts, Either}
-use Rattle.replica_gossip.specs.Messages.{Told}
-use Rattle.replica_gossip.specs.FirstLines.{Expected, TellsOf, IsOwn, IsSpoken, config_of, HasBadFirst, RefusesTold}
+use Rattle.replica_gossip.specs.Messages.{Told, told_of}
+use Rattle.replica_gossip.specs.FirstLines.{Expected, TellsOf, IsOwn, IsSpoken, IsTold, config_of, HasBadFirst, RefusesTold}
 use Rattle.replica_sync.specs.declared.error.SyncError.{SyncError}
 use Rattle.replica_sync.specs.declared.error.SyncError.TheVariants.{BadHeader, ConfigDiffers, VersionDiffers, NotCanonical, NotRising, BadCount, Truncated, Refused, Io, NoMemory}
 
@@ -35,6 +36,12 @@ pub record Heads (expected : Option Expected) (text : List ℕ) (count distrusts
 pub record IsContent (content : State) : Type 0 where
   pub receipts : AllByRecursion IsReceipt content.held
   pub records : AllByRecursion IsDistrust content.records
+
+-- It is an answer: its bucket is one of 256, its digest has 32 bytes, and the lines of what it gives rise.
+pub record IsAnswer (reply : Reply) : Type 0 where
+  pub told : IsTold (told_of reply)
+  pub valid : IsContent reply.content
+  pub rising : IsStrictlySortedBy (slice_cmp nat_cmp) (content_lines reply.content)
 
 -- So much of an answer with so many receipts and records: first its records, then its receipts.
 pub record IsBegun (count distrusts : ℕ) (content : State) : Type 0 where

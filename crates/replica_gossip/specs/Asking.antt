@@ -1,5 +1,5 @@
 -- What the crate's records of the lines of questions say, and how the next question of a stream is read.
-use Rattle.std.specs.Prelude.{◌≡◌, ◌≢◌, ◌⊎◌, ℕ, List, Option, None, Some, codes}
+use Rattle.std.specs.Prelude.{◌≡◌, ◌≢◌, ◌≤◌, ◌⊎◌, ℕ, List, length, Option, None, Some, codes}
 use Rattle.std.specs.List.{join_by}
 use Rattle.std.specs.Io.KnownBytes.{Consumes, IsAtEnd}
 use Rattle.fed_config.specs.Configuration.{Configuration, config_id_of}
@@ -43,6 +43,7 @@ pub record HasAsked (old new : Option (List ℕ)) (a : Asking) : Type 0 where
   pub text : List ℕ
   pub is : HasLine old new text
   pub line : IsAskedLine text (asking_by a)
+  pub short : length text ≤ 8388608
 
 -- there is one, or the stream has come to its end
 abbrev pub FindsAsked : Option (List ℕ) → Option (List ℕ) → Option Asking → Type 0

@@ -61,7 +61,7 @@ pub record GathersAll (count distrusts : ℕ) (stream : Option (List ℕ)) (cont
   pub whole : IsWhole count distrusts content
 
 -- A good beginning, and behind it this fault.
-pub record FailsWithin (count distrusts : ℕ) (old new : Option (List ℕ)) (e : SyncError) : Type 0 where
+pub record StopsGathering (count distrusts : ℕ) (old new : Option (List ℕ)) (e : SyncError) : Type 0 where
   pub content : State
   pub left : Option (List ℕ)
   pub gathers : Gathers count distrusts old content left

@@ -41,9 +41,12 @@ told_text t =
     codes "{\"bucket\":" ++ (decimal t.bucket ++ (codes ",\"config\":\"" ++ (encode_lower t.config ++ (codes "\",\"count\":" ++ (decimal t.count
     ++ (distrusts_part t.distrusts ++ (codes ",\"format\":" ++ (decimal t.format ++ (codes ",\"of\":" ++ (decimal t.buckets ++ codes "}"))))))))))
 
+abbrev pub asked_of : Question → Asked
+asked_of q = record { question = q; format = 2; buckets = 256 }
+
 -- the question's one line, of format 2 with 256 buckets
 abbrev pub question_text : Question → List ℕ
-question_text q = ended (asked_text (record { question = q; format = 2; buckets = 256 }))
+question_text q = ended (asked_text (asked_of q))
 
 abbrev pub told_of : Reply → Told
 told_of r = record { bucket = r.bucket; config = r.config; count = length r.content.held; distrusts = Some (length r.content.records); format = 2; buckets = 256 }

@@ -1,8 +1,5 @@
 -- A session in which a replica asks about each bucket and takes what is answered.
 use Rattle.std.specs.Prelude.{◌≡◌, ℕ, ◌+◌, ◌<◌, ◌⊎◌, List, [], ◌∷◌, ◌++◌, length, flat_map, fold, Option, Some, Result, Ok, Err}
-use Rattle.std.specs.List.Sorted.{IsStrictlySortedBy}
-use Rattle.std.specs.Ordering.{nat_cmp}
-use Rattle.std.specs.Cmp.Lexicographic.{slice_cmp}
 use Rattle.std.specs.Io.KnownBytes.{Appends, Consumes}
 use Rattle.fed_config.specs.Configuration.{Configuration, config_id_of}
 use Rattle.receipt_core.specs.Acceptance.{Meaning}
@@ -12,16 +9,15 @@ use Rattle.replica_sync.specs.Entries.{RefusesLine}
 use Rattle.replica_sync.specs.declared.entry.Wanted.{Wanted}
 use Rattle.replica_sync.specs.declared.error.SyncError.{SyncError}
 use Rattle.replica_gossip.specs.Messages.{question_text, reply_text}
-use Rattle.replica_gossip.specs.Answers.{IsContent, content_lines, AnswerBegins, RefusesHead, RefusesNext, next_number}
+use Rattle.replica_gossip.specs.Answers.{IsAnswer, AnswerBegins, RefusesHead, RefusesNext, next_number}
 use Rattle.replica_gossip.specs.Questions.{IsWritten}
 use Rattle.replica_gossip.specs.declared.pulling.PullFault.{PullFault}
 
--- It is an answer of this configuration about the bucket, its lines rising.
+-- It is an answer of this configuration about the bucket.
 pub record IsReply (config : Configuration) (bucket : ℕ) (reply : Reply) : Type 0 where
   pub own : reply.config ≡ config_id_of config
   pub about : reply.bucket ≡ bucket
-  pub valid : IsContent reply.content
-  pub rising : IsStrictlySortedBy (slice_cmp nat_cmp) (content_lines reply.content)
+  pub answer : IsAnswer reply
 
 -- the answers about this bucket and those after it, one each
 abbrev pub AreReplies : Configuration → ℕ → List Reply → Type 0

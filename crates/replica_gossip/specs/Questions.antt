@@ -1,14 +1,14 @@
 -- How questions are read from a stream, and what a replica writes to those of a session.
-use Rattle.std.specs.Prelude.{◌≡◌, ℕ, List, length, flat_map, Option, Some, IfSome, Result, Ok, Err}
+use Rattle.std.specs.Prelude.{◌≡◌, ℕ, ◌≤◌, List, length, flat_map, Option, Some, IfSome, Result, Ok, Err}
 use Rattle.std.specs.List.{AllByRecursion}
 use Rattle.std.specs.Io.KnownBytes.{Appends, Consumes}
 use Rattle.fed_config.specs.Configuration.{Configuration, config_id_of}
 use Rattle.receipt_core.specs.Acceptance.{Meaning}
 use Rattle.receipt_core.specs.Device.{AppendsBeginning}
 use Rattle.receipt_core.specs.Lines.{HasNoLine, HasMore}
-use Rattle.replica_sync.specs.Session.{Question, IsQuestion, reply_of}
-use Rattle.replica_gossip.specs.Messages.{question_text, reply_text}
-use Rattle.replica_gossip.specs.FirstLines.{HasBadFirst, RefusesAsked}
+use Rattle.replica_sync.specs.Session.{Question, reply_of}
+use Rattle.replica_gossip.specs.Messages.{asked_of, asked_text, question_text, reply_text}
+use Rattle.replica_gossip.specs.FirstLines.{HasBadFirst, IsAsked, RefusesAsked}
 use Rattle.replica_sync.specs.declared.error.SyncError.{SyncError}
 use Rattle.replica_sync.specs.declared.error.SyncError.TheVariants.{BadHeader, ConfigDiffers, VersionDiffers, NotCanonical, NotRising, BadCount, Truncated, Refused, Io, NoMemory}
 
@@ -25,11 +25,16 @@ RefusesQuestion config old new (Refused n why) = ⊥
 RefusesQuestion config old new Io = Unit {0}
 RefusesQuestion config old new NoMemory = Unit {0}
 
+-- A line can ask it: the bucket is one of 256, the ids are digests that rise, and there are not too many for a line.
+pub record IsAskable (q : Question) : Type 0 where
+  pub asked : IsAsked (asked_of q)
+  pub short : length (asked_text (asked_of q)) ≤ 8388608
+
 -- ---- a session that is served
 
 -- it is a question of this configuration
 pub record IsQuestionOf (config : Configuration) (q : Question) : Type 0 where
-  pub rising : IsQuestion q
+  pub askable : IsAskable q
   pub own : q.config ≡ config_id_of config
 
 -- The stream begins with these questions of the configuration, and `left` is what follows them.

@@ -46,21 +46,21 @@ pub record HasBadLine (wanted : Wanted) (m : Meaning) (last : List ℕ) (number 
   pub cause : RefusesLine wanted m last number text e
 
 -- why no line is taken where one is wanted
-abbrev pub RefusesFurther : Wanted → Meaning → List ℕ → ℕ → Option (List ℕ) → Option (List ℕ) → SyncError → Type 0
-RefusesFurther wanted m last number stream left BadHeader = ⊥
-RefusesFurther wanted m last number stream left ConfigDiffers = ⊥
-RefusesFurther wanted m last number stream left VersionDiffers = ⊥
-RefusesFurther wanted m last number stream left (NotCanonical n) = HasBadLine wanted m last number stream left (NotCanonical n)
-RefusesFurther wanted m last number stream left (NotRising n) = HasBadLine wanted m last number stream left (NotRising n)
-RefusesFurther wanted m last number stream left BadCount = ⊥
-RefusesFurther wanted m last number stream left Truncated = HasNoLine stream
-RefusesFurther wanted m last number stream left (Refused n why) = HasBadLine wanted m last number stream left (Refused n why)
-RefusesFurther wanted m last number stream left Io = Unit {0}
-RefusesFurther wanted m last number stream left NoMemory = Unit {0}
+abbrev pub RefusesTaking : Wanted → Meaning → List ℕ → ℕ → Option (List ℕ) → Option (List ℕ) → SyncError → Type 0
+RefusesTaking wanted m last number stream left BadHeader = ⊥
+RefusesTaking wanted m last number stream left ConfigDiffers = ⊥
+RefusesTaking wanted m last number stream left VersionDiffers = ⊥
+RefusesTaking wanted m last number stream left (NotCanonical n) = HasBadLine wanted m last number stream left (NotCanonical n)
+RefusesTaking wanted m last number stream left (NotRising n) = HasBadLine wanted m last number stream left (NotRising n)
+RefusesTaking wanted m last number stream left BadCount = ⊥
+RefusesTaking wanted m last number stream left Truncated = HasNoLine stream
+RefusesTaking wanted m last number stream left (Refused n why) = HasBadLine wanted m last number stream left (Refused n why)
+RefusesTaking wanted m last number stream left Io = Unit {0}
+RefusesTaking wanted m last number stream left NoMemory = Unit {0}
 
 -- No line is taken, and nothing has changed.
 pub record HasNotTaken (wanted : Wanted) (old : Meaning) (last : List ℕ) (number : ℕ) (stream : Option (List ℕ)) (new : Meaning) (left : Option (List ℕ)) (e : SyncError) : Type 0 where
-  pub cause : RefusesFurther wanted old last number stream left e
+  pub cause : RefusesTaking wanted old last number stream left e
   pub same : new ≡ old
 
 -- ---- the lines of an answer

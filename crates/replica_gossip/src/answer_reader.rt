@@ -1,15 +1,12 @@
 //! Answers, read.
 ghost use Rattle.std.specs.Prelude.{◌≡◌, ◌<◌, ◌||◌, true, IfOk, IfErr, OnOk, MatchOption};
 ghost use Rattle.std.specs.Io.KnownBytes.{Consumes};
-ghost use Rattle.std.specs.Ordering.{nat_cmp};
-ghost use Rattle.std.specs.Cmp.Lexicographic.{slice_cmp};
-ghost use Rattle.std.specs.List.Sorted.{IsStrictlySortedBy};
 ghost use Rattle.receipt_core.specs.Streams.{stream_of, left_of};
 ghost use Rattle.replica_sync.specs.Entries.{RefusesText};
 ghost use Rattle.replica_sync.specs.Snapshots.{is_io, last_of};
 ghost use Rattle.replica_gossip.specs.Messages.{reply_text};
-ghost use Rattle.replica_gossip.specs.Answers.{IsBegun, IsContent, RefusesGive, RefusesNext, Wants, content_lines, next_number, refused_text};
-ghost use Rattle.replica_gossip.specs.Gathering.{FailsWithin, GathersAll, IsWhole, Pushes, Steps, content_of, pushed};
+ghost use Rattle.replica_gossip.specs.Answers.{IsAnswer, IsBegun, RefusesGive, RefusesNext, Wants, content_lines, next_number, refused_text};
+ghost use Rattle.replica_gossip.specs.Gathering.{StopsGathering, GathersAll, IsWhole, Pushes, Steps, content_of, pushed};
 
 use crate::told_reader::{Head, next_head};
 use receipt_core::{Distrust, Line, LineBuf, Receipt, Source};
@@ -39,8 +36,7 @@ pub fn read_give<R: Source>(
     source: &mut R,
 ) -> Result<Give, SyncError>
     ensures ok { IfOk result (λ give. Consumes (stream_of R.remaining lines.old source.old) (stream_of R.remaining lines.new source.new) (reply_text give)) }
-    ensures valid { IfOk result (λ give. IsContent give.content) }
-    ensures rising { IfOk result (λ give. IsStrictlySortedBy (slice_cmp nat_cmp) (content_lines give.content)) }
+    ensures valid { IfOk result IsAnswer }
     ensures refused { IfErr result (RefusesGive (stream_of R.remaining lines.old source.old) (stream_of R.remaining lines.new source.new)) }
     ensures fault { R.has_failed source.new ≡ (is_io result || R.has_failed source.old) }
 {
@@ -77,7 +73,7 @@ fn read_content<R: Source>(
     source: &mut R,
 ) -> Result<Content, SyncError>
     ensures ok { IfOk result (λ content. GathersAll head.now.count head.now.distrusts (stream_of R.remaining lines.old source.old) (content_of content) (stream_of R.remaining lines.new source.new)) }
-    ensures refused { IfErr result (FailsWithin head.now.count head.now.distrusts (stream_of R.remaining lines.old source.old) (stream_of R.remaining lines.new source.new)) }
+    ensures refused { IfErr result (StopsGathering head.now.count head.now.distrusts (stream_of R.remaining lines.old source.old) (stream_of R.remaining lines.new source.new)) }
     ensures fault { R.has_failed source.new ≡ (is_io result || R.has_failed source.old) }
 {
     let mut content = Content {

@@ -8,6 +8,7 @@ mod answer_writer;
 mod asked_reader;
 mod asking;
 mod id_list;
+pub mod laws;
 mod pulling;
 mod question_reader;
 #[cfg(test)]

@@ -36,7 +36,7 @@ pub struct PullFault {
 ///
 /// # Errors
 /// What the lines before the fault say stays held, and [`PullFault::taken`] tells how many receipts
-/// of it were new. The first fault in the order of the answers' bytes:
+/// of it were new. Of several faults the one that comes first in the answers' bytes:
 /// - [`SyncError::Truncated`]: the source ends before the last answer does,
 /// - [`SyncError::BadHeader`]: an answer's first line is none, of whatever format and number of
 ///   buckets, or is about another bucket than was asked about, or has more than 8,388,608 bytes,

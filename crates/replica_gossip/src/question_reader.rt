@@ -6,7 +6,7 @@ ghost use Rattle.receipt_core.specs.Streams.{stream_of, left_of};
 ghost use Rattle.replica_sync.specs.Snapshots.{is_io};
 ghost use Rattle.replica_gossip.specs.Messages.{question_text};
 ghost use Rattle.replica_gossip.specs.FirstLines.{IsAskedLine};
-ghost use Rattle.replica_gossip.specs.Questions.{RefusesFurther, RefusesQuestion};
+ghost use Rattle.replica_gossip.specs.Questions.{IsAskable, RefusesFurther, RefusesQuestion};
 ghost use Rattle.replica_gossip.specs.Asking.{FindsAsked, FindsOwn, IsNoneAsked, IsSaid, IsUnsaid, RefusesLine, RefusesSpoken, asking_by};
 
 use crate::asked_reader::read_asked;
@@ -16,7 +16,7 @@ use receipt_core::{Line, LineBuf, Source};
 use replica_sync::{Have, SyncError};
 use std::alloc::Global;
 
-/// Reads a question: the next line of what the buffer keeps, followed by what the source still has. Only the spelling of
+/// Reads a question: the next line, of which the first bytes may lie in the buffer already. Only the spelling of
 /// [`write_have`](crate::write_have) is read. No configuration is compared.
 ///
 /// Beside the line, which has at most 8,388,608 bytes, memory is taken for its ids and for the line as it is written.
@@ -35,6 +35,7 @@ pub fn read_have<R: Source>(
     source: &mut R,
 ) -> Result<Have, SyncError>
     ensures ok { IfOk result (λ h. Consumes (stream_of R.remaining lines.old source.old) (stream_of R.remaining lines.new source.new) (question_text h)) }
+    ensures asked { IfOk result IsAskable }
     ensures refused { IfErr result (RefusesQuestion None (stream_of R.remaining lines.old source.old) (stream_of R.remaining lines.new source.new)) }
     ensures fault { R.has_failed source.new ≡ (is_io result || R.has_failed source.old) }
 {

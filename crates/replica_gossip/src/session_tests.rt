@@ -1,257 +1,306 @@
-//! Sessions over devices in memory. The answers are those that an independent program computed for a
-//! replica with two receipts, one of bucket 97 and one of bucket 230.
-use crate::pull;
+//! Sessions that ask, against texts that an independent program computed.
 use crate::rows::{
-    DIGEST, OTHER_DIGEST, RECORD, SECOND_RECEIPT, THIRD_RECEIPT, holding, source_of,
+    FOREIGN_RECEIPT, Messages, RECORD, SECOND_RECEIPT, SPACED_RECEIPT, THIRD_RECEIPT, config,
+    failing, push_lines, source_of, text_below,
 };
-use receipt_core::{FuseSource, MemSink, MemSource, Sink, Source};
+use crate::{PullFault, pull};
+use fed_config::Config;
+use receipt_core::{MemSink, Sink, Source};
+use replica_sync::SyncError;
 use std::alloc::{AllocError, Global};
+use std::process::Abort;
 use std::test::Fail;
-use trust_closure::{Closure, IndexedClosure, PlainClosure};
+use trust_closure::{Closure, IndexedClosure, PlainClosure, TakeError};
 
-const OTHER_DOMAIN: &str =
-    r#"{"doc":{"keys":[{"e":"AQAB","kty":"RSA","n":"AQAB","use":"x509-svid","x5c":["aGVsbG8gd29ybGQ="]}],"spiffe_sequence":5},"domain":"b.example","endpoint":"spiffe://a.example/bundle","key":"2cf24dba5fb0a30e26e83b2ac5b9e29e1b161e5c1fa7425e73043362938b9824","voucher":"19e6feadc057c007742c6d7f43d43eb0796e77e2fe5ef2efc3a2ab3bfee9e928"}"#;
+// First lines of answers.
+const OF_BUCKET_ONE: &str =
+    r#"{"bucket":1,"config":"127170bd6cb9c8d3af6ee9abcba74d3cde19fe741f949e915dfe82e340ac3c52","count":0,"distrusts":0,"format":2,"of":256}"#;
+
+const OF_OTHER: &str =
+    r#"{"bucket":98,"config":"ac1742a1b1d1d71af4611d05079faef044df62806f5671de34ac86ca2ac15640","count":0,"distrusts":0,"format":2,"of":256}"#;
+
+const OF_OTHER_FIRST_FORMAT: &str =
+    r#"{"bucket":0,"config":"ac1742a1b1d1d71af4611d05079faef044df62806f5671de34ac86ca2ac15640","count":0,"format":1,"of":1}"#;
 
 const FIRST_FORMAT: &str =
     r#"{"bucket":0,"config":"127170bd6cb9c8d3af6ee9abcba74d3cde19fe741f949e915dfe82e340ac3c52","count":0,"format":1,"of":1}"#;
 
-// The first line of an answer.
-fn head(
-    alloc: Global,
-    bucket: usize,
-    config: &str,
-    count: u64,
-    distrusts: u64,
-) -> Result<String, Fail> {
-    Ok(format!(in alloc;
-        "{{\"bucket\":{bucket},\"config\":\"{config}\",\"count\":{count},\"distrusts\":{distrusts},\"format\":2,\"of\":256}}"
-    )?)
-}
+const UNTRUE_COUNT: &str =
+    r#"{"bucket":0,"config":"127170bd6cb9c8d3af6ee9abcba74d3cde19fe741f949e915dfe82e340ac3c52","count":18446744073709551615,"distrusts":0,"format":2,"of":256}"#;
 
-fn push_line(text: &mut Vec<u8>, line: &str) -> Result<(), AllocError> {
-    text.extend_from_slice(line.as_bytes())?;
-    text.extend_from_slice(b"\n")
-}
+const TWO_RECEIPTS: &str =
+    r#"{"bucket":97,"config":"127170bd6cb9c8d3af6ee9abcba74d3cde19fe741f949e915dfe82e340ac3c52","count":2,"distrusts":0,"format":2,"of":256}"#;
 
-// The lines behind the first one of the answer about the bucket.
-fn receipts_of(bucket: usize) -> &'static [&'static str] {
-    match bucket {
-        97 => &[THIRD_RECEIPT],
-        230 => &[SECOND_RECEIPT],
-        _ => &[],
-    }
-}
+const ONE_OF_EACH: &str =
+    r#"{"bucket":97,"config":"127170bd6cb9c8d3af6ee9abcba74d3cde19fe741f949e915dfe82e340ac3c52","count":1,"distrusts":1,"format":2,"of":256}"#;
 
-// The answers about the first buckets.
-fn answers(alloc: Global, buckets: usize) -> Result<Vec<u8>, Fail> {
-    let mut text = Vec::new(alloc);
-    for bucket in 0..buckets {
-        let receipts = receipts_of(bucket);
-        let first = head(alloc, bucket, DIGEST, receipts.len() as u64, 0)?;
-        push_line(&mut text, first.as_str())?;
-        for line in receipts {
-            push_line(&mut text, line)?;
-        }
-    }
-    Ok(text)
-}
-
-// What comes of the answers: how many receipts are new, or the fault.
-fn pulled<C: Closure, R: Source, W: Sink>(
+// Whether a closure takes the answers of one that holds everything, of which so many receipts are new, and asks so.
+fn takes<C: Closure>(
     alloc: Global,
     closure: &mut C,
+    asked: Messages,
+    new: u64,
+) -> Result<bool, AllocError> {
+    let answers = text_below(alloc, Messages::AnsweredWithRecord, 256)?;
+    let mut source = source_of(alloc, answers.as_slice())?;
+    let mut sink = MemSink::new(alloc, 65_536)?;
+    let taken = pull(alloc, closure, &mut source, &mut sink);
+    let asked = text_below(alloc, asked, 256)?;
+    Ok(taken == Ok(new) && sink.as_bytes() == asked.as_slice())
+}
+
+fn takes_once<C: Closure>(alloc: Global, config: &Config) -> Result<bool, AllocError> {
+    let mut closure = C::new(alloc, config)?;
+    let first = takes(alloc, &mut closure, Messages::Asked, 2)?;
+    let again = takes(alloc, &mut closure, Messages::AskedByHolder, 0)?;
+    Ok(first && again)
+}
+
+fn length_of(alloc: Global, messages: Messages) -> Result<usize, AllocError> {
+    Ok(text_below(alloc, messages, 256)?.len())
+}
+
+#[test]
+fn all_is_asked_for_and_taken_once(rt: HostRuntime) -> Result<(), Fail> {
+    assert_eq!(rt; length_of(rt.alloc(), Messages::Asked)?, 30_866);
+    assert_eq!(rt; length_of(rt.alloc(), Messages::AskedByHolder)?, 30_998);
+    assert_eq!(rt; length_of(rt.alloc(), Messages::Answered)?, 35_163);
+    assert_eq!(rt;
+        length_of(rt.alloc(), Messages::AnsweredWithRecord)?,
+        61_019
+    );
+    let config = config(rt.alloc())?;
+    assert!(rt; takes_once::<IndexedClosure>(rt.alloc(), &config) == Ok(true));
+    assert!(rt; takes_once::<PlainClosure>(rt.alloc(), &config) == Ok(true));
+    Ok(())
+}
+
+// What a replica that holds nothing makes of the answers in the source.
+fn told<R: Source, W: Sink>(
+    alloc: Global,
+    config: &Config,
     source: &mut R,
     sink: &mut W,
-) -> Result<String, Fail> {
-    match pull(alloc, closure, source, sink) {
-        Ok(taken) => Ok(format!(in alloc; "{taken}")?),
-        Err(fault) => Ok(format!(in alloc; "{fault}")?),
-    }
+) -> Result<Result<u64, PullFault>, AllocError> {
+    let mut closure = IndexedClosure::new(alloc, config)?;
+    Ok(pull(alloc, &mut closure, source, sink))
 }
 
-// The same of a source in memory and a sink with ample room.
-fn pulled_from<C: Closure>(alloc: Global, closure: &mut C, text: &[u8]) -> Result<String, Fail> {
+fn is_told(
+    alloc: Global,
+    config: &Config,
+    text: &[u8],
+    expected: Result<u64, PullFault>,
+) -> Result<bool, AllocError> {
     let mut source = source_of(alloc, text)?;
     let mut sink = MemSink::new(alloc, 65_536)?;
-    pulled(alloc, closure, &mut source, &mut sink)
+    let told = told(alloc, config, &mut source, &mut sink)?;
+    Ok(told == expected)
 }
 
-// The same of a replica that holds nothing.
-fn told(alloc: Global, text: &[u8]) -> Result<String, Fail> {
-    let mut closure: IndexedClosure = holding(alloc, &[], &[])?;
-    pulled_from(alloc, &mut closure, text)
+fn fault(why: SyncError, taken: u64) -> Result<u64, PullFault> {
+    Err(PullFault { why, taken })
 }
 
-fn is_taken_once<C: Closure>(alloc: Global) -> Result<bool, Fail> {
-    let text = answers(alloc, 256)?;
-    let mut closure: C = holding(alloc, &[], &[])?;
-    let first = pulled_from(alloc, &mut closure, text.as_slice())?;
-    let second = pulled_from(alloc, &mut closure, text.as_slice())?;
-    Ok(first.as_str() == "2" && second.as_str() == "0" && closure.receipt_count() == 2)
+// About how many buckets the answers come first, the lines behind them, and what comes of both.
+type Row = (usize, &'static [&'static str], Result<u64, PullFault>);
+
+fn holds(alloc: Global, config: &Config, row: &Row) -> Result<bool, AllocError> {
+    let mut text = text_below(alloc, Messages::Answered, row.0)?;
+    push_lines(&mut text, row.1)?;
+    is_told(alloc, config, text.as_slice(), row.2)
 }
 
-#[test]
-fn receipts_are_taken_once(rt: HostRuntime) -> Result<(), Fail> {
-    let alloc = rt.alloc();
-    assert_eq!(rt; answers(alloc, 256)?.len(), 35_163);
-    assert!(rt; is_taken_once::<IndexedClosure>(alloc)?);
-    assert!(rt; is_taken_once::<PlainClosure>(alloc)?);
+fn first_lines() -> [Row; 8] {
+    [
+        (0, &[], fault(SyncError::Truncated, 0)),
+        (0, &["{}"], fault(SyncError::BadHeader, 0)),
+        (0, &[OF_BUCKET_ONE], fault(SyncError::BadHeader, 0)),
+        (98, &[OF_OTHER], fault(SyncError::ConfigDiffers, 1)),
+        (
+            0,
+            &[OF_OTHER_FIRST_FORMAT],
+            fault(SyncError::ConfigDiffers, 0),
+        ),
+        (0, &[FIRST_FORMAT], fault(SyncError::VersionDiffers, 0)),
+        (0, &[UNTRUE_COUNT], fault(SyncError::Truncated, 0)),
+        (256, &["more"], Ok(2)),
+    ]
+}
+
+fn later_lines() -> [Row; 7] {
+    let foreign = SyncError::Refused(99, TakeError::UnknownDomain);
+    [
+        (
+            97,
+            &[TWO_RECEIPTS, THIRD_RECEIPT, THIRD_RECEIPT],
+            fault(SyncError::NotRising(100), 1),
+        ),
+        (
+            97,
+            &[TWO_RECEIPTS, THIRD_RECEIPT, SECOND_RECEIPT],
+            fault(SyncError::NotRising(100), 1),
+        ),
+        (
+            97,
+            &[TWO_RECEIPTS, SPACED_RECEIPT],
+            fault(SyncError::NotCanonical(99), 0),
+        ),
+        (97, &[TWO_RECEIPTS, FOREIGN_RECEIPT], fault(foreign, 0)),
+        (
+            97,
+            &[TWO_RECEIPTS, RECORD],
+            fault(SyncError::NotCanonical(99), 0),
+        ),
+        (
+            97,
+            &[ONE_OF_EACH, THIRD_RECEIPT],
+            fault(SyncError::NotCanonical(99), 0),
+        ),
+        (
+            97,
+            &[ONE_OF_EACH, RECORD, THIRD_RECEIPT],
+            fault(SyncError::Truncated, 1),
+        ),
+    ]
+}
+
+fn rows_hold(rt: &impl Abort, alloc: Global, config: &Config) -> Result<(), AllocError> {
+    for (number, row) in first_lines().iter().enumerate() {
+        assert!(rt; holds(alloc, config, row)?, "first line {number}");
+    }
+    for (number, row) in later_lines().iter().enumerate() {
+        assert!(rt; holds(alloc, config, row)?, "later lines {number}");
+    }
+    for row in &longest_lines() {
+        assert!(rt; holds_of_longest(alloc, config, row)?);
+    }
     Ok(())
 }
 
-// How many bytes the questions of a replica have that takes the answers.
-fn asked(alloc: Global, closure: &mut IndexedClosure, text: &[u8]) -> Result<usize, Fail> {
-    let mut source = source_of(alloc, text)?;
-    let mut sink = MemSink::new(alloc, 65_536)?;
-    let _told = pulled(alloc, closure, &mut source, &mut sink)?;
-    Ok(sink.as_bytes().len())
+// Whether a line of 8,388,609 bytes behind the others is told so.
+fn holds_of_longest(alloc: Global, config: &Config, row: &Row) -> Result<bool, AllocError> {
+    let mut text = text_below(alloc, Messages::Answered, row.0)?;
+    push_lines(&mut text, row.1)?;
+    let line = vec![in alloc; b'a'; 8_388_609]?;
+    text.extend_from_slice(line.as_slice())?;
+    text.extend_from_slice(b"\n")?;
+    is_told(alloc, config, text.as_slice(), row.2)
 }
 
-#[test]
-fn each_bucket_is_asked_about(rt: HostRuntime) -> Result<(), Fail> {
-    let alloc = rt.alloc();
-    let text = answers(alloc, 256)?;
-    let mut closure: IndexedClosure = holding(alloc, &[], &[])?;
-    assert_eq!(rt; asked(alloc, &mut closure, text.as_slice())?, 30_866);
-    assert_eq!(rt; asked(alloc, &mut closure, text.as_slice())?, 30_998);
-    Ok(())
+fn longest_lines() -> [Row; 2] {
+    [
+        (0, &[], fault(SyncError::BadHeader, 0)),
+        (97, &[TWO_RECEIPTS], fault(SyncError::NotCanonical(99), 0)),
+    ]
 }
 
-// Whether so much of the answers, of which so many lines are whole, is refused as cut, and its
-// receipts are counted.
-fn is_cut(alloc: Global, part: &[u8], lines: u64) -> Result<bool, Fail> {
-    let taken = u64::from(lines >= 99) + u64::from(lines >= 233);
-    let expected = format!(in alloc; "S7 Truncated taken {taken}")?;
-    Ok(told(alloc, part)?.as_str() == expected.as_str())
+// How many receipts are whole in so many bytes of the answers: the first ends at byte 13,444, the second at 31,788.
+fn whole_receipts(length: usize) -> u64 {
+    u64::from(length >= 13_444) + u64::from(length >= 31_788)
 }
 
-// Behind which lines the answers are cut: some of them, and all near the receipts' and the last.
-fn is_tried(lines: u64) -> bool {
-    lines % 16 == 0 || matches!(lines, 97..=99 | 231..=233 | 256..=258)
+fn is_cut(alloc: Global, config: &Config, text: &[u8]) -> Result<bool, AllocError> {
+    let expected = fault(SyncError::Truncated, whole_receipts(text.len()));
+    is_told(alloc, config, text, expected)
 }
 
-// Whether the answers are refused as cut before and behind the line feeds of the lines that are
-// tried, but behind the last one.
-fn is_refused_when_cut(alloc: Global, text: &[u8]) -> Result<bool, Fail> {
-    let mut lines = 0u64;
-    for (place, byte) in text.iter().enumerate() {
-        if *byte != b'\n' {
-            continue;
-        }
-        let before = lines;
-        lines = lines.saturating_add(1);
-        if !is_tried(lines) {
-            continue;
-        }
-        if !is_cut(alloc, &text[..place], before)? {
-            return Ok(false);
-        }
-        if lines == 258 {
-            return Ok(true);
-        }
-        if !is_cut(alloc, &text[..=place], lines)? {
-            return Ok(false);
+// Where the answers are cut: after each byte of the first two, of the one with the first receipt, about the ends of the
+// second receipt and of the last answer, and after each 512th byte of the others.
+fn is_tried(length: usize) -> bool {
+    length % 512 == 0
+        || matches!(length, 0..=272 | 12_860..=13_450 | 31_700..=31_800 | 35_140..=35_163)
+}
+
+fn beginnings_are_cut(
+    rt: &impl Abort,
+    alloc: Global,
+    config: &Config,
+    text: &[u8],
+) -> Result<(), AllocError> {
+    for length in 0..text.len() {
+        if is_tried(length) {
+            assert!(rt; is_cut(alloc, config, &text[..length])?, "{length} bytes");
         }
     }
-    Ok(false)
-}
-
-#[test]
-fn what_stands_before_a_cut_is_taken(rt: HostRuntime) -> Result<(), Fail> {
-    let alloc = rt.alloc();
-    let text = answers(alloc, 256)?;
-    assert!(rt; is_refused_when_cut(alloc, text.as_slice())?);
     Ok(())
 }
 
-// What comes of the answers about the first buckets and these lines.
-fn told_behind(alloc: Global, buckets: usize, lines: &[&str]) -> Result<String, Fail> {
-    let mut text = answers(alloc, buckets)?;
-    for line in lines {
-        push_line(&mut text, line)?;
-    }
-    told(alloc, text.as_slice())
-}
-
-#[test]
-fn first_lines_that_are_refused(rt: HostRuntime) -> Result<(), Fail> {
-    let alloc = rt.alloc();
-    let of_other_bucket = head(alloc, 1, DIGEST, 0, 0)?;
-    let faults = told_behind(alloc, 0, &[of_other_bucket.as_str()])?;
-    assert_eq!(rt; faults.as_str(), "S1 BadHeader taken 0");
-    let of_other = head(alloc, 98, OTHER_DIGEST, 0, 0)?;
-    let faults = told_behind(alloc, 98, &[of_other.as_str()])?;
-    assert_eq!(rt; faults.as_str(), "S2 ConfigDiffers taken 1");
-    let faults = told_behind(alloc, 0, &[FIRST_FORMAT])?;
-    assert_eq!(rt; faults.as_str(), "S3 VersionDiffers taken 0");
-    Ok(())
-}
-
-#[test]
-fn lines_that_are_refused(rt: HostRuntime) -> Result<(), Fail> {
-    let alloc = rt.alloc();
-    let two = head(alloc, 97, DIGEST, 2, 0)?;
-    let doubled = [two.as_str(), THIRD_RECEIPT, THIRD_RECEIPT];
-    let faults = told_behind(alloc, 97, &doubled)?;
-    assert_eq!(rt; faults.as_str(), "S5 NotRising line 100 taken 1");
-    let foreign = [two.as_str(), OTHER_DOMAIN];
-    let faults = told_behind(alloc, 97, &foreign)?;
-    assert_eq!(rt;
-        faults.as_str(),
-        "S8 Refused line 99 G1 UnknownDomain taken 0"
-    );
-    let no_line = [two.as_str(), RECORD];
-    let faults = told_behind(alloc, 97, &no_line)?;
-    assert_eq!(rt; faults.as_str(), "S4 NotCanonical line 99 taken 0");
-    Ok(())
-}
-
-#[test]
-fn records_come_before_receipts(rt: HostRuntime) -> Result<(), Fail> {
-    let alloc = rt.alloc();
-    let both = head(alloc, 97, DIGEST, 1, 1)?;
-    let faults = told_behind(alloc, 97, &[both.as_str(), RECORD, THIRD_RECEIPT])?;
-    assert_eq!(rt; faults.as_str(), "S7 Truncated taken 1");
-    let faults = told_behind(alloc, 97, &[both.as_str(), THIRD_RECEIPT])?;
-    assert_eq!(rt; faults.as_str(), "S4 NotCanonical line 99 taken 0");
-    Ok(())
-}
-
-#[test]
-fn what_follows_the_last_answer_stays(rt: HostRuntime) -> Result<(), Fail> {
-    let faults = told_behind(rt.alloc(), 256, &["more"])?;
-    assert_eq!(rt; faults.as_str(), "2");
-    Ok(())
-}
-
-// What comes of a source that fails at its second read, behind so many bytes.
-fn told_by_failing(alloc: Global, text: &[u8], bytes: usize) -> Result<String, Fail> {
-    let cuts = Vec::from_slice(alloc, &[bytes])?;
-    let mut source = FuseSource::new(MemSource::new(Vec::from_slice(alloc, text)?, cuts), 1);
+// Whether a source that fails after so many reads of 1,000 bytes is told, with the receipts before.
+fn stops_after(
+    alloc: Global,
+    config: &Config,
+    answers: &[u8],
+    reads: u64,
+) -> Result<bool, AllocError> {
+    let mut source = failing(alloc, answers, reads)?;
     let mut sink = MemSink::new(alloc, 65_536)?;
-    let mut closure: IndexedClosure = holding(alloc, &[], &[])?;
-    pulled(alloc, &mut closure, &mut source, &mut sink)
+    let told = told(alloc, config, &mut source, &mut sink)?;
+    Ok(
+        told == fault(
+            SyncError::Io,
+            whole_receipts(1_000usize.saturating_mul(reads as usize)),
+        ),
+    )
 }
 
-// What comes of a sink with room for so many bytes.
-fn told_by_full(alloc: Global, text: &[u8], room: usize) -> Result<String, Fail> {
-    let mut source = source_of(alloc, text)?;
+// Whether a sink with room for so many bytes is told, and they are a beginning of the questions. The question about bucket
+// 97 ends at byte 11,750, and that about bucket 230 at byte 27,841.
+fn stops_within(
+    alloc: Global,
+    config: &Config,
+    answers: &[u8],
+    asked: &[u8],
+    room: usize,
+) -> Result<bool, AllocError> {
+    let mut source = source_of(alloc, answers)?;
     let mut sink = MemSink::new(alloc, room)?;
-    let mut closure: IndexedClosure = holding(alloc, &[], &[])?;
-    pulled(alloc, &mut closure, &mut source, &mut sink)
+    let told = told(alloc, config, &mut source, &mut sink)?;
+    let taken = u64::from(room >= 11_750) + u64::from(room >= 27_841);
+    let written = sink.as_bytes();
+    Ok(told == fault(SyncError::Io, taken) && written.len() == room && asked.starts_with(written))
+}
+
+fn devices_fail(
+    rt: &impl Abort,
+    alloc: Global,
+    config: &Config,
+    answers: &[u8],
+    asked: &[u8],
+) -> Result<(), AllocError> {
+    for reads in 0..36 {
+        assert!(rt;
+            stops_after(alloc, config, answers, reads)?,
+            "{reads} reads"
+        );
+    }
+    for part in 0..52usize {
+        assert!(rt;
+            stops_within(alloc, config, answers, asked, 600 * part)?,
+            "{part}"
+        );
+    }
+    Ok(())
+}
+
+// What comes of answers that are cut after each byte, and of devices that fail at each place.
+fn ends_are_told(rt: &impl Abort, alloc: Global, config: &Config) -> Result<(), AllocError> {
+    let answers = text_below(alloc, Messages::Answered, 256)?;
+    let asked = text_below(alloc, Messages::Asked, 256)?;
+    beginnings_are_cut(rt, alloc, config, answers.as_slice())?;
+    devices_fail(rt, alloc, config, answers.as_slice(), asked.as_slice())
 }
 
 #[test]
-fn devices_that_fail(rt: HostRuntime) -> Result<(), Fail> {
-    let alloc = rt.alloc();
-    let text = answers(alloc, 256)?;
-    let faults = told_by_failing(alloc, text.as_slice(), 100)?;
-    assert_eq!(rt; faults.as_str(), "S9 Io taken 0");
-    let faults = told_by_failing(alloc, text.as_slice(), 20_000)?;
-    assert_eq!(rt; faults.as_str(), "S9 Io taken 1");
-    let faults = told_by_full(alloc, text.as_slice(), 15_000)?;
-    assert_eq!(rt; faults.as_str(), "S9 Io taken 1");
-    let faults = told_by_full(alloc, text.as_slice(), 0)?;
-    assert_eq!(rt; faults.as_str(), "S9 Io taken 0");
+fn the_first_fault_is_told(rt: HostRuntime) -> Result<(), Fail> {
+    let config = config(rt.alloc())?;
+    assert!(rt; rows_hold(&rt, rt.alloc(), &config) == Ok(()));
+    Ok(())
+}
+
+#[test]
+fn what_came_before_the_end_is_taken(rt: HostRuntime) -> Result<(), Fail> {
+    let config = config(rt.alloc())?;
+    assert!(rt; ends_are_told(&rt, rt.alloc(), &config) == Ok(()));
     Ok(())
 }
