@@ -11,7 +11,7 @@ use Rattle.fed_config.specs.Configuration.{Configuration, IsConfiguration}
 use Rattle.receipt_core.specs.Acceptance.{Meaning, IsFitting}
 use Rattle.receipt_core.specs.Device.{AppendsBeginning}
 use Rattle.receipt_core.specs.Lines.{Lines, lines_of, with_line, HasLine, HasNoLine, HasMore}
-use Rattle.receipt_core.specs.Receipt.{Receipt, line, with_receipt}
+use Rattle.receipt_core.specs.Receipt.{Receipt, with_receipt}
 use Rattle.receipt_core.proofs.StreamFacts.{lines_of-line, lines_of-rest}
 use Rattle.trust_closure.specs.Changes.{State, Took}
 use Rattle.trust_closure.specs.declared.outcome.Taken.{Taken}

@@ -1,5 +1,5 @@
 -- Numbers of sessions in decimal: what is written of one is read as it
-use Rattle.std.proofs.Common.{◌≡◌, ℕ, false, Some, ◌<◌, ◌≤◌, ◌^◌, List, Result, Ok, ap, arith}
+use Rattle.std.proofs.Common.{◌≡◌, ℕ, false, Some, List, Result, Ok, ap, arith}
 use Rattle.std.specs.Prelude.{is_ok}
 use Rattle.std.specs.Result.{result_ok}
 use Rattle.std.specs.Str.Parse.{ParsesUnsigned}

@@ -5,10 +5,9 @@ use Rattle.hex.specs.Hex.{encode_lower}
 use Rattle.jwk_set.specs.declared.authority.Authority.{Authority}
 use Rattle.jwk_set.specs.declared.authority.KeyId.{KeyId}
 use Rattle.jwk_set.specs.Element.{key_id_of}
-use Rattle.bundle_doc.specs.Bundle.{Bundle, IsDocument, canonical_text, doc_id_of}
+use Rattle.bundle_doc.specs.Bundle.{Bundle, IsDocument, canonical_text, doc_id_of, document_limit}
 use Rattle.bundle_doc.specs.Refusal.{RefusesBytes}
 use Rattle.bundle_doc.specs.declared.error.DocError.{DocError}
-use Rattle.bundle_doc.specs.declared.document.TheConstants.{MAX_DOCUMENT_BYTES}
 use Rattle.receipt_core.specs.Device.{TakesUpTo, AppendsBeginning}
 use Rattle.fedbundle.specs.declared.error.CommandError.{CommandError}
 use Rattle.fedbundle.specs.declared.error.CommandError.TheVariants.{Document}
@@ -32,7 +31,7 @@ canon_text domain b = canonical_text b ++ (10 ∷ [] ++ (digest_line (codes "id 
 
 -- the bytes that were read: all, where there are no more than a document may have, and else one byte more than that
 abbrev pub Reads : Option (List ℕ) → Option (List ℕ) → List ℕ → Type 0
-Reads old new bytes = TakesUpTo old new (MAX_DOCUMENT_BYTES + 1) bytes
+Reads old new bytes = TakesUpTo old new (document_limit + 1) bytes
 
 -- The bytes read are a document, and its text was written and nothing else.
 pub record PrintsCanon (before after : Option (List ℕ)) (domain : List ℕ) (held holds : Option (List ℕ)) : Type 0 where

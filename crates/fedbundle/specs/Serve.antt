@@ -1,5 +1,5 @@
 -- What a session that is served does to its two devices.
-use Rattle.std.specs.Prelude.{◌≡◌, ℕ, ◌++◌, List, codes, Option, Result, Ok, Err}
+use Rattle.std.specs.Prelude.{◌≡◌, ℕ, List, codes, Option, Result, Ok, Err}
 use Rattle.receipt_core.specs.Acceptance.{Meaning}
 use Rattle.replica_gossip.specs.Questions.{ServesAll, ServesUpTo}
 use Rattle.replica_sync.specs.declared.error.SyncError.{SyncError}

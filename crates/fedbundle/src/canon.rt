@@ -76,6 +76,7 @@ fn push_digest(out: &mut Vec<u8>, label: &[u8], digest: &[u8; 32]) -> Result<(),
     ensures { OnOk result (out.new.items ≡ out.old.items ++ digest_line label.now digest.now) }
 {
     let mut text = [0; 64];
+    // The lengths agree, so it is never refused.
     let _ = hex::encode_to_slice(digest.as_slice(), &mut text);
     out.extend_from_slice(label)?;
     out.extend_from_slice(&text)?;

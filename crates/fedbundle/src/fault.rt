@@ -52,6 +52,7 @@ impl FaultText {
             bytes: [0; MAX_FAULT_BYTES],
             len: 0,
         };
+        // A piece that does not fit is left out.
         let _ = write!(text, "{error}");
         text
     }

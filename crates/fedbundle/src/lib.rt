@@ -5,30 +5,31 @@
 mod bundle;
 mod canon;
 mod command_name;
+#[cfg(test)]
+mod command_rows;
+#[cfg(test)]
+mod command_tests;
 mod complaint;
 mod counts;
 mod distrust;
 mod error;
-#[cfg(test)]
-mod exchange_tests;
 mod explain;
 mod fault;
+#[cfg(test)]
+mod help_tests;
+mod help_texts;
 mod judge;
 pub mod laws;
 mod merge;
 mod observe;
 mod polls;
-#[cfg(test)]
-mod polls_tests;
 mod pull;
 mod report;
-#[cfg(test)]
-mod report_rows;
-#[cfg(test)]
-mod report_tests;
 mod run_error;
 mod serve;
 mod sessions;
+#[cfg(test)]
+mod shared_texts;
 mod state;
 #[cfg(test)]
 mod tests;

@@ -42,7 +42,8 @@ pub fn lock_state<R: Files<File = File>>(
 /// The closure whose snapshot stands in the file. A file that is not there stands for one that holds nothing.
 ///
 /// # Errors
-/// Those of [`read_snapshot`]. `Io` also where the file cannot be opened for another cause than that it is not there.
+/// Those of [`read_snapshot`]. Where the file is there and cannot be opened, `NoMemory` if the system says that memory ran
+/// out, and else `Io`.
 pub fn load_state<C: Closure, R: Files>(
     files: &R,
     alloc: Global,
@@ -52,7 +53,7 @@ pub fn load_state<C: Closure, R: Files>(
     match fs::open(files, path) {
         Ok(file) => read_snapshot(alloc, config, &mut FromRead::new(file)),
         Err(error) if error.kind() == io::ErrorKind::NotFound => Ok(C::new(alloc, config)?),
-        Err(_) => Err(SyncError::Io),
+        Err(error) => Err(fault_of(&error)),
     }
 }
 
@@ -111,11 +112,17 @@ fn with_ending(alloc: Global, path: &str, ending: &str) -> Result<String, AllocE
     Ok(name)
 }
 
-// Of all faults of the system want of memory alone has a name of its own.
 fn told<T: Drop>(answer: io::Result<T>) -> Result<T, SyncError> {
     match answer {
         Ok(value) => Ok(value),
-        Err(error) if error.kind() == io::ErrorKind::OutOfMemory => Err(SyncError::NoMemory),
-        Err(_) => Err(SyncError::Io),
+        Err(error) => Err(fault_of(&error)),
+    }
+}
+
+// Of all faults of the system want of memory alone has a name of its own.
+fn fault_of(error: &io::Error) -> SyncError {
+    match error.kind() {
+        io::ErrorKind::OutOfMemory => SyncError::NoMemory,
+        _ => SyncError::Io,
     }
 }

@@ -1,220 +1,249 @@
-//! `canon` over memory, with the texts that are wanted of it, and the line and the exit status of
-//! every refusal.
+//! The line and the exit status of every refusal.
 use super::*;
 use bundle_doc::DocError;
-use bundle_view::PollError;
+use bundle_view::{ObserveError, PollError};
 use fed_config::ConfigError;
-use receipt_core::{MemSink, MemSource};
+use receipt_core::MemSink;
 use replica_gossip::PullFault;
 use replica_sync::SyncError;
-use spiffe_name::{NameError, TrustDomain};
-use std::alloc::{AllocError, Global};
+use spiffe_name::NameError;
+use std::alloc::Global;
 use std::process::Abort;
 use std::test::Fail;
 use trust_closure::TakeError;
 
-const EMPTY: &str =
-    "{\"keys\":[]}\nid 29bdce69a4dab30046231e8b903636aeea421141616696fa743f241f47f42a1a\n";
+// A refusal, its exit status and what follows `fedbundle: ` in its line.
+type Row = (CommandError, u8, &'static str);
 
-/// The input in pieces of `size` bytes.
-fn in_pieces(alloc: Global, input: &[u8], size: usize) -> Result<MemSource, AllocError> {
-    let mut cuts = Vec::new(alloc);
-    let mut place = 0usize;
-    for _ in 0..input.len() {
-        place = place.saturating_add(size);
-        cuts.push(place)?;
-    }
-    Ok(MemSource::new(Vec::from_slice(alloc, input)?, cuts))
+fn names() -> [Row; 6] {
+    use NameError::{BadDomainByte, BadPath, BadScheme, Empty, NoMemory, TooLong};
+    [
+        (CommandError::Name(Empty), 1, "N1 Empty"),
+        (CommandError::Name(TooLong), 1, "N2 TooLong"),
+        (CommandError::Name(BadScheme), 1, "N3 BadScheme"),
+        (
+            CommandError::Name(BadDomainByte(9)),
+            1,
+            "N4 BadDomainByte at 9",
+        ),
+        (
+            CommandError::Name(BadPath(usize::MAX)),
+            1,
+            "N5 BadPath at 18446744073709551615",
+        ),
+        (CommandError::Name(NoMemory), 4, "N6 NoMemory"),
+    ]
 }
 
-/// What `canon` prints for a.example, or else the line that tells of its refusal.
-fn printed(alloc: Global, input: &[u8], size: usize) -> Result<Vec<u8>, Fail> {
-    let domain = TrustDomain::read(alloc, "a.example")?;
-    let mut source = in_pieces(alloc, input, size)?;
-    let mut sink = MemSink::new(alloc, 4096)?;
-    if let Err(error) = run_canon(alloc, &domain, &mut source, &mut sink) {
-        write_fault(&error, &mut sink)?;
-    }
-    Ok(Vec::from_slice(alloc, sink.as_bytes())?)
+fn documents() -> [Row; 8] {
+    use DocError::{
+        BadRefreshHint, BadSequence, CanonicalTooLong, NoKeys, NoMemory, NotJson, NotObject,
+        TooLong,
+    };
+    [
+        (CommandError::Document(TooLong), 1, "B1 TooLong"),
+        (CommandError::Document(NotJson), 1, "B2 NotJson"),
+        (CommandError::Document(NotObject), 1, "B3 NotObject"),
+        (CommandError::Document(NoKeys), 1, "B4 NoKeys"),
+        (CommandError::Document(BadSequence), 1, "B5 BadSequence"),
+        (
+            CommandError::Document(BadRefreshHint),
+            1,
+            "B6 BadRefreshHint",
+        ),
+        (
+            CommandError::Document(CanonicalTooLong),
+            1,
+            "B7 CanonicalTooLong",
+        ),
+        (CommandError::Document(NoMemory), 4, "B8 NoMemory"),
+    ]
 }
 
-fn in_any_pieces(rt: &impl Abort, alloc: Global, input: &str, wanted: &str) -> Result<(), Fail> {
-    for size in [1, 7, input.len()] {
-        let found = printed(alloc, input.as_bytes(), size)?;
-        assert_eq!(rt;
-            found.as_slice(),
-            wanted.as_bytes(),
-            "{input:?} in pieces of {size}"
+fn configurations() -> [Row; 9] {
+    use ConfigError::{
+        BadName, BadProfile, BadSeed, BadUrl, DoubleRelationship, NoMemory, NotJson, Shape, TooMany,
+    };
+    [
+        (CommandError::Config(NotJson), 1, "C1 NotJson"),
+        (CommandError::Config(Shape), 1, "C2 Shape"),
+        (CommandError::Config(BadName), 1, "C3 BadName"),
+        (CommandError::Config(BadUrl), 1, "C4 BadUrl"),
+        (CommandError::Config(BadProfile), 1, "C5 BadProfile"),
+        (
+            CommandError::Config(DoubleRelationship),
+            1,
+            "C6 DoubleRelationship",
+        ),
+        (CommandError::Config(BadSeed), 1, "C7 BadSeed"),
+        (CommandError::Config(TooMany), 1, "C8 TooMany"),
+        (CommandError::Config(NoMemory), 4, "C9 NoMemory"),
+    ]
+}
+
+fn takes() -> [Row; 5] {
+    use TakeError::{ConfigDiffers, Full, NoMemory, UnknownDomain, WrongEndpoint};
+    [
+        (CommandError::Take(UnknownDomain), 1, "G1 UnknownDomain"),
+        (CommandError::Take(WrongEndpoint), 1, "G2 WrongEndpoint"),
+        (CommandError::Take(Full), 1, "G3 Full"),
+        (CommandError::Take(NoMemory), 4, "G4 NoMemory"),
+        (CommandError::Take(ConfigDiffers), 1, "G5 ConfigDiffers"),
+    ]
+}
+
+fn observations() -> [Row; 7] {
+    use ObserveError::{
+        Document, KeyNotInCurrent, NoRelationship, NoVoucherBundle, Take, WrongEndpoint,
+    };
+    [
+        (
+            CommandError::Observe(NoRelationship),
+            1,
+            "O1 NoRelationship",
+        ),
+        (CommandError::Observe(WrongEndpoint), 1, "O2 WrongEndpoint"),
+        (
+            CommandError::Observe(NoVoucherBundle),
+            1,
+            "O3 NoVoucherBundle",
+        ),
+        (
+            CommandError::Observe(KeyNotInCurrent),
+            1,
+            "O4 KeyNotInCurrent",
+        ),
+        (
+            CommandError::Observe(Document(DocError::NoKeys)),
+            1,
+            "O5 Document B4 NoKeys",
+        ),
+        (
+            CommandError::Observe(Take(TakeError::Full)),
+            1,
+            "O6 Take G3 Full",
+        ),
+        (
+            CommandError::Observe(Take(TakeError::NoMemory)),
+            4,
+            "O6 Take G4 NoMemory",
+        ),
+    ]
+}
+
+fn polls() -> [Row; 6] {
+    use PollError::{BadLine, BadMoment, Io, NoMemory, NoRelationship, PastRange};
+    [
+        (CommandError::Poll(NoRelationship), 1, "P1 NoRelationship"),
+        (CommandError::Poll(PastRange), 1, "P2 PastRange"),
+        (CommandError::Poll(NoMemory), 4, "P3 NoMemory"),
+        (CommandError::Poll(BadLine(2)), 1, "P4 BadLine line 2"),
+        (
+            CommandError::Poll(BadMoment(u64::MAX)),
+            1,
+            "P5 BadMoment line 18446744073709551615",
+        ),
+        (CommandError::Poll(Io), 3, "P6 Io"),
+    ]
+}
+
+// What is wrong with a snapshot or a message, its exit status and what follows `fedbundle: ` in its line.
+fn streams() -> [(SyncError, u8, &'static str); 11] {
+    use SyncError::{
+        BadCount, BadHeader, ConfigDiffers, Io, NoMemory, NotCanonical, NotRising, Refused,
+        Truncated, VersionDiffers,
+    };
+    [
+        (BadHeader, 1, "S1 BadHeader"),
+        (ConfigDiffers, 1, "S2 ConfigDiffers"),
+        (VersionDiffers, 1, "S3 VersionDiffers"),
+        (NotCanonical(2), 1, "S4 NotCanonical line 2"),
+        (
+            NotRising(u64::MAX),
+            1,
+            "S5 NotRising line 18446744073709551615",
+        ),
+        (BadCount, 1, "S6 BadCount"),
+        (Truncated, 1, "S7 Truncated"),
+        (
+            Refused(3, TakeError::UnknownDomain),
+            1,
+            "S8 Refused line 3 G1 UnknownDomain",
+        ),
+        (
+            Refused(4_098, TakeError::Full),
+            1,
+            "S8 Refused line 4098 G3 Full",
+        ),
+        (Io, 3, "S9 Io"),
+        (NoMemory, 4, "S10 NoMemory"),
+    ]
+}
+
+fn commands() -> [Row; 3] {
+    [
+        (CommandError::Full, 1, "E1 Full"),
+        (CommandError::NoMemory, 4, "E2 NoMemory"),
+        (CommandError::Io, 3, "E3 Io"),
+    ]
+}
+
+// Whether the refusal has this exit status and this line, and a sink that is too short for it a beginning.
+fn is_told(
+    alloc: Global,
+    error: CommandError,
+    ended: u8,
+    line: &[u8],
+) -> Result<bool, CommandError> {
+    let mut sink = MemSink::new(alloc, line.len())?;
+    write_fault(&error, &mut sink)?;
+    Ok(status(&error) == ended && sink.as_bytes() == line && is_cut(alloc, error, line)?)
+}
+
+fn is_cut(alloc: Global, error: CommandError, line: &[u8]) -> Result<bool, CommandError> {
+    let mut short = MemSink::new(alloc, 14)?;
+    let is_io = write_fault(&error, &mut short) == Err(CommandError::Io);
+    Ok(is_io && line.starts_with(short.as_bytes()))
+}
+
+fn hold(rt: &impl Abort, alloc: Global, rows: &[Row]) -> Result<(), Fail> {
+    for &(error, ended, text) in rows {
+        let line = format!(in alloc; "fedbundle: {text}\n")?;
+        assert!(rt;
+            is_told(alloc, error, ended, line.as_bytes()) == Ok(true),
+            "{text}"
+        );
+    }
+    Ok(())
+}
+
+// Each fault of a stream, alone and as that of a session in which five receipts were new.
+fn streams_hold(rt: &impl Abort, alloc: Global) -> Result<(), Fail> {
+    for (why, ended, text) in streams() {
+        let line = format!(in alloc; "fedbundle: {text}\n")?;
+        let error = CommandError::Sync(why);
+        assert!(rt;
+            is_told(alloc, error, ended, line.as_bytes()) == Ok(true),
+            "{text}"
+        );
+        let line = format!(in alloc; "fedbundle: {text} taken 5\n")?;
+        let error = CommandError::Pull(PullFault { why, taken: 5 });
+        assert!(rt;
+            is_told(alloc, error, ended, line.as_bytes()) == Ok(true),
+            "{text}"
         );
     }
     Ok(())
 }
 
 #[test]
-fn canon_prints(rt: HostRuntime) -> Result<(), Fail> {
-    let rows = [
-        (
-            " { \"spiffe_sequence\" : 4 , \"note\":true, \"keys\" : [ { \"x5c\":[\"aGVsbG8=\"], \"use\":\"x509-svid\", \"n\":\"AQAB\", \"e\":\"AQAB\", \"kty\":\"RSA\", \"kid\":\"dropped\" }, {\"e\":\"AQAB\",\"kty\":\"RSA\",\"n\":\"AQAB\",\"use\":\"x509-svid\",\"x5c\":[\"YWJj\"]}, {\"e\":\"AQAB\",\"kty\":\"RSA\",\"n\":\"AQAB\",\"use\":\"x509-svid\",\"x5c\":[\"YWJj\"]} ] }",
-            "{\"keys\":[{\"e\":\"AQAB\",\"kty\":\"RSA\",\"n\":\"AQAB\",\"use\":\"x509-svid\",\"x5c\":[\"YWJj\"]},{\"e\":\"AQAB\",\"kty\":\"RSA\",\"n\":\"AQAB\",\"use\":\"x509-svid\",\"x5c\":[\"aGVsbG8=\"]}],\"spiffe_sequence\":4}\nid 1cab1dd0c9056f34e35c3e8ddeaf71d23d4992da78decd8e2f93131fe4c94f12\nkey ba7816bf8f01cfea414140de5dae2223b00361a396177a9cb410ff61f20015ad\nkey 2cf24dba5fb0a30e26e83b2ac5b9e29e1b161e5c1fa7425e73043362938b9824\n",
-        ),
-        (
-            "{\"keys\":[{\"use\":\"x509-svid\",\"kty\":\"EC\",\"crv\":\"P-256\",\"x\":\"AQ\",\"y\":\"Ag\",\"x5c\":[\"YWJj\"]},{\"use\":\"jwt-svid\",\"kty\":\"EC\",\"kid\":\"k1\",\"crv\":\"P-256\",\"x\":\"AQ\",\"y\":\"Ag\"}],\"spiffe_sequence\":1,\"spiffe_refresh_hint\":300}",
-            "{\"keys\":[{\"crv\":\"P-256\",\"kid\":\"k1\",\"kty\":\"EC\",\"use\":\"jwt-svid\",\"x\":\"AQ\",\"y\":\"Ag\"},{\"crv\":\"P-256\",\"kty\":\"EC\",\"use\":\"x509-svid\",\"x\":\"AQ\",\"x5c\":[\"YWJj\"],\"y\":\"Ag\"}],\"spiffe_refresh_hint\":300,\"spiffe_sequence\":1}\nid 58ba7aab8e2452ed45ab9b70ede0c8a26a599f49909dfdb0f1fc8ae4f9aceb95\nkey ba7816bf8f01cfea414140de5dae2223b00361a396177a9cb410ff61f20015ad\n",
-        ),
-        ("{\"keys\":7}", "fedbundle: B4 NoKeys\n"),
-    ];
-    for (input, wanted) in rows {
-        in_any_pieces(&rt, rt.alloc(), input, wanted)?;
-    }
-    Ok(())
-}
-
-/// The empty set of keys with spaces behind it.
-fn spaced(alloc: Global, spaces: usize) -> Result<Vec<u8>, AllocError> {
-    let mut text = Vec::from_slice(alloc, b"{\"keys\":[]}")?;
-    for _ in 0..spaces {
-        text.push(b' ')?;
-    }
-    Ok(text)
-}
-
-#[test]
-fn one_byte_too_many(rt: HostRuntime) -> Result<(), Fail> {
-    let alloc = rt.alloc();
-    let longest = spaced(alloc, 1_048_565)?;
-    assert_eq!(rt;
-        printed(alloc, longest.as_slice(), 65_537)?.as_slice(),
-        EMPTY.as_bytes()
-    );
-    let too_long = spaced(alloc, 1_048_566)?;
-    assert_eq!(rt;
-        printed(alloc, too_long.as_slice(), 65_537)?.as_slice(),
-        b"fedbundle: B1 TooLong\n".as_slice()
-    );
-    Ok(())
-}
-
-fn tells(
-    rt: &impl Abort,
-    alloc: Global,
-    error: CommandError,
-    ended: u8,
-    wanted: &str,
-) -> Result<(), Fail> {
-    let mut sink = MemSink::new(alloc, wanted.len())?;
-    write_fault(&error, &mut sink)?;
-    assert_eq!(rt; sink.as_bytes(), wanted.as_bytes());
-    assert_eq!(rt; status(&error), ended);
-    let mut short = MemSink::new(alloc, 14)?;
-    assert_eq!(rt; write_fault(&error, &mut short), Err(CommandError::Io));
-    assert!(rt; wanted.as_bytes().starts_with(short.as_bytes()));
-    Ok(())
-}
-
-fn pull_fault(why: SyncError, taken: u64) -> PullFault {
-    PullFault { why, taken }
-}
-
-#[test]
 fn every_refusal_has_its_line_and_status(rt: HostRuntime) -> Result<(), Fail> {
-    use CommandError::{Config, Document, Name, Poll, Pull, Sync};
-    let rows = [
-        (Name(NameError::Empty), 1, "fedbundle: N1 Empty\n"),
-        (Name(NameError::TooLong), 1, "fedbundle: N2 TooLong\n"),
-        (Name(NameError::BadScheme), 1, "fedbundle: N3 BadScheme\n"),
-        (
-            Name(NameError::BadDomainByte(9)),
-            1,
-            "fedbundle: N4 BadDomainByte at 9\n",
-        ),
-        (
-            Name(NameError::BadPath(usize::MAX)),
-            1,
-            "fedbundle: N5 BadPath at 18446744073709551615\n",
-        ),
-        (Name(NameError::NoMemory), 4, "fedbundle: N6 NoMemory\n"),
-        (Document(DocError::TooLong), 1, "fedbundle: B1 TooLong\n"),
-        (Document(DocError::NotJson), 1, "fedbundle: B2 NotJson\n"),
-        (
-            Document(DocError::NotObject),
-            1,
-            "fedbundle: B3 NotObject\n",
-        ),
-        (Document(DocError::NoKeys), 1, "fedbundle: B4 NoKeys\n"),
-        (
-            Document(DocError::BadSequence),
-            1,
-            "fedbundle: B5 BadSequence\n",
-        ),
-        (
-            Document(DocError::BadRefreshHint),
-            1,
-            "fedbundle: B6 BadRefreshHint\n",
-        ),
-        (
-            Document(DocError::CanonicalTooLong),
-            1,
-            "fedbundle: B7 CanonicalTooLong\n",
-        ),
-        (Document(DocError::NoMemory), 4, "fedbundle: B8 NoMemory\n"),
-        (Config(ConfigError::NotJson), 1, "fedbundle: C1 NotJson\n"),
-        (Config(ConfigError::Shape), 1, "fedbundle: C2 Shape\n"),
-        (Config(ConfigError::BadName), 1, "fedbundle: C3 BadName\n"),
-        (Config(ConfigError::BadUrl), 1, "fedbundle: C4 BadUrl\n"),
-        (
-            Config(ConfigError::BadProfile),
-            1,
-            "fedbundle: C5 BadProfile\n",
-        ),
-        (
-            Config(ConfigError::DoubleRelationship),
-            1,
-            "fedbundle: C6 DoubleRelationship\n",
-        ),
-        (Config(ConfigError::BadSeed), 1, "fedbundle: C7 BadSeed\n"),
-        (Config(ConfigError::TooMany), 1, "fedbundle: C8 TooMany\n"),
-        (Config(ConfigError::NoMemory), 4, "fedbundle: C9 NoMemory\n"),
-        (
-            Poll(PollError::NoRelationship),
-            1,
-            "fedbundle: P1 NoRelationship\n",
-        ),
-        (Poll(PollError::PastRange), 1, "fedbundle: P2 PastRange\n"),
-        (Poll(PollError::NoMemory), 4, "fedbundle: P3 NoMemory\n"),
-        (
-            Poll(PollError::BadLine(2)),
-            1,
-            "fedbundle: P4 BadLine line 2\n",
-        ),
-        (
-            Poll(PollError::BadMoment(u64::MAX)),
-            1,
-            "fedbundle: P5 BadMoment line 18446744073709551615\n",
-        ),
-        (Poll(PollError::Io), 3, "fedbundle: P6 Io\n"),
-        (Sync(SyncError::Io), 3, "fedbundle: S9 Io\n"),
-        (Sync(SyncError::NoMemory), 4, "fedbundle: S10 NoMemory\n"),
-        (
-            Pull(pull_fault(SyncError::Refused(3, TakeError::UnknownDomain), 5)),
-            1,
-            "fedbundle: S8 Refused line 3 G1 UnknownDomain taken 5\n",
-        ),
-        (
-            Pull(pull_fault(SyncError::Io, 0)),
-            3,
-            "fedbundle: S9 Io taken 0\n",
-        ),
-        (
-            Pull(pull_fault(SyncError::NoMemory, u64::MAX)),
-            4,
-            "fedbundle: S10 NoMemory taken 18446744073709551615\n",
-        ),
-        (CommandError::Full, 1, "fedbundle: E1 Full\n"),
-        (CommandError::NoMemory, 4, "fedbundle: E2 NoMemory\n"),
-        (CommandError::Io, 3, "fedbundle: E3 Io\n"),
-    ];
-    for (error, ended, wanted) in rows {
-        tells(&rt, rt.alloc(), error, ended, wanted)?;
-    }
-    Ok(())
+    hold(&rt, rt.alloc(), &names())?;
+    hold(&rt, rt.alloc(), &documents())?;
+    hold(&rt, rt.alloc(), &configurations())?;
+    hold(&rt, rt.alloc(), &takes())?;
+    hold(&rt, rt.alloc(), &observations())?;
+    hold(&rt, rt.alloc(), &polls())?;
+    hold(&rt, rt.alloc(), &commands())?;
+    streams_hold(&rt, rt.alloc())
 }

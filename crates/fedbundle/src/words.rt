@@ -4,6 +4,7 @@ ghost use Rattle.clap.specs.Words.{app_of, found_of, rule_of, rows_of};
 ghost use Rattle.fedbundle.specs.Words.{Calls, given, leaf, name_text, rule_of_option, the_command};
 
 use crate::command_name::{COMMANDS, CommandName, OptionName};
+use crate::help_texts;
 use clap::error::ErrorKind;
 use clap::{Arg, ArgAction, ArgMatches, Command};
 use std::alloc::{AllocError, AllocFailed, Global};
@@ -76,6 +77,8 @@ fn command<'a>(alloc: Global) -> Result<Command<'a>, AllocError>
     let mut command = Command::new(alloc, "fedbundle")
         .version("0.1.0")
         .about("Holds the federated trust bundles of one replica")
+        .override_usage(help_texts::USAGE)
+        .after_help(help_texts::NOTES)
         .no_binary_name(true);
     'names: for &name in COMMANDS.as_slice() {
         command = command.subcommand(subcommand(alloc, name)?)?;
@@ -86,23 +89,20 @@ fn command<'a>(alloc: Global) -> Result<Command<'a>, AllocError>
 fn subcommand<'a>(alloc: Global, name: CommandName) -> Result<Command<'a>, AllocError>
     ensures app { IfOk result (λ c. app_of c ≡ leaf name) }
 {
-    let mut command = with_notes(
-        Command::new(alloc, name.text()).about(name.about()),
-        name.notes(),
-    );
+    let mut command = with_help(Command::new(alloc, name.text()), name);
     'options: for &option in name.options() {
         command = command.arg(argument(alloc, option))?;
     }
     Ok(command)
 }
 
-fn with_notes<'a>(bare: Command<'a>, notes: Option<&'a str>) -> Command<'a>
+// Help says what the subcommand needs, which clap does not know, since it takes no option for a required one.
+fn with_help<'a>(bare: Command<'a>, name: CommandName) -> Command<'a>
     ensures { app_of result ≡ app_of bare.entry }
 {
-    match notes {
-        Some(notes) => bare.after_help(notes),
-        None => bare,
-    }
+    bare.about(name.about())
+        .override_usage(name.usage())
+        .after_help(name.notes())
 }
 
 fn argument<'a>(alloc: Global, option: OptionName) -> Arg<'a>
@@ -112,7 +112,7 @@ fn argument<'a>(alloc: Global, option: OptionName) -> Arg<'a>
     Arg::new(alloc, option.text())
         .long(option.text())
         .value_name(option.value_name())
-        .help(option.help())
+        .help(option.about())
         .action(ArgAction::Set)
 }
 

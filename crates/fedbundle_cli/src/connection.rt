@@ -31,7 +31,7 @@ pub(crate) struct Way<'a> {
 pub(crate) fn listen(rt: &HostRuntime, address: SocketAddr) -> Result<TcpListener, Stop> {
     match TcpListener::bind(rt, address) {
         Ok(listener) => Ok(listener),
-        Err(_) => Err(Stop::Refused(CommandError::Sync(SyncError::Io))),
+        Err(error) => Err(Stop::Refused(fault_of(&error))),
     }
 }
 
@@ -39,7 +39,7 @@ pub(crate) fn listen(rt: &HostRuntime, address: SocketAddr) -> Result<TcpListene
 pub(crate) fn accept(rt: &HostRuntime, listener: &TcpListener) -> Result<Connection, CommandError> {
     match accepted(rt, listener) {
         Ok(connection) => Ok(connection),
-        Err(_) => Err(CommandError::Sync(SyncError::Io)),
+        Err(error) => Err(fault_of(&error)),
     }
 }
 
@@ -47,7 +47,7 @@ pub(crate) fn accept(rt: &HostRuntime, listener: &TcpListener) -> Result<Connect
 pub(crate) fn connect(rt: &HostRuntime, address: SocketAddr) -> Result<Connection, Stop> {
     match connected(rt, address) {
         Ok(connection) => Ok(connection),
-        Err(_) => Err(Stop::Refused(CommandError::Sync(SyncError::Io))),
+        Err(error) => Err(Stop::Refused(fault_of(&error))),
     }
 }
 
@@ -88,6 +88,14 @@ impl Write for Way<'_> {
 
     fn flush(&mut self) -> io::Result<()> {
         Ok(())
+    }
+}
+
+// Of all faults of the system want of memory alone has a name of its own.
+fn fault_of(error: &io::Error) -> CommandError {
+    match error.kind() {
+        ErrorKind::OutOfMemory => CommandError::Sync(SyncError::NoMemory),
+        _ => CommandError::Sync(SyncError::Io),
     }
 }
 

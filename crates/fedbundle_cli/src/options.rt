@@ -8,9 +8,9 @@ use jwk_set::KeyId;
 use receipt_core::{FromRead, read_up_to};
 use spiffe_name::{SpiffeId, TrustDomain};
 use std::alloc::Global;
-use std::fs;
 use std::fs::Files;
 use std::net::SocketAddr;
+use std::{fs, io};
 
 /// The configuration in the file.
 pub(crate) fn config<R: Files>(
@@ -18,11 +18,14 @@ pub(crate) fn config<R: Files>(
     alloc: Global,
     path: &str,
 ) -> Result<Config, CommandError> {
-    let Ok(file) = fs::open(files, path) else {
-        return Err(CommandError::Io);
-    };
-    let bytes = read_up_to(alloc, &mut FromRead::new(file), usize::MAX)?;
-    Ok(Config::read(alloc, bytes.as_slice())?)
+    match fs::open(files, path) {
+        Ok(file) => {
+            let bytes = read_up_to(alloc, &mut FromRead::new(file), usize::MAX)?;
+            Ok(Config::read(alloc, bytes.as_slice())?)
+        }
+        Err(error) if error.kind() == io::ErrorKind::OutOfMemory => Err(CommandError::NoMemory),
+        Err(_) => Err(CommandError::Io),
+    }
 }
 
 pub(crate) fn domain(alloc: Global, text: &str) -> Result<TrustDomain, CommandError> {

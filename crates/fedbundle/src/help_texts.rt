@@ -1,0 +1,242 @@
+//! What help and usage say of the command, its subcommands and their options.
+use crate::command_name::{CommandName, OptionName};
+
+/// The command's usage.
+pub(crate) const USAGE: &str = "fedbundle <COMMAND>";
+
+/// What help says behind the list of subcommands.
+pub(crate) const NOTES: &str = "\
+`fedbundle <COMMAND> --help` says what a subcommand reads, what it writes, and how it ends.
+
+A fault is one line on standard error, `fedbundle: ` and a code. Exit status:
+  0  done
+  1  an input was refused, or what was asked for is not there
+  2  the words are none that the command has
+  3  a file, a stream or a connection failed
+  4  memory ran out
+Of several it is the greatest.";
+
+const CANON_NOTES: &str = "\
+Reads from standard input a bundle document, JSON of at most 1,048,576 bytes.
+
+Writes to standard output the canonical document, a line `id` with its document id, and
+for each X.509 authority a line `key` with its key id. It writes no file.
+
+Ends with 0; with 1 where the document or the name of the domain is refused, and then
+nothing is printed.";
+
+const REPORT_NOTES: &str = "\
+Reads the configuration, and from standard input receipts, each a line of at most
+8,388,608 bytes, as `observe` prints them. At most 65,536 different ones are taken.
+
+Writes to standard output the report: the configuration's digest, how many receipts are
+held and how many of them are pending, and for each domain its current document, its
+accepted documents and their conflicts. Writes to standard error the number of each line
+that is not taken, and why. It writes no file.
+
+Ends with 0; with 1 where a line was not taken, and the report is printed all the same;
+with 1 and no report where the configuration is refused or too many receipts fit it.";
+
+const BUNDLE_NOTES: &str = "\
+Reads the configuration and the state file, and nothing from standard input.
+
+Writes to standard output the domain's current document in its canonical form, on a line.
+It writes no file.
+
+Ends with 0; with 1 where the domain has no current document, or where the configuration,
+the state or the name of the domain is refused.";
+
+const EXPLAIN_NOTES: &str = "\
+Reads the configuration, the state file, and from standard input a bundle document, JSON
+of at most 1,048,576 bytes.
+
+Writes to standard output the receipts, a line each, of a shortest chain that leads from a
+configured document to this one; none for a configured document. It writes no file.
+
+Ends with 0; with 1 where the document is not accepted, or where anything read is refused.";
+
+const OBSERVE_NOTES: &str = "\
+Reads the configuration, the state file, and from standard input a bundle document as it
+was fetched, JSON of at most 1,048,576 bytes. What --endpoint and --key say is the verdict
+of TLS on the connection that brought it, and is believed.
+
+Writes to standard output the receipt, on a line, and then the state file with it, by way
+of FILE.new and under the lock of FILE.lock: at most 65,536 receipts are held. What is
+printed counts only where the exit status is 0.
+
+Ends with 0; with 1 where anything read is refused, where the endpoint is another than the
+relationship says, or where the current document of its domain does not list the key. Then
+the state file is left as it was.";
+
+const MERGE_NOTES: &str = "\
+Reads the configuration, the state file, and from standard input a snapshot: a state file
+under the same configuration, with lines of at most 8,388,608 bytes.
+
+Writes to standard output `new` and how many of its receipts were not held, and then the
+state file, which holds what either held, by way of FILE.new and under the lock of
+FILE.lock: at most 65,536 receipts and 4,096 records of distrust. What is printed counts
+only where the exit status is 0.
+
+Ends with 0; with 1 where anything read is refused or the two together are too many. Then
+nothing is taken, and the state file is left as it was.";
+
+const POLLS_NOTES: &str = "\
+Reads the configuration, the state file, and from standard input the polls so far in their
+order, a line each: `<domain> ok <seconds>` or `<domain> fail <seconds>`, with a domain
+that has a relationship and a moment in Unix seconds. It reads no clock.
+
+Writes to standard output a line for each relationship: `<domain> due`,
+`<domain> <seconds>` with the moment of its next poll, or `<domain> past range`. It writes
+no file.
+
+Ends with 0; with 1 where anything read is refused, and then nothing is printed.";
+
+const DISTRUST_NOTES: &str = "\
+Reads the configuration and the state file, and nothing from standard input.
+
+Writes the state file, by way of FILE.new and under the lock of FILE.lock, with the record
+that the key vouches for nothing in the domain any more; at most 4,096 records are held,
+and none is ever taken back. It prints nothing.
+
+Ends with 0, also where the record was held; with 1 where the domain is none of the
+configuration or anything read is refused. Then the state file is left as it was.";
+
+const SERVE_NOTES: &str = "\
+Reads the configuration and the state file once, and writes no file. It waits at the
+address for one client after another, as long as it takes, and answers the questions of
+each until the client closes its end. Nothing is encrypted, and nobody is asked who it is.
+
+A session ends with the fault S9 where a read or a write moves no byte for 30 seconds,
+and with the first read or write that begins when 600 seconds are over: so a session
+takes 630 seconds at most. Its fault is a line on standard error, and it counts as served.
+
+Writes to standard output, at the end, `served` and how many sessions there were.
+
+Ends with the greatest exit status of its sessions: with 1 where what a client sent is
+refused. Ends with 1 and without a session where anything read or the address is refused,
+and with 3 where the address is taken.";
+
+const PULL_NOTES: &str = "\
+Reads the configuration and the state file, asks the other replica, which has to have the
+same configuration, for the receipts and the records of distrust that this one lacks, and
+takes what is answered.
+
+Writes to standard output `new` and how many receipts were not held, and then the state
+file, by way of FILE.new and under the lock of FILE.lock: at most 65,536 receipts and
+4,096 records of distrust are held. Where the session ends with a fault, what came before
+it is taken and written too, `new` is not printed, and the fault's line ends with `taken`
+and how many receipts were new.
+
+To connect takes 30 seconds at most: else, and where nobody serves at the address, it ends
+with the fault S9, and writes nothing. The session ends with S9 where a read or a write
+moves no byte for 30 seconds, and with the first read or write that begins when 600
+seconds are over: so it takes 630 seconds at most.
+
+Ends with 0; with 1 where anything read or answered is refused; with 3 where there is no
+connection or it failed.";
+
+impl OptionName {
+    /// What help calls the option's text.
+    pub(crate) fn value_name<'a>(self) -> &'a str {
+        match self {
+            OptionName::Config => "FILE",
+            OptionName::State => "FILE",
+            OptionName::Domain => "DOMAIN",
+            OptionName::Endpoint => "SPIFFE_ID",
+            OptionName::Key => "KEY_ID",
+            OptionName::Now => "SECONDS",
+            OptionName::Listen => "ADDRESS",
+            OptionName::Sessions => "COUNT",
+            OptionName::Peer => "ADDRESS",
+        }
+    }
+
+    /// What help says of the option.
+    pub(crate) fn about<'a>(self) -> &'a str {
+        match self {
+            OptionName::Config =>
+                "The configuration, as JSON: at most 1,024 relationships and 4,096 seeds",
+            OptionName::State => "The state file; one that is not there holds nothing",
+            OptionName::Domain => "A trust domain name, of at most 255 bytes",
+            OptionName::Endpoint =>
+                "The SPIFFE ID that the endpoint was authenticated as, of at most 2,048 bytes",
+            OptionName::Key =>
+                "The SHA-256 of an authority's certificate, 64 digits of 0-9 and a-f",
+            OptionName::Now => "The present moment, in Unix seconds; a negative one as --now=-5",
+            OptionName::Listen => "The address to wait at: an IP address and a port",
+            OptionName::Sessions => "How many sessions to serve, from 1 to 1000000",
+            OptionName::Peer =>
+                "The address at which the other replica serves: an IP address and a port",
+        }
+    }
+}
+
+impl CommandName {
+    /// What help says of the subcommand.
+    pub(crate) fn about<'a>(self) -> &'a str {
+        match self {
+            CommandName::Canon => {
+                "Prints the bundle document on standard input in its canonical form, with its ids"
+            }
+            CommandName::Report => {
+                "Reads receipt lines on standard input and prints what they make a replica accept"
+            }
+            CommandName::Bundle => "Prints the current bundle of a domain",
+            CommandName::Explain => {
+                "Prints the receipts by which the document on standard input is accepted"
+            }
+            CommandName::Observe => {
+                "Takes the bundle document on standard input, as it was fetched, and prints its receipt"
+            }
+            CommandName::Merge => "Takes what the snapshot on standard input holds",
+            CommandName::Polls => {
+                "Reads poll lines on standard input and prints when each bundle is to be fetched next"
+            }
+            CommandName::Distrust => "Distrusts a key in a domain, for good",
+            CommandName::Serve => "Answers other replicas that pull from this one",
+            CommandName::Pull => "Asks another replica, and takes what this one lacks",
+        }
+    }
+
+    /// The subcommand's usage: its word and its options, each with what its text is.
+    pub(crate) fn usage<'a>(self) -> &'a str {
+        match self {
+            CommandName::Canon => "fedbundle canon --domain <DOMAIN>",
+            CommandName::Report => "fedbundle report --config <FILE>",
+            CommandName::Bundle => {
+                "fedbundle bundle --config <FILE> --state <FILE> --domain <DOMAIN>"
+            }
+            CommandName::Explain => {
+                "fedbundle explain --config <FILE> --state <FILE> --domain <DOMAIN>"
+            }
+            CommandName::Observe => {
+                "fedbundle observe --config <FILE> --state <FILE> --domain <DOMAIN> --endpoint <SPIFFE_ID> --key <KEY_ID>"
+            }
+            CommandName::Merge => "fedbundle merge --config <FILE> --state <FILE>",
+            CommandName::Polls => "fedbundle polls --config <FILE> --state <FILE> --now <SECONDS>",
+            CommandName::Distrust => {
+                "fedbundle distrust --config <FILE> --state <FILE> --domain <DOMAIN> --key <KEY_ID>"
+            }
+            CommandName::Serve => {
+                "fedbundle serve --config <FILE> --state <FILE> --listen <ADDRESS> --sessions <COUNT>"
+            }
+            CommandName::Pull => "fedbundle pull --config <FILE> --state <FILE> --peer <ADDRESS>",
+        }
+    }
+
+    /// What help says behind the subcommand's options: what it reads and writes, and how it ends.
+    pub(crate) fn notes<'a>(self) -> &'a str {
+        match self {
+            CommandName::Canon => CANON_NOTES,
+            CommandName::Report => REPORT_NOTES,
+            CommandName::Bundle => BUNDLE_NOTES,
+            CommandName::Explain => EXPLAIN_NOTES,
+            CommandName::Observe => OBSERVE_NOTES,
+            CommandName::Merge => MERGE_NOTES,
+            CommandName::Polls => POLLS_NOTES,
+            CommandName::Distrust => DISTRUST_NOTES,
+            CommandName::Serve => SERVE_NOTES,
+            CommandName::Pull => PULL_NOTES,
+        }
+    }
+}
