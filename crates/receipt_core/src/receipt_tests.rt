@@ -1,22 +1,17 @@
 //! Receipts and records of distrust on their lines.
 use super::*;
 use crate::line_reader::read_directly;
+use crate::line_tests::prints;
 use crate::named::*;
-use std::alloc::Global;
-use std::process::Abort;
-use std::test::Fail;
+use std::alloc::{AllocError, Global};
 
-// The receipt of a line, which is read at once, with no JSON tree between.
-fn receipt_of(rt: &impl Abort, alloc: Global, line: &str) -> Result<Receipt, Fail> {
-    let directly = read_directly(alloc, line.as_bytes())?;
-    assert!(rt; directly.is_some(), "{line}");
-    Ok(Receipt::read_line(alloc, line.as_bytes())?)
-}
+// Each function owns at most one value that has to be let go.
 
-#[test]
-fn lines_are_read_and_written(rt: HostRuntime) -> Result<(), Fail> {
-    let alloc = rt.alloc();
-    let rows = [
+// A receipt's line, its id, and how many things its document offers.
+type Row = (&'static str, &'static str, usize);
+
+fn receipts() -> [Row; 13] {
+    [
         (
             SECOND_RECEIPT,
             "e6645cb01766429bcec734dbc2bac63122e8d802f919499c8516d8ff5e587e5c",
@@ -82,87 +77,143 @@ fn lines_are_read_and_written(rt: HostRuntime) -> Result<(), Fail> {
             "a6dc56bcd5ccd81edfc975ef298f11565c4a4d8e68676afe054bf8aa206fea60",
             1,
         ),
-    ];
-    for (line, id, offers) in rows {
-        let receipt = receipt_of(&rt, alloc, line)?;
-        assert_eq!(rt; receipt.write_line(alloc)?.as_slice(), line.as_bytes());
-        assert_eq!(rt; format!(in alloc; "{}", receipt.id())?.as_str(), id);
-        assert_eq!(rt; receipt.offers().len(), offers, "{line}");
-        assert!(rt; receipt.need().key == receipt.key());
-        assert!(rt; receipt.try_clone(alloc)? == receipt);
+    ]
+}
+
+// Whether the line is read at once, with no JSON tree between.
+fn is_read_directly(alloc: Global, line: &str) -> Result<bool, AllocError> {
+    let receipt = read_directly(alloc, line.as_bytes())?;
+    Ok(receipt.is_some())
+}
+
+fn is_written(alloc: Global, receipt: &Receipt, line: &str) -> Result<bool, AllocError> {
+    let text = receipt.write_line(alloc)?;
+    Ok(text.as_slice() == line.as_bytes())
+}
+
+fn is_cloned(alloc: Global, receipt: &Receipt) -> Result<bool, AllocError> {
+    let clone = receipt.try_clone(alloc)?;
+    Ok(clone.eq(receipt))
+}
+
+fn is_of_row(alloc: Global, receipt: &Receipt, row: &Row) -> Result<bool, AllocError> {
+    Ok(
+        is_written(alloc, receipt, row.0)?
+            && prints(alloc, &receipt.id(), row.1)?
+            && receipt.offers().len() == row.2
+            && receipt.need().key == receipt.key()
+            && is_cloned(alloc, receipt)?,
+    )
+}
+
+fn holds(alloc: Global, row: &Row) -> Result<bool, LineError> {
+    let receipt = Receipt::read_line(alloc, row.0.as_bytes())?;
+    Ok(is_of_row(alloc, &receipt, row)?)
+}
+
+fn is_record_written(alloc: Global, record: &Distrust, line: &str) -> Result<bool, AllocError> {
+    let text = record.write_line(alloc)?;
+    Ok(text.as_slice() == line.as_bytes())
+}
+
+fn is_record_cloned(alloc: Global, record: &Distrust) -> Result<bool, AllocError> {
+    let clone = record.try_clone(alloc)?;
+    Ok(clone.eq(record))
+}
+
+// Whether the line is that of a record of distrust of the second key.
+fn is_record(alloc: Global, line: &str) -> Result<bool, LineError> {
+    let record = Distrust::read_line(alloc, line.as_bytes())?;
+    Ok(
+        is_record_written(alloc, &record, line)?
+            && prints(
+                alloc,
+                &record.key,
+                "2cf24dba5fb0a30e26e83b2ac5b9e29e1b161e5c1fa7425e73043362938b9824",
+            )?
+            && is_record_cloned(alloc, &record)?,
+    )
+}
+
+#[test]
+fn lines_are_read_and_written(rt: HostRuntime) {
+    for row in &receipts() {
+        assert!(rt; is_read_directly(rt.alloc(), row.0) == Ok(true), "{row:?}");
+        assert!(rt; holds(rt.alloc(), row) == Ok(true), "{row:?}");
     }
-    Ok(())
+    for line in [SECOND_KEY_DISTRUSTED, SECOND_KEY_DISTRUSTED_ELSEWHERE] {
+        assert!(rt; is_record(rt.alloc(), line) == Ok(true), "{line}");
+    }
 }
 
 fn receipt_refusal(alloc: Global, line: &[u8]) -> Option<LineError> {
     Receipt::read_line(alloc, line).err()
 }
 
-#[test]
-fn other_spellings_are_refused(rt: HostRuntime) -> Result<(), Fail> {
-    for line in OTHER_SPELLINGS {
-        let refusal = receipt_refusal(rt.alloc(), line.as_bytes());
-        assert_eq!(rt; refusal, Some(LineError::NotCanonical), "{line}");
-    }
-    for (length, error) in [
-        (1_051_064, LineError::NotCanonical),
-        (MAX_LINE_BYTES, LineError::NotCanonical),
-        (MAX_LINE_BYTES + 1, LineError::TooLong),
-    ] {
-        let line = vec![in rt.alloc(); b'a'; length]?;
-        let refusal = receipt_refusal(rt.alloc(), line.as_slice());
-        assert_eq!(rt; refusal, Some(error), "{length}");
-    }
-    Ok(())
-}
-
-#[test]
-fn records_are_read_and_written(rt: HostRuntime) -> Result<(), Fail> {
-    for line in [SECOND_KEY_DISTRUSTED, SECOND_KEY_DISTRUSTED_ELSEWHERE] {
-        let record = Distrust::read_line(rt.alloc(), line.as_bytes())?;
-        assert_eq!(rt; record.write_line(rt.alloc())?.as_slice(), line.as_bytes());
-        assert_eq!(rt;
-            format!(in rt.alloc(); "{}", record.key)?.as_str(),
-            "2cf24dba5fb0a30e26e83b2ac5b9e29e1b161e5c1fa7425e73043362938b9824"
-        );
-        assert!(rt; record.try_clone(rt.alloc())? == record);
-    }
-    Ok(())
-}
-
 fn record_refusal(alloc: Global, line: &[u8]) -> Option<LineError> {
     Distrust::read_line(alloc, line).err()
 }
 
+fn is_no_receipt(alloc: Global, length: usize, error: LineError) -> Result<bool, AllocError> {
+    let line = vec![in alloc; b'a'; length]?;
+    Ok(receipt_refusal(alloc, line.as_slice()) == Some(error))
+}
+
+fn is_no_record(alloc: Global, length: usize, error: LineError) -> Result<bool, AllocError> {
+    let line = vec![in alloc; b'a'; length]?;
+    Ok(record_refusal(alloc, line.as_slice()) == Some(error))
+}
+
+fn long_lines() -> [(usize, LineError); 3] {
+    [
+        (1_051_064, LineError::NotCanonical),
+        (MAX_LINE_BYTES, LineError::NotCanonical),
+        (MAX_LINE_BYTES + 1, LineError::TooLong),
+    ]
+}
+
 #[test]
-fn other_records_are_refused(rt: HostRuntime) -> Result<(), Fail> {
-    let others = [
+fn other_lines_are_no_receipts(rt: HostRuntime) {
+    for line in OTHER_SPELLINGS {
+        let refusal = receipt_refusal(rt.alloc(), line.as_bytes());
+        assert!(rt; refusal == Some(LineError::NotCanonical), "{line}");
+    }
+    for (length, error) in long_lines() {
+        assert!(rt;
+            is_no_receipt(rt.alloc(), length, error) == Ok(true),
+            "{length}"
+        );
+    }
+}
+
+fn other_records() -> [&'static str; 6] {
+    [
         SECOND_RECEIPT,
         "{}",
         r#"{"domain":"a.example"}"#,
         r#"{"distrust":"2CF24DBA5FB0A30E26E83B2AC5B9E29E1B161E5C1FA7425E73043362938B9824","domain":"a.example"}"#,
         r#"{"domain":"a.example","distrust":"2cf24dba5fb0a30e26e83b2ac5b9e29e1b161e5c1fa7425e73043362938b9824"}"#,
         r#"{"distrust":"2cf24dba5fb0a30e26e83b2ac5b9e29e1b161e5c1fa7425e73043362938b9824","domain":"a.example"} "#,
-    ];
-    for line in others {
-        let refusal = record_refusal(rt.alloc(), line.as_bytes());
-        assert_eq!(rt; refusal, Some(LineError::NotCanonical), "{line}");
-    }
-    let long = vec![in rt.alloc(); b'a'; MAX_LINE_BYTES + 1]?;
-    let refusal = record_refusal(rt.alloc(), long.as_slice());
-    assert_eq!(rt; refusal, Some(LineError::TooLong));
-    Ok(())
+    ]
 }
 
-#[test]
-fn refusals_print_their_codes(rt: HostRuntime) -> Result<(), Fail> {
-    let rows = [
+fn codes() -> [(LineError, &'static str); 3] {
+    [
         (LineError::NotCanonical, "L1 NotCanonical"),
         (LineError::TooLong, "L2 TooLong"),
         (LineError::NoMemory, "L3 NoMemory"),
-    ];
-    for (error, text) in rows {
-        assert_eq!(rt; format!(in rt.alloc(); "{error}")?.as_str(), text);
+    ]
+}
+
+#[test]
+fn other_lines_are_no_records(rt: HostRuntime) {
+    for line in other_records() {
+        let refusal = record_refusal(rt.alloc(), line.as_bytes());
+        assert!(rt; refusal == Some(LineError::NotCanonical), "{line}");
     }
-    Ok(())
+    let is_refused = is_no_record(rt.alloc(), MAX_LINE_BYTES + 1, LineError::TooLong);
+    assert!(rt; is_refused == Ok(true));
+    for (error, text) in codes() {
+        assert!(rt; prints(rt.alloc(), &error, text) == Ok(true), "{text}");
+    }
 }
