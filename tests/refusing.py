@@ -1,5 +1,5 @@
-"""What `refusals` and `kills` share: the program, the library that is preloaded under it, the worked runs of
-examples/rows that are given to both, the peers of sessions, and what a run showed."""
+"""What `refusals` and `kills` share: the program, the library that is preloaded under it, the rows of
+crates/command_rows that are given to both, the peers of sessions, and what a run showed."""
 import hashlib
 import json
 import os
@@ -261,23 +261,58 @@ class Place:
         )
 
 
+# Rows of crates/command_rows that are given by name: the line of each, or a beginning that no other line has.
+NAMED_ROWS = {
+    "canon-normalises/whole": 'run canon --domain a.example = ${space}{ "spiffe_sequence" : 4 ',
+    "document-refusals/no-keys": "run canon --domain a.example = {}",
+    "document-refusals/1048565-spaces": 'run canon --domain a.example = {"keys":[]}${space*1048565}',
+    "refused-lines/garbage-and-cut": "run report --config one_domain = ${second_by_first}${lf}garbage${lf}",
+    "conflicts/seventh-of-hello-seventh-with-hint": "run report --config one_domain = "
+    "${seventh_of_hello_by_first}${lf}${seventh_with_hint_by_first}${lf}",
+    "state-files/bundle": "run bundle --config one_domain --state held_second_third --domain a.example",
+    "state-files/no-words": "run",
+    "chains/third-document": "run explain --config one_domain --state held_second_third --domain a.example = ${third}",
+    "state-files/observe-second-document": "run observe --config one_domain --state absent --domain a.example "
+    "--endpoint spiffe://a.example/bundle --key $key_of_abc = ${second}",
+    "state-files/observe-third-document": "run observe --config one_domain --state held_second --domain a.example "
+    "--endpoint spiffe://a.example/bundle --key $key_of_hello = ${third}",
+    "merge/third-merges-second": "run merge --config one_domain --state held_third = "
+    '${old_head_of_one_domain}${lf}${second_by_first}${lf}{"count":1}${lf}',
+    "polls/two-failures": "run polls --config one_domain --state absent --now=1089 = ",
+    "distrust/key-of-abc": "run distrust --config one_domain --state held_second_third --domain a.example "
+    "--key $key_of_abc",
+}
+
+
 def worked_runs():
-    """The rows of examples/rows, by name."""
-    loader = SourceFileLoader("rows", str(TOP / "examples/rows/check"))
+    """The rows of crates/command_rows that are for the program, by their lines, and some of them by name."""
+    loader = SourceFileLoader("rows", str(TOP / "tests/rows/check"))
     rows = module_from_spec(spec_from_loader("rows", loader))
     loader.exec_module(rows)
-    stored = json.loads((TOP / "examples/rows/rows.json").read_text())
-    texts = stored["texts"]
-    return {
-        row["row"]: Run(
-            row["row"],
-            row["args"],
-            {name: rows.bytes_of(text, texts) for name, text in row.get("files", {}).items()},
-            rows.bytes_of(row.get("stdin", ""), texts),
-            row["args"][:1] in (["observe"], ["merge"], ["distrust"], ["pull"]),
-        )
-        for row in stored["rows"]
-    }
+    script = rows.Script(rows.lines_of(rows.CRATE / "stdin"))
+    cases = {row.line: rows.case_of(script, row) for row in script.rows if row.verb in rows.FOR_THE_PROGRAM}
+    names = {the_line(begun, cases): name for name, begun in NAMED_ROWS.items()}
+    runs = [worked_run(names.get(line, line), case) for line, case in cases.items()]
+    return {run.name: run for run in runs}
+
+
+def worked_run(name, case):
+    """The run of a row, in which the state file is `state`, and the configuration `c1.json`."""
+    called = {"--config": "c1.json", "--state": "state"}
+    words, files = [], {}
+    for word in map(os.fsdecode, case.words):
+        if words and words[-1] in called and (word in case.files or word == "absent"):
+            text, word = case.files.get(word), called[words[-1]]
+            files |= {} if text is None else {word: text}
+        words.append(word)
+    return Run(name, words, files, case.input, words[:1] in (["observe"], ["merge"], ["distrust"], ["pull"]))
+
+
+def the_line(begun, lines):
+    found = [begun] if begun in lines else [line for line in lines if line.startswith(begun)]
+    if len(found) != 1:
+        stop(f"no row, or more than one, begins so: {begun}")
+    return found[0]
 
 
 def shown(value):

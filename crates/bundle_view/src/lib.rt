@@ -5,28 +5,16 @@
 mod conflict;
 mod current_document;
 mod error;
-#[cfg(test)]
-mod explain_tests;
 mod explanation;
 pub mod laws;
 mod listed;
 mod observation;
-#[cfg(test)]
-mod observation_tests;
 mod observe_error;
 mod poll_error;
 mod poll_lines;
 mod poll_log;
-#[cfg(test)]
-mod poll_tests;
 mod poll_wait;
 mod report;
-#[cfg(test)]
-mod report_rows;
-#[cfg(test)]
-mod report_tests;
-#[cfg(test)]
-mod rows;
 mod steps;
 mod waiting;
 

@@ -5,18 +5,12 @@
 mod bundle;
 mod canon;
 mod command_name;
-#[cfg(test)]
-mod command_rows;
-#[cfg(test)]
-mod command_tests;
 mod complaint;
 mod counts;
 mod distrust;
 mod error;
 mod explain;
 mod fault;
-#[cfg(test)]
-mod help_tests;
 mod help_texts;
 mod judge;
 pub mod laws;
@@ -28,14 +22,8 @@ mod report;
 mod run_error;
 mod serve;
 mod sessions;
-#[cfg(test)]
-mod shared_texts;
 mod state;
-#[cfg(test)]
-mod tests;
 mod words;
-#[cfg(test)]
-mod words_tests;
 
 pub use bundle::run_bundle;
 pub use canon::run_canon;

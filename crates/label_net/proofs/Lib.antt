@@ -3,4 +3,3 @@ pub mod Mirroring
 pub mod Edges
 pub mod InOrder
 pub mod Closing
-mod SequenceFacts

@@ -3,10 +3,6 @@
 #![tactic(auto)]
 
 mod label;
-#[cfg(test)]
-mod reach_tests;
-#[cfg(test)]
-mod sequence_tests;
 mod wiring;
 
 pub use label::Label;

@@ -6,8 +6,6 @@
 #![tactic(auto)]
 
 mod chain;
-#[cfg(test)]
-mod chain_tests;
 mod distrust;
 mod error;
 mod from_read;
@@ -19,26 +17,16 @@ mod line;
 mod line_buf;
 mod line_error;
 mod line_reader;
-#[cfg(test)]
-mod line_tests;
 mod mem_sink;
 mod mem_source;
 mod members;
-#[cfg(test)]
-mod named;
 mod offers;
 mod read_ahead;
 mod receipt;
 mod receipt_id;
-#[cfg(test)]
-mod receipt_tests;
 mod record_line;
 mod sink;
 mod source;
-#[cfg(test)]
-mod stream_tests;
-#[cfg(test)]
-mod tests;
 mod triple;
 
 pub use chain::check_chain;

@@ -1,5 +1,5 @@
 //! Receipts.
-ghost use Rattle.std.specs.Prelude.{◌≡◌, ◌↔◌, IsTrue, IfOk, MatchResult, Some, refl};
+ghost use Rattle.std.specs.Prelude.{◌≡◌, ◌↔◌, IsTrue, IfOk, IfSome, MatchResult, Some, refl};
 ghost use Rattle.std.specs.Cmp.{partial_equiv_from_equiv};
 ghost use Rattle.receipt_core.specs.Receipt.{IsReceipt, line, receipt_cmp, receipt_id_of, need_of, offers_of, pair_of};
 ghost use Rattle.receipt_core.specs.Order.{same_receipt, receipt_total, receipt_equiv, receipt_po};
@@ -8,7 +8,7 @@ ghost use Rattle.receipt_core.specs.Parts.{IsKeptReceipt, parts_cmp, rest_cmp};
 
 use crate::line::{id_of, write_receipt};
 use crate::line_error::LineError;
-use crate::line_reader::read_receipt;
+use crate::line_reader::{read_directly, read_receipt};
 use crate::offers::{copies_of, offers_of};
 use crate::receipt_id::ReceiptId;
 use crate::triple::Triple;
@@ -94,6 +94,17 @@ impl Receipt {
         ensures { MatchResult result (IsLine bytes.now) (RefusesLine bytes.now) }
     {
         read_receipt(alloc, bytes)
+    }
+
+    /// Reads a line by its parts, with no JSON tree between, as [`Receipt::read_line`] does first. Where it answers None
+    /// that call has to decide.
+    ///
+    /// # Errors
+    /// Memory ran out.
+    pub fn read_directly(alloc: Global, bytes: &[u8]) -> Result<Option<Receipt>, AllocError>
+        ensures { IfOk result (λ o. IfSome o (IsLine bytes.now)) }
+    {
+        read_directly(alloc, bytes)
     }
 
     /// The line, without a line feed.

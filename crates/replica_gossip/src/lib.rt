@@ -2,8 +2,6 @@
 #![tactic(auto)]
 
 mod answer_reader;
-#[cfg(test)]
-mod answer_tests;
 mod answer_writer;
 mod asked_reader;
 mod asking;
@@ -11,17 +9,9 @@ mod id_list;
 pub mod laws;
 mod pulling;
 mod question_reader;
-#[cfg(test)]
-mod question_tests;
 mod question_writer;
-#[cfg(test)]
-mod rows;
 mod scanner;
 mod serving;
-#[cfg(test)]
-mod serving_tests;
-#[cfg(test)]
-mod session_tests;
 mod spelling;
 mod taking;
 mod told_reader;

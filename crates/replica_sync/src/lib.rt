@@ -1,8 +1,6 @@
 //! How replicas come to hold the same receipts.
 #![tactic(auto)]
 
-#[cfg(test)]
-mod absorb_tests;
 mod absorbing;
 mod answering;
 mod asking;
@@ -20,15 +18,9 @@ mod message;
 pub mod number;
 mod places;
 mod playing;
-#[cfg(test)]
-mod playing_tests;
 mod question;
 mod reply;
-#[cfg(test)]
-mod rows;
 mod snapshot_reader;
-#[cfg(test)]
-mod snapshot_tests;
 mod snapshot_writer;
 mod world;
 

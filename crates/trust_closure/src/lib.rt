@@ -2,14 +2,10 @@
 #![tactic(auto)]
 
 mod both;
-#[cfg(test)]
-mod chain_tests;
 mod closure;
 mod copies;
 mod error;
 mod flags;
-#[cfg(test)]
-mod given;
 mod grow;
 mod held;
 mod indexed;
@@ -17,8 +13,6 @@ mod indexed_closure;
 pub mod laws;
 mod lent;
 mod merge;
-#[cfg(test)]
-mod named;
 mod nodes;
 mod outcome;
 mod pairs;
@@ -27,13 +21,9 @@ mod plain_closure;
 mod probes;
 mod record;
 mod records;
-#[cfg(test)]
-mod room_tests;
 mod rounds;
 mod seeding;
 mod sowing;
-#[cfg(test)]
-mod tests;
 mod wire;
 
 pub use closure::{Closure, NoMemory};

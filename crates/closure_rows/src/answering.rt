@@ -1,0 +1,158 @@
+//! What comes of a row.
+use crate::fault::RowFault;
+use crate::replicas::{Pair, World, make, swap};
+use crate::words::first_word;
+use crate::{changes, codes, links, polls, reports, views};
+use row_script::{Answers, Row, Rows, Script};
+use std::alloc::{AllocError, Global};
+use trust_closure::{Closure, IndexedClosure};
+
+impl Rows for World {
+    fn answer(
+        &mut self,
+        script: &Script,
+        row: &Row<'_>,
+        answer: &mut String,
+    ) -> Result<(), AllocError> {
+        if row.verb == "replica" {
+            self.index_only = first_word(row.words).0 == "index";
+        }
+        match answer_alone(self, script, row, answer) {
+            Ok(true) => Ok(()),
+            Ok(false) => answer_over_each(self, script, row, answer),
+            Err(fault) => writeln!(answer, "{fault}"),
+        }
+    }
+}
+
+/// Answers a row about no closure or about the index, and tells whether it is one.
+fn answer_alone(
+    world: &mut World,
+    script: &Script,
+    row: &Row<'_>,
+    out: &mut String,
+) -> Result<bool, RowFault> {
+    match row.verb {
+        "index" => index(&world.indexed.here, out)?,
+        "codes" => codes::codes(row.words, out)?,
+        "seconds" => polls::seconds(row.text.as_slice(), out)?,
+        "interval" => polls::interval_of(row.words, out)?,
+        "wait" => polls::wait_of(row.words, out)?,
+        "next" => polls::next(world.alloc, script, row, out)?,
+        "fuse" => polls::fuse(world.alloc, script, row, out)?,
+        "log" => polls::new_log(world.alloc, script, row.words, &mut world.log)?,
+        "record" => polls::record(world.alloc, &mut world.log, row.words, out)?,
+        "recorded" => polls::say_next(world.alloc, &world.log, row.words, out)?,
+        _ => return Ok(false),
+    }
+    Ok(true)
+}
+
+/// `index`: the nodes, the edges and the visits of the index.
+fn index(here: &IndexedClosure, out: &mut String) -> Result<(), AllocError> {
+    let reach = here.index();
+    let (nodes, offers, waits) = reach.counts();
+    writeln!(
+        out,
+        "nodes {nodes}, offer edges {offers}, wait edges {waits}"
+    )?;
+    writeln!(out, "visits {}", reach.visits())
+}
+
+fn answer_over_each(
+    world: &mut World,
+    script: &Script,
+    row: &Row<'_>,
+    out: &mut String,
+) -> Result<(), AllocError> {
+    let mut answers = Answers::new(world.alloc);
+    answer_over_both(world, script, row, &mut answers)?;
+    answers.write(out)
+}
+
+fn answer_over_both(
+    world: &mut World,
+    script: &Script,
+    row: &Row<'_>,
+    answers: &mut Answers,
+) -> Result<(), AllocError> {
+    let alloc = world.alloc;
+    answer_over(alloc, script, &mut world.indexed, row, "index", answers)?;
+    if world.index_only {
+        return Ok(());
+    }
+    answer_over(alloc, script, &mut world.plain, row, "rounds", answers)
+}
+
+fn answer_over<C: Closure>(
+    alloc: Global,
+    script: &Script,
+    pair: &mut Pair<C>,
+    row: &Row<'_>,
+    setting: &str,
+    answers: &mut Answers,
+) -> Result<(), AllocError> {
+    let mut answer = String::new(alloc);
+    if let Err(fault) = answer_of_pair(alloc, script, pair, row, &mut answer) {
+        writeln!(answer, "{fault}")?;
+    }
+    answers.add(setting, answer.as_str())
+}
+
+fn answer_of_pair<C: Closure>(
+    alloc: Global,
+    script: &Script,
+    pair: &mut Pair<C>,
+    row: &Row<'_>,
+    out: &mut String,
+) -> Result<(), RowFault> {
+    match row.verb {
+        "replica" => make(alloc, script, pair, row.words),
+        "swap" => Ok(swap(pair)),
+        "merge" => changes::merge(pair, out),
+        _ => answer_of(alloc, script, &mut pair.here, row, out),
+    }
+}
+
+fn answer_of<C: Closure>(
+    alloc: Global,
+    script: &Script,
+    here: &mut C,
+    row: &Row<'_>,
+    out: &mut String,
+) -> Result<(), RowFault> {
+    match row.verb {
+        "take" => changes::take(alloc, here, row.text.as_slice(), out),
+        "distrust" => changes::distrust(alloc, here, row.text.as_slice(), out),
+        "reserve" => changes::reserve(here, row.words, out),
+        "observe" => changes::observe_row(alloc, script, here, row, out),
+        "links" => links::links(alloc, script, here, row, out),
+        "prepared" => links::prepared(alloc, script, here, row, out),
+        "reserved" => links::reserved(alloc, script, here, row, out),
+        _ => view_of(alloc, script, &*here, row, out),
+    }
+}
+
+fn view_of<C: Closure>(
+    alloc: Global,
+    script: &Script,
+    here: &C,
+    row: &Row<'_>,
+    out: &mut String,
+) -> Result<(), RowFault> {
+    let text = row.text.as_slice();
+    match row.verb {
+        "accepted" => views::accepted(alloc, here, row.words, out),
+        "is_accepted" => views::is_accepted(alloc, here, row.words, text, out),
+        "receipts" => views::receipts(here, out),
+        "receipts_of" => views::receipts_of(here, row.words, out),
+        "distrusts" => views::distrusts(here, out),
+        "room" => views::room(here, row.words, out),
+        "current" => views::current_of(alloc, script, here, row.words, out),
+        "conflicts" => views::conflicts_of(alloc, here, out),
+        "explain" => views::explain_row(alloc, script, here, row.words, text, out),
+        "report" => reports::report(alloc, script, here, out),
+        "fills" => reports::fills(alloc, here, out),
+        _ => Err(RowFault::UnknownVerb),
+    }
+}

@@ -1,0 +1,68 @@
+//! The replicas that rows act on.
+use crate::fault::RowFault;
+use crate::words::{first_word, text_of};
+use bundle_view::PollLog;
+use fed_config::Config;
+use row_script::Script;
+use std::alloc::{AllocError, Global};
+use trust_closure::{Closure, IndexedClosure, PlainClosure};
+
+/// The replica that rows act on, and the one beside it.
+#[derive(Drop)]
+pub(crate) struct Pair<C> {
+    pub(crate) here: C,
+    pub(crate) beside: C,
+}
+
+/// What rows leave to the next ones: replicas over each kind of closure, and a log of polls.
+#[derive(Drop)]
+pub(crate) struct World {
+    pub(crate) alloc: Global,
+    pub(crate) indexed: Pair<IndexedClosure>,
+    pub(crate) plain: Pair<PlainClosure>,
+    pub(crate) log: PollLog,
+    /// Whether rows act on the index alone.
+    pub(crate) index_only: bool,
+}
+
+impl World {
+    /// Replicas of a configuration without domains.
+    pub(crate) fn new(alloc: Global) -> Result<World, RowFault> {
+        let config = Config::read(alloc, br#"{"relationships":[],"seeds":[]}"#)?;
+        Ok(World {
+            alloc,
+            indexed: two_replicas(alloc, &config)?,
+            plain: two_replicas(alloc, &config)?,
+            log: PollLog::new(alloc, &config)?,
+            index_only: false,
+        })
+    }
+}
+
+fn two_replicas<C: Closure>(alloc: Global, config: &Config) -> Result<Pair<C>, AllocError> {
+    let here = C::new(alloc, config)?;
+    let beside = C::new(alloc, config)?;
+    Ok(Pair { here, beside })
+}
+
+/// Makes a replica of the configuration of that name, behind the word that says over which
+/// closures, which is here from now on.
+pub(crate) fn make<C: Closure>(
+    alloc: Global,
+    script: &Script,
+    pair: &mut Pair<C>,
+    words: &str,
+) -> Result<(), RowFault> {
+    let (over, name) = first_word(words);
+    if over != "both" && over != "index" {
+        return Err(RowFault::UnknownWord);
+    }
+    let config = Config::read(alloc, text_of(script, name)?)?;
+    pair.here = C::new(alloc, &config)?;
+    Ok(())
+}
+
+/// What is beside comes here, and the other way round.
+pub(crate) fn swap<C: Closure>(pair: &mut Pair<C>) {
+    std::mem::swap(&mut pair.here, &mut pair.beside);
+}

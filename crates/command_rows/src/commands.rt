@@ -1,0 +1,354 @@
+//! What the program does for the words of a command line, with texts of the script in place of
+//! files.
+//!
+//! A file's name is the name of a text; where no text has the name, the file is not there.
+use crate::devices::{AMPLE_ROOM, Devices};
+use crate::words::split_words;
+use bundle_view::{Verdict, read_seconds};
+use fed_config::Config;
+use fedbundle::{
+    Call, CommandError, CommandName, RunError, WordsError, read_sessions, read_words, run_bundle,
+    run_canon, run_distrust, run_explain, run_merge, run_observe, run_polls, run_pull, run_report,
+    run_report_with, run_serve, status, write_fault, write_served,
+};
+use jiff::Timestamp;
+use jwk_set::KeyId;
+use receipt_core::{FromRead, MemSink, write_all};
+use replica_sync::{read_snapshot, write_snapshot};
+use row_script::Script;
+use spiffe_name::{SpiffeId, TrustDomain};
+use std::alloc::Global;
+use trust_closure::Closure;
+
+/// What is run.
+#[derive(Clone, Copy)]
+pub(crate) struct Case<'a> {
+    pub(crate) alloc: Global,
+    pub(crate) script: &'a Script,
+    /// The words of the command line, each behind a zero byte.
+    pub(crate) words: &'a str,
+    /// The bytes of standard input, or what the other replica of a session sends.
+    pub(crate) input: &'a [u8],
+    /// Whether `report` is to choose the closure itself.
+    pub(crate) is_report_own: bool,
+}
+
+impl Case<'_> {
+    /// Whether a session with another replica is asked for.
+    pub(crate) fn is_session(&self) -> bool {
+        self.words.starts_with("serve\0") || self.words.starts_with("pull\0")
+    }
+}
+
+/// A subcommand, and the texts of its options behind those of the configuration and the state.
+#[derive(Clone, Copy)]
+struct Asked<'a> {
+    name: CommandName,
+    given: &'a [&'a str],
+}
+
+/// Carries out what the words ask for, over the devices.
+pub(crate) fn carry_out<C: Closure>(case: &Case<'_>, devices: &mut Devices) {
+    if let Err(error) = read_and_do::<C>(case, devices) {
+        let is_told = write_fault(&error, &mut devices.errors).is_ok();
+        end(status(&error), is_told, devices);
+    }
+}
+
+// Ends with the exit status, or with 3 where that is greater and standard error failed.
+fn end(ended: u8, is_told: bool, devices: &mut Devices) {
+    devices.status = if is_told { ended } else { ended.max(3) };
+}
+
+fn tell(line: &[u8], ended: u8, devices: &mut Devices) {
+    let is_told = write_all(&mut devices.errors, line).is_ok();
+    end(ended, is_told, devices);
+}
+
+fn read_and_do<C: Closure>(case: &Case<'_>, devices: &mut Devices) -> Result<(), CommandError> {
+    let words = split_words(case.alloc, case.words)?;
+    do_words::<C>(case, words.as_slice(), devices)
+}
+
+fn do_words<C: Closure>(
+    case: &Case<'_>,
+    words: &[&str],
+    devices: &mut Devices,
+) -> Result<(), CommandError> {
+    match read_words(case.alloc, words) {
+        Ok(call) => do_call::<C>(case, &call, devices),
+        Err(WordsError::Usage) => {
+            tell(b"fedbundle: usage\n", 2, devices);
+            Ok(())
+        }
+        Err(WordsError::NoMemory) => Err(CommandError::NoMemory),
+        Err(WordsError::Words(_)) => {
+            tell(b"words that are not taken\n", 2, devices);
+            Ok(())
+        }
+    }
+}
+
+fn do_call<C: Closure>(
+    case: &Case<'_>,
+    call: &Call<'_>,
+    devices: &mut Devices,
+) -> Result<(), CommandError> {
+    match (call.name, call.texts.as_slice()) {
+        (CommandName::Canon, [domain]) => canon(case, domain, devices),
+        (CommandName::Serve, [_, _, _, sessions]) if read_sessions(sessions).is_none() => {
+            tell(b"fedbundle: usage\n", 2, devices);
+            Ok(())
+        }
+        (name, [config, given @ ..]) => {
+            do_under::<C>(case, Asked { name, given }, config, devices)
+        }
+        _ => Err(CommandError::Full),
+    }
+}
+
+fn canon(case: &Case<'_>, domain: &str, devices: &mut Devices) -> Result<(), CommandError> {
+    let domain = TrustDomain::read(case.alloc, domain)?;
+    run_canon(case.alloc, &domain, &mut devices.input, &mut devices.output)
+}
+
+fn do_under<C: Closure>(
+    case: &Case<'_>,
+    asked: Asked<'_>,
+    config: &str,
+    devices: &mut Devices,
+) -> Result<(), CommandError> {
+    let Some(config) = case.script.text(config) else {
+        return Err(CommandError::Io);
+    };
+    let config = Config::read(case.alloc, config)?;
+    do_under_config::<C>(case, asked, &config, devices)
+}
+
+fn do_under_config<C: Closure>(
+    case: &Case<'_>,
+    asked: Asked<'_>,
+    config: &Config,
+    devices: &mut Devices,
+) -> Result<(), CommandError> {
+    match (asked.name, asked.given) {
+        (CommandName::Report, []) => report::<C>(case, config, devices),
+        (name, [state, given @ ..]) => {
+            let file = case.script.text(state);
+            do_over_file::<C>(case, Asked { name, given }, config, file, devices)
+        }
+        _ => Err(CommandError::Full),
+    }
+}
+
+// A line that is refused makes the exit status 1.
+fn report<C: Closure>(
+    case: &Case<'_>,
+    config: &Config,
+    devices: &mut Devices,
+) -> Result<(), CommandError> {
+    let count = if case.is_report_own {
+        report_over_its_own(case.alloc, config, devices)?
+    } else {
+        report_over::<C>(case.alloc, config, devices)?
+    };
+    devices.status = if count == 0 { 0 } else { 1 };
+    Ok(())
+}
+
+fn report_over_its_own(
+    alloc: Global,
+    config: &Config,
+    devices: &mut Devices,
+) -> Result<u64, RunError> {
+    run_report(
+        alloc,
+        config,
+        &mut devices.input,
+        &mut devices.output,
+        &mut devices.errors,
+    )
+}
+
+fn report_over<C: Closure>(
+    alloc: Global,
+    config: &Config,
+    devices: &mut Devices,
+) -> Result<u64, RunError> {
+    run_report_with::<C, _, _, _>(
+        alloc,
+        config,
+        &mut devices.input,
+        &mut devices.output,
+        &mut devices.errors,
+    )
+}
+
+// The replica of the state file; one that is not there holds nothing.
+fn do_over_file<C: Closure>(
+    case: &Case<'_>,
+    asked: Asked<'_>,
+    config: &Config,
+    file: Option<&[u8]>,
+    devices: &mut Devices,
+) -> Result<(), CommandError> {
+    let mut closure: C = match file {
+        Some(text) => read_snapshot(case.alloc, config, &mut FromRead::new(text))?,
+        None => C::new(case.alloc, config)?,
+    };
+    do_and_save(case, asked, &mut closure, file, devices)
+}
+
+fn do_and_save<C: Closure>(
+    case: &Case<'_>,
+    asked: Asked<'_>,
+    closure: &mut C,
+    file: Option<&[u8]>,
+    devices: &mut Devices,
+) -> Result<(), CommandError> {
+    let before = snapshot(case.alloc, closure)?;
+    let done = do_asked(case, asked, closure, devices);
+    write_snapshot(case.alloc, closure, &mut devices.state)?;
+    let known = if is_saved(asked.name, done.is_ok()) {
+        file
+    } else {
+        Some(before.as_bytes())
+    };
+    devices.is_state_new = known != Some(devices.state.as_bytes());
+    done
+}
+
+fn snapshot<C: Closure>(alloc: Global, closure: &C) -> Result<MemSink, CommandError> {
+    let mut text = MemSink::new(alloc, AMPLE_ROOM)?;
+    write_snapshot(alloc, closure, &mut text)?;
+    Ok(text)
+}
+
+// Whether the program writes the state file.
+fn is_saved(name: CommandName, is_ok: bool) -> bool {
+    match name {
+        CommandName::Pull => true,
+        CommandName::Observe | CommandName::Merge | CommandName::Distrust => is_ok,
+        _ => false,
+    }
+}
+
+fn do_asked<C: Closure>(
+    case: &Case<'_>,
+    asked: Asked<'_>,
+    closure: &mut C,
+    devices: &mut Devices,
+) -> Result<(), CommandError> {
+    let (input, output) = (&mut devices.input, &mut devices.output);
+    match (asked.name, asked.given) {
+        (CommandName::Bundle, [domain]) => bundle(case, closure, domain, devices),
+        (CommandName::Explain, [domain]) => explain(case, closure, domain, devices),
+        (CommandName::Observe, [domain, endpoint, key]) => {
+            observe(case, closure, domain, endpoint, key, devices)
+        }
+        (CommandName::Merge, []) => run_merge(case.alloc, closure, input, output),
+        (CommandName::Polls, [now]) => polls(case, closure, now, devices),
+        (CommandName::Distrust, [domain, key]) => distrust(case, closure, domain, key),
+        (CommandName::Serve, [_, _]) => serve(case, closure, devices),
+        (CommandName::Pull, [_]) => {
+            run_pull(case.alloc, closure, input, &mut devices.sent, output)
+        }
+        _ => Err(CommandError::Full),
+    }
+}
+
+fn bundle<C: Closure>(
+    case: &Case<'_>,
+    closure: &C,
+    domain: &str,
+    devices: &mut Devices,
+) -> Result<(), CommandError> {
+    let domain = TrustDomain::read(case.alloc, domain)?;
+    if !run_bundle(closure, &domain, &mut devices.output)? {
+        tell(b"fedbundle: no current bundle\n", 1, devices);
+    }
+    Ok(())
+}
+
+fn explain<C: Closure>(
+    case: &Case<'_>,
+    closure: &C,
+    domain: &str,
+    devices: &mut Devices,
+) -> Result<(), CommandError> {
+    let domain = TrustDomain::read(case.alloc, domain)?;
+    let (input, output) = (&mut devices.input, &mut devices.output);
+    if !run_explain(case.alloc, closure, &domain, input, output)? {
+        tell(b"fedbundle: not accepted\n", 1, devices);
+    }
+    Ok(())
+}
+
+fn observe<C: Closure>(
+    case: &Case<'_>,
+    closure: &mut C,
+    domain: &str,
+    endpoint: &str,
+    key: &str,
+    devices: &mut Devices,
+) -> Result<(), CommandError> {
+    let domain = TrustDomain::read(case.alloc, domain)?;
+    observe_of(case, closure, &domain, endpoint, key, devices)
+}
+
+fn observe_of<C: Closure>(
+    case: &Case<'_>,
+    closure: &mut C,
+    domain: &TrustDomain,
+    endpoint: &str,
+    key: &str,
+    devices: &mut Devices,
+) -> Result<(), CommandError> {
+    let verdict = Verdict {
+        endpoint: SpiffeId::read(case.alloc, endpoint)?,
+        key: key_of(key),
+    };
+    let (input, output) = (&mut devices.input, &mut devices.output);
+    run_observe(case.alloc, closure, domain, &verdict, input, output)
+}
+
+// A key of zeros where the text is none.
+fn key_of(text: &str) -> KeyId {
+    let mut id = [0; 32];
+    let _ = hex::decode_to_slice(text, &mut id);
+    KeyId(id)
+}
+
+fn distrust<C: Closure>(
+    case: &Case<'_>,
+    closure: &mut C,
+    domain: &str,
+    key: &str,
+) -> Result<(), CommandError> {
+    let domain = TrustDomain::read(case.alloc, domain)?;
+    run_distrust(closure, &domain, key_of(key))
+}
+
+fn polls<C: Closure>(
+    case: &Case<'_>,
+    closure: &C,
+    now: &str,
+    devices: &mut Devices,
+) -> Result<(), CommandError> {
+    let now = read_seconds(now.as_bytes()).unwrap_or(i64::MAX);
+    let (input, output) = (&mut devices.input, &mut devices.output);
+    match Timestamp::from_second(now) {
+        Ok(now) => run_polls(case.alloc, closure, now, input, output),
+        Err(_) => Err(CommandError::Full),
+    }
+}
+
+// The line `served` tells of the questions here, since there is one session.
+fn serve<C: Closure>(
+    case: &Case<'_>,
+    closure: &C,
+    devices: &mut Devices,
+) -> Result<(), CommandError> {
+    let count = run_serve(case.alloc, closure, &mut devices.input, &mut devices.sent)?;
+    write_served(count, &mut devices.output)
+}

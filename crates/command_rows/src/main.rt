@@ -1,0 +1,51 @@
+//! Runs the calls of the commands on the rows of a script, and prints what comes of each.
+//!
+//! The head of the script says what rows there are. A row in which the words of a command stand is
+//! run over both closures, with the input in pieces of several sizes, and its lines are printed
+//! once where they are the same each time.
+#![tactic(auto)]
+
+mod commands;
+mod devices;
+mod refusals;
+mod settings;
+mod words;
+
+use crate::settings::{Trial, answer_run, answer_trial};
+use row_script::{Row, Rows, Script, run};
+use std::alloc::{AllocError, Global};
+use std::io;
+
+/// What is done with each row.
+#[derive(Drop)]
+struct CommandRows {
+    alloc: Global,
+}
+
+impl Rows for CommandRows {
+    fn answer(
+        &mut self,
+        script: &Script,
+        row: &Row<'_>,
+        answer: &mut String,
+    ) -> Result<(), AllocError> {
+        let alloc = self.alloc;
+        match row.verb {
+            // These are for the built program alone.
+            "built" => Ok(()),
+            "run" | "session" => answer_run(alloc, script, row, answer),
+            "full_after" => answer_trial(alloc, script, row, Trial::Full, answer),
+            "broken_after" => answer_trial(alloc, script, row, Trial::Broken, answer),
+            "untold_after" => answer_trial(alloc, script, row, Trial::Untold, answer),
+            "words" => words::answer_words(alloc, script, row, answer),
+            "shows" => words::answer_shown(alloc, script, row, answer),
+            "refusal" => refusals::answer_refusal(alloc, row.words, answer),
+            _ => answer.push_str("unknown verb\n"),
+        }
+    }
+}
+
+fn main(rt: HostRuntime) -> io::Result<()> {
+    let mut rows = CommandRows { alloc: rt.alloc() };
+    run(&rt, &mut rows)
+}

@@ -1,0 +1,198 @@
+//! The calls that rows try.
+use crate::absorbing::tell_absorbed;
+use crate::asked::{Asked, bucket_of};
+use crate::devices::in_pieces;
+use crate::messages::tell_messages;
+use crate::places::AMPLE_ROOM;
+use crate::replica::{replica, tell_held};
+use crate::session::tell_session;
+use crate::stop::Stop;
+use fed_config::Config;
+use receipt_core::{LineBuf, MemSink, MemSource, Sink, Source};
+use replica_gossip::{PullFault, pull, read_have, serve_one, write_answer, write_have};
+use replica_sync::{SyncError, answer, have, read_snapshot, write_snapshot};
+use std::alloc::{AllocError, Global};
+use trust_closure::Closure;
+
+/// Written texts up to this length are shown line by line.
+const FEW_BYTES: usize = 4_096;
+
+/// Tells what comes of a call over the text in pieces of this size, and what it wrote.
+pub(crate) fn tell_whole<C: Closure>(
+    asked: Asked<'_>,
+    size: usize,
+    text: &mut String,
+) -> Result<(), Stop> {
+    let mut source = in_pieces(asked.alloc, asked.text, size)?;
+    tell_from::<C, MemSource>(asked, &mut source, text)
+}
+
+/// Tells what comes of a call that has no text to read.
+pub(crate) fn tell_without_text<C: Closure>(
+    asked: Asked<'_>,
+    text: &mut String,
+) -> Result<(), Stop> {
+    let mut source = MemSource::new(Vec::new(asked.alloc), Vec::new(asked.alloc));
+    tell_from::<C, MemSource>(asked, &mut source, text)
+}
+
+fn tell_from<C: Closure, R: Source>(
+    asked: Asked<'_>,
+    source: &mut R,
+    text: &mut String,
+) -> Result<(), Stop> {
+    let mut sink = MemSink::new(asked.alloc, AMPLE_ROOM)?;
+    perform::<C, R, MemSink>(asked, source, &mut sink, text)?;
+    text.push_str("\n")?;
+    Ok(show(asked, sink.as_bytes(), text)?)
+}
+
+fn show(asked: Asked<'_>, written: &[u8], text: &mut String) -> Result<(), AllocError> {
+    if written.len() <= FEW_BYTES {
+        return asked.script.show_lines(written, text);
+    }
+    asked.script.show(written, text)?;
+    text.push_str("\n")
+}
+
+/// Makes the call over the devices, and tells what it answers.
+pub(crate) fn perform<C: Closure, R: Source, W: Sink>(
+    asked: Asked<'_>,
+    source: &mut R,
+    sink: &mut W,
+    outcome: &mut String,
+) -> Result<(), Stop> {
+    match asked.call {
+        "question" | "answers" => tell_messages(asked, source, sink, outcome)?,
+        _ => perform_under::<C, R, W>(asked, source, sink, outcome)?,
+    }
+    Ok(tell_failed(source.failed(), sink.failed(), outcome)?)
+}
+
+fn tell_failed(source: bool, sink: bool, outcome: &mut String) -> Result<(), AllocError> {
+    if source {
+        outcome.push_str(", source failed")?;
+    }
+    if sink {
+        outcome.push_str(", sink failed")?;
+    }
+    Ok(())
+}
+
+fn perform_under<C: Closure, R: Source, W: Sink>(
+    asked: Asked<'_>,
+    source: &mut R,
+    sink: &mut W,
+    outcome: &mut String,
+) -> Result<(), Stop> {
+    let config = asked.config()?;
+    if asked.call == "snapshot" {
+        let read = copy_snapshot::<C, R, W>(asked.alloc, &config, source, sink);
+        return Ok(tell_done(read, outcome)?);
+    }
+    perform_of::<C, R, W>(asked, &config, source, sink, outcome)
+}
+
+fn perform_of<C: Closure, R: Source, W: Sink>(
+    asked: Asked<'_>,
+    config: &Config,
+    source: &mut R,
+    sink: &mut W,
+    outcome: &mut String,
+) -> Result<(), Stop> {
+    let mut closure: C = replica(asked, config, asked.named(1)?)?;
+    perform_at(asked, &mut closure, source, sink, outcome)
+}
+
+fn perform_at<C: Closure, R: Source, W: Sink>(
+    asked: Asked<'_>,
+    closure: &mut C,
+    source: &mut R,
+    sink: &mut W,
+    outcome: &mut String,
+) -> Result<(), Stop> {
+    let alloc = asked.alloc;
+    match asked.call {
+        "have" => Ok(tell_done(ask(asked, closure, sink)?, outcome)?),
+        "answer" => Ok(tell_done(reply(alloc, closure, source, sink), outcome)?),
+        "serve" => Ok(tell_served(serve_one(alloc, closure, source, sink), outcome)?),
+        "pull" => {
+            let pulled = pull(alloc, closure, source, sink);
+            tell_pulled(closure, pulled, outcome)
+        }
+        "absorb" => tell_absorbed(asked, closure, sink, outcome),
+        "session" => tell_session(asked, closure, sink, outcome),
+        _ => Err(Stop::Verb),
+    }
+}
+
+// Reads a snapshot, and writes what is held then.
+fn copy_snapshot<C: Closure, R: Source, W: Sink>(
+    alloc: Global,
+    config: &Config,
+    source: &mut R,
+    sink: &mut W,
+) -> Result<(), SyncError> {
+    let closure: C = read_snapshot(alloc, config, source)?;
+    write_snapshot(alloc, &closure, sink)
+}
+
+// Asks about the bucket that the third word tells.
+fn ask<C: Closure, W: Sink>(
+    asked: Asked<'_>,
+    closure: &C,
+    sink: &mut W,
+) -> Result<Result<(), SyncError>, Stop> {
+    let bucket = bucket_of(asked.number(2)?)?;
+    let question = have(asked.alloc, closure, bucket)?;
+    Ok(write_have(asked.alloc, &question, sink))
+}
+
+// Answers a question that the source has.
+fn reply<C: Closure, R: Source, W: Sink>(
+    alloc: Global,
+    closure: &C,
+    source: &mut R,
+    sink: &mut W,
+) -> Result<(), SyncError> {
+    let mut lines = LineBuf::new(alloc);
+    reply_next(alloc, closure, &mut lines, source, sink)
+}
+
+fn reply_next<C: Closure, R: Source, W: Sink>(
+    alloc: Global,
+    closure: &C,
+    lines: &mut LineBuf,
+    source: &mut R,
+    sink: &mut W,
+) -> Result<(), SyncError> {
+    let question = read_have(alloc, lines, source)?;
+    write_answer(alloc, answer(closure, &question), sink)
+}
+
+fn tell_done(done: Result<(), SyncError>, outcome: &mut String) -> Result<(), AllocError> {
+    match done {
+        Ok(()) => outcome.push_str("done"),
+        Err(fault) => write!(outcome, "{fault}"),
+    }
+}
+
+fn tell_served(served: Result<u64, SyncError>, outcome: &mut String) -> Result<(), AllocError> {
+    match served {
+        Ok(count) => write!(outcome, "served {count}"),
+        Err(fault) => write!(outcome, "{fault}"),
+    }
+}
+
+fn tell_pulled<C: Closure>(
+    closure: &C,
+    pulled: Result<u64, PullFault>,
+    outcome: &mut String,
+) -> Result<(), Stop> {
+    match pulled {
+        Ok(count) => write!(outcome, "new {count}")?,
+        Err(fault) => write!(outcome, "{fault}")?,
+    }
+    outcome.push_str("; ")?;
+    Ok(tell_held(closure, outcome)?)
+}

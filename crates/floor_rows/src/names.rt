@@ -1,0 +1,190 @@
+//! Names of trust domains and SPIFFE IDs.
+use crate::words::tell;
+use row_script::Script;
+use spiffe_name::{NameError, SpiffeId, TrustDomain};
+use std::alloc::{AllocError, Global};
+use std::cmp::Ordering;
+use std::collections::{BTreeSet, HashSet};
+use std::hash::Hash;
+
+/// Tells the name that the text is, or why it is none.
+pub(crate) fn read_domain(
+    alloc: Global,
+    script: &Script,
+    text: &str,
+    answer: &mut String,
+) -> Result<(), AllocError> {
+    match TrustDomain::read(alloc, text) {
+        Ok(domain) => show_line(script, "domain", domain.as_str(), answer),
+        Err(error) => tell(&error, answer),
+    }
+}
+
+/// Tells the ID that the text is, with its parts, or why it is none.
+pub(crate) fn read_id(
+    alloc: Global,
+    script: &Script,
+    text: &str,
+    answer: &mut String,
+) -> Result<(), AllocError> {
+    match SpiffeId::read(alloc, text) {
+        Ok(id) => show_id(script, &id, answer),
+        Err(error) => tell(&error, answer),
+    }
+}
+
+fn show_id(script: &Script, id: &SpiffeId, answer: &mut String) -> Result<(), AllocError> {
+    show_line(script, "id", id.as_str(), answer)?;
+    show_line(script, "domain", id.domain().as_str(), answer)?;
+    show_line(script, "path", id.path(), answer)
+}
+
+fn show_line(
+    script: &Script,
+    name: &str,
+    text: &str,
+    answer: &mut String,
+) -> Result<(), AllocError> {
+    write!(answer, "{name} ")?;
+    script.show(text.as_bytes(), answer)?;
+    answer.push_str("\n")
+}
+
+/// Tells how the first name stands to the second, and which of its copy and the second are found in
+/// sets of it.
+pub(crate) fn domains_in_sets(
+    alloc: Global,
+    first: &str,
+    second: &str,
+    answer: &mut String,
+) -> Result<(), AllocError> {
+    match TrustDomain::read(alloc, second) {
+        Ok(second) => domain_in_sets(alloc, first, &second, answer),
+        Err(error) => tell(&error, answer),
+    }
+}
+
+fn domain_in_sets(
+    alloc: Global,
+    first: &str,
+    second: &TrustDomain,
+    answer: &mut String,
+) -> Result<(), AllocError> {
+    match TrustDomain::read(alloc, first) {
+        Ok(first) => copy_domain_in_sets(alloc, &first, second, answer),
+        Err(error) => tell(&error, answer),
+    }
+}
+
+fn copy_domain_in_sets(
+    alloc: Global,
+    first: &TrustDomain,
+    second: &TrustDomain,
+    answer: &mut String,
+) -> Result<(), AllocError> {
+    tell_order(first, second, answer)?;
+    tell_ordered(alloc, first.try_clone(alloc)?, first, second, answer)?;
+    tell_hashed(alloc, first.try_clone(alloc)?, first, second, answer)
+}
+
+/// The same of IDs.
+pub(crate) fn ids_in_sets(
+    alloc: Global,
+    first: &str,
+    second: &str,
+    answer: &mut String,
+) -> Result<(), AllocError> {
+    match SpiffeId::read(alloc, second) {
+        Ok(second) => id_in_sets(alloc, first, &second, answer),
+        Err(error) => tell(&error, answer),
+    }
+}
+
+fn id_in_sets(
+    alloc: Global,
+    first: &str,
+    second: &SpiffeId,
+    answer: &mut String,
+) -> Result<(), AllocError> {
+    match SpiffeId::read(alloc, first) {
+        Ok(first) => copy_id_in_sets(alloc, &first, second, answer),
+        Err(error) => tell(&error, answer),
+    }
+}
+
+fn copy_id_in_sets(
+    alloc: Global,
+    first: &SpiffeId,
+    second: &SpiffeId,
+    answer: &mut String,
+) -> Result<(), AllocError> {
+    tell_order(first, second, answer)?;
+    tell_copy(alloc, first, answer)?;
+    tell_ordered(alloc, first.try_clone(alloc)?, first, second, answer)?;
+    tell_hashed(alloc, first.try_clone(alloc)?, first, second, answer)
+}
+
+fn tell_copy(alloc: Global, id: &SpiffeId, answer: &mut String) -> Result<(), AllocError> {
+    let copy = id.try_clone(alloc)?;
+    let path = copy.path();
+    write!(answer, "copy's path {path}\n")
+}
+
+fn tell_order<T: Ord>(first: &T, second: &T, answer: &mut String) -> Result<(), AllocError> {
+    answer.push_str(match first.cmp(second) {
+        Ordering::Less => "less\n",
+        Ordering::Equal => "equal\n",
+        Ordering::Greater => "greater\n",
+    })
+}
+
+fn tell_ordered<T: Ord + Drop>(
+    alloc: Global,
+    copy: T,
+    first: &T,
+    second: &T,
+    answer: &mut String,
+) -> Result<(), AllocError> {
+    let mut set = BTreeSet::new(alloc);
+    set.insert(copy)?;
+    tell_found("ordered", set.contains(first), set.contains(second), answer)
+}
+
+fn tell_hashed<T: Hash + Eq + Drop>(
+    alloc: Global,
+    copy: T,
+    first: &T,
+    second: &T,
+    answer: &mut String,
+) -> Result<(), AllocError> {
+    let mut set = HashSet::new(alloc);
+    set.insert(copy)?;
+    tell_found("hashed", set.contains(first), set.contains(second), answer)
+}
+
+fn tell_found(
+    set: &str,
+    has_first: bool,
+    has_second: bool,
+    answer: &mut String,
+) -> Result<(), AllocError> {
+    write!(
+        answer,
+        "{set} set of its copy: has it {has_first}, has the other {has_second}\n"
+    )
+}
+
+/// Tells each cause.
+pub(crate) fn tell_errors(answer: &mut String) -> Result<(), AllocError> {
+    for error in [
+        NameError::Empty,
+        NameError::TooLong,
+        NameError::BadScheme,
+        NameError::BadDomainByte(9),
+        NameError::BadPath(21),
+        NameError::NoMemory,
+    ] {
+        tell(&error, answer)?;
+    }
+    Ok(())
+}

@@ -1,0 +1,253 @@
+//! Devices where all goes well, and at their faults.
+use crate::streams::in_pieces;
+use crate::words::{number, tell, tell_failed, two_numbers};
+use receipt_core::{
+    Fault, FromRead, FromWrite, FuseSink, FuseSource, MemSink, Sink, Source, read_up_to, write_all,
+};
+use row_script::Script;
+use std::alloc::{AllocError, Global};
+use std::io;
+use std::io::{ErrorKind, Read, Write};
+
+// Fails each time.
+#[derive(Drop)]
+struct Broken;
+
+impl Read for Broken {
+    fn read(&mut self, _buffer: &mut [u8]) -> io::Result<usize> {
+        Err(ErrorKind::Interrupted.into())
+    }
+}
+
+impl Write for Broken {
+    fn write(&mut self, _bytes: &[u8]) -> io::Result<usize> {
+        Err(ErrorKind::Interrupted.into())
+    }
+
+    fn flush(&mut self) -> io::Result<()> {
+        Err(ErrorKind::Interrupted.into())
+    }
+}
+
+// More bytes than what is left of a text has.
+const ALL: usize = 10_000_000;
+
+/// Tells what a source in pieces of a size gives up to a limit, and then.
+pub(crate) fn read_source(
+    alloc: Global,
+    script: &Script,
+    words: &str,
+    bytes: &[u8],
+    answer: &mut String,
+) -> Result<(), AllocError> {
+    let (size, limit) = two_numbers(words);
+    tell_first_piece(alloc, bytes, size, answer)?;
+    let mut source = in_pieces(alloc, bytes, size)?;
+    let mut lent = &mut source;
+    tell_taken(alloc, script, &mut lent, limit, answer)?;
+    tell_rest(alloc, script, &mut source, answer)
+}
+
+fn tell_first_piece(
+    alloc: Global,
+    bytes: &[u8],
+    size: usize,
+    answer: &mut String,
+) -> Result<(), AllocError> {
+    let mut source = in_pieces(alloc, bytes, size)?;
+    match source.read(&mut [0u8; 64]) {
+        Ok(count) => write!(answer, "a read of 64 gives {count}\n"),
+        Err(error) => tell(&error, answer),
+    }
+}
+
+// Tells the bytes that are read up to a limit, or the fault.
+fn tell_taken<R: Source>(
+    alloc: Global,
+    script: &Script,
+    source: &mut R,
+    limit: usize,
+    answer: &mut String,
+) -> Result<(), AllocError> {
+    match read_up_to(alloc, source, limit) {
+        Ok(taken) => show(script, "up to the limit", taken.as_slice(), answer),
+        Err(error) => tell(&error, answer),
+    }
+}
+
+// Tells all that the source has left, and how it ends.
+fn tell_rest<R: Source>(
+    alloc: Global,
+    script: &Script,
+    source: &mut R,
+    answer: &mut String,
+) -> Result<(), AllocError> {
+    match read_up_to(alloc, source, ALL) {
+        Ok(rest) => show(script, "then", rest.as_slice(), answer)?,
+        Err(error) => tell(&error, answer)?,
+    }
+    tell_end(source, answer)
+}
+
+fn tell_end<R: Source>(source: &mut R, answer: &mut String) -> Result<(), AllocError> {
+    match source.read(&mut [0]) {
+        Ok(count) => write!(answer, "one read more gives {count}")?,
+        Err(error) => write!(answer, "one read more: {error}")?,
+    }
+    answer.push_str(", ")?;
+    tell_failed(source.failed(), answer)
+}
+
+fn show(script: &Script, name: &str, bytes: &[u8], answer: &mut String) -> Result<(), AllocError> {
+    write!(answer, "{name}: ")?;
+    script.show(bytes, answer)?;
+    answer.push_str("\n")
+}
+
+/// Tells what a source in pieces of one byte gives that fails after so many reads.
+pub(crate) fn fail_reads(
+    alloc: Global,
+    script: &Script,
+    reads: &str,
+    bytes: &[u8],
+    answer: &mut String,
+) -> Result<(), AllocError> {
+    let mut source = FuseSource::new(in_pieces(alloc, bytes, 1)?, number(reads) as u64);
+    tell_taken(alloc, script, &mut source, ALL, answer)?;
+    tell_end(&mut source, answer)
+}
+
+/// Tells what a source over a reader of std gives up to a limit, and then.
+pub(crate) fn read_reader(
+    alloc: Global,
+    script: &Script,
+    limit: &str,
+    bytes: &[u8],
+    answer: &mut String,
+) -> Result<(), AllocError> {
+    let mut source = FromRead::new(bytes);
+    tell_taken(alloc, script, &mut source, number(limit), answer)?;
+    tell_rest(alloc, script, &mut source, answer)
+}
+
+/// Tells what a source over a reader of std gives up to a limit that fails behind these bytes, and
+/// then.
+pub(crate) fn read_broken(
+    alloc: Global,
+    script: &Script,
+    limit: &str,
+    bytes: &[u8],
+    answer: &mut String,
+) -> Result<(), AllocError> {
+    let mut source = FromRead::new(bytes.chain(Broken));
+    tell_taken(alloc, script, &mut source, number(limit), answer)?;
+    tell_failed(source.failed(), answer)?;
+    tell_taken(alloc, script, &mut source, 1, answer)?;
+    tell_taken(alloc, script, &mut source, 1, answer)?;
+    tell_end(&mut source, answer)
+}
+
+/// Tells what a sink takes of the bytes that has this room.
+pub(crate) fn fill(
+    alloc: Global,
+    script: &Script,
+    room: &str,
+    bytes: &[u8],
+    answer: &mut String,
+) -> Result<(), AllocError> {
+    let mut sink = MemSink::new(alloc, number(room))?;
+    tell_written(&mut sink, bytes, answer)?;
+    show(script, "holds", sink.as_bytes(), answer)?;
+    tell_written(&mut sink, b"", answer)?;
+    tell_write(&mut sink, b"", answer)
+}
+
+// Tells how all of the bytes are written.
+fn tell_written<W: Sink>(
+    sink: &mut W,
+    bytes: &[u8],
+    answer: &mut String,
+) -> Result<(), AllocError> {
+    tell_outcome("write_all", write_all(sink, bytes), answer)?;
+    answer.push_str(", ")?;
+    tell_failed(sink.failed(), answer)
+}
+
+// Tells how one write goes.
+fn tell_write<W: Sink>(sink: &mut W, bytes: &[u8], answer: &mut String) -> Result<(), AllocError> {
+    match sink.write(bytes) {
+        Ok(count) => write!(answer, "write: {count}")?,
+        Err(error) => write!(answer, "write: {error}")?,
+    }
+    answer.push_str(", ")?;
+    tell_failed(sink.failed(), answer)
+}
+
+fn tell_outcome(
+    call: &str,
+    outcome: Result<(), Fault>,
+    answer: &mut String,
+) -> Result<(), AllocError> {
+    match outcome {
+        Ok(()) => write!(answer, "{call}: ok"),
+        Err(error) => write!(answer, "{call}: {error}"),
+    }
+}
+
+/// Tells how three pieces are written to a sink that fails after so many writes.
+pub(crate) fn fail_writes(
+    alloc: Global,
+    script: &Script,
+    writes: &str,
+    answer: &mut String,
+) -> Result<(), AllocError> {
+    let mut sink = FuseSink::new(MemSink::new(alloc, 6)?, number(writes) as u64);
+    let mut lent = &mut sink;
+    tell_written(&mut lent, b"ab", answer)?;
+    tell_written(&mut lent, b"cd", answer)?;
+    tell_written(&mut lent, b"ef", answer)?;
+    let inner = sink.into_inner();
+    show(script, "holds", inner.as_bytes(), answer)
+}
+
+/// Tells how the bytes are written to a sink over a writer of std.
+pub(crate) fn write_writer(
+    alloc: Global,
+    script: &Script,
+    bytes: &[u8],
+    answer: &mut String,
+) -> Result<(), AllocError> {
+    let mut sink = FromWrite::new(Vec::new(alloc));
+    tell_written(&mut sink, bytes, answer)?;
+    tell_flush(&mut sink, answer)?;
+    tell_write(&mut sink, b"", answer)?;
+    let inner = sink.into_inner();
+    show(script, "holds", inner.as_slice(), answer)
+}
+
+fn tell_flush<W: Write>(sink: &mut FromWrite<W>, answer: &mut String) -> Result<(), AllocError> {
+    tell_outcome("flush", sink.flush(), answer)?;
+    answer.push_str(", ")?;
+    tell_failed(sink.failed(), answer)
+}
+
+/// Tells how the bytes are written to a sink over a slice of three bytes.
+pub(crate) fn write_short(
+    script: &Script,
+    bytes: &[u8],
+    answer: &mut String,
+) -> Result<(), AllocError> {
+    let mut room = [0u8; 3];
+    let mut sink = FromWrite::new(room.as_mut_slice());
+    tell_written(&mut sink, bytes, answer)?;
+    show(script, "holds", room.as_slice(), answer)
+}
+
+/// Tells how the bytes are written to a sink over a writer of std that fails each time.
+pub(crate) fn write_broken(bytes: &[u8], answer: &mut String) -> Result<(), AllocError> {
+    let mut sink = FromWrite::new(Broken);
+    tell_write(&mut sink, bytes, answer)?;
+    tell_write(&mut sink, b"", answer)?;
+    let mut stuck = FromWrite::new(Broken);
+    tell_flush(&mut stuck, answer)
+}
