@@ -1,22 +1,23 @@
--- How a label is closed
-use Rattle.std.proofs.Common.{◌≡◌, ◌≢◌, ℕ, ◌+◌, ◌-◌, ◌*◌, ◌<◌, ◌≤◌, ◌⊎◌, inl, inr, Bool, true, false, ◌&&◌, [], ◌∷◌, ◌++◌, length, get_or, set, eqb, ltb, leb, arith, refl, sym, ap, ◌∙◌, subst}
-use Rattle.std.specs.Prelude.{not}
+-- How labels are closed
+use Rattle.std.proofs.Common.{◌≡◌, ℕ, ◌+◌, ◌-◌, ◌*◌, ◌<◌, ◌≤◌, ◌⊎◌, inl, inr, Bool, true, false, ◌&&◌, List, length, get_or, eqb, ltb, leb, arith, refl, sym, ap, ◌∙◌, subst}
+use Rattle.std.specs.Prelude.{not, Contains, ◌↔◌}
 use Rattle.std.specs.List.{list_any}
-use Rattle.std.proofs.lemmas.Bool.{cases_Bool, cases_eq, cases_lt, eq-eqb, eqb-true, or_cases, and_parts, and_from, and_left, le-leb, both_ways, false_from_ne_true, not-true}
-use Rattle.std.proofs.lemmas.List.{length-set, get_or_past, get_or_default}
+use Rattle.std.proofs.lemmas.Bool.{cases_Bool, cases_lt, eq-eqb, eqb-true, and_parts, and_from, and_left, le-leb, both_ways, false_from_ne_true, not-true}
+use Rattle.std.proofs.lemmas.List.{get_or_past, get_or_default}
 use Rattle.std.proofs.lemmas.List.Folds.{Any-from_list_any, list_any_at}
 use Rattle.wait_index.specs.declared.edges.Edge.{Edge}
 use Rattle.wait_index.specs.Inside.Count.{bit, count_below}
 use Rattle.wait_index.specs.Edge.{edge_at, from_at, to_at, IsEdge}
 use Rattle.wait_index.specs.Inside.Listing.{holds, IsListing}
-use Rattle.wait_index.specs.Net.{Net, is_root, is_closed, IsReached, root, step, IsOpen, IsTakenBack, itself, beyond, AreTakenBack, ClosesIn, falls_with, edges_taken_back, HasReachOf, edges_at, with_closed}
-use Rattle.wait_index.specs.Inside.Tally.{Tally, is_marked_in, is_touched_in, is_open_in, support_in}
+use Rattle.wait_index.specs.Net.{Net, is_root, is_closed, IsReached, root, step, IsOpen, IsTakenBack, itself, beyond, AreTakenBack, ClosesIn, falls_with, edges_taken_back, HasReachOf, edges_at, with_all_closed}
+use Rattle.wait_index.specs.Inside.Tally.{Tally, is_marked_in, is_touched_in, is_open_in, support_in, TouchesAll}
 use Rattle.wait_index.specs.Inside.Step.{is_before, Follows}
 use Rattle.wait_index.specs.Inside.Fall.{StillFollowed, IsFalling, HasFallen, IsSettled}
 use Rattle.wait_index.proofs.Counts.{bit-le, bit-true, bit-false, count_by-count_below, count_below-at, count_below-some, count_below-add, count_below-gap, count_below-mono, count_below-same}
-use Rattle.wait_index.proofs.Listings.{placed-from_holds, holds-from_placed, holds-insert}
-use Rattle.wait_index.proofs.Following.{flag-here, flag-other, Follows-offered}
+use Rattle.wait_index.proofs.Listings.{placed-from_holds, holds-from_placed, within-from_holds, contains-from_holds, holds-from_contains}
+use Rattle.wait_index.proofs.Following.{Follows-offered}
 use Rattle.wait_index.proofs.Falling.{WaitsOnce}
+use Rattle.wait_index.proofs.Least.{length-all_set, all_set-kept, all_set-to}
 
 -- all marked nodes are before the end of the list
 pub before_all : (t : Tally) → IsListing t.marked t.places → (n : ℕ) → is_before t (length t.marked) n ≡ is_marked_in t n
@@ -33,20 +34,25 @@ count_marked : (net : Net) (t : Tally) → IsListing t.marked t.places → count
 count_marked net t h = count_below-same (λ i. is_before t (length t.marked) (from_at net.offers i)) (λ i. is_marked_in t (from_at net.offers i)) (length net.offers) (λ i a. before_all t h (from_at net.offers i))
 
 -- what is taken back was open
-pub taken-open : (net : Net) (label l : ℕ) → IsTakenBack net label l → IsOpen net l
-taken-open net label l (itself o) = o
-taken-open net label l (beyond {here = here} {node = node} {i = i} {j = j} b w r e c) =
-    let o = taken-open net label here b in
+pub taken-open : (net : Net) (closing : List ℕ) (l : ℕ) → IsTakenBack net closing l → IsOpen net l
+taken-open net closing l (itself c o) = o
+taken-open net closing l (beyond {here = here} {node = node} {i = i} {j = j} b w r e c) =
+    let o = taken-open net closing here b in
     record { not_closed = c; offered = (j, node, e, step o.offered.3 o.offered.2 o.not_closed w) }
 
--- what is taken back is in the reach of the label
-pub taken-near : (net : Net) (label : ℕ) (labels : ℕ → Bool) → HasReachOf net label labels → (l : ℕ) → IsTakenBack net label l → labels l ≡ true
-taken-near net label labels h l (itself o) = h.has
-taken-near net label labels h l (beyond {here = here} {node = node} {i = i} {j = j} b w r e c) = h.goes_on here node l i j (taken-near net label labels h here b) w e
+-- what is taken back is in the reach of the labels
+pub taken-near : (net : Net) (closing : List ℕ) (labels : ℕ → Bool) → HasReachOf net closing labels → (l : ℕ) → IsTakenBack net closing l → labels l ≡ true
+taken-near net closing labels h l (itself c o) = h.has l c o
+taken-near net closing labels h l (beyond {here = here} {node = node} {i = i} {j = j} b w r e c) = h.goes_on here node l i j (taken-near net closing labels h here b) w e
+
+-- with more labels no less is taken back
+pub taken-more : (net : Net) (closing more : List ℕ) → ((l : ℕ) → Contains closing l → IsOpen net l → Contains more l) → (l : ℕ) → IsTakenBack net closing l → IsTakenBack net more l
+taken-more net closing more h l (itself c o) = itself (h l c o) o
+taken-more net closing more h l (beyond {here = here} b w r e c) = beyond (taken-more net closing more h here b) w r e c
 
 -- what is taken back is at labels of the reach
-pub taken-few : (net : Net) (label : ℕ) (taken labels : ℕ → Bool) → AreTakenBack net label taken → HasReachOf net label labels → edges_taken_back net taken ≤ edges_at net labels
-taken-few net label taken labels a h =
+pub taken-few : (net : Net) (closing : List ℕ) (taken labels : ℕ → Bool) → AreTakenBack net closing taken → HasReachOf net closing labels → edges_taken_back net taken ≤ edges_at net labels
+taken-few net closing taken labels a h =
     omega (
       arith,
       count_by-count_below (λ (e : Edge). falls_with net taken e.from) net.offers (record { from = 0; to = 0 }),
@@ -59,21 +65,21 @@ taken-few net label taken labels a h =
           let c = Any-from_list_any (λ (w : Edge). eqb w.to (from_at net.offers i) && taken w.from) net.waits parts.1 in
           let tests = and_parts (eqb c.1.to (from_at net.offers i)) (taken c.1.from) c.4 in
           let item : edge_at net.waits c.0 ≡ c.1 = get_or_default net.waits c.0 (record { from = 0; to = 0 }) c.1 c.2 ∙ c.3 in
-          h.goes_on c.1.from (from_at net.offers i) (to_at net.offers i) c.0 i (taken-near net label labels h c.1.from (a.only c.1.from tests.1))
+          h.goes_on c.1.from (from_at net.offers i) (to_at net.offers i) c.0 i (taken-near net closing labels h c.1.from (a.only c.1.from tests.1))
           (record { within = c.2; from = ap (λ (x : Edge). x.from) item; to = ap (λ (x : Edge). x.to) item ∙ eqb-true c.1.to (from_at net.offers i) tests.0 })
           (record { within = b; from = refl; to = refl })),
-      count_below-mono (λ i. taken (from_at net.waits i)) (λ i. labels (from_at net.waits i)) (length net.waits) (λ i b e. taken-near net label labels h (from_at net.waits i) (a.only (from_at net.waits i) e)),
+      count_below-mono (λ i. taken (from_at net.waits i)) (λ i. labels (from_at net.waits i)) (length net.waits) (λ i b e. taken-near net closing labels h (from_at net.waits i) (a.only (from_at net.waits i) e)),
     )
 
--- where the label is not open nothing is taken back
-pub none-taken : (net : Net) (label : ℕ) → (IsOpen net label → ⊥) → AreTakenBack net label (λ l. false)
-none-taken net label shut = record {
+-- where none of the labels is open nothing is taken back
+pub none-taken : (net : Net) (closing : List ℕ) → ((l : ℕ) → Contains closing l → IsOpen net l → ⊥) → AreTakenBack net closing (λ l. false)
+none-taken net closing shut = record {
   only = λ l e. absurd (both_ways false refl e);
   all = λ l b. absurd (none l b);
 }
   where
-    none : (l : ℕ) → IsTakenBack net label l → ⊥
-    none l (itself o) = shut o
+    none : (l : ℕ) → IsTakenBack net closing l → ⊥
+    none l (itself c o) = shut l c o
     none l (beyond {here = here} b w r e c) = none here b
 
 pub none-edges : (net : Net) → edges_taken_back net (λ l. false) ≡ 0
@@ -93,6 +99,61 @@ none-edges net =
         let a = Any-from_list_any (λ (w : Edge). eqb w.to n && false) net.waits parts.1 in
         let tests = and_parts (eqb a.1.to n) false a.4 in
         both_ways false refl tests.1)
+
+-- When the fall is over
+
+module _ (net : Net) (closing : List ℕ) (now : Tally) (f : HasFallen net closing now) where
+  -- what is open is not touched
+  pub untouched-from_open : (l : ℕ) → is_open_in now l ≡ true → is_touched_in now l ≡ true → ⊥
+  untouched-from_open l o a =
+      let place = placed-from_holds now.touched_places l a in
+      let at : get_or now.touched_places l 0 ≡ (get_or now.touched_places l 0 - 1) + 1 = omega (arith, place) in
+      let within = f.queue.placed_within l (get_or now.touched_places l 0 - 1) at in
+      both_ways (is_open_in now l) (ap (is_open_in now) (sym (f.queue.placed l (get_or now.touched_places l 0 - 1) at)) ∙ f.done (get_or now.touched_places l 0 - 1) within) o
+
+  supported-from_open : (l : ℕ) → is_open_in now l ≡ true → 0 < support_in now l
+  supported-from_open l o = elim (f.open_supported l o) [ inl a ↦ a | inr a ↦ absurd (untouched-from_open l o a) ]
+
+  open_within : (l : ℕ) → is_open_in now l ≡ true → l < length net.closed
+  open_within l o =
+      elim (cases_lt l (length now.opened)) [
+        | inl a ↦ omega (arith, a, f.sizes.opened)
+        | inr a ↦ absurd (both_ways (is_open_in now l) (get_or_past now.opened l false a) o)
+      ]
+
+  offered_now : (l : ℕ) → is_open_in now l ≡ true → (i : ℕ) × (m : ℕ) × IsEdge net.offers i m l × (is_marked_in now m ≡ true)
+  offered_now l o =
+      let i = count_below-some (λ i. is_marked_in now (from_at net.offers i) && eqb (to_at net.offers i) l) (length net.offers) (omega (arith, supported-from_open l o, f.counted.support l (open_within l o))) in
+      let parts = and_parts (is_marked_in now (from_at net.offers i.0)) (eqb (to_at net.offers i.0) l) i.2 in
+      (i.0, from_at net.offers i.0, record { within = i.1; from = refl; to = eqb-true (to_at net.offers i.0) l parts.1 }, parts.0)
+
+  open-left : (l : ℕ) → is_open_in now l ≡ true → IsOpen net l
+  open-left l o =
+      let b = offered_now l o in
+      record { not_closed = f.open_not_closed l o; offered = (b.0, b.1, b.2, f.sound b.1 b.3) }
+
+-- The same fall, of a list with the same open labels
+pub HasFallen-alike : (net : Net) (closing others : List ℕ) (now : Tally) → ((l : ℕ) → Contains closing l → IsOpen net l → Contains others l) → ((l : ℕ) → Contains others l → IsOpen net l → Contains closing l) → HasFallen net closing now → HasFallen net others now
+HasFallen-alike net closing others now more less f = record {
+  sizes = f.sizes;
+  listing = f.listing;
+  queue = f.queue;
+  counted = record { support = f.counted.support; visits = f.counted.visits };
+  sound = f.sound;
+  roots = f.roots;
+  grounded = f.grounded;
+  released = f.released;
+  fallen = f.fallen;
+  open_not_closed = f.open_not_closed;
+  open_supported = f.open_supported;
+  opened = record { at = f.opened.at };
+  lost = f.lost;
+  shut = f.shut;
+  first = λ l c o. f.first l (less l c o) o;
+  near = λ l a. taken-more net closing others more l (f.near l a);
+  done = f.done;
+  todo = f.todo;
+}
 
 -- In a settled index
 
@@ -141,17 +202,16 @@ module _ (net : Net) (t : Tally) (h : IsSettled net t) (queue : IsListing t.touc
   open-from_shown l o =
       open-from_offer net t h queue o.offered.0 o.offered.1 l o.offered.2 (marked-from_reached o.offered.1 o.offered.3) (label_in o.offered.0 o.offered.1 l o.offered.2) o.not_closed
 
-  -- an open label is touched: the fall begins
-  pub IsFalling-touched : (label : ℕ) (new : Tally) → is_open_in t label ≡ true → label < length net.closed → new ≡ record t { touched = t.touched ++ label ∷ []; touched_places = set t.touched_places label (length t.touched + 1) } → IsListing new.touched new.touched_places → IsFalling net new 0 0 0
-  IsFalling-touched label new o l is next =
+  -- open labels are touched: the fall begins
+  pub IsFalling-touched : (closing : List ℕ) (new : Tally) → TouchesAll closing t new → IsListing new.touched new.touched_places → IsFalling net new.touched new 0 0 0
+  IsFalling-touched closing new touches listing_new =
       let steady = h.follows.steady in
-      let one : t.touched ++ label ∷ [] ≡ label ∷ [] = ap (λ xs. xs ++ label ∷ []) h.untouched in
-      subst (λ x. IsListing x.touched x.touched_places → IsFalling net x 0 0 0) (sym is) (λ queue_new.
+      subst (λ x. TouchesAll closing t x → IsListing x.touched x.touched_places → IsFalling net x.touched x 0 0 0) (sym touches.same) (λ s queue_new.
+      let opened : (k : ℕ) → holds new.touched_places k ≡ true → is_open_in t k ≡ true = λ k a. elim (s.only k a) [ inl b ↦ absurd (none_touched net t h queue k b) | inr b ↦ b.1 ] in
       record {
-        sizes = record { places = steady.sizes.places; support = steady.sizes.support; opened = steady.sizes.opened; touched = length-set t.touched_places label (length t.touched + 1) ∙ steady.sizes.touched };
+        sizes = record { places = steady.sizes.places; support = steady.sizes.support; opened = steady.sizes.opened; touched = s.size ∙ steady.sizes.touched };
         listing = steady.listing;
         queue = queue_new;
-        some = omega (arith, ap length one);
         counted = record {
           support = λ k a.
               omega (
@@ -179,19 +239,20 @@ module _ (net : Net) (t : Tally) (h : IsSettled net t) (queue : IsListing t.touc
         lost = λ n r m. absurd (both_ways (is_marked_in t n) m (marked-from_reached n r));
         shut = λ n i r a b d.
             inl (open-from_offer net t h queue i n (to_at net.offers i) (record { within = a; from = b; to = refl }) (marked-from_reached n r) (labels i a) d);
+        first = λ k c o. holds-from_contains new.touched new.touched_places queue_new k c;
         near = λ k a.
-            elim (or_cases (holds t.touched_places k) (eqb k label) (sym (holds-insert t.touched_places label (length t.touched + 1) (omega (arith, l, steady.sizes.touched)) (omega arith) k) ∙ a)) [
-              | inl b ↦ absurd (none_touched net t h queue k b)
-              | inr b ↦
-                  let first : get_or (t.touched ++ label ∷ []) 0 0 ≡ label = ap (λ xs. get_or xs 0 0) one in
-                  let itself_first : IsTakenBack net (get_or (t.touched ++ label ∷ []) 0 0) (get_or (t.touched ++ label ∷ []) 0 0) = itself (subst (IsOpen net) (sym first) (open-shown label l o)) in
-                  subst (IsTakenBack net (get_or (t.touched ++ label ∷ []) 0 0)) (first ∙ sym (eqb-true k label b)) itself_first
-            ];
+            itself (contains-from_holds new.touched new.touched_places queue_new k a)
+            (open-shown k (omega (arith, within-from_holds new.touched_places k a, s.size, steady.sizes.touched)) (opened k a));
         done = λ k a. absurd (omega (arith, a));
-        todo = λ k a b.
-            let at : k ≡ 0 = omega (arith, b, ap length one) in
-            ap (is_open_in t) (ap (λ j. get_or (t.touched ++ label ∷ []) j 0) at ∙ ap (λ xs. get_or xs 0 0) one) ∙ o;
-      }) next
+        todo = λ k a b. opened (get_or new.touched k 0) (holds-from_placed new.touched_places (get_or new.touched k 0) (omega (arith, queue_new.listed k b)));
+      }) touches listing_new
+
+  -- The touched labels are the open ones of the list, so what fell with those fell with these.
+  pub HasFallen-listed : (closing : List ℕ) (new now : Tally) → TouchesAll closing t new → IsListing new.touched new.touched_places → HasFallen net new.touched now → HasFallen net closing now
+  HasFallen-listed closing new now touches queue_new =
+      HasFallen-alike net new.touched closing now
+      (λ l c o. elim (touches.only l (holds-from_contains new.touched new.touched_places queue_new l c)) [ inl a ↦ absurd (none_touched net t h queue l a) | inr a ↦ a.0 ])
+      (λ l c o. contains-from_holds new.touched new.touched_places queue_new l (touches.all l c (open-from_shown l o)))
 
   -- Counts of nodes that are reached and labels that they open are not above those here.
   visits_within : (now : Tally) → ((n : ℕ) → is_marked_in now n ≡ true → IsReached net n) → ((l : ℕ) → is_open_in now l ≡ true → (i : ℕ) × (m : ℕ) × IsEdge net.offers i m l × IsReached net m × (is_closed net l ≡ false))
@@ -208,52 +269,28 @@ module _ (net : Net) (t : Tally) (h : IsSettled net t) (queue : IsListing t.touc
 
   -- The fall is over.
 
-  module _ (label : ℕ) (now : Tally) (f : HasFallen net label now) where
-    -- what is open is not touched
-    untouched-from_open : (l : ℕ) → is_open_in now l ≡ true → is_touched_in now l ≡ true → ⊥
-    untouched-from_open l o a =
-        let place = placed-from_holds now.touched_places l a in
-        let at : get_or now.touched_places l 0 ≡ (get_or now.touched_places l 0 - 1) + 1 = omega (arith, place) in
-        let within = f.falling.queue.placed_within l (get_or now.touched_places l 0 - 1) at in
-        both_ways (is_open_in now l) (ap (is_open_in now) (sym (f.falling.queue.placed l (get_or now.touched_places l 0 - 1) at)) ∙ f.falling.done (get_or now.touched_places l 0 - 1) within) o
-
-    supported-from_open : (l : ℕ) → is_open_in now l ≡ true → 0 < support_in now l
-    supported-from_open l o = elim (f.falling.open_supported l o) [ inl a ↦ a | inr a ↦ absurd (untouched-from_open l o a) ]
-
-    open_within : (l : ℕ) → is_open_in now l ≡ true → l < length net.closed
-    open_within l o =
-        elim (cases_lt l (length now.opened)) [
-          | inl a ↦ omega (arith, a, f.falling.sizes.opened)
-          | inr a ↦ absurd (both_ways (is_open_in now l) (get_or_past now.opened l false a) o)
-        ]
-
-    offered_now : (l : ℕ) → is_open_in now l ≡ true → (i : ℕ) × (m : ℕ) × IsEdge net.offers i m l × (is_marked_in now m ≡ true)
-    offered_now l o =
-        let i = count_below-some (λ i. is_marked_in now (from_at net.offers i) && eqb (to_at net.offers i) l) (length net.offers) (omega (arith, supported-from_open l o, f.falling.counted.support l (open_within l o))) in
-        let parts = and_parts (is_marked_in now (from_at net.offers i.0)) (eqb (to_at net.offers i.0) l) i.2 in
-        (i.0, from_at net.offers i.0, record { within = i.1; from = refl; to = eqb-true (to_at net.offers i.0) l parts.1 }, parts.0)
-
-    touched-taken : (l : ℕ) → is_touched_in now l ≡ true → IsTakenBack net label l
-    touched-taken l a = subst (λ x. IsTakenBack net x l) f.first (f.falling.near l a)
+  module _ (closing : List ℕ) (now : Tally) (f : HasFallen net closing now) where
+    touched-taken : (l : ℕ) → is_touched_in now l ≡ true → IsTakenBack net closing l
+    touched-taken = f.near
 
     opened_before : (l : ℕ) → is_open_in now l ≡ true → is_open_in t l ≡ true
     opened_before l o =
-        let b = offered_now l o in
-        open-from_offer net t h queue b.0 b.1 l b.2 (marked-from_reached b.1 (f.falling.sound b.1 b.3)) (open_within l o) (f.falling.open_not_closed l o)
+        let b = offered_now net closing now f l o in
+        open-from_offer net t h queue b.0 b.1 l b.2 (marked-from_reached b.1 (f.sound b.1 b.3)) (open_within net closing now f l o) (f.open_not_closed l o)
 
     -- an open label stays so or is touched, and no other is either
     open_bit : (l : ℕ) → l < length net.closed → bit (is_open_in t l) ≡ bit (is_open_in now l) + bit (is_touched_in now l)
     open_bit l within =
         elim (cases_Bool (is_touched_in now l)) [
           | inl a ↦
-              let shut : is_open_in now l ≡ false = false_from_ne_true (is_open_in now l) (λ o. untouched-from_open l o a) in
-              omega (arith, bit-true (is_touched_in now l) a, bit-false (is_open_in now l) shut, bit-true (is_open_in t l) (open-from_shown l (taken-open net label l (touched-taken l a))))
+              let shut : is_open_in now l ≡ false = false_from_ne_true (is_open_in now l) (λ o. untouched-from_open net closing now f l o a) in
+              omega (arith, bit-true (is_touched_in now l) a, bit-false (is_open_in now l) shut, bit-true (is_open_in t l) (open-from_shown l (taken-open net closing l (touched-taken l a))))
           | inr a ↦
               elim (cases_Bool (is_open_in t l)) [
                 | inl o ↦
                     let b = Follows-offered net (length t.marked) t h.follows l within (h.follows.steady.open_supported l o) in
                     let still : (is_open_in now (to_at net.offers b.0) ≡ true) ⊎ (is_touched_in now (to_at net.offers b.0) ≡ true) =
-                    f.falling.shut b.1 b.0 (h.follows.steady.sound b.1 b.3) b.2.within b.2.from (ap (is_closed net) b.2.to ∙ h.follows.steady.open_not_closed l o)
+                    f.shut b.1 b.0 (h.follows.steady.sound b.1 b.3) b.2.within b.2.from (ap (is_closed net) b.2.to ∙ h.follows.steady.open_not_closed l o)
                     in
                     elim still [
                       | inl d ↦ omega (arith, bit-false (is_touched_in now l) a, bit-true (is_open_in t l) o, bit-true (is_open_in now l) (ap (is_open_in now) (sym b.2.to) ∙ d))
@@ -293,27 +330,27 @@ module _ (net : Net) (t : Tally) (h : IsSettled net t) (queue : IsListing t.touc
                 let w = fall.1 in
                 let out : is_marked_in now n ≡ false =
                 false_from_ne_true (is_marked_in now n) (λ m.
-                elim (f.falling.grounded n m) [
+                elim (f.grounded n m) [
                   | inl r ↦ both_ways (is_root net n) fall.0 r
                   | inr g ↦
                       let same : g.0 ≡ w.0 = once g.0 w.0 g.1.within w.1 (g.2 ∙ sym w.2) in
                       elim g.1.by [
-                        | inl o ↦ untouched-from_open (from_at net.waits w.0) (ap (λ k. is_open_in now (from_at net.waits k)) (sym same) ∙ o) w.3
+                        | inl o ↦ untouched-from_open net closing now f (from_at net.waits w.0) (ap (λ k. is_open_in now (from_at net.waits k)) (sym same) ∙ o) w.3
                         | inr o ↦ omega (arith, o.1)
                       ]
                 ])
                 in
-                let o = taken-open net label (from_at net.waits w.0) (touched-taken (from_at net.waits w.0) w.3) in
+                let o = taken-open net closing (from_at net.waits w.0) (touched-taken (from_at net.waits w.0) w.3) in
                 let r : IsReached net n = step o.offered.3 o.offered.2 o.not_closed (record { within = w.1; from = refl; to = w.2 }) in
                 omega (arith, bit-true (falls_with net (is_touched_in now) n) e, bit-false (is_marked_in now n) out, bit-true (is_marked_in t n) (marked-from_reached n r))
             | inr e ↦
                 elim (cases_Bool (is_marked_in now n)) [
-                  | inl m ↦ omega (arith, bit-false (falls_with net (is_touched_in now) n) e, bit-true (is_marked_in now n) m, bit-true (is_marked_in t n) (marked-from_reached n (f.falling.sound n m)))
+                  | inl m ↦ omega (arith, bit-false (falls_with net (is_touched_in now) n) e, bit-true (is_marked_in now n) m, bit-true (is_marked_in t n) (marked-from_reached n (f.sound n m)))
                   | inr m ↦
                       let out : is_marked_in t n ≡ false =
                       false_from_ne_true (is_marked_in t n) (λ a.
-                      let w = f.falling.lost n (h.follows.steady.sound n a) m in
-                      let not_root : is_root net n ≡ false = false_from_ne_true (is_root net n) (λ r. both_ways (is_marked_in now n) m (f.falling.roots n r)) in
+                      let w = f.lost n (h.follows.steady.sound n a) m in
+                      let not_root : is_root net n ≡ false = false_from_ne_true (is_root net n) (λ r. both_ways (is_marked_in now n) m (f.roots n r)) in
                       both_ways (falls_with net (is_touched_in now) n) e (ap (falls_with net (is_touched_in now)) (sym w.2) ∙ falls-from w.0 w.1 (ap (is_root net) w.2 ∙ not_root) w.3))
                       in
                       omega (arith, bit-false (falls_with net (is_touched_in now) n) e, bit-false (is_marked_in now n) m, bit-false (is_marked_in t n) out)
@@ -327,7 +364,7 @@ module _ (net : Net) (t : Tally) (h : IsSettled net t) (queue : IsListing t.touc
             arith,
             count_marked net t h.follows.steady.listing,
             h.follows.counted.visits,
-            f.falling.counted.visits,
+            f.counted.visits,
             count_below-add (λ i. is_marked_in t (from_at net.offers i)) (λ i. is_marked_in now (from_at net.offers i)) (λ i. falls_with net (is_touched_in now) (from_at net.offers i)) (length net.offers) (λ i a. marked_bit (from_at net.offers i)),
             count_below-add (λ i. is_open_in t (from_at net.waits i)) (λ i. is_open_in now (from_at net.waits i)) (λ i. is_touched_in now (from_at net.waits i)) (length net.waits) (λ i a. open_bit (from_at net.waits i) (waits i a)),
             count_by-count_below (λ (e : Edge). falls_with net (is_touched_in now) e.from) net.offers (record { from = 0; to = 0 }),
@@ -335,60 +372,53 @@ module _ (net : Net) (t : Tally) (h : IsSettled net t) (queue : IsListing t.touc
           )
 
       -- the touched labels are those that are taken back
-      taken-touched : (l : ℕ) → IsTakenBack net label l → is_touched_in now l ≡ true
-      taken-touched l (itself o) =
-          holds-from_placed now.touched_places label (omega (arith, ap (λ k. get_or now.touched_places k 0) (sym f.first), f.falling.queue.listed 0 f.falling.some))
+      pub taken-touched : (l : ℕ) → IsTakenBack net closing l → is_touched_in now l ≡ true
+      taken-touched l (itself c o) = f.first l c o
       taken-touched l (beyond {here = here} {node = node} {i = i} {j = j} b w r e c) =
           let a = taken-touched here b in
-          let o = taken-open net label here b in
+          let o = taken-open net closing here b in
           let reached : IsReached net node = step o.offered.3 o.offered.2 o.not_closed w in
           let falls : falls_with net (is_touched_in now) node ≡ true =
           ap (falls_with net (is_touched_in now)) (sym w.to) ∙ falls-from i w.within (ap (is_root net) w.to ∙ r) (ap (is_touched_in now) w.from ∙ a)
           in
           let out : is_marked_in now node ≡ false = false_from_ne_true (is_marked_in now node) (λ m. omega (arith, marked_bit node, bit-le (is_marked_in t node), bit-true (is_marked_in now node) m, bit-true (falls_with net (is_touched_in now) node) falls)) in
-          elim (f.falling.shut node j reached e.within e.from (ap (is_closed net) e.to ∙ c)) [
-            | inl d ↦ ap (is_touched_in now) (sym e.to) ∙ f.falling.fallen node j reached out e.within e.from d
+          elim (f.shut node j reached e.within e.from (ap (is_closed net) e.to ∙ c)) [
+            | inl d ↦ ap (is_touched_in now) (sym e.to) ∙ f.fallen node j reached out e.within e.from d
             | inr d ↦ ap (is_touched_in now) (sym e.to) ∙ d
           ]
 
-      pub touched-all : AreTakenBack net label (is_touched_in now)
+      pub touched-all : AreTakenBack net closing (is_touched_in now)
       touched-all = record { only = touched-taken; all = taken-touched }
 
--- The net with one label closed
+-- The net with labels closed
 
-module _ (net : Net) (label : ℕ) (l : label < length net.closed) where
-  pub closed-here : is_closed (with_closed net label) label ≡ true
-  closed-here = flag-here net.closed label true l
+module _ (net : Net) (closing : List ℕ) where
+  pub closed-other : (k : ℕ) → (Contains closing k → ⊥) → is_closed net k ≡ false → is_closed (with_all_closed net closing) k ≡ false
+  closed-other k ne c =
+      false_from_ne_true (is_closed (with_all_closed net closing) k) (λ e.
+      elim (all_set-to closing net.closed k e) [ inl a ↦ both_ways (is_closed net k) c a | inr a ↦ ne a ])
 
-  pub closed-other : (k : ℕ) → k ≢ label → is_closed (with_closed net label) k ≡ is_closed net k
-  closed-other k ne = flag-other net.closed label k true ne
+  -- what is not closed now was not
+  pub not_closed_before : (k : ℕ) → is_closed (with_all_closed net closing) k ≡ false → is_closed net k ≡ false
+  not_closed_before k e = false_from_ne_true (is_closed net k) (λ c. both_ways (is_closed (with_all_closed net closing) k) e (all_set-kept closing net.closed k c))
 
-  -- what is not closed now was not, and is another label
-  pub not_closed_before : (k : ℕ) → is_closed (with_closed net label) k ≡ false → (is_closed net k ≡ false) × (k ≢ label)
-  not_closed_before k e =
-      elim (cases_eq k label) [
-        | inl s ↦ absurd (both_ways (is_closed (with_closed net label) label) (ap (is_closed (with_closed net label)) (sym s) ∙ e) closed-here)
-        | inr s ↦ (sym (closed-other k s) ∙ e, s)
-      ]
-
-  pub reached-before : (n : ℕ) → IsReached (with_closed net label) n → IsReached net n
+  pub reached-before : (n : ℕ) → IsReached (with_all_closed net closing) n → IsReached net n
   reached-before n (root e) = root e
-  reached-before n (step {node = node} {label = k} {i = i} {j = j} r e c w) = step (reached-before node r) e (not_closed_before k c).0 w
+  reached-before n (step {node = node} {label = k} {i = i} {j = j} r e c w) = step (reached-before node r) e (not_closed_before k c) w
 
--- A label that is not open is closed, and nothing changes.
+-- Labels that are not open are closed, and nothing changes.
 
-module _ (net : Net) (t : Tally) (h : IsSettled net t) (queue : IsListing t.touched t.touched_places) (labels : (i : ℕ) → i < length net.offers → to_at net.offers i < length net.closed) (label : ℕ) (l : label < length net.closed) (shut : is_open_in t label ≡ false) where
-  reached-without : (n : ℕ) → IsReached net n → IsReached (with_closed net label) n
+module _ (net : Net) (t : Tally) (h : IsSettled net t) (queue : IsListing t.touched t.touched_places) (labels : (i : ℕ) → i < length net.offers → to_at net.offers i < length net.closed) (closing : List ℕ) (shut : (l : ℕ) → Contains closing l → is_open_in t l ≡ false) where
+  reached-without : (n : ℕ) → IsReached net n → IsReached (with_all_closed net closing) n
   reached-without n (root e) = root e
   reached-without n (step {node = node} {label = k} {i = i} {j = j} r e c w) =
       let opened = open-from_offer net t h queue i node k e (marked-from_reached net t h queue labels node r) (label_in net t h queue labels i node k e) c in
-      let apart : k ≢ label = λ s. both_ways (is_open_in t label) shut (ap (is_open_in t) (sym s) ∙ opened) in
-      step (reached-without node r) e (closed-other net label l k apart ∙ c) w
+      step (reached-without node r) e (closed-other net closing k (λ a. both_ways (is_open_in t k) (shut k a) opened) c) w
 
-  pub IsSettled-shut : IsSettled (with_closed net label) t
+  pub IsSettled-shut : IsSettled (with_all_closed net closing) t
   IsSettled-shut =
       let steady = h.follows.steady in
-      let size = length-set net.closed label true in
+      let size = length-all_set closing net.closed in
       record {
         follows = record {
           steady = record {
@@ -397,135 +427,129 @@ module _ (net : Net) (t : Tally) (h : IsSettled net t) (queue : IsListing t.touc
             sound = λ n a. reached-without n (steady.sound n a);
             roots = steady.roots;
             released = steady.released;
-            open_not_closed = λ k o.
-                let apart : k ≢ label = λ s. both_ways (is_open_in t label) shut (ap (is_open_in t) (sym s) ∙ o) in
-                closed-other net label l k apart ∙ steady.open_not_closed k o;
+            open_not_closed = λ k o. closed-other net closing k (λ a. both_ways (is_open_in t k) (shut k a) o) (steady.open_not_closed k o);
             open_supported = steady.open_supported;
           };
           counted = record { support = λ k a. h.follows.counted.support k (omega (arith, a, size)); visits = h.follows.counted.visits };
-          opened = record { at = λ k a s c. h.follows.opened.at k (omega (arith, a, size)) s (not_closed_before net label l k c).0 };
+          opened = record { at = λ k a s c. h.follows.opened.at k (omega (arith, a, size)) s (not_closed_before net closing k c) };
         };
         untouched = h.untouched;
       }
 
--- When the fall is over, the label is closed, and what is left is reached without it.
+-- When the fall is over, the labels are closed, and what is left is reached without them.
 
-module _ (net : Net) (once : WaitsOnce net) (label : ℕ) (l : label < length net.closed) (now : Tally) (f : HasFallen net label now) where
-  label_touched : is_touched_in now label ≡ true
-  label_touched =
-      holds-from_placed now.touched_places label (omega (arith, ap (λ k. get_or now.touched_places k 0) (sym f.first), f.falling.queue.listed 0 f.falling.some))
+module _ (net : Net) (once : WaitsOnce net) (closing : List ℕ) (now : Tally) (f : HasFallen net closing now) where
+  apart_from_open : (k : ℕ) → is_open_in now k ≡ true → Contains closing k → ⊥
+  apart_from_open k o c = untouched-from_open net closing now f k o (f.first k c (open-left net closing now f k o))
 
-  shut_from_touched : (k : ℕ) → is_touched_in now k ≡ true → is_open_in now k ≡ false
-  shut_from_touched k a =
-      let place = placed-from_holds now.touched_places k a in
-      let at : get_or now.touched_places k 0 ≡ (get_or now.touched_places k 0 - 1) + 1 = omega (arith, place) in
-      let within = f.falling.queue.placed_within k (get_or now.touched_places k 0 - 1) at in
-      ap (is_open_in now) (sym (f.falling.queue.placed k (get_or now.touched_places k 0 - 1) at)) ∙ f.falling.done (get_or now.touched_places k 0 - 1) within
-
-  apart_from_open : (k : ℕ) → is_open_in now k ≡ true → k ≢ label
-  apart_from_open k o s = both_ways (is_open_in now label) (shut_from_touched label label_touched) (ap (is_open_in now) (sym s) ∙ o)
-
-  -- what is still marked is reached without the label
-  reached-after : (n : ℕ) → IsReached net n → is_marked_in now n ≡ true → IsReached (with_closed net label) n
+  -- what is still marked is reached without the labels
+  reached-after : (n : ℕ) → IsReached net n → is_marked_in now n ≡ true → IsReached (with_all_closed net closing) n
   reached-after n (root e) m = root e
   reached-after n (step {node = node} {label = k} {i = i} {j = j} r e c w) m =
-      elim (f.falling.grounded n m) [
+      elim (f.grounded n m) [
         | inl a ↦ root a
         | inr a ↦
             let same : a.0 ≡ j = once a.0 j a.1.within w.within (a.2 ∙ sym w.to) in
             let from : from_at net.waits a.0 ≡ k = ap (from_at net.waits) same ∙ w.from in
             let opened : is_open_in now k ≡ true = ap (is_open_in now) (sym from) ∙ elim a.1.by [ inl o ↦ o | inr o ↦ absurd (omega (arith, o.1)) ] in
             elim (cases_Bool (is_marked_in now node)) [
-              | inl b ↦ step (reached-after node r b) e (closed-other net label l k (apart_from_open k opened) ∙ c) w
+              | inl b ↦ step (reached-after node r b) e (closed-other net closing k (apart_from_open k opened) c) w
               | inr b ↦
-                  let touched = f.falling.fallen node i r b e.within e.from (ap (is_open_in now) e.to ∙ opened) in
-                  absurd (both_ways (is_open_in now k) (shut_from_touched k (ap (is_touched_in now) (sym e.to) ∙ touched)) opened)
+                  let touched = f.fallen node i r b e.within e.from (ap (is_open_in now) e.to ∙ opened) in
+                  absurd (untouched-from_open net closing now f k opened (ap (is_touched_in now) (sym e.to) ∙ touched))
             ]
       ]
 
-  pub Follows-fallen : Follows (with_closed net label) now (length now.marked) 0 0
+  pub Follows-fallen : Follows (with_all_closed net closing) now (length now.marked) 0 0
   Follows-fallen =
-      let g = f.falling in
-      let size = length-set net.closed label true in
+      let size = length-all_set closing net.closed in
       record {
         steady = record {
-          sizes = record { places = g.sizes.places; support = g.sizes.support ∙ sym size; opened = g.sizes.opened ∙ sym size; touched = g.sizes.touched ∙ sym size };
-          listing = g.listing;
-          sound = λ n a. reached-after n (g.sound n a) a;
-          roots = g.roots;
-          released = λ i a o. g.released i (record { within = a; by = inl o });
-          open_not_closed = λ k o. closed-other net label l k (apart_from_open k o) ∙ g.open_not_closed k o;
-          open_supported = λ k o. elim (g.open_supported k o) [ inl a ↦ a | inr a ↦ absurd (both_ways (is_open_in now k) (shut_from_touched k a) o) ];
+          sizes = record { places = f.sizes.places; support = f.sizes.support ∙ sym size; opened = f.sizes.opened ∙ sym size; touched = f.sizes.touched ∙ sym size };
+          listing = f.listing;
+          sound = λ n a. reached-after n (f.sound n a) a;
+          roots = f.roots;
+          released = λ i a o. f.released i (record { within = a; by = inl o });
+          open_not_closed = λ k o. closed-other net closing k (apart_from_open k o) (f.open_not_closed k o);
+          open_supported = supported-from_open net closing now f;
         };
         counted = record {
           support = λ k a.
               omega (
                 arith,
-                g.counted.support k (omega (arith, a, size)),
+                f.counted.support k (omega (arith, a, size)),
                 count_below-same (λ i. is_before now (length now.marked) (from_at net.offers i) && eqb (to_at net.offers i) k) (λ i. is_marked_in now (from_at net.offers i) && eqb (to_at net.offers i) k) (length net.offers)
-                    (λ i b. ap (λ x. x && eqb (to_at net.offers i) k) (before_all now g.listing (from_at net.offers i))),
+                    (λ i b. ap (λ x. x && eqb (to_at net.offers i) k) (before_all now f.listing (from_at net.offers i))),
               );
           visits =
               omega (
                 arith,
-                g.counted.visits,
-                count_below-same (λ i. is_before now (length now.marked) (from_at net.offers i)) (λ i. is_marked_in now (from_at net.offers i)) (length net.offers) (λ i a. before_all now g.listing (from_at net.offers i)),
+                f.counted.visits,
+                count_below-same (λ i. is_before now (length now.marked) (from_at net.offers i)) (λ i. is_marked_in now (from_at net.offers i)) (length net.offers) (λ i a. before_all now f.listing (from_at net.offers i)),
               );
         };
-        opened = record { at = λ k a s c. g.opened.at k (omega (arith, a, size)) s (not_closed_before net label l k c).0 };
+        opened = record { at = λ k a s c. f.opened.at k (omega (arith, a, size)) s (not_closed_before net closing k c) };
       }
 
--- Closing a label never leaves more followed edges.
-pub visits_after : (net : Net) (t : Tally) (h : IsSettled net t) (queue : IsListing t.touched t.touched_places) (labels : (i : ℕ) → i < length net.offers → to_at net.offers i < length net.closed) (label : ℕ) → label < length net.closed → (new : Tally) → IsSettled (with_closed net label) new → new.visits ≤ t.visits
-visits_after net t h queue labels label l new k =
+-- Closing labels never leaves more followed edges.
+pub visits_after : (net : Net) (t : Tally) (h : IsSettled net t) (queue : IsListing t.touched t.touched_places) (labels : (i : ℕ) → i < length net.offers → to_at net.offers i < length net.closed) (closing : List ℕ) (new : Tally) → IsSettled (with_all_closed net closing) new → new.visits ≤ t.visits
+visits_after net t h queue labels closing new k =
     omega (
       arith,
       k.follows.counted.visits,
       count_marked net new k.follows.steady.listing,
-      visits_within net t h queue labels new (λ n a. reached-before net label l n (k.follows.steady.sound n a))
+      visits_within net t h queue labels new (λ n a. reached-before net closing n (k.follows.steady.sound n a))
           (λ m o.
-          let within : m < length (with_closed net label).closed =
+          let within : m < length (with_all_closed net closing).closed =
           elim (cases_lt m (length new.opened)) [
             | inl a ↦ omega (arith, a, k.follows.steady.sizes.opened)
             | inr a ↦ absurd (both_ways (is_open_in new m) (get_or_past new.opened m false a) o)
           ]
           in
-          let b = Follows-offered (with_closed net label) (length new.marked) new k.follows m within (k.follows.steady.open_supported m o) in
-          (b.0, b.1, b.2, reached-before net label l b.1 (k.follows.steady.sound b.1 b.3), (not_closed_before net label l m (k.follows.steady.open_not_closed m o)).0)),
+          let b = Follows-offered (with_all_closed net closing) (length new.marked) new k.follows m within (k.follows.steady.open_supported m o) in
+          (b.0, b.1, b.2, reached-before net closing b.1 (k.follows.steady.sound b.1 b.3), not_closed_before net closing m (k.follows.steady.open_not_closed m o))),
     )
 
 -- How many turns a close takes
 
-pub ClosesIn-shut : (net : Net) (label visits : ℕ) → (IsOpen net label → ⊥) → ClosesIn net label visits visits 0
-ClosesIn-shut net label visits shut = record {
+pub ClosesIn-shut : (net : Net) (closing : List ℕ) (visits : ℕ) → ((l : ℕ) → Contains closing l → IsOpen net l → ⊥) → ClosesIn net closing visits visits 0
+ClosesIn-shut net closing visits shut = record {
   labels = λ l. false;
-  taken_back = none-taken net label shut;
+  taken_back = none-taken net closing shut;
   again = 0;
   visits = omega (arith, none-edges net);
   turns = omega (arith, none-edges net);
 }
 
-module _ (net : Net) (t : Tally) (h : IsSettled net t) (queue : IsListing t.touched t.touched_places) (labels : (i : ℕ) → i < length net.offers → to_at net.offers i < length net.closed) (waits : (i : ℕ) → i < length net.waits → from_at net.waits i < length net.closed) (once : WaitsOnce net) (label : ℕ) (now : Tally) (f : HasFallen net label now) where
+module _ (net : Net) (t : Tally) (h : IsSettled net t) (queue : IsListing t.touched t.touched_places) (labels : (i : ℕ) → i < length net.offers → to_at net.offers i < length net.closed) (waits : (i : ℕ) → i < length net.waits → from_at net.waits i < length net.closed) (once : WaitsOnce net) (closing : List ℕ) (now : Tally) (f : HasFallen net closing now) where
   pub visits_fall : now.visits ≤ t.visits
-  visits_fall = omega (arith, visits_taken net t h queue labels label now f once waits)
+  visits_fall = omega (arith, visits_taken net t h queue labels closing now f once waits)
 
-  pub ClosesIn-open : (after : ℕ) → now.visits ≤ after → ClosesIn net label t.visits after ((t.visits - now.visits) + (after - now.visits))
+  pub ClosesIn-open : (after : ℕ) → now.visits ≤ after → ClosesIn net closing t.visits after ((t.visits - now.visits) + (after - now.visits))
   ClosesIn-open after l = record {
     labels = is_touched_in now;
-    taken_back = touched-all net t h queue labels label now f once;
+    taken_back = touched-all net t h queue labels closing now f once;
     again = after - now.visits;
-    visits = omega (arith, l, visits_taken net t h queue labels label now f once waits);
-    turns = omega (arith, l, visits_taken net t h queue labels label now f once waits);
+    visits = omega (arith, l, visits_taken net t h queue labels closing now f once waits);
+    turns = omega (arith, l, visits_taken net t h queue labels closing now f once waits);
   }
 
 -- no more than two turns for each edge at labels of the reach, where the visits do not grow
-pub ClosesIn-near : (net : Net) (label before after turns : ℕ) (labels : ℕ → Bool) → ClosesIn net label before after turns → after ≤ before → HasReachOf net label labels → turns ≤ 2 * edges_at net labels
-ClosesIn-near net label before after turns labels c l h = omega (arith, c.visits, c.turns, l, taken-few net label c.labels labels c.taken_back h)
+pub ClosesIn-near : (net : Net) (closing : List ℕ) (before after turns : ℕ) (labels : ℕ → Bool) → ClosesIn net closing before after turns → after ≤ before → HasReachOf net closing labels → turns ≤ 2 * edges_at net labels
+ClosesIn-near net closing before after turns labels c l h = omega (arith, c.visits, c.turns, l, taken-few net closing c.labels labels c.taken_back h)
 
 -- no other number of turns
-pub ClosesIn-one : (net : Net) (label before after turns others : ℕ) → ClosesIn net label before after turns → ClosesIn net label before after others → turns ≡ others
-ClosesIn-one net label before after turns others a b =
-    omega (arith, a.visits, a.turns, b.visits, b.turns, taken-same a.labels b.labels a.taken_back b.taken_back, taken-same b.labels a.labels b.taken_back a.taken_back)
+pub ClosesIn-one : (net : Net) (closing others : List ℕ) (before after turns other : ℕ) → ((l : ℕ) → (Contains closing l ↔ Contains others l)) → ClosesIn net closing before after turns → ClosesIn net others before after other → turns ≡ other
+ClosesIn-one net closing others before after turns other same a b =
+    omega (
+      arith,
+      a.visits,
+      a.turns,
+      b.visits,
+      b.turns,
+      taken-same closing others (λ l c. (same l).0 c) a.labels b.labels a.taken_back b.taken_back,
+      taken-same others closing (λ l c. (same l).1 c) b.labels a.labels b.taken_back a.taken_back,
+    )
   where
     fewer_fall : (p q : ℕ → Bool) → ((l : ℕ) → p l ≡ true → q l ≡ true) → (n : ℕ) → falls_with net p n ≡ true → falls_with net q n ≡ true
     fewer_fall p q k n e =
@@ -539,9 +563,9 @@ ClosesIn-one net label before after turns others a b =
         and_from (not (is_root net n)) (list_any (λ (w : Edge). eqb w.to n && q w.from) net.waits) parts.0
         (list_any_at (λ (w : Edge). eqb w.to n && q w.from) net.waits c.0 (record { from = 0; to = 0 }) c.2 test)
 
-    taken-same : (p q : ℕ → Bool) → AreTakenBack net label p → AreTakenBack net label q → edges_taken_back net p ≤ edges_taken_back net q
-    taken-same p q x y =
-        let fewer : (l : ℕ) → p l ≡ true → q l ≡ true = λ l e. y.all l (x.only l e) in
+    taken-same : (xs ys : List ℕ) → ((l : ℕ) → Contains xs l → Contains ys l) → (p q : ℕ → Bool) → AreTakenBack net xs p → AreTakenBack net ys q → edges_taken_back net p ≤ edges_taken_back net q
+    taken-same xs ys more p q x y =
+        let fewer : (l : ℕ) → p l ≡ true → q l ≡ true = λ l e. y.all l (taken-more net xs ys (λ k c o. more k c) l (x.only l e)) in
         omega (
           arith,
           count_by-count_below (λ (e : Edge). falls_with net p e.from) net.offers (record { from = 0; to = 0 }),

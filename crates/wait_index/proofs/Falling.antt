@@ -21,8 +21,8 @@ abbrev pub WaitsOnce : Net → Type 0
 WaitsOnce net = (i j : ℕ) → i < length net.waits → j < length net.waits → to_at net.waits i ≡ to_at net.waits j → i ≡ j
 
 -- a marked node can fall
-pub CanFall-marked : (net : Net) (t : Tally) (index label link node : ℕ) → IsFalling net t index label link → is_marked_in t node ≡ true → (visits : ℕ) → t.visits ≡ visits + 1 → 0 < count_below (λ i. eqb (from_at net.waits i) label) link → CanFall net (record t { visits = visits }) node
-CanFall-marked net t index label link node h m visits e some =
+pub CanFall-marked : (net : Net) (closing : List ℕ) (t : Tally) (index label link node : ℕ) → IsFalling net closing t index label link → is_marked_in t node ≡ true → (visits : ℕ) → t.visits ≡ visits + 1 → 0 < count_below (λ i. eqb (from_at net.waits i) label) link → CanFall net (record t { visits = visits }) node
+CanFall-marked net closing t index label link node h m visits e some =
     let same : (i : ℕ) → eqb (from_at net.offers i) node ≡ true → is_marked_in t (from_at net.offers i) ≡ true = λ i a. ap (is_marked_in t) (eqb-true (from_at net.offers i) node a) ∙ m in
     record {
       sizes = record { places = h.sizes.places; support = h.sizes.support; opened = h.sizes.opened; touched = h.sizes.touched };
@@ -45,7 +45,7 @@ CanFall-marked net t index label link node h m visits e some =
 
 -- The next touched label is taken up: from now on it is not open.
 
-module _ (net : Net) (t : Tally) (index label link : ℕ) (h : IsFalling net t index 0 0) (l : index < length t.touched) (at : label ≡ get_or t.touched index 0) (within : label < length net.closed) (last : IsLast net.waits label (length net.waits) link) where
+module _ (net : Net) (closing : List ℕ) (t : Tally) (index label link : ℕ) (h : IsFalling net closing t index 0 0) (l : index < length t.touched) (at : label ≡ get_or t.touched index 0) (within : label < length net.closed) (last : IsLast net.waits label (length net.waits) link) where
   shut_label : Tally
   shut_label = record t { opened = set t.opened label false }
 
@@ -77,12 +77,11 @@ module _ (net : Net) (t : Tally) (index label link : ℕ) (h : IsFalling net t i
         | inr s ↦ omega (arith, ap bit (shut_other (from_at net.waits i) s), bit-false (eqb (from_at net.waits i) label) (ne_eqb (from_at net.waits i) label s))
       ])
 
-  pub IsFalling-start : IsFalling net (record t { opened = set t.opened label false }) (index + 1) label link
+  pub IsFalling-start : IsFalling net closing (record t { opened = set t.opened label false }) (index + 1) label link
   IsFalling-start = record {
     sizes = record { places = h.sizes.places; support = h.sizes.support; opened = length-set t.opened label false ∙ h.sizes.opened; touched = h.sizes.touched };
     listing = h.listing;
     queue = h.queue;
-    some = h.some;
     counted = record {
       support = h.counted.support;
       visits = omega (arith, h.counted.visits, fewer_open, count_owned net.waits label (length net.waits) link last);
@@ -131,6 +130,7 @@ module _ (net : Net) (t : Tally) (index label link : ℕ) (h : IsFalling net t i
           | inl e ↦ inr (ap (is_touched_in t) e ∙ was_touched)
           | inr e ↦ elim (h.shut n i r a b d) [ inl o ↦ inl (shut_other (to_at net.offers i) e ∙ o) | inr o ↦ inr o ]
         ];
+    first = h.first;
     near = h.near;
     done = λ k a.
         elim (cases_eq (get_or t.touched k 0) label) [
@@ -147,12 +147,11 @@ module _ (net : Net) (t : Tally) (index label link : ℕ) (h : IsFalling net t i
   }
 
 -- no wait edges of the label are left
-pub IsFalling-between : (net : Net) (t : Tally) (index label : ℕ) → IsFalling net t index label 0 → IsFalling net t index 0 0
-IsFalling-between net t index label h = record {
+pub IsFalling-between : (net : Net) (closing : List ℕ) (t : Tally) (index label : ℕ) → IsFalling net closing t index label 0 → IsFalling net closing t index 0 0
+IsFalling-between net closing t index label h = record {
   sizes = h.sizes;
   listing = h.listing;
   queue = h.queue;
-  some = h.some;
   counted = record { support = h.counted.support; visits = h.counted.visits };
   sound = h.sound;
   roots = h.roots;
@@ -168,14 +167,15 @@ IsFalling-between net t index label h = record {
   opened = h.opened;
   lost = h.lost;
   shut = h.shut;
+  first = h.first;
   near = h.near;
   done = h.done;
   todo = h.todo;
 }
 
 -- the wait edges of the touched label at the index are taken back from the link on
-pub record TakesBackFrom (net : Net) (index label link : ℕ) (old now : Tally) : Type 0 where
-  pub falling : IsFalling net now (index + 1) label link
+pub record TakesBackFrom (net : Net) (closing : List ℕ) (index label link : ℕ) (old now : Tally) : Type 0 where
+  pub falling : IsFalling net closing now (index + 1) label link
   pub at : IsLink net.waits label link
   pub shut_label : is_open_in now label ≡ false
   pub touched_label : is_touched_in now label ≡ true
@@ -184,7 +184,7 @@ pub record TakesBackFrom (net : Net) (index label link : ℕ) (old now : Tally) 
 
 -- One wait edge is taken back.
 
-module _ (net : Net) (once : WaitsOnce net) (index label edge link next : ℕ) (old now : Tally) (h : TakesBackFrom net index label link old now) (e : link ≡ edge + 1) (last : IsLast net.waits label edge next) where
+module _ (net : Net) (once : WaitsOnce net) (closing : List ℕ) (index label edge link next : ℕ) (old now : Tally) (h : TakesBackFrom net closing index label link old now) (e : link ≡ edge + 1) (last : IsLast net.waits label edge next) where
   edge_within : edge < length net.waits
   edge_within = omega (arith, h.at.within, e)
 
@@ -223,17 +223,16 @@ module _ (net : Net) (once : WaitsOnce net) (index label edge link next : ℕ) (
   visits_some = omega (arith, h.falling.counted.visits, one_less)
 
   pub node_can : CanFall net (record now { visits = now.visits - 1 }) (to_at net.waits edge)
-  node_can = CanFall-marked net now (index + 1) label link (to_at net.waits edge) h.falling node_marked (now.visits - 1) visits_some (omega (arith, one_less))
+  node_can = CanFall-marked net closing now (index + 1) label link (to_at net.waits edge) h.falling node_marked (now.visits - 1) visits_some (omega (arith, one_less))
 
   -- a root stays
-  falling_root : is_root net (to_at net.waits edge) ≡ true → IsFalling net (record now { visits = now.visits - 1 }) (index + 1) label next
+  falling_root : is_root net (to_at net.waits edge) ≡ true → IsFalling net closing (record now { visits = now.visits - 1 }) (index + 1) label next
   falling_root r =
       let f = h.falling in
       record {
         sizes = record { places = f.sizes.places; support = f.sizes.support; opened = f.sizes.opened; touched = f.sizes.touched };
         listing = f.listing;
         queue = f.queue;
-        some = f.some;
         counted = record { support = f.counted.support; visits = omega (arith, f.counted.visits, one_less) };
         sound = f.sound;
         roots = f.roots;
@@ -253,6 +252,7 @@ module _ (net : Net) (once : WaitsOnce net) (index label edge link next : ℕ) (
         opened = record { at = f.opened.at };
         lost = f.lost;
         shut = f.shut;
+        first = f.first;
         near = f.near;
         done = f.done;
         todo = f.todo;
@@ -332,12 +332,11 @@ module _ (net : Net) (once : WaitsOnce net) (index label edge link next : ℕ) (
     support_is : (l : ℕ) → l < length net.closed → support_in new l + offers_between net (to_at net.waits edge) l ≡ support_in now l
     support_is l a = w.support l (omega (arith, a, label_size)) ∙ ap (λ xs. get_or xs l 0) u.support
 
-    new_near : (l : ℕ) → is_touched_in new l ≡ true → IsTakenBack net (get_or new.touched 0 0) l
+    new_near : (l : ℕ) → is_touched_in new l ≡ true → IsTakenBack net closing l
     new_near l a =
-        let before : (k : ℕ) → is_touched_in now k ≡ true → IsTakenBack net (get_or new.touched 0 0) k = λ k b. subst (λ x. IsTakenBack net x k) (sym (touched_item 0 h.falling.some)) (h.falling.near k b) in
         elim (touched_only l a) [
-          | inl b ↦ before l b
-          | inr b ↦ beyond (before label h.touched_label) (record { within = edge_within; from = owner; to = refl }) not_root b.1.1 (h.falling.open_not_closed l b.0)
+          | inl b ↦ h.falling.near l b
+          | inr b ↦ beyond (h.falling.near label h.touched_label) (record { within = edge_within; from = owner; to = refl }) not_root b.1.1 (h.falling.open_not_closed l b.0)
         ]
 
     new_todo : (k : ℕ) → index + 1 ≤ k → k < length new.touched → is_open_in new (get_or new.touched k 0) ≡ true
@@ -356,7 +355,7 @@ module _ (net : Net) (once : WaitsOnce net) (index label edge link next : ℕ) (
               ]
         ]
 
-    falling_node : IsFalling net new (index + 1) label next
+    falling_node : IsFalling net closing new (index + 1) label next
     falling_node =
         let f = h.falling in
         record {
@@ -368,7 +367,6 @@ module _ (net : Net) (once : WaitsOnce net) (index label edge link next : ℕ) (
           };
           listing = listing;
           queue = queue;
-          some = omega (arith, f.some, touched_longer);
           counted = record {
             support = λ l a.
                 omega (
@@ -441,6 +439,7 @@ module _ (net : Net) (once : WaitsOnce net) (index label edge link next : ℕ) (
                 | inl o ↦ inl (open_same (to_at net.offers i) ∙ o)
                 | inr o ↦ inr (touched_kept (to_at net.offers i) o)
               ];
+          first = λ l a o. touched_kept l (f.first l a o);
           near = new_near;
           done = λ k a.
               let b : k < length now.touched = omega (arith, a, h.within) in
@@ -455,13 +454,13 @@ module _ (net : Net) (once : WaitsOnce net) (index label edge link next : ℕ) (
               | inr a ↦ absurd (both_ways (is_open_in now l) (get_or_past now.opened l false a) o)
             ]
 
-  pub TakesBackFrom-step : (new : Tally) → Falls net (to_at net.waits edge) (record now { visits = now.visits - 1 }) new → IsListing new.marked new.places → IsListing new.touched new.touched_places → TakesBackFrom net index label next old new
+  pub TakesBackFrom-step : (new : Tally) → Falls net (to_at net.waits edge) (record now { visits = now.visits - 1 }) new → IsListing new.marked new.places → IsListing new.touched new.touched_places → TakesBackFrom net closing index label next old new
   TakesBackFrom-step new f listing queue =
       let at = IsLink-last net.waits label edge next (omega (arith, edge_within)) last in
       elim f [
         | inl a ↦
             let falling = falling_root a.0 in
-            subst (λ x. TakesBackFrom net index label next old x) (sym a.1)
+            subst (λ x. TakesBackFrom net closing index label next old x) (sym a.1)
             (record { falling = falling; at = at; shut_label = h.shut_label; touched_label = h.touched_label; within = h.within; front = h.front })
         | inr a ↦
             record {

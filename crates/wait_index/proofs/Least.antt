@@ -40,6 +40,10 @@ set-kept flags l k e =
       | inr s ↦ flag-other flags l k true s ∙ e
     ]
 
+pub all_set-kept : (labels : List ℕ) (flags : List Bool) (k : ℕ) → get_or flags k false ≡ true → get_or (all_set flags labels) k false ≡ true
+all_set-kept [] flags k e = e
+all_set-kept (m ∷ ms) flags k e = all_set-kept ms (set flags m true) k (set-kept flags m k e)
+
 pub all_set-from : (labels : List ℕ) (flags : List Bool) (k : ℕ) → k < length flags → (get_or flags k false ≡ true) ⊎ Contains labels k → get_or (all_set flags labels) k false ≡ true
 all_set-from [] flags k l h = elim h [ inl e ↦ e | inr c ↦ absurd (omega (arith, c.1)) ]
 all_set-from (m ∷ ms) flags k l h =

@@ -4,7 +4,9 @@ pub mod Listings
 pub mod Spread
 pub mod Following
 pub mod Withdrawing
+pub mod Touching
 pub mod Falling
+pub mod Fallen
 pub mod Closing
 pub mod Growing
 pub mod Showing

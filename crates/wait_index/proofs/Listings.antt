@@ -1,6 +1,6 @@
 -- A set that is kept as a list and places
-use Rattle.std.proofs.Common.{◌≡◌, ◌≢◌, ℕ, ◌+◌, ◌-◌, ◌<◌, ◌⊎◌, inl, inr, Bool, true, false, ◌&&◌, ◌||◌, List, [], ◌∷◌, ◌++◌, length, get_or, set, eqb, ltb, arith, refl, sym, ap, ◌∙◌}
-use Rattle.std.specs.Prelude.{not}
+use Rattle.std.proofs.Common.{◌≡◌, ◌≢◌, ℕ, ◌+◌, ◌-◌, ◌<◌, ◌⊎◌, inl, inr, Bool, true, false, ◌&&◌, List, [], ◌∷◌, ◌++◌, length, get_or, set, eqb, ltb, arith, refl, sym, ap, ◌∙◌}
+use Rattle.std.specs.Prelude.{not, Contains, AllPairs}
 use Rattle.std.specs.List.{swap_remove}
 use Rattle.std.proofs.lemmas.Bool.{cases_eq, cases_lt, ne_eqb, eq-eqb, ltb-true, ltb-false, lt-ltb, le-ltb}
 use Rattle.std.proofs.lemmas.List.{get_or_append_left, get_or_push, length_push, length-set, get_or-set_same, get_or-set_other, get_or-take, length-take-le, get_or_past, get_or_default}
@@ -28,33 +28,38 @@ within-from_holds places n h =
       | inr l ↦ absurd (omega (arith, placed-from_holds places n h, get_or_past places n 0 l))
     ]
 
+-- what is listed is held
+
+module _ (items places : List ℕ) (h : IsListing items places) where
+  pub contains-from_holds : (n : ℕ) → holds places n ≡ true → Contains items n
+  contains-from_holds n e =
+      let place = placed-from_holds places n e in
+      let at : get_or places n 0 ≡ (get_or places n 0 - 1) + 1 = omega (arith, place) in
+      let within = h.placed_within n (get_or places n 0 - 1) at in
+      (get_or places n 0 - 1, within, get_or_default items (get_or places n 0 - 1) n 0 within ∙ h.placed n (get_or places n 0 - 1) at)
+
+  pub some-from_holds : (n : ℕ) → holds places n ≡ true → 0 < length items
+  some-from_holds n e = let c = contains-from_holds n e in omega (arith, c.1)
+
+  pub holds-from_contains : (n : ℕ) → Contains items n → holds places n ≡ true
+  holds-from_contains n c =
+      let item : get_or items c.0 0 ≡ n = get_or_default items c.0 0 n c.1 ∙ c.2 in
+      holds-from_placed places n (omega (arith, ap (λ k. get_or places k 0) (sym item), h.listed c.0 c.1))
+
+  pub listed-once : AllPairs ◌≢◌ items
+  listed-once i j d l within e =
+      let a = get_or_default items i d 0 (omega (arith, l, within)) in
+      let b = get_or_default items j d 0 within in
+      omega (arith, l, ap (λ k. get_or places k 0) (sym a ∙ e ∙ b), h.listed i (omega (arith, l, within)), h.listed j within)
+
 -- what is held after one place is set
+
 module _ (places : List ℕ) (n v : ℕ) (l : n < length places) where
   pub get-here : get_or (set places n v) n 0 ≡ v
   get-here = get_or-set_same places n v 0 l
 
   pub get-other : (m : ℕ) → m ≢ n → get_or (set places n v) m 0 ≡ get_or places m 0
   get-other m ne = get_or-set_other places n m v 0 ne
-
-pub holds-insert : (places : List ℕ) (n v : ℕ) → n < length places → 0 < v → (m : ℕ) → holds (set places n v) m ≡ (holds places m || eqb m n)
-holds-insert places n v l p m =
-    elim (cases_eq m n) [
-      | inl e ↦
-          let here : get_or (set places n v) m 0 ≡ v = ap (λ k. get_or (set places n v) k 0) e ∙ get-here places n v l in
-          let held : holds (set places n v) m ≡ true = holds-from_placed (set places n v) m (omega (arith, here)) in
-          let test : eqb m n ≡ true = eq-eqb m n e in
-          held ∙ sym (ap (λ b. holds places m || b) test ∙ or-true (holds places m))
-      | inr e ↦
-          ap (ltb 0) (get-other places n v l m e) ∙ sym (ap (λ b. holds places m || b) (ne_eqb m n e) ∙ or-false (holds places m))
-    ]
-  where
-    or-true : (b : Bool) → (b || true) ≡ true
-    or-true true = refl
-    or-true false = refl
-
-    or-false : (b : Bool) → (b || false) ≡ b
-    or-false true = refl
-    or-false false = refl
 
 pub holds-remove : (places : List ℕ) (n : ℕ) → n < length places → (m : ℕ) → holds (set places n 0) m ≡ (holds places m && not (eqb m n))
 holds-remove places n l m =

@@ -1,6 +1,6 @@
 -- What is shown of a settled index
-use Rattle.std.proofs.Common.{◌≡◌, ◌≢◌, ℕ, ◌+◌, ◌-◌, ◌<◌, ◌≤◌, inl, inr, true, false, ◌&&◌, List, length, get_or, eqb, arith, sym, ap, subst, ◌∙◌}
-use Rattle.std.specs.Prelude.{not, Contains, AllPairs}
+use Rattle.std.proofs.Common.{◌≡◌, ℕ, ◌<◌, ◌≤◌, inl, inr, true, false, ◌&&◌, List, length, get_or, eqb, arith, sym, ap, subst, ◌∙◌}
+use Rattle.std.specs.Prelude.{not}
 use Rattle.std.specs.List.{list_any}
 use Rattle.std.proofs.lemmas.Bool.{cases_Bool, eq-eqb, eqb-true, and_parts, and_from, both_ways, false_from_ne_true, not-true}
 use Rattle.std.proofs.lemmas.List.{get_or_default}
@@ -15,42 +15,22 @@ use Rattle.wait_index.specs.Inside.Tally.{Tally, net_of, tally_of, is_marked_in,
 use Rattle.wait_index.specs.Inside.Step.{is_before}
 use Rattle.wait_index.specs.Inside.Fall.{IsSettled}
 use Rattle.wait_index.proofs.Counts.{count_by-count_below, count_below-same}
-use Rattle.wait_index.proofs.Listings.{placed-from_holds, holds-from_placed}
+use Rattle.wait_index.proofs.Listings.{contains-from_holds, holds-from_contains, listed-once}
 use Rattle.wait_index.proofs.Following.{Follows-offered}
 use Rattle.wait_index.proofs.Closing.{before_all, open-from_offer, marked-from_reached}
 use Rattle.wait_index.proofs.Growing.{within-from_flag}
 
--- listed is held
-
 module _ (items places : List ℕ) (h : IsListing items places) where
-  pub contains-from_holds : (n : ℕ) → holds places n ≡ true → Contains items n
-  contains-from_holds n e =
-      let place = placed-from_holds places n e in
-      let at : get_or places n 0 ≡ (get_or places n 0 - 1) + 1 = omega (arith, place) in
-      let within = h.placed_within n (get_or places n 0 - 1) at in
-      (get_or places n 0 - 1, within, get_or_default items (get_or places n 0 - 1) n 0 within ∙ h.placed n (get_or places n 0 - 1) at)
-
-  pub holds-from_contains : (n : ℕ) → Contains items n → holds places n ≡ true
-  holds-from_contains n c =
-      let item : get_or items c.0 0 ≡ n = get_or_default items c.0 0 n c.1 ∙ c.2 in
-      holds-from_placed places n (omega (arith, ap (λ k. get_or places k 0) (sym item), h.listed c.0 c.1))
-
-  pub listed-once : AllPairs ◌≢◌ items
-  listed-once i j d l within e =
-      let a = get_or_default items i d 0 (omega (arith, l, within)) in
-      let b = get_or_default items j d 0 within in
-      omega (arith, l, ap (λ k. get_or places k 0) (sym a ∙ e ∙ b), h.listed i (omega (arith, l, within)), h.listed j within)
-
   pub is_among-holds : (n : ℕ) → is_among items n ≡ holds places n
   is_among-holds n =
       elim (cases_Bool (holds places n)) [
         | inl e ↦
-            let c = contains-from_holds n e in
+            let c = contains-from_holds items places h n e in
             list_any_at (λ m. eqb m n) items c.0 n c.1 (eq-eqb (get_or items c.0 n) n c.2) ∙ sym e
         | inr e ↦
             false_from_ne_true (is_among items n) (λ t.
             let a = Any-from_list_any (λ m. eqb m n) items t in
-            both_ways (holds places n) e (holds-from_contains n (a.0, a.2, get_or_default items a.0 n a.1 a.2 ∙ a.3 ∙ eqb-true a.1 n a.4))) ∙ sym e
+            both_ways (holds places n) e (holds-from_contains items places h n (a.0, a.2, get_or_default items a.0 n a.1 a.2 ∙ a.3 ∙ eqb-true a.1 n a.4))) ∙ sym e
       ]
 
 module _ (net : Net) (t : Tally) (h : IsSettled net t) (queue : IsListing t.touched t.touched_places) (labels : (i : ℕ) → i < length net.offers → to_at net.offers i < length net.closed) where

@@ -1,11 +1,11 @@
 -- What the definitions say of one small net. Node 0 is its root and offers the labels 0 and 1; node 1 awaits 0 and
 -- node 2 awaits 1; both offer 2, which node 3 awaits.
-use Rattle.std.proofs.Common.{◌≡◌, ℕ, zero, suc, ◌+◌, ◌⊎◌, inl, inr, Bool, true, false, [], ◌∷◌, eqb, arith, refl, sym, ap, ◌∙◌, subst}
+use Rattle.std.proofs.Common.{◌≡◌, ℕ, zero, suc, ◌+◌, ◌⊎◌, inl, inr, Bool, true, false, List, [], ◌∷◌, eqb, arith, refl, sym, ap, ◌∙◌, subst}
 use Rattle.std.specs.Prelude.{◌||◌}
 use Rattle.std.proofs.lemmas.Bool.{both_ways, or_cases, eqb-true}
 use Rattle.wait_index.specs.Edge.{IsEdge}
-use Rattle.wait_index.specs.Net.{Net, is_root, is_closed, IsReached, root, step, IsOpen, IsClosedUnder, IsTakenBack, itself, beyond, AreTakenBack, ClosesIn, HasReachOf, has_wait, visits_of, edges_taken_back, edges_at, with_closed}
-use Rattle.wait_index.proofs.Least.{reached-least}
+use Rattle.wait_index.specs.Net.{Net, is_root, is_closed, IsReached, root, step, IsOpen, IsClosedUnder, IsTakenBack, itself, beyond, AreTakenBack, ClosesIn, HasReachOf, IsFallen, TellsFallen, has_wait, visits_of, edges_taken_back, edges_at, with_closed, with_all_closed}
+use Rattle.wait_index.proofs.Least.{reached-least, contains-cons}
 use Rattle.wait_index.proofs.Closing.{taken-near, ClosesIn-one}
 
 abbrev pub net : Net
@@ -107,9 +107,9 @@ not_awaited = refl
 abbrev pub lost : ℕ → Bool
 lost l = eqb l 0 || eqb l 2
 
-lost-reach : HasReachOf net 0 lost
+lost-reach : HasReachOf net (0 ∷ []) lost
 lost-reach = record {
-  has = refl;
+  has = λ l c o. elim (contains-cons 0 [] l c) [ inl a ↦ ap lost a | inr a ↦ absurd (omega (arith, a.1)) ];
   goes_on = λ here node there i j o w e.
       elim (offer j node there e) [
         | inl a ↦ absurd (omega (arith, wait i here node w, a.0))
@@ -124,17 +124,21 @@ lost-reach = record {
 open_0 : IsOpen net 0
 open_0 = record { not_closed = refl; offered = (0, 0, record { within = omega arith; from = refl; to = refl }, root refl) }
 
-taken_2 : IsTakenBack net 0 2
-taken_2 = beyond {here = 0} {node = 1} {i = 0} {j = 2} (itself open_0) (record { within = omega arith; from = refl; to = refl }) refl (record { within = omega arith; from = refl; to = refl }) refl
+taken_0 : IsTakenBack net (0 ∷ []) 0
+taken_0 = itself (0, omega arith, refl) open_0
 
-pub taken : AreTakenBack net 0 lost
+-- with a label that is taken back
+taken_2 : (closing : List ℕ) → IsTakenBack net closing 0 → IsTakenBack net closing 2
+taken_2 closing b = beyond {here = 0} {node = 1} {i = 0} {j = 2} b (record { within = omega arith; from = refl; to = refl }) refl (record { within = omega arith; from = refl; to = refl }) refl
+
+pub taken : AreTakenBack net (0 ∷ []) lost
 taken = record {
   only = λ l e.
       elim (or_cases (eqb l 0) (eqb l 2) e) [
-        | inl a ↦ subst (IsTakenBack net 0) (sym (eqb-true l 0 a)) (itself open_0)
-        | inr a ↦ subst (IsTakenBack net 0) (sym (eqb-true l 2 a)) taken_2
+        | inl a ↦ subst (IsTakenBack net (0 ∷ [])) (sym (eqb-true l 0 a)) taken_0
+        | inr a ↦ subst (IsTakenBack net (0 ∷ [])) (sym (eqb-true l 2 a)) (taken_2 (0 ∷ []) taken_0)
       ];
-  all = taken-near net 0 lost lost-reach;
+  all = taken-near net (0 ∷ []) lost lost-reach;
 }
 
 pub three_taken : edges_taken_back net lost ≡ 3
@@ -143,12 +147,95 @@ three_taken = refl
 pub five_near : edges_at net lost ≡ 5
 five_near = refl
 
-pub four_turns : ClosesIn net 0 7 5 4
+pub four_turns : ClosesIn net (0 ∷ []) 7 5 4
 four_turns = record { labels = lost; taken_back = taken; again = 1; visits = refl; turns = refl }
 
 -- neither the fall of the visits alone nor twice what was taken back
-pub not_two : ClosesIn net 0 7 5 2 → ⊥
-not_two c = omega (arith, ClosesIn-one net 0 7 5 4 2 four_turns c)
+pub not_two : ClosesIn net (0 ∷ []) 7 5 2 → ⊥
+not_two c = omega (arith, ClosesIn-one net (0 ∷ []) (0 ∷ []) 7 5 4 2 (λ l. (λ a. a, λ a. a)) four_turns c)
 
-pub not_six : ClosesIn net 0 7 5 6 → ⊥
-not_six c = omega (arith, ClosesIn-one net 0 7 5 4 6 four_turns c)
+pub not_six : ClosesIn net (0 ∷ []) 7 5 6 → ⊥
+not_six c = omega (arith, ClosesIn-one net (0 ∷ []) (0 ∷ []) 7 5 4 6 (λ l. (λ a. a, λ a. a)) four_turns c)
+
+-- So the nodes 1 and 3 fall, of which 3 is marked again.
+
+pub fallen_1 : IsFallen net (0 ∷ []) 1
+fallen_1 = record { not_root = refl; awaits = (0, 0, record { within = omega arith; from = refl; to = refl }, taken_0) }
+
+pub fallen_3 : IsFallen net (0 ∷ []) 3
+fallen_3 = record { not_root = refl; awaits = (2, 2, record { within = omega arith; from = refl; to = refl }, taken_2 (0 ∷ []) taken_0) }
+
+pub not_fallen_0 : IsFallen net (0 ∷ []) 0 → ⊥
+not_fallen_0 x = both_ways true x.not_root refl
+
+pub not_fallen_2 : IsFallen net (0 ∷ []) 2 → ⊥
+not_fallen_2 x =
+    let at : x.awaits.1 ≡ 1 = omega (arith, wait x.awaits.0 x.awaits.1 2 x.awaits.2) in
+    both_ways false refl (ap lost (sym at) ∙ taken.all x.awaits.1 x.awaits.3)
+
+-- what is marked again is told as fallen, and not as kept
+pub not_told : (kept : ℕ) (marked : List ℕ) → TellsFallen net (0 ∷ []) (1 ∷ []) kept marked → ⊥
+not_told kept marked h =
+    elim (contains-cons 1 [] 3 ((h.fell 3).1 fallen_3)) [
+      | inl a ↦ omega (arith, a)
+      | inr a ↦ omega (arith, a.1)
+    ]
+
+pub not_kept : (fallen : List ℕ) → TellsFallen net (0 ∷ []) fallen 3 (0 ∷ 2 ∷ 3 ∷ []) → ⊥
+not_kept fallen h = ((h.front 3).0 (2, omega arith, refl)).1 fallen_3
+
+-- What closing the labels 0 and 1 at once takes back: the three wait edges, and the offer edges of the nodes 1 and
+-- 2. None is followed again, so it takes 5 turns; one label after the other takes 4 and 3.
+
+abbrev pub all_lost : ℕ → Bool
+all_lost l = eqb l 0 || (eqb l 1 || eqb l 2)
+
+all_lost-reach : HasReachOf net (0 ∷ 1 ∷ []) all_lost
+all_lost-reach = record {
+  has = λ l c o.
+      elim (contains-cons 0 (1 ∷ []) l c) [
+        | inl a ↦ ap all_lost a
+        | inr a ↦ elim (contains-cons 1 [] l a) [ inl b ↦ ap all_lost b | inr b ↦ absurd (omega (arith, b.1)) ]
+      ];
+  goes_on = λ here node there i j o w e.
+      elim (offer j node there e) [
+        | inl a ↦ ap all_lost a.1
+        | inr a ↦
+            elim a [
+              | inl b ↦ ap all_lost b.1
+              | inr b ↦ elim b [ inl d ↦ ap all_lost d.1 | inr d ↦ ap all_lost d.1 ]
+            ]
+      ];
+}
+
+open_1 : IsOpen net 1
+open_1 = record { not_closed = refl; offered = (1, 0, record { within = omega arith; from = refl; to = refl }, root refl) }
+
+both_0 : IsTakenBack net (0 ∷ 1 ∷ []) 0
+both_0 = itself (0, omega arith, refl) open_0
+
+both_1 : IsTakenBack net (0 ∷ 1 ∷ []) 1
+both_1 = itself (1, omega arith, refl) open_1
+
+pub both_taken : AreTakenBack net (0 ∷ 1 ∷ []) all_lost
+both_taken = record {
+  only = λ l e.
+      elim (or_cases (eqb l 0) (eqb l 1 || eqb l 2) e) [
+        | inl a ↦ subst (IsTakenBack net (0 ∷ 1 ∷ [])) (sym (eqb-true l 0 a)) both_0
+        | inr a ↦
+            elim (or_cases (eqb l 1) (eqb l 2) a) [
+              | inl b ↦ subst (IsTakenBack net (0 ∷ 1 ∷ [])) (sym (eqb-true l 1 b)) both_1
+              | inr b ↦ subst (IsTakenBack net (0 ∷ 1 ∷ [])) (sym (eqb-true l 2 b)) (taken_2 (0 ∷ 1 ∷ []) both_0)
+            ]
+      ];
+  all = taken-near net (0 ∷ 1 ∷ []) all_lost all_lost-reach;
+}
+
+pub visits_after_both : visits_of (with_all_closed net (0 ∷ 1 ∷ [])) (0 ∷ []) ≡ 2
+visits_after_both = refl
+
+pub five_turns : ClosesIn net (0 ∷ 1 ∷ []) 7 2 5
+five_turns = record { labels = all_lost; taken_back = both_taken; again = 0; visits = refl; turns = refl }
+
+pub not_seven : ClosesIn net (0 ∷ 1 ∷ []) 7 2 7 → ⊥
+not_seven c = omega (arith, ClosesIn-one net (0 ∷ 1 ∷ []) (0 ∷ 1 ∷ []) 7 2 5 7 (λ l. (λ a. a, λ a. a)) five_turns c)

@@ -1,5 +1,5 @@
 -- Which nodes are reached
-use Rattle.std.specs.Prelude.{◌≡◌, ℕ, ◌+◌, ◌==◌, ◌&&◌, ◌++◌, ◌∷◌, [], Bool, true, false, List, not, count_by, slice_index_or, slice_set, Contains, AllPairs, ◌≢◌, fold}
+use Rattle.std.specs.Prelude.{◌≡◌, ℕ, ◌+◌, ◌==◌, ◌&&◌, ◌++◌, ◌∷◌, [], Bool, true, false, List, not, count_by, slice_index_or, slice_set, Contains, AllPairs, ◌≢◌, ◌↔◌, take, drop, fold}
 use Rattle.std.specs.List.{list_any}
 use Rattle.wait_index.specs.declared.edges.Edge.{Edge}
 use Rattle.wait_index.specs.Edge.{IsEdge}
@@ -88,16 +88,16 @@ is_open_among net nodes label = not (is_closed net label) && list_any (λ edge. 
 abbrev pub visits_of : Net → List ℕ → ℕ
 visits_of net nodes = count_by (λ edge. is_among nodes edge.from) net.offers + count_by (λ edge. is_open_among net nodes edge.from) net.waits
 
--- Taken back with a label are the label itself, where it is open, and with each of them the labels that are not
--- closed and that a node offers which awaits it and is no root.
-pub data IsTakenBack (net : Net) (label : ℕ) : ℕ → Type 0 where
-  itself : IsOpen net label → IsTakenBack net label label
-  beyond : {here node there i j : ℕ} → IsTakenBack net label here → IsEdge net.waits i here node → is_root net node ≡ false → IsEdge net.offers j node there → is_closed net there ≡ false → IsTakenBack net label there
+-- Taken back with labels that are to be closed are those of them that are open, and with each of them the labels
+-- that are not closed and that a node offers which awaits it and is no root.
+pub data IsTakenBack (net : Net) (closing : List ℕ) : ℕ → Type 0 where
+  itself : {label : ℕ} → Contains closing label → IsOpen net label → IsTakenBack net closing label
+  beyond : {here node there i j : ℕ} → IsTakenBack net closing here → IsEdge net.waits i here node → is_root net node ≡ false → IsEdge net.offers j node there → is_closed net there ≡ false → IsTakenBack net closing there
 
--- The set has exactly the labels that are taken back with the label.
-pub record AreTakenBack (net : Net) (label : ℕ) (labels : ℕ → Bool) : Type 0 where
-  pub only : (other : ℕ) → labels other ≡ true → IsTakenBack net label other
-  pub all : (other : ℕ) → IsTakenBack net label other → labels other ≡ true
+-- The set has exactly the labels that are taken back with those that are to be closed.
+pub record AreTakenBack (net : Net) (closing : List ℕ) (labels : ℕ → Bool) : Type 0 where
+  pub only : (label : ℕ) → labels label ≡ true → IsTakenBack net closing label
+  pub all : (label : ℕ) → IsTakenBack net closing label → labels label ≡ true
 
 -- whether the node is no root and awaits a label of the set
 abbrev pub falls_with : Net → (ℕ → Bool) → ℕ → Bool
@@ -107,20 +107,36 @@ falls_with net labels node = not (is_root net node) && list_any (λ edge. (edge.
 abbrev pub edges_taken_back : Net → (ℕ → Bool) → ℕ
 edges_taken_back net labels = count_by (λ edge. falls_with net labels edge.from) net.offers + count_by (λ edge. labels edge.from) net.waits
 
--- Closing the label takes so many turns: each edge that is taken back is one, and so is each that is followed
+-- Closing the labels takes so many turns: each edge that is taken back is one, and so is each that is followed
 -- again, which brings the visits from what they were before to what they are after.
-pub record ClosesIn (net : Net) (label before after count : ℕ) : Type 0 where
+pub record ClosesIn (net : Net) (closing : List ℕ) (before after count : ℕ) : Type 0 where
   pub labels : ℕ → Bool
-  pub taken_back : AreTakenBack net label labels
+  pub taken_back : AreTakenBack net closing labels
   pub again : ℕ
   pub visits : before + again ≡ after + edges_taken_back net labels
   pub turns : count ≡ edges_taken_back net labels + again
 
--- The set has the label and, with a label, each label that is offered by a node that awaits it.
-pub record HasReachOf (net : Net) (label : ℕ) (labels : ℕ → Bool) : Type 0 where
-  pub has : labels label ≡ true
+-- The set has the labels that are to be closed and are open and, with a label, each label that is offered by a node
+-- that awaits it.
+pub record HasReachOf (net : Net) (closing : List ℕ) (labels : ℕ → Bool) : Type 0 where
+  pub has : (label : ℕ) → Contains closing label → IsOpen net label → labels label ≡ true
   pub goes_on : (here node there i j : ℕ) → labels here ≡ true → IsEdge net.waits i here node → IsEdge net.offers j node there → labels there ≡ true
 
 -- how many offer edges lead to labels of the set, and how many wait edges from them
 abbrev pub edges_at : Net → (ℕ → Bool) → ℕ
 edges_at net labels = count_by (λ edge. labels edge.to) net.offers + count_by (λ edge. labels edge.from) net.waits
+
+-- What falls
+
+-- A node falls with labels that are to be closed where it is no root and awaits a label that is taken back with them.
+pub record IsFallen (net : Net) (closing : List ℕ) (node : ℕ) : Type 0 where
+  pub not_root : is_root net node ≡ false
+  pub awaits : (i : ℕ) × (label : ℕ) × IsEdge net.waits i label node × IsTakenBack net closing label
+
+-- The list has each node that falls once. First of the marked nodes, as many as `kept`, are the reached ones that do
+-- not fall, and behind them those that fell and were marked again.
+pub record TellsFallen (net : Net) (closing fallen : List ℕ) (kept : ℕ) (marked : List ℕ) : Type 0 where
+  pub fell : (node : ℕ) → Contains fallen node ↔ IsFallen net closing node
+  pub once : AllPairs ◌≢◌ fallen
+  pub front : (node : ℕ) → Contains (take kept marked) node ↔ (IsReached net node × (IsFallen net closing node → ⊥))
+  pub again : (node : ℕ) → Contains (drop kept marked) node ↔ (IsFallen net closing node × Contains marked node)

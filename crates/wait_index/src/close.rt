@@ -1,51 +1,77 @@
-//! How a label is closed: what it alone reaches is taken back, and what is reached otherwise
-//! follows again.
-ghost use Rattle.std.specs.Prelude.{◌≡◌, ℕ, ◌+◌, ◌*◌, ◌^◌, ◌<◌, ◌≤◌, true, false, [], Bool, length, slice_index, take};
+//! How labels are closed: what they alone reach is taken back, and what is reached otherwise follows
+//! again.
+ghost use Rattle.std.specs.Prelude.{◌≡◌, ℕ, ◌+◌, ◌*◌, ◌^◌, ◌<◌, ◌≤◌, true, false, [], Bool, List, length, slice_index, take, vec_capacity, All, Contains};
 ghost use Rattle.wait_index.specs.Inside.Capacity.{graph_capacity};
-ghost use Rattle.wait_index.specs.Inside.Fall.{CanFall, HasFallen, IsFalling, IsSettled};
-ghost use Rattle.wait_index.specs.Net.{with_closed, ClosesIn, HasReachOf, edges_at};
+ghost use Rattle.wait_index.specs.Inside.Fall.{CanFall, HasFallen, IsFalling, IsSettled, ListsFallen, with_fallen};
+ghost use Rattle.wait_index.specs.Net.{with_all_closed, ClosesIn, HasReachOf, TellsFallen, edges_at};
 ghost use Rattle.wait_index.specs.Inside.Step.{Follows};
-ghost use Rattle.wait_index.specs.Inside.Tally.{net_of, tally_of, capacity_of, HasSizes, is_marked_in, is_open_in, Falls, Withdraws, WithdrawsAll};
+ghost use Rattle.wait_index.specs.Inside.Tally.{net_of, tally_of, capacity_of, HasSizes, is_marked_in, is_open_in, Falls, Touches, TouchesAll, Withdraws, WithdrawsAll};
 
 use crate::graph::Graph;
+use crate::last_close::LastClose;
 use crate::marks::Marks;
+use crate::number::LabelNo;
 
 impl Marks {
-    /// Closes the label, and answers how many turns that took, where a turn looks at one edge.
-    pub(crate) fn close(&mut self, graph: &mut Graph, label: usize) -> usize
+    /// Closes the labels, and answers how many turns that took, where a turn looks at one edge.
+    pub(crate) fn close(
+        &mut self,
+        graph: &mut Graph,
+        last: &mut LastClose,
+        labels: &[LabelNo],
+    ) -> usize
         requires settled { IsSettled (net_of graph.old) (tally_of self.old) }
-        requires label { label < length graph.old.closed.items }
+        requires labels { All (λ label. label < length graph.old.closed.items) labels.now }
         requires few { length graph.old.offers.edges.items + length graph.old.waits.edges.items < 2 ^ 63 }
-        ensures net { net_of graph.new ≡ with_closed (net_of graph.old) label }
+        requires last_room { length graph.old.roots.items ≤ vec_capacity last.old.fallen }
+        ensures net { net_of graph.new ≡ with_all_closed (net_of graph.old) labels.now }
         ensures settled { IsSettled (net_of graph.new) (tally_of self.new) }
-        ensures turns { ClosesIn (net_of graph.old) label self.old.visits self.new.visits result }
-        ensures near { (labels : ℕ → Bool) → HasReachOf (net_of graph.old) label labels → result ≤ 2 * edges_at (net_of graph.old) labels }
-        ensures shut { is_open_in (tally_of self.old) label ≡ false → (result ≡ 0) × (tally_of self.new ≡ tally_of self.old) }
+        ensures turns { ClosesIn (net_of graph.old) labels.now self.old.visits self.new.visits result }
+        ensures near { (reach : ℕ → Bool) → HasReachOf (net_of graph.old) labels.now reach → result ≤ 2 * edges_at (net_of graph.old) reach }
+        ensures shut { ((label : ℕ) → Contains labels.now label → is_open_in (tally_of self.old) label ≡ false) → (result ≡ 0) × (tally_of self.new ≡ tally_of self.old) }
+        ensures fallen { TellsFallen (net_of graph.old) labels.now last.new.fallen.items last.new.kept self.new.marked.items.items }
+        ensures many { length last.new.fallen.items + last.new.kept ≡ length self.old.marked.items.items }
         ensures graph_room { graph_capacity graph.new ≡ graph_capacity graph.old }
         ensures room { capacity_of self.new ≡ capacity_of self.old }
+        ensures last_room { vec_capacity last.new.fallen ≡ vec_capacity last.old.fallen }
     {
-        if !self.opened[label] {
-            graph.close(label);
+        last.begin(self.marked.items.len());
+        self.touch_all(labels);
+        if self.touched.items.is_empty() {
+            graph.close_all(labels);
             return 0;
         }
         let before = self.visits;
-        self.take_back_from(graph, label);
+        self.take_back(graph, last);
+        last.kept = self.marked.items.len();
         let between = self.visits;
-        graph.close(label);
+        graph.close_all(labels);
         self.follow_again(graph);
         (before - between) + (self.visits - between)
     }
 
-    /// Takes back what the open label alone reaches.
-    fn take_back_from(&mut self, graph: &Graph, label: usize)
-        requires settled { IsSettled (net_of graph.now) (tally_of self.old) }
-        requires label { label < length graph.now.closed.items }
-        requires opened { is_open_in (tally_of self.old) label ≡ true }
-        ensures fallen { HasFallen (net_of graph.now) label (tally_of self.new) }
+    /// Touches each open label of the list.
+    fn touch_all(&mut self, labels: &[LabelNo])
+        requires labels { All (λ label. label < length self.old.opened.items) labels.now }
+        requires touched { length self.old.touched.places.items ≡ length self.old.opened.items }
+        ensures touched { TouchesAll labels.now (tally_of self.old) (tally_of self.new) }
         ensures room { capacity_of self.new ≡ capacity_of self.old }
     {
-        self.touched.insert(label);
-        self.take_back(graph);
+        for label in labels {
+            self.touch(label.index());
+        }
+    }
+
+    /// Touches the label where it is open: its wait edges are to be looked at.
+    fn touch(&mut self, label: usize)
+        requires label { label < length self.old.opened.items }
+        requires places { length self.old.touched.places.items ≡ length self.old.opened.items }
+        ensures touched { Touches label (tally_of self.old) (tally_of self.new) }
+        ensures room { capacity_of self.new ≡ capacity_of self.old }
+    {
+        if self.opened[label] && !self.touched.holds(label) {
+            self.touched.insert(label);
+        }
     }
 
     /// Follows again what is reached otherwise.
@@ -53,6 +79,7 @@ impl Marks {
         requires follows { Follows (net_of graph.now) (tally_of self.old) (length self.old.marked.items.items) 0 0 }
         requires few { length graph.now.offers.edges.items + length graph.now.waits.edges.items < 2 ^ 63 }
         ensures settled { IsSettled (net_of graph.now) (tally_of self.new) }
+        ensures front { take (length self.old.marked.items.items) self.new.marked.items.items ≡ self.old.marked.items.items }
         ensures visits { self.old.visits ≤ self.new.visits }
         ensures room { capacity_of self.new ≡ capacity_of self.old }
     {
@@ -62,27 +89,38 @@ impl Marks {
     }
 
     /// Takes the wait edges of the touched labels back, also of those that are touched meanwhile.
-    pub(crate) fn take_back(&mut self, graph: &Graph)
-        requires { IsFalling (net_of graph.now) (tally_of self.old) 0 0 0 }
-        ensures falling { IsFalling (net_of graph.now) (tally_of self.new) (length self.new.touched.items.items) 0 0 }
-        ensures first { slice_index self.new.touched.items.items 0 ≡ slice_index self.old.touched.items.items 0 }
+    fn take_back(&mut self, graph: &Graph, last: &mut LastClose)
+        ghost closing: { List ℕ }
+        requires falling { IsFalling (net_of graph.now) closing (tally_of self.old) 0 0 0 }
+        requires listed { ListsFallen (net_of graph.now) (tally_of self.old) last.old.fallen.items }
+        requires last_room { length last.old.fallen.items + length self.old.marked.items.items ≤ vec_capacity last.old.fallen }
+        ensures fallen { HasFallen (net_of graph.now) closing (tally_of self.new) }
+        ensures listed { ListsFallen (net_of graph.now) (tally_of self.new) last.new.fallen.items }
+        ensures many { length last.new.fallen.items + length self.new.marked.items.items ≡ length last.old.fallen.items + length self.old.marked.items.items }
         ensures capacity { capacity_of self.new ≡ capacity_of self.old }
+        ensures last_room { vec_capacity last.new.fallen ≡ vec_capacity last.old.fallen }
     {
         let mut index = 0;
         'labels: while index < self.touched.items.len() {
-            self.take_back_waits(graph, index);
+            self.take_back_waits(graph, last, index);
             index += 1;
         }
     }
 
     /// Takes the wait edges of the touched label at the index back. Each node that awaits it falls,
     /// but for a root.
-    fn take_back_waits(&mut self, graph: &Graph, index: usize)
-        requires falling { IsFalling (net_of graph.now) (tally_of self.old) index 0 0 }
+    fn take_back_waits(&mut self, graph: &Graph, last: &mut LastClose, index: usize)
+        ghost closing: { List ℕ }
+        requires falling { IsFalling (net_of graph.now) closing (tally_of self.old) index 0 0 }
         requires index { index < length self.old.touched.items.items }
-        ensures falling { IsFalling (net_of graph.now) (tally_of self.new) (index + 1) 0 0 }
+        requires listed { ListsFallen (net_of graph.now) (tally_of self.old) last.old.fallen.items }
+        requires last_room { length last.old.fallen.items + length self.old.marked.items.items ≤ vec_capacity last.old.fallen }
+        ensures falling { IsFalling (net_of graph.now) closing (tally_of self.new) (index + 1) 0 0 }
         ensures front { take (length self.old.touched.items.items) self.new.touched.items.items ≡ self.old.touched.items.items }
+        ensures listed { ListsFallen (net_of graph.now) (tally_of self.new) last.new.fallen.items }
+        ensures many { length last.new.fallen.items + length self.new.marked.items.items ≡ length last.old.fallen.items + length self.old.marked.items.items }
         ensures capacity { capacity_of self.new ≡ capacity_of self.old }
+        ensures last_room { vec_capacity last.new.fallen ≡ vec_capacity last.old.fallen }
     {
         let label = self.touched.items[index].index();
         self.opened[label] = false;
@@ -90,20 +128,24 @@ impl Marks {
         'waits: while link > 0 {
             let edge = link - 1;
             self.visits -= 1;
-            self.fall(graph, graph.waits.edges[edge].to);
+            self.fall(graph, last, graph.waits.edges[edge].to);
             link = graph.waits.earlier[edge];
         }
     }
 
     /// Unmarks the node and takes its offer edges back, unless it is a root.
-    fn fall(&mut self, graph: &Graph, node: usize)
+    fn fall(&mut self, graph: &Graph, last: &mut LastClose, node: usize)
         requires can { CanFall (net_of graph.now) (tally_of self.old) node }
         requires node { node < length graph.now.roots.items }
         requires marked { is_marked_in (tally_of self.old) node ≡ true }
+        requires last_room { length last.old.fallen.items < vec_capacity last.old.fallen }
         ensures falls { Falls (net_of graph.now) node (tally_of self.old) (tally_of self.new) }
+        ensures listed { last.new.fallen.items ≡ with_fallen (net_of graph.now) node last.old.fallen.items }
         ensures capacity { capacity_of self.new ≡ capacity_of self.old }
+        ensures last_room { vec_capacity last.new.fallen ≡ vec_capacity last.old.fallen }
     {
         if !graph.roots[node] {
+            last.add(node);
             self.marked.remove(node);
             self.withdraw_offers(graph, node);
         }
@@ -137,9 +179,7 @@ impl Marks {
     {
         self.visits -= 1;
         self.support[label] -= 1;
-        if self.opened[label] && !self.touched.holds(label) {
-            self.touched.insert(label);
-        }
+        self.touch(label);
     }
 
     /// Opens each touched label again to which a followed edge still leads.

@@ -1,8 +1,9 @@
 //! The nodes, labels and edges of an index.
-ghost use Rattle.std.specs.Prelude.{◌≡◌, ℕ, ◌+◌, ◌^◌, ◌<◌, ◌≤◌, true, false, [], ◌∷◌, ◌++◌, length, OnOk, IsOk, vec_capacity};
+ghost use Rattle.std.specs.Prelude.{◌≡◌, ℕ, ◌+◌, ◌^◌, ◌<◌, ◌≤◌, true, false, [], ◌∷◌, ◌++◌, length, All, OnOk, IsOk, vec_capacity};
 ghost use Rattle.wait_index.specs.Inside.Shape.{IsShaped};
 
 use crate::edges::{Edge, Edges};
+use crate::number::LabelNo;
 use std::alloc::{AllocError, Global};
 
 /// The number of edges that an index holds at most.
@@ -20,7 +21,7 @@ pub(crate) struct Graph {
 
 impl Graph {
     ghost use Rattle.wait_index.specs.Inside.Capacity.{graph_capacity, GrowsGraph, HasGraphRoom};
-    ghost use Rattle.wait_index.specs.Net.{with_node, with_label, with_offer, with_wait, with_root, with_closed, has_wait};
+    ghost use Rattle.wait_index.specs.Net.{with_node, with_label, with_offer, with_wait, with_root, with_closed, with_all_closed, has_wait};
     ghost use Rattle.wait_index.specs.Inside.Tally.{net_of};
 
     pub(crate) fn new(alloc: Global) -> Self
@@ -131,7 +132,18 @@ impl Graph {
         self.roots[node] = true;
     }
 
-    pub(crate) fn close(&mut self, label: usize)
+    /// Closes the labels.
+    pub(crate) fn close_all(&mut self, labels: &[LabelNo])
+        requires { All (λ label. label < length self.old.closed.items) labels.now }
+        ensures net { net_of self.new ≡ with_all_closed (net_of self.old) labels.now }
+        ensures capacity { graph_capacity self.new ≡ graph_capacity self.old }
+    {
+        for label in labels {
+            self.close(label.index());
+        }
+    }
+
+    fn close(&mut self, label: usize)
         requires { label < length self.old.closed.items }
         ensures net { net_of self.new ≡ with_closed (net_of self.old) label }
         ensures capacity { graph_capacity self.new ≡ graph_capacity self.old }

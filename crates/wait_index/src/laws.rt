@@ -32,7 +32,8 @@ pub fn no_edge_twice()
     ensures { (net : Net) (nodes : List ℕ) → visits_of net nodes ≤ length net.offers + length net.waits }
 {}
 
-/// A close has one number of turns, whatever way it took.
+/// A close has one number of turns, whatever way it took, and however its labels are listed.
 pub fn one_number_of_turns()
-    ensures { (net : Net) (label before after count other : ℕ) → ClosesIn net label before after count → ClosesIn net label before after other → count ≡ other }
+    ensures { (net : Net) (labels others : List ℕ) (before after count other : ℕ) → ((label : ℕ) → (Contains labels label ↔ Contains others label))
+        → ClosesIn net labels before after count → ClosesIn net others before after other → count ≡ other }
 {}

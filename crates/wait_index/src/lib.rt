@@ -8,6 +8,7 @@ mod close;
 mod edges;
 mod graph;
 mod label_set;
+mod last_close;
 pub mod laws;
 mod marks;
 mod node_set;

@@ -1,7 +1,8 @@
 //! The index as its callers see it.
-ghost use Rattle.std.specs.Prelude.{◌≡◌, ℕ, ◌+◌, ◌-◌, ◌*◌, ◌<◌, ◌≤◌, ◌↔◌, true, false, [], Bool, length, take, max, IsTrue, IsOk, OnOk, OnErr, Contains};
+ghost use Rattle.std.specs.Prelude.{◌≡◌, ℕ, ◌+◌, ◌-◌, ◌*◌, ◌<◌, ◌≤◌, ◌↔◌, true, false, [], ◌∷◌, Bool, length, take, max, All, IsTrue, IsOk, OnOk, OnErr, Contains};
 
 use crate::graph::Graph;
+use crate::last_close::LastClose;
 use crate::marks::Marks;
 use crate::number::{LabelNo, NodeNo};
 use crate::room::Room;
@@ -21,6 +22,7 @@ pub struct Reach {
     graph: Graph,
     marks: Marks,
     room: Room,
+    last: LastClose,
 }
 
 impl Model for Reach {
@@ -30,13 +32,13 @@ impl Model for Reach {
 
     ghost use Rattle.wait_index.specs.Inside.Keep.{index_of, IsKept};
 
-    ghost view = { λ r. index_of r.graph r.marks r.room };
+    ghost view = { λ r. index_of r.graph r.marks r.room r.last };
 
-    ghost invariant = { λ r. IsKept r.graph r.marks r.room };
+    ghost invariant = { λ r. IsKept r.graph r.marks r.room r.last };
 }
 
 impl Reach {
-    ghost use Rattle.wait_index.specs.Net.{with_node, with_label, with_offer, with_wait, with_root, with_closed, has_wait, is_closed, IsReached, IsOpen, ListsReached, visits_of, ClosesIn, HasReachOf, edges_at};
+    ghost use Rattle.wait_index.specs.Net.{with_node, with_label, with_offer, with_wait, with_root, with_closed, with_all_closed, has_wait, is_closed, IsReached, IsOpen, ListsReached, visits_of, ClosesIn, HasReachOf, TellsFallen, edges_at};
 
     /// An index without nodes, labels and room.
     pub fn new(alloc: Global) -> Self
@@ -44,6 +46,7 @@ impl Reach {
         ensures marked { result.marked ≡ [] }
         ensures reached { ListsReached result.net result.marked }
         ensures room { result.room ≡ record { nodes = 0; labels = 0; edges = 0 } }
+        ensures last { result.last ≡ record { fallen = []; kept = 0 } }
     {
         Reach {
             graph: Graph::new(alloc),
@@ -53,6 +56,7 @@ impl Reach {
                 labels: 0,
                 edges: 0,
             },
+            last: LastClose::new(alloc),
         }
     }
 
@@ -72,6 +76,7 @@ impl Reach {
           edges = max self.old.room.edges edges;
         }) }
         ensures err { OnErr result (self.new.room ≡ self.old.room) }
+        ensures last { self.new.last ≡ self.old.last }
 
         // It is refused only where there was not so much room already.
         ensures within { nodes ≤ self.old.room.nodes → labels ≤ self.old.room.labels → edges ≤ self.old.room.edges → IsOk result }
@@ -81,6 +86,7 @@ impl Reach {
         }
         self.graph.try_reserve(nodes, labels, edges)?;
         self.marks.try_reserve(nodes, labels)?;
+        self.last.try_reserve(self.graph.roots.len() + nodes)?;
         self.room = self.room.at_least(nodes, labels, edges);
         Ok(())
     }
@@ -103,6 +109,7 @@ impl Reach {
         ensures marked { self.new.marked ≡ self.old.marked }
         ensures reached { ListsReached self.new.net self.new.marked }
         ensures room { self.new.room ≡ record self.old.room { nodes = self.old.room.nodes - 1 } }
+        ensures last { self.new.last ≡ self.old.last }
     {
         let node = NodeNo::new(self.graph.roots.len());
         self.graph.add_node();
@@ -119,6 +126,7 @@ impl Reach {
         ensures marked { self.new.marked ≡ self.old.marked }
         ensures reached { ListsReached self.new.net self.new.marked }
         ensures room { self.new.room ≡ record self.old.room { labels = self.old.room.labels - 1 } }
+        ensures last { self.new.last ≡ self.old.last }
     {
         self.add_label_that_is(false)
     }
@@ -131,6 +139,7 @@ impl Reach {
         ensures marked { self.new.marked ≡ self.old.marked }
         ensures reached { ListsReached self.new.net self.new.marked }
         ensures room { self.new.room ≡ record self.old.room { labels = self.old.room.labels - 1 } }
+        ensures last { self.new.last ≡ self.old.last }
     {
         self.add_label_that_is(true)
     }
@@ -145,6 +154,7 @@ impl Reach {
         ensures marked { ListsReached self.new.net self.new.marked }
         ensures front { take (length self.old.marked) self.new.marked ≡ self.old.marked }
         ensures room { self.new.room ≡ record self.old.room { edges = self.old.room.edges - 1 } }
+        ensures last { self.new.last ≡ self.old.last }
     {
         self.room.edges -= 1;
         self.marks
@@ -162,6 +172,7 @@ impl Reach {
         ensures marked { ListsReached self.new.net self.new.marked }
         ensures front { take (length self.old.marked) self.new.marked ≡ self.old.marked }
         ensures room { self.new.room ≡ record self.old.room { edges = self.old.room.edges - 1 } }
+        ensures last { self.new.last ≡ self.old.last }
     {
         self.room.edges -= 1;
         self.marks
@@ -175,30 +186,63 @@ impl Reach {
         ensures marked { ListsReached self.new.net self.new.marked }
         ensures front { take (length self.old.marked) self.new.marked ≡ self.old.marked }
         ensures room { self.new.room ≡ self.old.room }
+        ensures last { self.new.last ≡ self.old.last }
     {
         self.marks.add_root(&mut self.graph, node.index());
     }
 
-    /// Closes the label for good, and answers its turns, each of which looked at one edge: one for
-    /// each edge that rests on the label, taken back, and one for each that is followed again,
-    /// since it is reached otherwise. Where the label was not open that is 0, and the marked nodes
-    /// stay as they are. Else their order may change.
+    /// Closes the label for good, and answers its turns, as [`close_labels`](Reach::close_labels)
+    /// does.
     pub fn close_label(&mut self, label: LabelNo) -> usize
         requires { label < length self.old.net.closed }
         ensures net { self.new.net ≡ with_closed self.old.net label }
         ensures marked { ListsReached self.new.net self.new.marked }
         ensures room { self.new.room ≡ self.old.room }
-        ensures turns { ClosesIn self.old.net label (visits_of self.old.net self.old.marked)
+        ensures turns { ClosesIn self.old.net (label ∷ []) (visits_of self.old.net self.old.marked)
+            (visits_of self.new.net self.new.marked) result }
+        ensures near { (reach : ℕ → Bool) → HasReachOf self.old.net (label ∷ []) reach
+            → result ≤ 2 * edges_at self.old.net reach }
+        ensures shut { (IsOpen self.old.net label → ⊥)
+            → (result ≡ 0) × (self.new.marked ≡ self.old.marked) }
+        ensures closed { is_closed self.old.net label ≡ true → result ≡ 0 }
+        ensures fallen { TellsFallen self.old.net (label ∷ []) self.new.last.fallen
+            self.new.last.kept self.new.marked }
+        ensures many { length self.new.last.fallen + self.new.last.kept ≡ length self.old.marked }
+    {
+        self.close_labels(&[label])
+    }
+
+    /// Closes the labels for good, and answers the turns, each of which looked at one edge: one for
+    /// each edge that rests on the labels, taken back, and one for each that is followed again,
+    /// since it is reached otherwise. Where none of them was open that is 0, and the marked nodes
+    /// stay as they are. Else their order may change. The labels may repeat, and may be closed
+    /// already. [`fallen`](Reach::fallen) and [`kept`](Reach::kept) then tell what fell.
+    ///
+    /// First all that rests on the labels is deleted, and then all that is reached otherwise is
+    /// derived again, once for all the labels: this is DRed, of A. Gupta, I. S. Mumick and V. S.
+    /// Subrahmanian, "Maintaining Views Incrementally", 1993. So an edge is looked at no more than
+    /// twice, however many the labels are.
+    pub fn close_labels(&mut self, labels: &[LabelNo]) -> usize
+        requires { All (λ label. label < length self.old.net.closed) labels.now }
+        ensures net { self.new.net ≡ with_all_closed self.old.net labels.now }
+        ensures marked { ListsReached self.new.net self.new.marked }
+        ensures room { self.new.room ≡ self.old.room }
+        ensures turns { ClosesIn self.old.net labels.now (visits_of self.old.net self.old.marked)
             (visits_of self.new.net self.new.marked) result }
 
-        // Each turn looked at an edge at a label that the label leads to, and at most two at one
+        // Each turn looked at an edge at a label that those labels lead to, and at most two at one
         // edge.
-        ensures near { (labels : ℕ → Bool) → HasReachOf self.old.net label labels
-            → result ≤ 2 * edges_at self.old.net labels }
-        ensures shut { (IsOpen self.old.net label → ⊥) → (result ≡ 0) × (self.new.marked ≡ self.old.marked) }
-        ensures closed { is_closed self.old.net label ≡ true → result ≡ 0 }
+        ensures near { (reach : ℕ → Bool) → HasReachOf self.old.net labels.now reach
+            → result ≤ 2 * edges_at self.old.net reach }
+        ensures shut { ((label : ℕ) → Contains labels.now label → IsOpen self.old.net label → ⊥)
+            → (result ≡ 0) × (self.new.marked ≡ self.old.marked) }
+
+        // Which nodes fell, and which of them were marked again: those behind the first `kept`.
+        ensures fallen { TellsFallen self.old.net labels.now self.new.last.fallen
+            self.new.last.kept self.new.marked }
+        ensures many { length self.new.last.fallen + self.new.last.kept ≡ length self.old.marked }
     {
-        self.marks.close(&mut self.graph, label.index())
+        self.marks.close(&mut self.graph, &mut self.last, labels)
     }
 
     /// Whether the node is reached.
@@ -262,6 +306,21 @@ impl Reach {
         &self.marks.marked.items
     }
 
+    /// The nodes that the last close unmarked, each once. Those that it marked again are among them.
+    pub fn fallen(&self) -> &[NodeNo]
+        ensures { result.now ≡ self.now.last.fallen }
+    {
+        &self.last.fallen
+    }
+
+    /// How many marked nodes the last close left marked: they are the first ones of `marked`, and
+    /// right after that close those behind them are the ones that it marked again.
+    pub fn kept(&self) -> usize
+        ensures { result ≡ self.now.last.kept }
+    {
+        self.last.kept
+    }
+
     /// Adds a label that has no edge, closed or not.
     fn add_label_that_is(&mut self, closed: bool) -> LabelNo
         requires { 0 < self.old.room.labels }
@@ -270,6 +329,7 @@ impl Reach {
         ensures marked { self.new.marked ≡ self.old.marked }
         ensures reached { ListsReached self.new.net self.new.marked }
         ensures room { self.new.room ≡ record self.old.room { labels = self.old.room.labels - 1 } }
+        ensures last { self.new.last ≡ self.old.last }
     {
         let label = LabelNo::new(self.graph.closed.len());
         self.graph.add_label(closed);

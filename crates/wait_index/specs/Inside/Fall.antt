@@ -1,9 +1,9 @@
 -- What holds while edges are taken back
-use Rattle.std.specs.Prelude.{◌≡◌, ℕ, ◌+◌, ◌<◌, ◌≤◌, ◌==◌, ◌&&◌, ◌⊎◌, true, false, [], length, slice_index}
+use Rattle.std.specs.Prelude.{◌≡◌, ℕ, ◌+◌, ◌<◌, ◌≤◌, ◌==◌, ◌&&◌, ◌⊎◌, true, false, [], ◌∷◌, ◌++◌, cond, List, length, slice_index, Contains, AllPairs, ◌≢◌}
 use Rattle.wait_index.specs.Inside.Count.{count_below}
 use Rattle.wait_index.specs.Edge.{from_at, to_at}
 use Rattle.wait_index.specs.Inside.Listing.{IsListing}
-use Rattle.wait_index.specs.Net.{Net, is_root, is_closed, IsReached, IsTakenBack}
+use Rattle.wait_index.specs.Net.{Net, is_root, is_closed, IsReached, IsOpen, IsTakenBack}
 use Rattle.wait_index.specs.Inside.Tally.{Tally, HasSizes, is_marked_in, is_touched_in, is_open_in, support_in, offers_of, offers_between}
 use Rattle.wait_index.specs.Inside.Step.{IsOpened, Follows}
 
@@ -19,12 +19,12 @@ pub record IsCountedDown (net : Net) (t : Tally) (label link : ℕ) : Type 0 whe
       + count_below (λ i. from_at net.waits i == label) link
 
 -- The wait edges of the touched labels before the index are taken back, and of one label those from a link on.
--- Each node that fell was reached, and each of its labels that was open is touched.
-pub record IsFalling (net : Net) (t : Tally) (index label link : ℕ) : Type 0 where
+-- Each node that fell was reached, and each of its labels that was open is touched. So is each label that is to be
+-- closed and was open.
+pub record IsFalling (net : Net) (closing : List ℕ) (t : Tally) (index label link : ℕ) : Type 0 where
   pub sizes : HasSizes net t
   pub listing : IsListing t.marked t.places
   pub queue : IsListing t.touched t.touched_places
-  pub some : 0 < length t.touched
   pub counted : IsCountedDown net t label link
   pub sound : (n : ℕ) → is_marked_in t n ≡ true → IsReached net n
   pub roots : (n : ℕ) → is_root net n ≡ true → is_marked_in t n ≡ true
@@ -36,7 +36,8 @@ pub record IsFalling (net : Net) (t : Tally) (index label link : ℕ) : Type 0 w
   pub opened : IsOpened net t
   pub lost : (n : ℕ) → IsReached net n → is_marked_in t n ≡ false → (i : ℕ) × (i < length net.waits) × (to_at net.waits i ≡ n) × (is_touched_in t (from_at net.waits i) ≡ true)
   pub shut : (n i : ℕ) → IsReached net n → i < length net.offers → from_at net.offers i ≡ n → is_closed net (to_at net.offers i) ≡ false → (is_open_in t (to_at net.offers i) ≡ true) ⊎ (is_touched_in t (to_at net.offers i) ≡ true)
-  pub near : (l : ℕ) → is_touched_in t l ≡ true → IsTakenBack net (slice_index t.touched 0) l
+  pub first : (l : ℕ) → Contains closing l → IsOpen net l → is_touched_in t l ≡ true
+  pub near : (l : ℕ) → is_touched_in t l ≡ true → IsTakenBack net closing l
   pub done : (k : ℕ) → k < index → is_open_in t (slice_index t.touched k) ≡ false
   pub todo : (k : ℕ) → index ≤ k → k < length t.touched → is_open_in t (slice_index t.touched k) ≡ true
 
@@ -51,7 +52,17 @@ pub record IsSettled (net : Net) (t : Tally) : Type 0 where
   pub follows : Follows net t (length t.marked) 0 0
   pub untouched : t.touched ≡ []
 
--- all that the label alone reaches is taken back
-pub record HasFallen (net : Net) (label : ℕ) (t : Tally) : Type 0 where
-  pub falling : IsFalling net t (length t.touched) 0 0
-  pub first : slice_index t.touched 0 ≡ label
+-- all that the labels alone reach is taken back
+abbrev pub HasFallen : Net → List ℕ → Tally → Type 0
+HasFallen net closing t = IsFalling net closing t (length t.touched) 0 0
+
+-- The list has each node that fell once.
+pub record ListsFallen (net : Net) (t : Tally) (fallen : List ℕ) : Type 0 where
+  pub reached : (n : ℕ) → Contains fallen n → IsReached net n
+  pub unmarked : (n : ℕ) → Contains fallen n → is_marked_in t n ≡ false
+  pub all : (n : ℕ) → IsReached net n → is_marked_in t n ≡ false → Contains fallen n
+  pub once : AllPairs ◌≢◌ fallen
+
+-- the nodes that fell once the node did so, unless it is a root
+abbrev pub with_fallen : Net → ℕ → List ℕ → List ℕ
+with_fallen net node fallen = cond (is_root net node) fallen (fallen ++ node ∷ [])

@@ -1,5 +1,5 @@
 -- What is kept about the marked nodes and open labels of a net, as plain lists
-use Rattle.std.specs.Prelude.{◌≡◌, ℕ, ◌+◌, ◌-◌, ◌<◌, ◌==◌, ◌&&◌, ◌||◌, Bool, true, false, not, min, List, length, slice_index, slice_index_or, slice_set, take, vec_capacity, ◌⊎◌}
+use Rattle.std.specs.Prelude.{◌≡◌, ℕ, ◌+◌, ◌-◌, ◌<◌, ◌==◌, ◌&&◌, ◌||◌, Bool, true, false, not, min, List, length, slice_index, slice_index_or, slice_set, take, vec_capacity, ◌⊎◌, Contains}
 use Rattle.wait_index.specs.declared.graph.Graph.{Graph}
 use Rattle.wait_index.specs.declared.marks.Marks.{Marks}
 use Rattle.wait_index.specs.Inside.Count.{count_below}
@@ -107,6 +107,21 @@ Settles net label old new = Leaves net label old new ⊎ Opens net label old new
 -- one offer edge to the label is followed
 abbrev pub Supports : Net → ℕ → Tally → Tally → Type 0
 Supports net label old new = Settles net label (record old { support = slice_set old.support label (support_in old label + 1); visits = old.visits + 1 }) new
+
+-- where the label is open, its wait edges are to be looked at
+pub record Touches (label : ℕ) (old new : Tally) : Type 0 where
+  pub same : new ≡ record old { touched = new.touched; touched_places = new.touched_places }
+  pub front : take (length old.touched) new.touched ≡ old.touched
+  pub touched : (l : ℕ) → is_touched_in new l ≡ (is_touched_in old l || ((l == label) && is_open_in old label))
+  pub size : length new.touched_places ≡ length old.touched_places
+
+-- the wait edges of the labels that are open are to be looked at
+pub record TouchesAll (labels : List ℕ) (old new : Tally) : Type 0 where
+  pub same : new ≡ record old { touched = new.touched; touched_places = new.touched_places }
+  pub kept : (l : ℕ) → is_touched_in old l ≡ true → is_touched_in new l ≡ true
+  pub all : (l : ℕ) → Contains labels l → is_open_in old l ≡ true → is_touched_in new l ≡ true
+  pub only : (l : ℕ) → is_touched_in new l ≡ true → (is_touched_in old l ≡ true) ⊎ (Contains labels l × (is_open_in old l ≡ true))
+  pub size : length new.touched_places ≡ length old.touched_places
 
 -- one offer edge to the label is taken back: where the label is open, its wait edges are to be looked at
 pub record Withdraws (label : ℕ) (old new : Tally) : Type 0 where

@@ -4,7 +4,7 @@ use Rattle.wait_index.proofs.Counts.{count_below-le}
 use Rattle.wait_index.proofs.marks.Marks.take_back.Goals as goal
 
 pub labels-smaller : goal.labels-smaller
-labels-smaller c =
+labels-smaller g c =
     let t = c.labels.self.touched in
     let f = c.labels.invariant.falling in
     omega (arith, c.labels-test.true, c.len.ensures, t.items.ok.0, f.queue.many, f.sizes.touched, count_below-le (λ n. holds t.places.items n) (length t.places.items))

@@ -29,6 +29,8 @@ invariant_of-self c =
       open_labels = omega (arith, k.open_labels, closed, length_push r.graph.closed.items c.args.closed, some, ap (λ (g : Capacity). g.labels) room);
       offers = omega (arith, k.offers, offers, ap (λ (g : GraphCapacity). g.offers) graph_room);
       waits = omega (arith, k.waits, waits, ap (λ (g : GraphCapacity). g.waits) graph_room);
+      fallen = omega (arith, k.fallen, roots);
+      last_nodes = omega (arith, k.last_nodes, roots);
     }
 
 pub returns-clause-reached : goal.returns-clause-reached

@@ -29,6 +29,8 @@ invariant_of-self c =
       open_labels = omega (arith, k.open_labels, closed, ap (λ (g : Capacity). g.labels) room);
       offers = omega (arith, k.offers, offers, ap (λ (g : GraphCapacity). g.offers) graph_room);
       waits = omega (arith, k.waits, waits, ap (λ (g : GraphCapacity). g.waits) graph_room);
+      fallen = omega (arith, k.fallen, roots, length_push r.graph.roots.items false);
+      last_nodes = omega (arith, k.last_nodes, roots, length_push r.graph.roots.items false, some);
     }
 
 pub returns-clause-awaits : goal.returns-clause-awaits

@@ -1,0 +1,61 @@
+use Rattle.std.proofs.Common.{◌<◌, length, ap, ◌∙◌, subst, arith}
+use Rattle.std.proofs.lemmas.Bool.{false_from_ne_true}
+use Rattle.wait_index.specs.Index.{Index}
+use Rattle.wait_index.specs.Inside.Capacity.{GraphCapacity}
+use Rattle.wait_index.specs.Net.{Net, IsOpen, ClosesIn, visits_of}
+use Rattle.wait_index.specs.Inside.Tally.{Tally, Capacity, net_of, tally_of, is_open_in}
+use Rattle.wait_index.proofs.Closing.{open-shown}
+use Rattle.wait_index.proofs.Following.{Follows-nodes}
+use Rattle.wait_index.proofs.Least.{length-all_set}
+use Rattle.wait_index.proofs.Showing.{lists, visits-shown}
+use Rattle.wait_index.proofs.reach.Reach.close_labels.Goals as goal
+
+pub invariant_of-self : goal.invariant_of-self
+invariant_of-self c =
+    let r = c.self.inside in
+    let k = c.self.invariant in
+    let net = c.close.ensures.net in
+    let offers = ap (λ (n : Net). length n.offers) net in
+    let waits = ap (λ (n : Net). length n.waits) net in
+    let roots = ap (λ (n : Net). length n.roots) net in
+    let closed = ap (λ (n : Net). length n.closed) net ∙ length-all_set c.args.labels.now r.graph.closed.items in
+    let graph_room = c.close.ensures.graph_room in
+    let room = c.close.ensures.room in
+    record {
+      settled = c.close.ensures.settled;
+      few = omega (arith, k.few, offers, waits);
+      nodes = omega (arith, k.nodes, roots, ap (λ (g : GraphCapacity). g.nodes) graph_room);
+      marked_nodes = omega (arith, k.marked_nodes, roots, ap (λ (g : Capacity). g.nodes) room);
+      labels = omega (arith, k.labels, closed, ap (λ (g : GraphCapacity). g.labels) graph_room);
+      open_labels = omega (arith, k.open_labels, closed, ap (λ (g : Capacity). g.labels) room);
+      offers = omega (arith, k.offers, offers, ap (λ (g : GraphCapacity). g.offers) graph_room);
+      waits = omega (arith, k.waits, waits, ap (λ (g : GraphCapacity). g.waits) graph_room);
+      fallen = omega (arith, c.close.ensures.many, Follows-nodes (net_of r.graph) (length r.marks.marked.items.items) 0 0 (tally_of r.marks) k.settled.follows, roots);
+      last_nodes = omega (arith, k.last_nodes, c.close.ensures.last_room, roots);
+    }
+
+pub returns-clause-marked : goal.returns-clause-marked
+returns-clause-marked c = lists c.close.new.graph c.close.new.self c.close.ensures.settled
+
+pub returns-clause-turns : goal.returns-clause-turns
+returns-clause-turns c =
+    let r = c.self.inside in
+    let m = c.close.new.self in
+    let g = c.close.new.graph in
+    let labels = c.args.labels.now in
+    let before = visits-shown (net_of r.graph) (tally_of r.marks) c.self.invariant.settled r.marks.touched.listed r.graph.shaped.labels in
+    let after = visits-shown (net_of g) (tally_of m) c.close.ensures.settled m.touched.listed g.shaped.labels in
+    let shown : ClosesIn (net_of r.graph) labels (visits_of (net_of r.graph) r.marks.marked.items.items) (visits_of (net_of g) m.marked.items.items) c.close.result =
+    subst (λ v. ClosesIn (net_of r.graph) labels (visits_of (net_of r.graph) r.marks.marked.items.items) v c.close.result) after (subst (λ v. ClosesIn (net_of r.graph) labels v m.visits c.close.result) before c.close.ensures.turns)
+    in
+    subst (λ (x : Index). ClosesIn x.net labels (visits_of x.net x.marked) (visits_of (net_of g) m.marked.items.items) c.close.result) c.self.view_is shown
+
+pub returns-clause-shut : goal.returns-clause-shut
+returns-clause-shut c shut =
+    let r = c.self.inside in
+    let k = c.self.invariant.settled in
+    let same = c.close.ensures.shut (λ l a.
+    false_from_ne_true (is_open_in (tally_of r.marks) l) (λ o.
+    let within : l < length r.graph.closed.items = omega (arith, c.requires a.0 l a.1, a.2, ap (λ (x : Index). length x.net.closed) c.self.view_is) in
+    shut l a (subst (λ (x : Index). IsOpen x.net l) c.self.view_is (open-shown (net_of r.graph) (tally_of r.marks) k r.marks.touched.listed r.graph.shaped.labels l within o)))) in
+    (same.0, ap (λ (t : Tally). t.marked) same.1 ∙ ap (λ (x : Index). x.marked) c.self.view_is)
