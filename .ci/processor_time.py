@@ -1,11 +1,12 @@
 #!/usr/bin/env python3
 """Says where the gate's processor time goes: by crate, and by what the prover did for it.
 
-`.ci/run` starts it beside `rt ci`. It looks at all processes of the prover five times a second, keeps the processor time
-of each by the crate and the work that its command line and folder name, and prints a table at the signal that ends it,
-the dearest crate first. What a process used after the last look at it is lost: some tenths of a second each.
+`.ci/run` starts it beside `rt ci`. Five times a second it looks at the processes of the prover that the process above it
+started, keeps the processor time of each by the crate and the work that its command line and folder name, and prints a
+table at the signal that ends it, the dearest crate first. What a process used after the last look at it is lost: some
+tenths of a second each.
 
-usage: processor_time.py
+usage: processor_time.py [PROCESS]    PROCESS is the number of another process above those of the prover
 """
 import os
 import signal
@@ -24,28 +25,41 @@ def work_of(words, folder):
     return "tests" if "--test" in words else "proof"
 
 
-def look(process):
-    """The crate, the work and the seconds of a process of the prover, or None of any other."""
-    if os.path.basename(os.readlink(f"/proc/{process}/exe")) != "rattle":
+def numbers_of(process):
+    """The numbers of /proc/N/stat behind the name of the program, which stands in brackets and may hold spaces."""
+    with open(f"/proc/{process}/stat") as file:
+        return file.read().rpartition(")")[2].split()
+
+
+def is_below(process, top):
+    """Whether the process, or one above it, was started by `top`."""
+    while process not in ("0", "1"):
+        process = numbers_of(process)[1]
+        if process == top:
+            return True
+    return False
+
+
+def look(process, top):
+    """The crate, the work and the seconds of a process of the prover below `top`, or None of any other."""
+    if os.path.basename(os.readlink(f"/proc/{process}/exe")) != "rattle" or not is_below(process, top):
         return None
     with open(f"/proc/{process}/cmdline", "rb") as file:
         words = file.read().decode(errors="replace").split("\0")
     if "--crate-name" not in words:
         return None
-    with open(f"/proc/{process}/stat") as file:
-        # The name of the program stands in brackets, and may hold spaces.
-        numbers = file.read().rpartition(")")[2].split()
+    numbers = numbers_of(process)
     crate = words[words.index("--crate-name") + 1]
     seconds = (int(numbers[11]) + int(numbers[12])) / TICKS
     return (process, numbers[19]), crate, work_of(words, os.readlink(f"/proc/{process}/cwd")), seconds
 
 
-def look_at_all(seen):
+def look_at_all(seen, top):
     """Notes the processor time of each process of the prover, by its number and the moment when it began."""
     for process in filter(str.isdigit, os.listdir("/proc")):
         try:
-            found = look(process)
-        except OSError:
+            found = look(process, top)
+        except (OSError, IndexError):
             # It ended while it was looked at.
             continue
         if found:
@@ -66,10 +80,11 @@ def print_table(seen):
 
 def main():
     signal.signal(signal.SIGTERM, lambda *_: sys.exit())
+    top = sys.argv[1] if len(sys.argv) > 1 else str(os.getppid())
     seen = {}
     try:
         while True:
-            look_at_all(seen)
+            look_at_all(seen, top)
             time.sleep(PAUSE)
     finally:
         print_table(seen)

@@ -8,7 +8,8 @@ use std::alloc::Global;
 /// How many line feeds end a line of what remains. It stands on what `next_line` ensures, and on
 /// nothing of the source.
 pub(crate) fn count_lines<R: Source>(alloc: Global, source: &mut R) -> Result<u64, NextLineError>
-    ensures { IfOk result (λ n. IfSome (R.remaining source.old) (λ bytes. n ≡ length (lines_of bytes).whole)) }
+    ensures { IfOk result (λ n. IfSome (R.remaining source.old)
+        (λ bytes. n ≡ length (lines_of bytes).whole)) }
 {
     let mut lines = LineBuf::new(alloc);
     let mut count = 0u64;
