@@ -1,6 +1,6 @@
 -- The edges of a net and what stands at its nodes
-use Rattle.std.proofs.Common.{◌≡◌, ◌≢◌, ℕ, zero, suc, ◌+◌, ◌-◌, ◌<◌, ◌≤◌, ◌⊎◌, inl, inr, Bool, true, false, List, [], ◌∷◌, ◌++◌, length, get_or, map, Option, Some, None, arith, refl, sym, ap, ◌∙◌, subst}
-use Rattle.std.specs.Prelude.{Contains, slice_get, AllPairs, ◌↔◌}
+use Rattle.std.proofs.Common.{◌≡◌, ◌≢◌, ℕ, zero, suc, ◌+◌, ◌⊎◌, inl, inr, true, false, List, [], ◌∷◌, ◌++◌, length, get_or, map, Option, Some, None, arith, refl, sym, ap, ◌∙◌, subst}
+use Rattle.std.specs.Prelude.{Contains, slice_get, AllPairs}
 use Rattle.std.specs.Option.{option_to_list}
 use Rattle.std.proofs.lemmas.Bool.{cases_lt, cases_Bool, cases_order, both_ways}
 use Rattle.std.proofs.lemmas.List.{length-map, get_or_default, get_or_past}
@@ -8,8 +8,8 @@ use Rattle.std.proofs.lemmas.Option.{slice_get_within, same_Some, slice_get-get_
 use Rattle.wait_index.specs.declared.edges.Edge.{Edge}
 use Rattle.wait_index.specs.Edge.{edge_at, IsEdge}
 use Rattle.wait_index.specs.Net.{Net, is_root, is_closed, IsReached, step}
-use Rattle.label_net.specs.Spots.{Spot, Arrow, arrow_at, arrows_from, offered_at, awaited_at, offer_arrow, wait_arrow, Mirrors}
-use Rattle.label_net.proofs.Arrows.{Contains-head, Contains-cons_cases, Contains-map, Contains-from_map, IsArrowOf, arrow-cases, arrow-has}
+use Rattle.label_net.specs.Spots.{Spot, Arrow, arrow_at, offered_at, awaited_at, offer_arrow, wait_arrow, Mirrors}
+use Rattle.label_net.proofs.Arrows.{Contains-head, Contains-cons_cases, Contains-map, Contains-from_map, arrow-cases, arrow-has}
 
 -- ---- lists by places
 

@@ -1,5 +1,7 @@
 -- Labels in order, and what a caller sees of a net of them
-use Rattle.std.specs.Prelude.{◌≡◌, ◌↔◌, ◌⊎◌, ℕ, ◌+◌, ◌-◌, ◌<◌, ◌≤◌, List, [], ◌∷◌, ◌++◌, Bool, true, false, length, min, take, AllPairs, Contains, slice_get, slice_index_or, Some}
+use Rattle.std.specs.Prelude.{◌≡◌, ◌↔◌, ◌⊎◌, ◌==◌, ◌&&◌, ℕ, ◌+◌, ◌-◌, ◌≤◌, List, [], ◌∷◌, ◌++◌, Bool, true, false, length, min, map, take, AllPairs, Contains, slice_get, slice_index_or, Some}
+use Rattle.std.specs.List.{enumerate_from, filter}
+use Rattle.std.specs.Str.{bytes_eq}
 use Rattle.std.specs.declared.cmp.Ordering.{Ordering}
 use Rattle.std.specs.declared.cmp.Ordering.TheVariants.{Less}
 use Rattle.std.specs.Ordering.{nat_cmp, ordering_then}
@@ -7,7 +9,7 @@ use Rattle.std.specs.Cmp.Lexicographic.{slice_cmp}
 use Rattle.jwk_set.specs.declared.authority.KeyId.{KeyId}
 use Rattle.sorted_order.specs.Stock.{Stock, in_order}
 use Rattle.wait_index.specs.Index.{Index}
-use Rattle.wait_index.specs.Net.{Net, is_closed, ListsReached, with_node, with_label, with_offer, with_wait, with_root, with_closed, has_wait}
+use Rattle.wait_index.specs.Net.{Net, is_closed, ListsReached, with_node, with_label, with_offer, with_wait, with_root, has_wait}
 use Rattle.label_net.specs.declared.label.Label.{Label}
 
 -- labels are ordered by domain number, document id and key id
@@ -27,18 +29,20 @@ pub record Wired : Type 0 where
   pub nodes : ℕ
   pub edges : ℕ
 
--- for how many edges there is room, should each come with a new label
-abbrev pub edges_room : Stock Label → Index → ℕ
-edges_room stock index = min (min index.room.labels index.room.edges) (stock.capacity - length stock.items)
+-- for how many edges there is room, should each come with a new label, where a list of labels has room for `listed`
+abbrev pub edges_room : Stock Label → Index → ℕ → ℕ
+edges_room stock index listed = min (min index.room.labels index.room.edges) (min stock.capacity listed - length stock.items)
 
-abbrev pub wired_of : Stock Label → Index → Wired
-wired_of stock index = record { labels = stock.items; net = index.net; marked = index.marked; nodes = index.room.nodes; edges = edges_room stock index }
+abbrev pub wired_of : Stock Label → Index → ℕ → Wired
+wired_of stock index listed = record { labels = stock.items; net = index.net; marked = index.marked; nodes = index.room.nodes; edges = edges_room stock index listed }
 
--- Labels are found in their order, the net has one label for each, and the marked nodes are the reached ones.
-pub record IsWired (stock : Stock Label) (index : Index) : Type 0 where
+-- Labels are found in their order, the net has one label for each, the marked nodes are the reached ones, and each label
+-- has room in the list of those to be closed.
+pub record IsWired (stock : Stock Label) (index : Index) (listed : ℕ) : Type 0 where
   pub rising : IsInOrder (in_order stock)
   pub sizes : length index.net.closed ≡ length stock.items
   pub reached : ListsReached index.net index.marked
+  pub closing : length stock.items ≤ listed
 
 -- ---- what one call does
 
@@ -97,6 +101,14 @@ pub record IsRooted (old : Wired) (node : ℕ) (new : Wired) : Type 0 where
 abbrev pub IsOfKey : ℕ → KeyId → Label → Type 0
 IsOfKey domain key label = (label.domain ≡ domain) × (label.key ≡ key)
 
+-- whether the label is one
+abbrev pub is_for_key : ℕ → KeyId → Label → Bool
+is_for_key domain key label = (label.domain == domain) && bytes_eq label.key.0 key.0
+
+-- the numbers of the labels of the key in the domain, lowest first
+abbrev pub numbers_of_key : List Label → ℕ → KeyId → List ℕ
+numbers_of_key labels domain key = map (λ p. p.0) (filter (λ p. is_for_key domain key p.1) (enumerate_from 0 labels))
+
 -- The labels of the key in the domain are closed from now on, and the others stay as they are.
 pub record HasClosed (net : Net) (labels : List Label) (domain : ℕ) (key : KeyId) (after : Net) : Type 0 where
   pub flags : List Bool
@@ -110,8 +122,3 @@ pub record Closes (old : Wired) (domain : ℕ) (key : KeyId) (new : Wired) : Typ
   pub net : HasClosed old.net old.labels domain key new.net
   pub nodes : new.nodes ≡ old.nodes
   pub edges : new.edges ≡ old.edges
-
--- the net with the label closed, or as it was
-abbrev pub closed_if : Bool → Net → ℕ → Net
-closed_if true net label = with_closed net label
-closed_if false net label = net

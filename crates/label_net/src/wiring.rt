@@ -1,8 +1,8 @@
 //! A net whose labels are found by what they stand for.
-ghost use Rattle.std.specs.Prelude.{◌≡◌, ℕ, ◌-◌, ◌<◌, ◌≤◌, ◌↔◌, false, [], length, IsTrue, IsOk, OnOk};
+ghost use Rattle.std.specs.Prelude.{◌≡◌, ℕ, ◌+◌, ◌-◌, ◌*◌, ◌<◌, ◌≤◌, ◌↔◌, Bool, false, [], length, vec_capacity, IsTrue, IsOk, OnOk};
 ghost use Rattle.sorted_order.specs.Stock.{in_order};
-ghost use Rattle.wait_index.specs.Net.{ListsReached, has_wait, with_label};
-ghost use Rattle.label_net.specs.Labels.{IsInOrder, HasNumber, HasClosed, IsOfKey, closed_if};
+ghost use Rattle.wait_index.specs.Net.{ListsReached, ClosesIn, HasReachOf, edges_at, has_wait, visits_of, with_label};
+ghost use Rattle.label_net.specs.Labels.{IsInOrder, HasNumber, IsOfKey, numbers_of_key};
 
 use crate::label::{Label, SoughtLabel};
 use jwk_set::KeyId;
@@ -16,6 +16,9 @@ use wait_index::{LabelNo, NodeNo, Reach};
 pub struct Wiring {
     labels: Arena<Label>,
     reach: Reach,
+
+    /// The labels that a close closes. There is room for each label, so a close takes no memory.
+    closing: Vec<LabelNo>,
 }
 
 impl Model for Wiring {
@@ -23,11 +26,12 @@ impl Model for Wiring {
 
     ghost Value = { Wired };
 
+    ghost use Rattle.std.specs.Prelude.{vec_capacity};
     ghost use Rattle.label_net.specs.Labels.{wired_of, IsWired};
 
-    ghost view = { λ w. wired_of w.labels w.reach };
+    ghost view = { λ w. wired_of w.labels w.reach (vec_capacity w.closing) };
 
-    ghost invariant = { λ w. IsWired w.labels w.reach };
+    ghost invariant = { λ w. IsWired w.labels w.reach (vec_capacity w.closing) };
 }
 
 impl Wiring {
@@ -46,6 +50,7 @@ impl Wiring {
         Wiring {
             labels: Arena::new(alloc),
             reach: Reach::new(alloc),
+            closing: Vec::new(alloc),
         }
     }
 
@@ -64,6 +69,7 @@ impl Wiring {
             return Ok(());
         }
         self.labels.try_reserve(edges)?;
+        reserve_list(&mut self.closing, self.labels.len(), edges)?;
         self.reach.try_reserve(nodes, edges, edges)?;
         Ok(())
     }
@@ -111,12 +117,23 @@ impl Wiring {
         self.reach.add_wait(number, node);
     }
 
-    /// Closes the labels of a key in a domain, of whatever document, in turn. It takes no memory.
-    pub fn close_key(&mut self, domain: u32, key: KeyId)
+    /// Closes the labels of a key in a domain, of whatever document, all at once, and answers the
+    /// turns, each of which looked at one edge. It takes no memory.
+    pub fn close_key(&mut self, domain: u32, key: KeyId) -> usize
         ensures closes { Closes self.old domain key self.new }
         ensures reached { ListsReached self.new.net self.new.marked }
+        ensures turns { ClosesIn self.old.net (numbers_of_key self.old.labels domain key)
+            (visits_of self.old.net self.old.marked)
+            (visits_of self.new.net self.new.marked) result }
+
+        // Each turn looked at an edge at a label that those of the key lead to, and at most two at
+        // one edge.
+        ensures near { (reach : ℕ → Bool)
+            → HasReachOf self.old.net (numbers_of_key self.old.labels domain key) reach
+            → result ≤ 2 * edges_at self.old.net reach }
     {
-        close_labels(self.labels.items(), &mut self.reach, domain, key);
+        list_numbers(&mut self.closing, self.labels.items(), domain, key);
+        self.reach.close_labels(&self.closing)
     }
 
     /// The index itself.
@@ -134,7 +151,8 @@ impl Wiring {
         ensures edges { result.1 ≡ self.now.edges }
     {
         let (nodes, labels, edges) = self.reach.room();
-        (nodes, labels.min(edges).min(self.labels.room()))
+        let listed = self.closing.capacity() - self.labels.len();
+        (nodes, labels.min(edges).min(self.labels.room()).min(listed))
     }
 }
 
@@ -180,16 +198,27 @@ fn add_label(reach: &mut Reach, closed: bool) -> LabelNo
     }
 }
 
-/// Closes the labels of a key in a domain.
-fn close_labels(labels: &[Label], reach: &mut Reach, domain: u32, key: KeyId)
-    requires sizes { length reach.old.net.closed ≡ length labels.now }
-    requires reached { ListsReached reach.old.net reach.old.marked }
-    ensures closes { HasClosed reach.old.net labels.now domain key reach.new.net }
-    ensures reached { ListsReached reach.new.net reach.new.marked }
-    ensures room { reach.new.room ≡ reach.old.room }
+/// Makes room in the list for so many labels and so many more, and forgets what it had.
+fn reserve_list(list: &mut Vec<LabelNo>, labels: usize, more: usize) -> Result<(), AllocError>
+    ensures grows { vec_capacity list.old ≤ vec_capacity list.new }
+    ensures ok { OnOk result (labels + more ≤ vec_capacity list.new) }
 {
+    list.clear();
+    let all = labels.checked_add(more).ok_or(AllocError)?;
+    list.try_reserve(all)
+}
+
+/// Lists the numbers of the labels of a key in a domain. There is room for each label.
+fn list_numbers(numbers: &mut Vec<LabelNo>, labels: &[Label], domain: u32, key: KeyId)
+    requires { length labels.now ≤ vec_capacity numbers.old }
+    ensures numbers { numbers.new.items ≡ numbers_of_key labels.now domain key }
+    ensures room { vec_capacity numbers.new ≡ vec_capacity numbers.old }
+{
+    numbers.clear();
     for (number, label) in labels.iter().enumerate() {
-        close_one(reach, number, is_of_key(label, domain, key));
+        if is_of_key(label, domain, key) {
+            numbers.push_reserved(LabelNo::new(number));
+        }
     }
 }
 
@@ -198,17 +227,4 @@ fn is_of_key(label: &Label, domain: u32, key: KeyId) -> bool
     ensures { IsTrue result ↔ IsOfKey domain key label.now }
 {
     label.domain == domain && label.key == key
-}
-
-/// Closes the label with this number, where `of_key` says so.
-fn close_one(reach: &mut Reach, number: usize, of_key: bool)
-    requires number { number < length reach.old.net.closed }
-    requires reached { ListsReached reach.old.net reach.old.marked }
-    ensures net { reach.new.net ≡ closed_if of_key reach.old.net number }
-    ensures reached { ListsReached reach.new.net reach.new.marked }
-    ensures room { reach.new.room ≡ reach.old.room }
-{
-    if of_key {
-        reach.close_label(LabelNo::new(number));
-    }
 }

@@ -77,7 +77,7 @@ fn place_receipt(
     let _valid = held.config();
 }
 
-/// Distrusts a key in a domain. It takes no memory: the labels of the key are closed in turn, and the flags are raised
+/// Distrusts a key in a domain. It takes no memory: the labels of the key are closed at once, and the flags are raised
 /// anew.
 ///
 /// # Errors

@@ -1,10 +1,10 @@
 -- A label is found where it is, and comes into its place where it is missing.
-use Rattle.std.proofs.Common.{◌≡◌, ℕ, ◌++◌, ◌∷◌, [], length, Some, inl, inr, arith, refl, sym, ap, ◌∙◌, subst}
+use Rattle.std.proofs.Common.{length, Some, inl, inr, arith, refl, sym, ap, ◌∙◌, subst}
 use Rattle.std.specs.Prelude.{slice_get}
 use Rattle.std.proofs.lemmas.Option.{slice_get-get_or}
 use Rattle.sorted_order.specs.Stock.{in_order}
 use Rattle.label_net.specs.declared.label.Label.{Label}
-use Rattle.label_net.specs.Labels.{IsInOrder, HasNumber}
+use Rattle.label_net.specs.Labels.{IsInOrder}
 use Rattle.label_net.proofs.InOrder.{label-exact, rising-from_in_order, in_order-insert, length-picked, missing-not_contained}
 use Rattle.label_net.proofs.Mirroring.{slice_get-push}
 use Rattle.label_net.proofs.wiring.number_of.Goals as goal
