@@ -1,5 +1,5 @@
 //! What labels stand for.
-ghost use Rattle.std.specs.Prelude.{◌≡◌};
+ghost use Rattle.std.specs.Prelude.{◌≡◌, ◌↔◌, IsTrue};
 ghost use Rattle.std.specs.Ordering.{nat_cmp, ordering_then};
 ghost use Rattle.std.specs.Cmp.Lexicographic.{slice_cmp};
 ghost use Rattle.label_net.specs.Labels.{label_cmp};
@@ -15,6 +15,18 @@ pub struct Label {
     pub domain: u32,
     pub document: DocId,
     pub key: KeyId,
+}
+
+/// Which labels are meant.
+pub trait LabelTest {
+    ghost use Rattle.label_net.specs.declared.label.Label.{Label};
+
+    // Whether a label is meant.
+    ghost IsMeant: { Self → Label → Type 0 };
+
+    /// Whether the label is meant.
+    fn is_meant(&self, label: &Label) -> bool
+        ensures { IsTrue result ↔ IsMeant self.now label.now };
 }
 
 /// Seeks a label.
@@ -36,12 +48,32 @@ impl ItemProbe<Label> for SoughtLabel {
     }
 }
 
-// Labels of one domain are ordered by the document, and by the key only where that is the same.
+// Labels of one domain are ordered by the key, and by the document only where that is the same.
 fn compare_ids(a: &Label, b: &Label) -> Ordering
-    ensures { result ≡ ordering_then (slice_cmp nat_cmp a.now.document.0 b.now.document.0) (slice_cmp nat_cmp a.now.key.0 b.now.key.0) }
+    ensures { result ≡ ordering_then (slice_cmp nat_cmp a.now.key.0 b.now.key.0) (slice_cmp nat_cmp a.now.document.0 b.now.document.0) }
 {
-    match a.document.cmp(&b.document) {
-        Ordering::Equal => a.key.cmp(&b.key),
+    match a.key.cmp(&b.key) {
+        Ordering::Equal => a.document.cmp(&b.document),
         unequal => unequal,
+    }
+}
+
+/// Seeks the labels of a key in a domain.
+#[derive(Drop)]
+pub(crate) struct SoughtKey {
+    pub(crate) domain: u32,
+    pub(crate) key: KeyId,
+}
+
+impl ItemProbe<Label> for SoughtKey {
+    ghost use Rattle.label_net.specs.Labels.{key_cmp};
+
+    ghost compared = { λ sought item. key_cmp sought.domain sought.key item };
+
+    fn compare(&self, item: &Label) -> Ordering {
+        match item.domain.cmp(&self.domain) {
+            Ordering::Equal => item.key.cmp(&self.key),
+            unequal => unequal,
+        }
     }
 }

@@ -5,5 +5,5 @@
 mod label;
 mod wiring;
 
-pub use label::Label;
+pub use label::{Label, LabelTest};
 pub use wiring::Wiring;

@@ -1,12 +1,12 @@
 //! A net whose labels are found by what they stand for.
-ghost use Rattle.std.specs.Prelude.{◌≡◌, ℕ, ◌+◌, ◌-◌, ◌*◌, ◌<◌, ◌≤◌, ◌↔◌, Bool, false, [], length, vec_capacity, IsTrue, IsOk, OnOk};
+ghost use Rattle.std.specs.Prelude.{◌≡◌, ◌+◌, ◌-◌, ◌<◌, ◌≤◌, false, [], length, vec_capacity, IsOk, OnOk};
 ghost use Rattle.sorted_order.specs.Stock.{in_order};
-ghost use Rattle.wait_index.specs.Net.{ListsReached, ClosesIn, HasReachOf, edges_at, has_wait, visits_of, with_label};
-ghost use Rattle.label_net.specs.Labels.{IsInOrder, HasNumber, IsOfKey, numbers_of_key};
+ghost use Rattle.wait_index.specs.Net.{ListsReached, has_wait, with_label};
+ghost use Rattle.label_net.specs.Labels.{IsInOrder, HasNumber, AreNumbersOf};
 
-use crate::label::{Label, SoughtLabel};
+use crate::label::{Label, LabelTest, SoughtKey, SoughtLabel};
 use jwk_set::KeyId;
-use sorted_order::Arena;
+use sorted_order::{Arena, Numbers};
 use std::alloc::{AllocError, Global};
 use std::marker::Model;
 use wait_index::{LabelNo, NodeNo, Reach};
@@ -35,7 +35,7 @@ impl Model for Wiring {
 }
 
 impl Wiring {
-    ghost use Rattle.label_net.specs.Labels.{IsRoomier, HasNode, Offers, Awaits, IsRooted, Closes};
+    ghost use Rattle.label_net.specs.Labels.{IsRoomier, HasNode, Offers, Awaits, IsRooted, IsOfKey, Closes};
 
     /// An index without nodes, labels and room.
     pub fn new(alloc: Global) -> Self
@@ -43,6 +43,7 @@ impl Wiring {
           labels = [];
           net = record { roots = []; closed = []; offers = []; waits = [] };
           marked = [];
+          last = record { fallen = []; kept = 0 };
           nodes = 0;
           edges = 0;
         } }
@@ -120,26 +121,31 @@ impl Wiring {
     /// Closes the labels of a key in a domain, of whatever document, all at once, and answers the
     /// turns, each of which looked at one edge. It takes no memory.
     pub fn close_key(&mut self, domain: u32, key: KeyId) -> usize
-        ensures closes { Closes self.old domain key self.new }
+        ensures closes { Closes self.old (IsOfKey domain key) self.new result }
         ensures reached { ListsReached self.new.net self.new.marked }
-        ensures turns { ClosesIn self.old.net (numbers_of_key self.old.labels domain key)
-            (visits_of self.old.net self.old.marked)
-            (visits_of self.new.net self.new.marked) result }
-
-        // Each turn looked at an edge at a label that those of the key lead to, and at most two at
-        // one edge.
-        ensures near { (reach : ℕ → Bool)
-            → HasReachOf self.old.net (numbers_of_key self.old.labels domain key) reach
-            → result ≤ 2 * edges_at self.old.net reach }
     {
-        list_numbers(&mut self.closing, self.labels.items(), domain, key);
+        // They are one run of the order, so that no label is walked over that is not closed.
+        let numbers = self.labels.numbers_matching(&SoughtKey { domain, key });
+        list_numbers(&mut self.closing, numbers);
         self.reach.close_labels(&self.closing)
+    }
+
+    /// Closes the labels that are meant, all at once, and answers the turns, each of which looked
+    /// at one edge. It takes no memory.
+    pub fn close_where<T: LabelTest>(&mut self, test: &T) -> usize
+        ensures closes { Closes self.old (T.IsMeant test.now) self.new result }
+        ensures reached { ListsReached self.new.net self.new.marked }
+    {
+        list_meant(&mut self.closing, self.labels.items(), test);
+        let meant = self.closing.as_slice();
+        self.reach.close_labels(meant)
     }
 
     /// The index itself.
     pub fn reach(&self) -> &Reach
         ensures net { result.now.net ≡ self.now.net }
         ensures marked { result.now.marked ≡ self.now.marked }
+        ensures last { result.now.last ≡ self.now.last }
         ensures reached { ListsReached self.now.net self.now.marked }
     {
         &self.reach
@@ -168,6 +174,7 @@ fn number_of(labels: &mut Arena<Label>, reach: &mut Reach, label: Label, closed:
     ensures sizes { length reach.new.net.closed ≡ length labels.new.items }
     ensures reached { ListsReached reach.new.net reach.new.marked }
     ensures marked { reach.new.marked ≡ reach.old.marked }
+    ensures last { reach.new.last ≡ reach.old.last }
     ensures capacity { labels.new.capacity ≡ labels.old.capacity }
     ensures nodes { reach.new.room.nodes ≡ reach.old.room.nodes }
     ensures edges { reach.new.room.edges ≡ reach.old.room.edges }
@@ -190,6 +197,7 @@ fn add_label(reach: &mut Reach, closed: bool) -> LabelNo
     ensures marked { reach.new.marked ≡ reach.old.marked }
     ensures reached { ListsReached reach.new.net reach.new.marked }
     ensures room { reach.new.room ≡ record reach.old.room { labels = reach.old.room.labels - 1 } }
+    ensures last { reach.new.last ≡ reach.old.last }
 {
     if closed {
         reach.add_closed_label()
@@ -208,23 +216,29 @@ fn reserve_list(list: &mut Vec<LabelNo>, labels: usize, more: usize) -> Result<(
     list.try_reserve(all)
 }
 
-/// Lists the numbers of the labels of a key in a domain. There is room for each label.
-fn list_numbers(numbers: &mut Vec<LabelNo>, labels: &[Label], domain: u32, key: KeyId)
-    requires { length labels.now ≤ vec_capacity numbers.old }
-    ensures numbers { numbers.new.items ≡ numbers_of_key labels.now domain key }
-    ensures room { vec_capacity numbers.new ≡ vec_capacity numbers.old }
+/// Lists the numbers, in place of what the list had. There is room for each of them.
+fn list_numbers(list: &mut Vec<LabelNo>, numbers: Numbers<'_>)
+    requires { length numbers ≤ vec_capacity list.old }
+    ensures numbers { list.new.items ≡ numbers.entry }
+    ensures room { vec_capacity list.new ≡ vec_capacity list.old }
 {
-    numbers.clear();
-    for (number, label) in labels.iter().enumerate() {
-        if is_of_key(label, domain, key) {
-            numbers.push_reserved(LabelNo::new(number));
-        }
+    list.clear();
+    for number in numbers {
+        list.push_reserved(LabelNo::new(number as usize));
     }
 }
 
-/// Whether the label is of the key in the domain.
-fn is_of_key(label: &Label, domain: u32, key: KeyId) -> bool
-    ensures { IsTrue result ↔ IsOfKey domain key label.now }
+/// Lists the numbers of the labels that are meant, in place of what the list had. There is room for
+/// each label.
+fn list_meant<T: LabelTest>(list: &mut Vec<LabelNo>, labels: &[Label], test: &T)
+    requires { length labels.now ≤ vec_capacity list.old }
+    ensures numbers { AreNumbersOf labels.now (T.IsMeant test.now) list.new.items }
+    ensures room { vec_capacity list.new ≡ vec_capacity list.old }
 {
-    label.domain == domain && label.key == key
+    list.clear();
+    for (number, label) in labels.iter().enumerate() {
+        if test.is_meant(label) {
+            list.push_reserved(LabelNo::new(number));
+        }
+    }
 }

@@ -2,9 +2,10 @@
 ghost use Rattle.std.specs.Prelude.{◌≡◌, ℕ, ◌+◌, ◌<◌, ◌≤◌, [], ◌∷◌, ◌++◌, length, take, drop, slice_get, IsOk, OnOk, Some};
 ghost use Rattle.std.specs.List.{insert, filter};
 ghost use Rattle.sorted_order.specs.Sought.{IsRising, IsGap, is_equal};
-ghost use Rattle.sorted_order.specs.Stock.{in_order, Arranges, FindsNumber};
+ghost use Rattle.sorted_order.specs.Stock.{in_order, Arranges, FindsNumber, compared_at};
 
 use crate::lent::Lent;
+use crate::numbers::Numbers;
 use crate::order::Order;
 use crate::probe::{ByItem, ItemProbe};
 use std::alloc::{AllocError, Global};
@@ -172,5 +173,15 @@ impl<T> Arena<T> {
             .order
             .matching(&ByItem::new(self.items.as_slice(), probe));
         Lent::new(numbers, self.items.as_slice())
+    }
+
+    /// The numbers of the items in the place of what is sought, in order.
+    pub fn numbers_matching<P: ItemProbe<T>>(&self, probe: &P) -> Numbers<'_>
+        requires { IsRising (P.compared probe.now) (in_order self.now) }
+        ensures numbers { result ≡ filter (λ number. is_equal (compared_at (P.compared probe.now) self.now.items number)) self.now.order }
+        ensures arranged { Arranges self.now.order (length self.now.items) }
+    {
+        let by_item = ByItem::new(self.items.as_slice(), probe);
+        self.order.matching(&by_item)
     }
 }

@@ -1,12 +1,11 @@
--- Listed are the numbers among the first labels.
-use Rattle.std.proofs.Common.{◌≡◌, ◌≤◌, length}
+-- Listed are the numbers that were lent so far.
+use Rattle.std.proofs.Common.{◌≡◌, ◌≤◌, ◌++◌, length}
 use Rattle.std.specs.Prelude.{vec_capacity}
-use Rattle.label_net.proofs.Closing.{numbers_before}
 use Rattle.label_net.proofs.wiring.list_numbers.Given as goal
 
 abbrev pub invariant-loop-number : goal.invariant-loop-number
 invariant-loop-number l = record {
-  numbers : l.numbers.items ≡ numbers_before l.labels l.domain l.key l.number;
-  few : length l.numbers.items ≤ l.number;
-  room : vec_capacity l.numbers ≡ vec_capacity l.initial.numbers;
+  numbers : l.list.items ++ l.number-iterator ≡ l.initial.number-iterator;
+  few : length l.initial.number-iterator ≤ vec_capacity l.initial.list;
+  room : vec_capacity l.list ≡ vec_capacity l.initial.list;
 }
