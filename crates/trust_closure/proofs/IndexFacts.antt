@@ -27,7 +27,7 @@ use Rattle.label_net.proofs.Arrows.{Contains-map, Contains-from_map}
 use Rattle.std.proofs.lemmas.List.{length-map, length-append}
 use Rattle.trust_closure.specs.Views.{IsPendingCount}
 use Rattle.receipt_core.specs.Acceptance.{Meaning, IsMeaning, IsMember, IsReleased, IsFitting, pair_of_seed}
-use Rattle.label_net.specs.Labels.{Wired, Closes, HasNode, IsRooted, IsRoomier as IsRoomierWired}
+use Rattle.label_net.specs.Labels.{Wired, IsOfKey, Closes, HasNode, IsRooted, IsRoomier as IsRoomierWired}
 use Rattle.label_net.proofs.Edges.{slice_get-left, slice_get-map_cases, slice_get-Contains, Contains-slice_get, one_place, root-of_spot}
 use Rattle.label_net.proofs.Mirroring.{slice_get-more, slice_get-push_cases, Mirrors-shut}
 use Rattle.trust_closure.specs.Nodes.{pairs_of, is_raised}
@@ -256,7 +256,7 @@ gain-more h new p q w v r nodes n i j is raises count =
 -- ---- one more record of distrust
 
 wiring-closed : (domains : List (List ℕ)) (records : List Distrust) (x : Distrust) (spots : List (Spot Triple)) (old new : Wired) (number : ℕ) → IsStrictlySortedBy domain_cmp domains
-    → slice_get domains number ≡ Some x.domain → IsWiringOf domains records spots old → Closes old number x.key new → IsWiringOf domains (with_distrust x records) spots new
+    → slice_get domains number ≡ Some x.domain → IsWiringOf domains records spots old → {count : ℕ} → Closes old (IsOfKey number x.key) new count → IsWiringOf domains (with_distrust x records) spots new
 wiring-closed domains records x spots old new number rising at h c =
     let mirrors = Mirrors-shut spots (map (triple_by domains) old.labels) (IsShutBy records) old.net h.mirrors (IsShutBy (with_distrust x records)) c.net.flags c.net.sizes (λ i t e.
     let f = slice_get-map_cases (triple_by domains) old.labels i t e in
@@ -298,7 +298,7 @@ hoard-before old new x b =
     ∙ ap (λ a. let h : Hoard = record { config = old.config; arrived = old.arrived; held = old.held; records = a; capacity = new.capacity } in h) b.records
 
 pub built-closed : (old new : Hoard) (x : Distrust) (p q : Paired) (w v : Wired) (number : ℕ) → IsBuilt old p w → IsBefore old x new → IsMeaning (meaning_of new)
-    → ((domains : List (List ℕ)) → AreDomains old.config domains → slice_get domains number ≡ Some x.domain) → Closes w number x.key v → ListsReached v.net v.marked
+    → ((domains : List (List ℕ)) → AreDomains old.config domains → slice_get domains number ≡ Some x.domain) → {count : ℕ} → Closes w (IsOfKey number x.key) v count → ListsReached v.net v.marked
     → q.numbers ≡ p.numbers → q.firsts ≡ p.firsts → length q.flags ≡ length p.flags → IsBuilt new q v
 built-closed old new x p q w v number b before valid at closes reached numbers firsts flags =
     let is = hoard-before old new x before in
@@ -347,7 +347,7 @@ loss-closed old new x p q w v n i j before size numbers count =
 
 -- the index after the labels of a key were closed, and after flags were raised anew
 pub indexed-closed : (old new : Hoard) (x : Distrust) (p lowered q : Paired) (w v : Wired) (number : ℕ) (nodes : List ℕ) → IsIndexed old p w → IsBefore old x new → IsMeaning (meaning_of new)
-    → ((domains : List (List ℕ)) → AreDomains old.config domains → slice_get domains number ≡ Some x.domain) → Closes w number x.key v → ListsReached v.net v.marked
+    → ((domains : List (List ℕ)) → AreDomains old.config domains → slice_get domains number ≡ Some x.domain) → {count : ℕ} → Closes w (IsOfKey number x.key) v count → ListsReached v.net v.marked
     → lowered.numbers ≡ p.numbers → lowered.firsts ≡ p.firsts → length lowered.flags ≡ length p.flags → ((k : ℕ) → is_raised lowered.flags k ≡ false)
     → q.numbers ≡ lowered.numbers → q.firsts ≡ lowered.firsts → nodes ≡ v.marked → Raises lowered.firsts nodes lowered.flags q.flags → IsIndexed new q v
 indexed-closed old new x p lowered q w v number nodes i before valid at closes reached n1 f1 s1 low n2 f2 is raises =
@@ -375,7 +375,7 @@ before-added old new x a arrived = record {
 -- ---- more room
 
 same-wiring : (w : Wired) → IsRoomierWired w w
-same-wiring w = record { labels = refl; net = refl; marked = refl; nodes = omega arith; edges = omega arith }
+same-wiring w = record { labels = refl; net = refl; marked = refl; last = refl; nodes = omega arith; edges = omega arith }
 
 indexed-roomier : (h new : Hoard) (p q : Paired) (w v : Wired) → IsIndexed h p w → new ≡ record h { capacity = new.capacity } → q.numbers ≡ p.numbers → q.firsts ≡ p.firsts → q.flags ≡ p.flags → IsRoomierWired w v → IsIndexed new q v
 indexed-roomier h new p q w v i is numbers firsts flags r =
