@@ -1,14 +1,14 @@
 -- A net stays a mirror
 use Rattle.std.proofs.Common.{◌≡◌, ◌≢◌, ℕ, zero, suc, ◌+◌, ◌<◌, ◌⊎◌, inl, inr, Bool, true, false, List, [], ◌∷◌, ◌++◌, length, get_or, set, map, Option, Some, None, arith, refl, sym, ap, ◌∙◌, subst}
-use Rattle.std.specs.Prelude.{Contains, slice_get, ◌↔◌}
+use Rattle.std.specs.Prelude.{AllPairs, Contains, slice_get, ◌↔◌}
 use Rattle.std.specs.Option.{option_to_list}
 use Rattle.std.proofs.lemmas.List.{append-nil, append_assoc, map_push, length-map, length_push, get_or_append_left, set_at, get_or_push}
 use Rattle.std.proofs.lemmas.List.Quantifiers.{all_pairs_push}
-use Rattle.std.proofs.lemmas.List.Elements.{Contains-get_or}
+use Rattle.std.proofs.lemmas.List.Elements.{Contains-get_or, Contains-push, Contains-push_cases, Contains-append_left}
 use Rattle.std.proofs.lemmas.Option.{slice_get_within, same_Some, none-some}
 use Rattle.wait_index.specs.declared.edges.Edge.{Edge}
-use Rattle.wait_index.specs.Net.{Net, with_node, with_label, with_offer, with_wait, with_root}
-use Rattle.label_net.specs.Spots.{Spot, Arrow, arrow_at, arrows_from, offered_at, awaited_at, offer_arrow, wait_arrow, Mirrors, bare}
+use Rattle.wait_index.specs.Net.{Net, is_closed, with_node, with_label, with_offer, with_wait, with_root}
+use Rattle.label_net.specs.Spots.{Spot, Arrow, arrow_at, arrows_from, offered_at, awaited_at, offer_arrow, wait_arrow, IsUsed, Mirrors, bare}
 use Rattle.label_net.proofs.Arrows.{arrows-push}
 
 -- arrows name labels that are there, so more labels change none
@@ -65,6 +65,52 @@ slice_get-push_cases (z ∷ xs) x (suc i) y e =
       | inr a ↦ inr (ap suc a.0, a.1)
     ]
 
+-- ---- which labels are used
+
+IsUsed-push : {A : Type 0} (spots : List (Spot A)) (spot : Spot A) (label : A) → IsUsed spots label
+    → IsUsed (spots ++ spot ∷ []) label
+IsUsed-push spots spot label h = record {
+  spot = h.spot;
+  stands = Contains-append_left spots (spot ∷ []) h.spot h.stands;
+  uses = h.uses;
+}
+
+IsUsed-last : {A : Type 0} (spots : List (Spot A)) (spot : Spot A) (label : A)
+    → Contains spot.offers label ⊎ (spot.awaits ≡ Some label) → IsUsed (spots ++ spot ∷ []) label
+IsUsed-last spots spot label uses = record {
+  spot = spot;
+  stands = Contains-push spots spot;
+  uses = uses;
+}
+
+-- another last spot, which uses what that one does
+IsUsed-other : {A : Type 0} (spots : List (Spot A)) (spot other : Spot A) (label : A)
+    → (Contains spot.offers label → Contains other.offers label)
+    → (spot.awaits ≡ Some label → other.awaits ≡ Some label)
+    → IsUsed (spots ++ spot ∷ []) label → IsUsed (spots ++ other ∷ []) label
+IsUsed-other {A = A} spots spot other label offers awaits h =
+    elim (Contains-push_cases spots spot h.spot h.stands) [
+      | inl c ↦
+          IsUsed-push spots other label (record { spot = h.spot; stands = c; uses = h.uses })
+      | inr e ↦
+          let uses : Contains spot.offers label ⊎ (spot.awaits ≡ Some label) =
+          subst (λ (s : Spot A). Contains s.offers label ⊎ (s.awaits ≡ Some label)) (sym e) h.uses
+          in
+          IsUsed-last spots other label (elim uses [ inl a ↦ inl (offers a) | inr a ↦ inr (awaits a) ])
+    ]
+
+-- The net mirrors the spots, but none needs to use a label that is new.
+pub record MirrorsBut {A : Type 0} (IsNew : A → Type 0) (spots : List (Spot A)) (labels : List A)
+    (IsShut : A → Type 0) (net : Net) : Type 0 where
+  pub roots : net.roots ≡ map (λ spot. spot.rooted) spots
+  pub sizes : length net.closed ≡ length labels
+  pub closed : (number : ℕ) (label : A) → slice_get labels number ≡ Some label
+      → (is_closed net number ≡ true) ↔ IsShut label
+  pub offers : map (offer_arrow labels) net.offers ≡ arrows_from offered_at 0 spots
+  pub waits : map (wait_arrow labels) net.waits ≡ arrows_from awaited_at 0 spots
+  pub once : AllPairs ◌≢◌ labels
+  pub used : (label : A) → Contains labels label → IsUsed spots label ⊎ IsNew label
+
 module _ {A : Type 0} (spots : List (Spot A)) (labels : List A) (IsShut : A → Type 0) (net : Net) (h : Mirrors spots labels IsShut net) where
   pub length-roots : length net.roots ≡ length spots
   length-roots = ap length h.roots ∙ length-map spots (λ (s : Spot A). s.rooted)
@@ -78,11 +124,26 @@ module _ {A : Type 0} (spots : List (Spot A)) (labels : List A) (IsShut : A → 
     offers = h.offers ∙ sym (arrows-push offered_at 0 spots bare ∙ append-nil (arrows_from offered_at 0 spots));
     waits = h.waits ∙ sym (arrows-push awaited_at 0 spots bare ∙ append-nil (arrows_from awaited_at 0 spots));
     once = h.once;
+    used = λ label c. IsUsed-push spots bare label (h.used label c);
+  }
+
+  -- none is added
+  pub Mirrors-but : (IsNew : A → Type 0) → MirrorsBut IsNew spots labels IsShut net
+  Mirrors-but IsNew = record {
+    roots = h.roots;
+    sizes = h.sizes;
+    closed = h.closed;
+    offers = h.offers;
+    waits = h.waits;
+    once = h.once;
+    used = λ label c. inl (h.used label c);
   }
 
   -- a label is added
-  pub Mirrors-label : (label : A) (closed : Bool) → (Contains labels label → ⊥) → ((closed ≡ true) ↔ IsShut label) → Mirrors spots (labels ++ label ∷ []) IsShut (with_label net closed)
-  Mirrors-label label closed new when = record {
+  pub Mirrors-label : (IsNew : A → Type 0) (label : A) (closed : Bool) → IsNew label
+      → (Contains labels label → ⊥) → ((closed ≡ true) ↔ IsShut label)
+      → MirrorsBut IsNew spots (labels ++ label ∷ []) IsShut (with_label net closed)
+  Mirrors-label IsNew label closed is new when = record {
     roots = h.roots;
     sizes = omega (arith, h.sizes, length_push labels label, length_push net.closed closed);
     closed = λ number other e.
@@ -99,11 +160,16 @@ module _ {A : Type 0} (spots : List (Spot A)) (labels : List A) (IsShut : A → 
     offers = offers-named labels (label ∷ []) net.offers (subst AreNamed (sym h.offers) (AreNamed-arrows offered_at 0 spots)) ∙ h.offers;
     waits = waits-named labels (label ∷ []) net.waits (subst AreNamed (sym h.waits) (AreNamed-arrows awaited_at 0 spots)) ∙ h.waits;
     once = all_pairs_push ◌≢◌ labels label h.once (λ k d l e. new (subst (Contains labels) e (Contains-get_or labels k d l)));
+    used = λ other c.
+        elim (Contains-push_cases labels label other c) [
+          | inl a ↦ inl (h.used other a)
+          | inr e ↦ inr (subst IsNew e is)
+        ];
   }
 
   -- other words for what is shut, and other flags that say so
   pub Mirrors-shut : (IsShut' : A → Type 0) (flags : List Bool) → length flags ≡ length net.closed → ((number : ℕ) (label : A) → slice_get labels number ≡ Some label → (get_or flags number false ≡ true) ↔ IsShut' label) → Mirrors spots labels IsShut' (record net { closed = flags })
-  Mirrors-shut IsShut' flags size when = record { roots = h.roots; sizes = size ∙ h.sizes; closed = when; offers = h.offers; waits = h.waits; once = h.once }
+  Mirrors-shut IsShut' flags size when = record { roots = h.roots; sizes = size ∙ h.sizes; closed = when; offers = h.offers; waits = h.waits; once = h.once; used = h.used }
 
 -- The last spot changes.
 
@@ -127,15 +193,20 @@ module _ {A : Type 0} (spots : List (Spot A)) (spot : Spot A) (labels : List A) 
     offers = h.offers ∙ arrows-push offered_at 0 spots spot ∙ sym (arrows-push offered_at 0 spots (rooted_spot spot));
     waits = h.waits ∙ arrows-push awaited_at 0 spots spot ∙ sym (arrows-push awaited_at 0 spots (rooted_spot spot));
     once = h.once;
+    used = λ label c.
+        IsUsed-other spots spot (rooted_spot spot) label (λ a. a) (λ a. a) (h.used label c);
   }
 
+-- It offers or awaits a label that may be new.
+module _ {A : Type 0} (spots : List (Spot A)) (spot : Spot A) (labels : List A) (IsShut : A → Type 0) (net : Net)
+    (label : A) (h : MirrorsBut (λ other. label ≡ other) (spots ++ spot ∷ []) labels IsShut net) where
   same-roots : (other : Spot A) → spot.rooted ≡ other.rooted → net.roots ≡ map (λ (s : Spot A). s.rooted) (spots ++ other ∷ [])
   same-roots other e =
       h.roots ∙ map_push (λ (s : Spot A). s.rooted) spots spot ∙ ap (λ b. map (λ (s : Spot A). s.rooted) spots ++ b ∷ []) e
       ∙ sym (map_push (λ (s : Spot A). s.rooted) spots other)
 
-  pub Mirrors-offer : (label : A) (number : ℕ) → slice_get labels number ≡ Some label → Mirrors (spots ++ offering_spot spot label ∷ []) labels IsShut (with_offer net (length spots) number)
-  Mirrors-offer label number at =
+  pub Mirrors-offer : (number : ℕ) → slice_get labels number ≡ Some label → Mirrors (spots ++ offering_spot spot label ∷ []) labels IsShut (with_offer net (length spots) number)
+  Mirrors-offer number at =
       let edge : Edge = record { from = length spots; to = number } in
       let here : offer_arrow labels edge ≡ arrow_at (0 + length spots) label =
       ap (λ (o : Option A). let arrow : Arrow A = record { node = length spots; label = o } in arrow) at
@@ -153,10 +224,19 @@ module _ {A : Type 0} (spots : List (Spot A)) (spot : Spot A) (labels : List A) 
             ∙ sym (arrows-push offered_at 0 spots (offering_spot spot label));
         waits = h.waits ∙ arrows-push awaited_at 0 spots spot ∙ sym (arrows-push awaited_at 0 spots (offering_spot spot label));
         once = h.once;
+        used = λ other c.
+            elim (h.used other c) [
+              | inl u ↦
+                  IsUsed-other spots spot (offering_spot spot label) other
+                  (Contains-append_left spot.offers (label ∷ []) other) (λ a. a) u
+              | inr e ↦
+                  IsUsed-last spots (offering_spot spot label) other
+                  (inl (subst (Contains (spot.offers ++ label ∷ [])) e (Contains-push spot.offers label)))
+            ];
       }
 
-  pub Mirrors-wait : (label : A) (number : ℕ) → spot.awaits ≡ None → slice_get labels number ≡ Some label → Mirrors (spots ++ awaiting_spot spot label ∷ []) labels IsShut (with_wait net number (length spots))
-  Mirrors-wait label number none at =
+  pub Mirrors-wait : (number : ℕ) → spot.awaits ≡ None → slice_get labels number ≡ Some label → Mirrors (spots ++ awaiting_spot spot label ∷ []) labels IsShut (with_wait net number (length spots))
+  Mirrors-wait number none at =
       let edge : Edge = record { from = number; to = length spots } in
       let here : wait_arrow labels edge ≡ arrow_at (0 + length spots) label =
       ap (λ (o : Option A). let arrow : Arrow A = record { node = length spots; label = o } in arrow) at
@@ -177,4 +257,13 @@ module _ {A : Type 0} (spots : List (Spot A)) (spot : Spot A) (labels : List A) 
             ∙ ap (λ arrow. arrows_from awaited_at 0 spots ++ arrow ∷ []) here
             ∙ sym (arrows-push awaited_at 0 spots (awaiting_spot spot label));
         once = h.once;
+        used = λ other c.
+            elim (h.used other c) [
+              | inl u ↦
+                  IsUsed-other spots spot (awaiting_spot spot label) other (λ a. a)
+                  (λ a. absurd (none-some other (sym none ∙ a))) u
+              | inr e ↦
+                  IsUsed-last spots (awaiting_spot spot label) other
+                  (inr (ap (λ (x : A). Some x) e))
+            ];
       }

@@ -1,5 +1,5 @@
 -- What ties a net of nodes and labels to what stands at its nodes
-use Rattle.std.specs.Prelude.{◌≡◌, ◌≢◌, ◌↔◌, ℕ, ◌+◌, Bool, true, false, length, List, [], ◌∷◌, ◌++◌, map, Option, Some, None, slice_get, AllPairs}
+use Rattle.std.specs.Prelude.{◌≡◌, ◌≢◌, ◌↔◌, ◌⊎◌, ℕ, ◌+◌, Bool, true, false, length, List, [], ◌∷◌, ◌++◌, map, Option, Some, None, slice_get, AllPairs, Contains}
 use Rattle.std.specs.Option.{option_to_list}
 use Rattle.wait_index.specs.declared.edges.Edge.{Edge}
 use Rattle.wait_index.specs.Net.{Net, is_closed}
@@ -36,8 +36,15 @@ offer_arrow labels edge = record { node = edge.from; label = slice_get labels ed
 abbrev pub wait_arrow : {A : Type 0} → List A → Edge → Arrow A
 wait_arrow labels edge = record { node = edge.to; label = slice_get labels edge.from }
 
--- The net has one node for each spot, one label for each of `labels`, which are different, closed exactly where it is
--- shut, for each spot as many offer edges as it has offers and a wait edge where it awaits, and no other.
+-- Some spot offers the label or awaits it.
+pub record IsUsed {A : Type 0} (spots : List (Spot A)) (label : A) : Type 0 where
+  pub spot : Spot A
+  pub stands : Contains spots spot
+  pub uses : Contains spot.offers label ⊎ (spot.awaits ≡ Some label)
+
+-- The net has one node for each spot, for each spot as many offer edges as it has offers and a wait edge where it
+-- awaits, one label for each that is offered or awaited, and no other of these. The labels are different, and closed
+-- exactly where they are shut.
 pub record Mirrors {A : Type 0} (spots : List (Spot A)) (labels : List A) (IsShut : A → Type 0) (net : Net) : Type 0 where
   pub roots : net.roots ≡ map (λ spot. spot.rooted) spots
   pub sizes : length net.closed ≡ length labels
@@ -45,6 +52,7 @@ pub record Mirrors {A : Type 0} (spots : List (Spot A)) (labels : List A) (IsShu
   pub offers : map (offer_arrow labels) net.offers ≡ arrows_from offered_at 0 spots
   pub waits : map (wait_arrow labels) net.waits ≡ arrows_from awaited_at 0 spots
   pub once : AllPairs ◌≢◌ labels
+  pub used : (label : A) → Contains labels label → IsUsed spots label
 
 -- a spot without any of it
 abbrev pub bare : {A : Type 0} → Spot A

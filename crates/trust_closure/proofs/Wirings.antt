@@ -20,7 +20,7 @@ use Rattle.label_net.specs.Labels.{Wired, HasNumber, HasNode, Offers, Awaits, Is
 use Rattle.label_net.specs.Spots.{Spot, Mirrors, bare}
 use Rattle.label_net.proofs.Arrows.{Contains-from_map}
 use Rattle.label_net.proofs.Edges.{slice_get-map_at, slice_get-Contains}
-use Rattle.label_net.proofs.Mirroring.{rooted_spot, offering_spot, awaiting_spot, length-roots, Mirrors-node, Mirrors-label, Mirrors-root, Mirrors-offer, Mirrors-wait}
+use Rattle.label_net.proofs.Mirroring.{rooted_spot, offering_spot, awaiting_spot, length-roots, MirrorsBut, Mirrors-but, Mirrors-node, Mirrors-label, Mirrors-root, Mirrors-offer, Mirrors-wait}
 use Rattle.trust_closure.specs.NetOf.{IsShutBy, triple_by, IsLabelOf, IsWiringOf, Widens}
 use Rattle.trust_closure.proofs.RisingFacts.{each_has}
 
@@ -68,7 +68,8 @@ module _ (domains : List (List ℕ)) (rising : IsStrictlySortedBy domain_cmp dom
 
   pub record IsNumbered (records : List Distrust) (spots : List (Spot Triple)) (more : List Label) (wider : Net) (number : ℕ) (t : Triple) : Type 0 where
     pub within : All (λ (label : Label). label.domain < length domains) more
-    pub mirrors : Mirrors spots (map (triple_by domains) more) (IsShutBy records) wider
+    pub mirrors : MirrorsBut (λ other. t ≡ other) spots (map (triple_by domains) more)
+        (IsShutBy records) wider
     pub named : slice_get (map (triple_by domains) more) number ≡ Some t
 
   numbered : (records : List Distrust) (spots : List (Spot Triple)) (labels : List Label) (net : Net) (label : Label) (closed : Bool) (more : List Label) (wider : Net) (number : ℕ) (t : Triple)
@@ -80,7 +81,12 @@ module _ (domains : List (List ℕ)) (rising : IsStrictlySortedBy domain_cmp dom
       elim h.grown [
         | inl same ↦ record {
           within = All-same (λ (x : Label). x.domain < length domains) more labels same.0 within;
-          mirrors = subst (λ ls. Mirrors spots (map (triple_by domains) ls) (IsShutBy records) wider) (sym same.0) (subst (Mirrors spots (map (triple_by domains) labels) (IsShutBy records)) (sym same.1) mirrors);
+          mirrors = Mirrors-but spots (map (triple_by domains) more) (IsShutBy records) wider
+              (subst (λ ls. Mirrors spots (map (triple_by domains) ls) (IsShutBy records) wider)
+              (sym same.0)
+              (subst (Mirrors spots (map (triple_by domains) labels) (IsShutBy records))
+              (sym same.1) mirrors))
+              (λ other. t ≡ other);
           named = named;
         }
         | inr new ↦
@@ -88,13 +94,17 @@ module _ (domains : List (List ℕ)) (rising : IsStrictlySortedBy domain_cmp dom
             let f = Contains-from_map (triple_by domains) labels (triple_by domains label) c in
             new.0 (subst (Contains labels) (triple-one_label f.0 label (All-contains (λ (x : Label). x.domain < length domains) labels f.0 within f.1) l f.2) f.1)
             in
-            let on = Mirrors-label spots (map (triple_by domains) labels) (IsShutBy records) net mirrors (triple_by domains label) closed fresh
+            let on = Mirrors-label spots (map (triple_by domains) labels) (IsShutBy records) net mirrors (λ other. t ≡ other) (triple_by domains label) closed (sym is) fresh
             (λ e. subst (IsShutBy records) (sym is) (when.0 e), λ s. when.1 (subst (IsShutBy records) is s))
             in
             let lists : map (triple_by domains) more ≡ map (triple_by domains) labels ++ triple_by domains label ∷ [] = ap (map (triple_by domains)) new.1 ∙ map_push (triple_by domains) labels label in
             record {
               within = All-same (λ (x : Label). x.domain < length domains) more (labels ++ label ∷ []) new.1 (All-push (λ (x : Label). x.domain < length domains) labels label within l);
-              mirrors = subst (λ ts. Mirrors spots ts (IsShutBy records) wider) (sym lists) (subst (Mirrors spots (map (triple_by domains) labels ++ triple_by domains label ∷ []) (IsShutBy records)) (sym new.2) on);
+              mirrors = subst (λ ts. MirrorsBut (λ other. t ≡ other) spots ts (IsShutBy records) wider)
+                  (sym lists)
+                  (subst (MirrorsBut (λ other. t ≡ other) spots
+                  (map (triple_by domains) labels ++ triple_by domains label ∷ []) (IsShutBy records))
+                  (sym new.2) on);
               named = named;
             }
       ]
@@ -123,7 +133,7 @@ module _ (domains : List (List ℕ)) (rising : IsStrictlySortedBy domain_cmp dom
         record {
           within = n.within;
           mirrors = subst (Mirrors (spots ++ offering_spot spot t ∷ []) (map (triple_by domains) new.labels) (IsShutBy records)) (sym (o.net ∙ ap (λ k. with_offer o.wider k o.number) at))
-              (Mirrors-offer spots spot (map (triple_by domains) new.labels) (IsShutBy records) o.wider n.mirrors t o.number n.named);
+              (Mirrors-offer spots spot (map (triple_by domains) new.labels) (IsShutBy records) o.wider t n.mirrors o.number n.named);
         }
 
     pub wiring-wait : (spot : Spot Triple) (node : ℕ) (label : Label) (closed : Bool) (t : Triple) → node ≡ length spots → spot.awaits ≡ None → label.domain < length domains → triple_by domains label ≡ t → ((closed ≡ true) ↔ IsShutBy records t) → IsWiringOf domains records (spots ++ spot ∷ []) old → Awaits old node label closed new → IsWiringOf domains records (spots ++ awaiting_spot spot t ∷ []) new
@@ -132,7 +142,7 @@ module _ (domains : List (List ℕ)) (rising : IsStrictlySortedBy domain_cmp dom
         record {
           within = n.within;
           mirrors = subst (Mirrors (spots ++ awaiting_spot spot t ∷ []) (map (triple_by domains) new.labels) (IsShutBy records)) (sym (o.net ∙ ap (λ k. with_wait o.wider o.number k) at))
-              (Mirrors-wait spots spot (map (triple_by domains) new.labels) (IsShutBy records) o.wider n.mirrors t o.number none n.named);
+              (Mirrors-wait spots spot (map (triple_by domains) new.labels) (IsShutBy records) o.wider t n.mirrors o.number none n.named);
         }
 
 -- ---- labels of triples

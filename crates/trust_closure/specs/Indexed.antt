@@ -83,8 +83,9 @@ abbrev pub indexed_of : Hoard → Wired → Spare → Indexed
 indexed_of h w s = record { state = state_of h s; arrived = h.arrived; wired = w }
 
 -- The index has one node for each configured document, which is marked, and one for each receipt, in order of arrival,
--- for each receipt one wait edge, for each node as many offer edges as it has offers, and no other; the labels of
--- distrusted keys are closed. A receipt's node is marked exactly where an accepted document vouches for it.
+-- for each receipt one wait edge, for each node as many offer edges as it has offers, and no other, one label for each
+-- triple that is offered or awaited, and no other label; the labels of distrusted keys are closed. A receipt's node is
+-- marked exactly where an accepted document vouches for it.
 pub record IsIndexOf (i : Indexed) : Type 0 where
   pub labels : List Triple
   pub net : IsNetOf i.state.meaning.config.seeds i.arrived i.state.meaning.records labels i.wired.net
