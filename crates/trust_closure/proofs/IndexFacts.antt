@@ -414,6 +414,7 @@ pub reserves-from : (h new : Hoard) (p q : Paired) (w v : Wired) (spare more : S
 reserves-from h new p q w v spare more k is numbers firsts flags r room receipts offers = record {
   meaning = ap meaning_of is;
   arrived = ap (λ (x : Hoard). x.arrived) is;
+  marked = r.marked;
   kept = record { indexed = indexed-roomier h new p q w v k.indexed is numbers firsts flags r; room = room };
   roomier = record { receipts = receipts; offers = offers };
 }

@@ -1,5 +1,5 @@
 -- What an indexed closure keeps
-use Rattle.std.specs.Prelude.{◌≡◌, ◌≢◌, ◌↔◌, AllPairs, ◌+◌, ◌^◌, ◌<◌, ◌≤◌, ℕ, true, false, map, List, Contains, length, slice_get, Some}
+use Rattle.std.specs.Prelude.{◌≡◌, ◌≢◌, ◌↔◌, AllPairs, ◌+◌, ◌^◌, ◌<◌, ◌≤◌, ℕ, true, false, map, List, [], ◌∷◌, ◌++◌, Contains, length, slice_get, Some, take, Result, MatchResult}
 use Rattle.fed_config.specs.Configuration.{AreDomains}
 use Rattle.fed_config.specs.declared.seed.Seed.{Seed}
 use Rattle.receipt_core.specs.declared.distrust.Distrust.{Distrust}
@@ -16,6 +16,9 @@ use Rattle.trust_closure.specs.Pairs.{Paired, IsPairing}
 use Rattle.trust_closure.specs.Refusals.{Room, IsRoomier}
 use Rattle.trust_closure.specs.Changes.{State}
 use Rattle.trust_closure.specs.declared.indexed.Spare.{Spare}
+use Rattle.trust_closure.specs.declared.outcome.Refused.{Refused}
+use Rattle.trust_closure.specs.declared.outcome.Taken.{Taken}
+use Rattle.trust_closure.specs.declared.outcome.Taken.TheVariants.{New as TakenNew, Already as TakenAlready}
 
 -- The index has exactly the nodes and edges of what is held, its reached nodes are marked, and each different document
 -- has its number.
@@ -70,6 +73,7 @@ state_of h s = record { meaning = meaning_of h; room = room_of s }
 pub record Reserves (h new : Hoard) (p q : Paired) (w v : Wired) (room more : Spare) : Type 0 where
   pub meaning : meaning_of new ≡ meaning_of h
   pub arrived : new.arrived ≡ h.arrived
+  pub marked : v.marked ≡ w.marked
   pub kept : IsKept new q v more
   pub roomier : IsRoomier (room_of room) (room_of more)
 
@@ -94,6 +98,22 @@ pub record IsIndexOf (i : Indexed) : Type 0 where
   pub seeds : (node : ℕ) → node < length i.state.meaning.config.seeds → Contains i.wired.marked node
   pub receipts : (place : ℕ) (r : Receipt) → slice_get i.arrived place ≡ Some r
       → Contains i.wired.marked (length i.state.meaning.config.seeds + place) ↔ IsReleased i.state.meaning r
+
+-- the receipts in order of arrival once this one was taken: one that was not held comes last
+abbrev pub arrived_with : List Receipt → Receipt → Taken → List Receipt
+arrived_with arrived r (TakenNew accepted_now) = arrived ++ r ∷ []
+arrived_with arrived r TakenAlready = arrived
+
+-- A receipt that was not held arrives last, and one that is refused does not arrive.
+abbrev pub ArrivesLast : List Receipt → Receipt → List Receipt → Result Taken Refused → Type 0
+ArrivesLast old r new result =
+    MatchResult result (λ taken. new ≡ arrived_with old r taken) (λ refused. new ≡ old)
+
+-- A receipt that was not held arrives last. Each node that was marked stays marked, in its place.
+pub record GrowsAtItsEnd (old : Indexed) (r : Receipt) (new : Indexed) (result : Result Taken Refused)
+    : Type 0 where
+  pub arrived : ArrivesLast old.arrived r new.arrived result
+  pub marked : take (length old.wired.marked) new.wired.marked ≡ old.wired.marked
 
 -- The index and the different documents of these configured documents, before a flag is raised.
 pub record IsSeeded (h : Hoard) (seeds : List Seed) (p : Paired) (w : Wired) : Type 0 where

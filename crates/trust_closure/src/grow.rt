@@ -36,6 +36,7 @@ pub(crate) fn add(
     ensures indexed { IsIndexed held.new pairs.new wiring.new }
     ensures held { held.new ≡ record held.old { arrived = held.old.arrived ++ receipt ∷ []; held = with_receipt receipt held.old.held } }
     ensures gain { IsGain (meaning_of held.old) (meaning_of held.new) result }
+    ensures front { take (length wiring.old.marked) wiring.new.marked ≡ wiring.old.marked }
     ensures firsts { length pairs.new.firsts ≡ length pairs.old.firsts + 1 }
     ensures pairs_room { pairs.new.capacity ≡ pairs.old.capacity }
     ensures nodes { wiring.old.nodes ≡ wiring.new.nodes + 1 }

@@ -1,10 +1,10 @@
 //! Takes and distrusts over an index.
-ghost use Rattle.std.specs.Prelude.{◌≡◌, ℕ, ◌+◌, ◌^◌, ◌<◌, ◌≤◌, ◌∷◌, ◌++◌, [], length, IsOk, OnOk};
+ghost use Rattle.std.specs.Prelude.{◌≡◌, ℕ, ◌+◌, ◌^◌, ◌<◌, ◌≤◌, ◌∷◌, ◌++◌, [], length, take, IsOk, OnOk};
 ghost use Rattle.receipt_core.specs.Receipt.{pair_of, offers_of, with_receipt};
 ghost use Rattle.trust_closure.specs.Changes.{Takes};
 ghost use Rattle.trust_closure.specs.Refusals.{IsRoomier};
 ghost use Rattle.trust_closure.specs.Held.{meaning_of};
-ghost use Rattle.trust_closure.specs.Indexed.{IsKept, Reserves, room_of, state_of};
+ghost use Rattle.trust_closure.specs.Indexed.{IsKept, Reserves, ArrivesLast, room_of, state_of};
 
 use crate::error::TakeError;
 use crate::grow::add;
@@ -36,6 +36,8 @@ pub(crate) fn take_into(
     requires { IsKept held.old pairs.old wiring.old spare.old }
     ensures kept { IsKept held.new pairs.new wiring.new spare.new }
     ensures takes { Takes (state_of held.old spare.old) receipt (state_of held.new spare.new) result }
+    ensures arrived { ArrivesLast held.old.arrived receipt held.new.arrived result }
+    ensures marked { take (length wiring.old.marked) wiring.new.marked ≡ wiring.old.marked }
 {
     let place = match held.standing(&receipt) {
         Ok(Standing::Present) => return Ok(Taken::Already),

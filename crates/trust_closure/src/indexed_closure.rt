@@ -47,7 +47,7 @@ impl Model for IndexedClosure {
 }
 
 impl IndexedClosure {
-    ghost use Rattle.trust_closure.specs.Indexed.{IsIndexOf};
+    ghost use Rattle.trust_closure.specs.Indexed.{IsIndexOf, GrowsAtItsEnd};
 
     /// A closure of the configuration that holds no receipt and no record of distrust. It makes room for all records.
     ///
@@ -82,8 +82,11 @@ impl IndexedClosure {
     }
 
     /// Takes a receipt: it is held from now on, whether or not an accepted document vouches for it.
+    /// A receipt that was not held comes last, and what was marked stays marked, in its place: the index
+    /// is not built anew.
     pub fn take(&mut self, receipt: Receipt) -> Result<Taken, Refused>
-        ensures { Takes self.old.state receipt self.new.state result }
+        ensures takes { Takes self.old.state receipt self.new.state result }
+        ensures grows { GrowsAtItsEnd self.old receipt self.new result }
     {
         take_into(
             &mut self.held,
