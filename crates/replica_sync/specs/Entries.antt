@@ -93,7 +93,7 @@ abbrev pub IsNoLineOf : Wanted → List ℕ → Type 0
 IsNoLineOf wanted text = (8388608 < length text) ⊎ IsNoEntry wanted text
 
 -- It is one that may stand there, and not greater than the line before.
-pub record IsFallen (wanted : Wanted) (last text : List ℕ) : Type 0 where
+pub record IsNotAbove (wanted : Wanted) (last text : List ℕ) : Type 0 where
   pub entry : Entry
   pub is : IsEntry wanted text entry
   pub below : IsAbove last text → ⊥
@@ -110,7 +110,7 @@ RefusesText wanted last number text BadHeader = ⊥
 RefusesText wanted last number text ConfigDiffers = ⊥
 RefusesText wanted last number text VersionDiffers = ⊥
 RefusesText wanted last number text (NotCanonical n) = (n ≡ number) × IsNoLineOf wanted text
-RefusesText wanted last number text (NotRising n) = (n ≡ number) × IsFallen wanted last text
+RefusesText wanted last number text (NotRising n) = (n ≡ number) × IsNotAbove wanted last text
 RefusesText wanted last number text BadCount = ⊥
 RefusesText wanted last number text Truncated = ⊥
 RefusesText wanted last number text (Refused n why) = ⊥
@@ -123,7 +123,7 @@ RefusesLine wanted m last number text BadHeader = ⊥
 RefusesLine wanted m last number text ConfigDiffers = ⊥
 RefusesLine wanted m last number text VersionDiffers = ⊥
 RefusesLine wanted m last number text (NotCanonical n) = (n ≡ number) × IsNoLineOf wanted text
-RefusesLine wanted m last number text (NotRising n) = (n ≡ number) × IsFallen wanted last text
+RefusesLine wanted m last number text (NotRising n) = (n ≡ number) × IsNotAbove wanted last text
 RefusesLine wanted m last number text BadCount = ⊥
 RefusesLine wanted m last number text Truncated = ⊥
 RefusesLine wanted m last number text (Refused n why) = (n ≡ number) × (why ≢ NoTakeMemory) × IsRefused wanted m last text why
