@@ -1,5 +1,5 @@
 -- What an indexed closure keeps
-use Rattle.std.specs.Prelude.{◌≡◌, ◌≢◌, ◌↔◌, AllPairs, ◌+◌, ◌^◌, ◌<◌, ◌≤◌, ℕ, true, false, map, List, [], ◌∷◌, ◌++◌, Contains, length, slice_get, Some, take, Result, MatchResult}
+use Rattle.std.specs.Prelude.{◌≡◌, ◌≢◌, ◌↔◌, AllPairs, ◌+◌, ◌^◌, ◌<◌, ◌≤◌, ℕ, true, false, map, List, Contains, length, slice_get, Some}
 use Rattle.fed_config.specs.Configuration.{AreDomains}
 use Rattle.fed_config.specs.declared.seed.Seed.{Seed}
 use Rattle.receipt_core.specs.declared.distrust.Distrust.{Distrust}
@@ -16,6 +16,7 @@ use Rattle.trust_closure.specs.Pairs.{Paired, IsPairing}
 use Rattle.trust_closure.specs.Refusals.{Room, IsRoomier}
 use Rattle.trust_closure.specs.Changes.{State}
 use Rattle.trust_closure.specs.declared.indexed.Spare.{Spare}
+use Rattle.std.specs.Prelude.{[], ◌∷◌, ◌++◌, take, Result, MatchResult}
 use Rattle.trust_closure.specs.declared.outcome.Refused.{Refused}
 use Rattle.trust_closure.specs.declared.outcome.Taken.{Taken}
 use Rattle.trust_closure.specs.declared.outcome.Taken.TheVariants.{New as TakenNew, Already as TakenAlready}
@@ -99,6 +100,15 @@ pub record IsIndexOf (i : Indexed) : Type 0 where
   pub receipts : (place : ℕ) (r : Receipt) → slice_get i.arrived place ≡ Some r
       → Contains i.wired.marked (length i.state.meaning.config.seeds + place) ↔ IsReleased i.state.meaning r
 
+-- The index and the different documents of these configured documents, before a flag is raised.
+pub record IsSeeded (h : Hoard) (seeds : List Seed) (p : Paired) (w : Wired) : Type 0 where
+  pub pairing : IsPairing (pairs_of seeds h.arrived) p
+  pub lowered : (number : ℕ) → is_raised p.flags number ≡ false
+  pub room : length p.firsts ≤ p.capacity
+  pub firsts : length p.firsts ≡ length seeds
+  pub wired : (domains : List (List ℕ)) → AreDomains h.config domains → IsWiringOf domains h.records (map spot_of_seed seeds) w
+  pub reached : ListsReached w.net w.marked
+
 -- the receipts in order of arrival once this one was taken: one that was not held comes last
 abbrev pub arrived_with : List Receipt → Receipt → Taken → List Receipt
 arrived_with arrived r (TakenNew accepted_now) = arrived ++ r ∷ []
@@ -114,12 +124,3 @@ pub record GrowsAtItsEnd (old : Indexed) (r : Receipt) (new : Indexed) (result :
     : Type 0 where
   pub arrived : ArrivesLast old.arrived r new.arrived result
   pub marked : take (length old.wired.marked) new.wired.marked ≡ old.wired.marked
-
--- The index and the different documents of these configured documents, before a flag is raised.
-pub record IsSeeded (h : Hoard) (seeds : List Seed) (p : Paired) (w : Wired) : Type 0 where
-  pub pairing : IsPairing (pairs_of seeds h.arrived) p
-  pub lowered : (number : ℕ) → is_raised p.flags number ≡ false
-  pub room : length p.firsts ≤ p.capacity
-  pub firsts : length p.firsts ≡ length seeds
-  pub wired : (domains : List (List ℕ)) → AreDomains h.config domains → IsWiringOf domains h.records (map spot_of_seed seeds) w
-  pub reached : ListsReached w.net w.marked
