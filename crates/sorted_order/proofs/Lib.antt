@@ -1,4 +1,5 @@
 pub mod BlockFacts
+pub mod SumFacts
 pub mod SearchFacts
 pub mod PickedFacts
 pub mod OrderFacts

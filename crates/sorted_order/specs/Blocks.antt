@@ -2,7 +2,7 @@
 use Rattle.std.specs.Prelude.{◌≡◌, ◌≢◌, ℕ, ◌+◌, ◌-◌, ◌*◌, ◌^◌, ◌<◌, ◌≤◌, zero, suc, List, [], ◌∷◌, ◌++◌, length, take, drop, slice_index, slice_index_or}
 use Rattle.std.specs.declared.cmp.Ordering.{Ordering}
 use Rattle.std.specs.declared.cmp.Ordering.TheVariants.{Less}
-use Rattle.std.specs.List.{concat, insert}
+use Rattle.std.specs.List.{concat, insert, sum}
 
 -- Each block holds at least half of what it can hold.
 abbrev pub AreHalfFull : List (List ℕ) → Type 0
@@ -57,14 +57,22 @@ pub record IsEdgeBlock (compared : ℕ → Ordering) (blocks : List (List ℕ)) 
 abbrev pub capacity_of : ℕ → ℕ → ℕ
 capacity_of blocks spare = 256 * (blocks + spare - 1)
 
+-- There is a sum for each group of 64 blocks, and those of the first groups add up to how many
+-- numbers stand before the next group.
+pub record AreSums (sums : List ℕ) (blocks : List (List ℕ)) : Type 0 where
+  pub all : length blocks ≤ 64 * length sums
+  pub each : (group : ℕ) → group ≤ length sums → sum (take group sums) ≡ length_before blocks (64 * group)
+
 -- What an order keeps.
-pub record AreKept (blocks : List (List ℕ)) (spare count directory : ℕ) : Type 0 where
+pub record AreKept (blocks : List (List ℕ)) (sums : List ℕ) (spare count directory : ℕ) : Type 0 where
   pub counted : count ≡ length (concat blocks)
   pub roomy : count ≤ capacity_of (length blocks) spare
   pub filled : AreFilled blocks
   pub first : 0 < spare → 0 < length blocks
   pub listed : length blocks + spare ≤ directory
   pub few : length blocks + spare ≤ 2 ^ 24
+  pub summed : AreSums sums blocks
+  pub grouped : length blocks + spare ≤ 64 * length sums
 
 -- What is left to lend: so many of the numbers here and in the blocks, none of which is empty.
 pub record IsLeft (numbers : List ℕ) (blocks : List (List ℕ)) (left : ℕ) : Type 0 where

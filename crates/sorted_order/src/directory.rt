@@ -1,14 +1,29 @@
 //! Calls over the blocks of a sequence.
 ghost use Rattle.std.specs.Prelude.{◌≡◌, ℕ, ◌+◌, ◌-◌, ◌*◌, ◌^◌, ◌<◌, ◌≤◌, length, vec_capacity, OnOk};
 ghost use Rattle.std.specs.List.{concat, insert};
-ghost use Rattle.sorted_order.specs.Blocks.{AreFilled, block_at, length_before, put, halved, IsSpot, capacity_of};
+ghost use Rattle.sorted_order.specs.Blocks.{AreFilled, AreSums, block_at, put, halved, IsSpot, capacity_of};
 
 use crate::block::{BLOCK, Block, HALF};
+use crate::sums::{GROUP, add_groups, count_one, group_at, sum_up};
 use std::alloc::{AllocError, Global};
 
 /// The block in which a place of the sequence lies, and the place in it. At the border of two
 /// blocks it is the end of the earlier one.
-pub(crate) fn locate(blocks: &[Block], at: usize) -> (usize, usize)
+pub(crate) fn locate(blocks: &[Block], sums: &[usize], at: usize) -> (usize, usize)
+    requires place { at ≤ length (concat blocks.now) }
+    requires some { 0 < length blocks.now }
+    requires summed { AreSums sums.now blocks.now }
+    ensures spot { IsSpot blocks.now at result.0 result.1 }
+    ensures earlier { 0 < at → 0 < result.1 }
+{
+    let (group, rest) = group_at(sums, at);
+    let first = group * GROUP;
+    let (block, place) = locate_among(&blocks[first..], rest);
+    (first + block, place)
+}
+
+/// The same, by the lengths of the blocks alone.
+fn locate_among(blocks: &[Block], at: usize) -> (usize, usize)
     requires place { at ≤ length (concat blocks.now) }
     requires some { 0 < length blocks.now }
     ensures spot { IsSpot blocks.now at result.0 result.1 }
@@ -23,57 +38,67 @@ pub(crate) fn locate(blocks: &[Block], at: usize) -> (usize, usize)
     (block, within)
 }
 
-/// How many numbers stand before a block.
-pub(crate) fn length_before_block(blocks: &[Block], block: usize) -> usize
-    requires block { block ≤ length blocks.now }
-    requires few { length (concat blocks.now) < 2 ^ 64 }
-    ensures { result ≡ length_before blocks.now block }
-{
-    let mut before = 0;
-    for i in 0..block {
-        before += blocks[i].len();
-    }
-    before
-}
-
 /// Puts a number into the sequence.
-pub(crate) fn put_number(blocks: &mut Vec<Block>, spare: &mut Vec<Block>, at: usize, number: u32)
+pub(crate) fn put_number(
+    blocks: &mut Vec<Block>,
+    spare: &mut Vec<Block>,
+    sums: &mut [usize],
+    at: usize,
+    number: u32,
+)
     requires place { at ≤ length (concat blocks.old.items) }
     requires filled { AreFilled blocks.old.items }
     requires room { length (concat blocks.old.items) < capacity_of (length blocks.old.items) (length spare.old.items) }
     requires first { 0 < length spare.old.items → 0 < length blocks.old.items }
     requires directory { length blocks.old.items + length spare.old.items ≤ vec_capacity blocks.old }
+    requires few { length (concat blocks.old.items) < 2 ^ 32 }
+    requires summed { AreSums sums.old blocks.old.items }
+    requires grouped { length blocks.old.items + length spare.old.items ≤ 64 * length sums.old }
     ensures items { concat blocks.new.items ≡ insert (concat blocks.old.items) at number }
     ensures filled { AreFilled blocks.new.items }
     ensures blocks { length blocks.new.items + length spare.new.items ≡ length blocks.old.items + length spare.old.items }
     ensures some { 0 < length blocks.new.items }
     ensures directory { vec_capacity blocks.new ≡ vec_capacity blocks.old }
+    ensures summed { AreSums sums.new blocks.new.items }
+    ensures groups { length sums.new ≡ length sums.old }
 {
-    let (block, place) = make_room(blocks, spare, at);
+    let (block, place) = make_room(blocks, spare, sums, at);
     put_into(blocks, block, place, number);
+    count_one(sums, block);
 }
 
 /// The block in which a place lies, and the place in it. If it is full, it is cut into halves
 /// first.
-fn make_room(blocks: &mut Vec<Block>, spare: &mut Vec<Block>, at: usize) -> (usize, usize)
+fn make_room(
+    blocks: &mut Vec<Block>,
+    spare: &mut Vec<Block>,
+    sums: &mut [usize],
+    at: usize,
+) -> (usize, usize)
     requires place { at ≤ length (concat blocks.old.items) }
     requires filled { AreFilled blocks.old.items }
     requires room { length (concat blocks.old.items) < capacity_of (length blocks.old.items) (length spare.old.items) }
     requires first { 0 < length spare.old.items → 0 < length blocks.old.items }
     requires directory { length blocks.old.items + length spare.old.items ≤ vec_capacity blocks.old }
+    requires few { length (concat blocks.old.items) < 2 ^ 32 }
+    requires summed { AreSums sums.old blocks.old.items }
+    requires grouped { length blocks.old.items + length spare.old.items ≤ 64 * length sums.old }
     ensures spot { IsSpot blocks.new.items at result.0 result.1 }
     ensures room { length (block_at blocks.new.items result.0) < 512 }
     ensures items { concat blocks.new.items ≡ concat blocks.old.items }
     ensures filled { AreFilled blocks.new.items }
     ensures blocks { length blocks.new.items + length spare.new.items ≡ length blocks.old.items + length spare.old.items }
     ensures directory { vec_capacity blocks.new ≡ vec_capacity blocks.old }
+    ensures summed { AreSums sums.new blocks.new.items }
+    ensures groups { length sums.new ≡ length sums.old }
 {
-    let (block, place) = locate(blocks.as_slice(), at);
+    let (block, place) = locate(blocks.as_slice(), sums, at);
     let len = blocks[block].len();
     if len < BLOCK {
         return (block, place);
     }
     split(blocks, spare, block);
+    sum_up(blocks.as_slice(), sums);
     if place <= HALF {
         return (block, place);
     }
@@ -113,12 +138,16 @@ fn split(blocks: &mut Vec<Block>, spare: &mut Vec<Block>, block: usize)
 pub(crate) fn add_blocks(
     blocks: &mut Vec<Block>,
     spare: &mut Vec<Block>,
+    sums: &mut Vec<usize>,
     wanted: usize,
 ) -> Result<(), AllocError>
     requires filled { AreFilled blocks.old.items }
     requires first { 0 < length spare.old.items → 0 < length blocks.old.items }
     requires listed { length blocks.old.items + length spare.old.items ≤ vec_capacity blocks.old }
     requires more { length blocks.old.items + length spare.old.items < wanted }
+    requires few { length (concat blocks.old.items) < 2 ^ 32 }
+    requires summed { AreSums sums.old.items blocks.old.items }
+    requires grouped { length blocks.old.items + length spare.old.items ≤ 64 * length sums.old.items }
     ensures items { concat blocks.new.items ≡ concat blocks.old.items }
     ensures filled { AreFilled blocks.new.items }
     ensures first { 0 < length spare.new.items → 0 < length blocks.new.items }
@@ -126,8 +155,11 @@ pub(crate) fn add_blocks(
     ensures more { length blocks.old.items + length spare.old.items ≤ length blocks.new.items + length spare.new.items }
     ensures most { length blocks.new.items + length spare.new.items ≤ wanted }
     ensures ok { OnOk result (length blocks.new.items + length spare.new.items ≡ wanted) }
+    ensures summed { AreSums sums.new.items blocks.new.items }
+    ensures grouped { length blocks.new.items + length spare.new.items ≤ 64 * length sums.new.items }
 {
     blocks.try_reserve(wanted - blocks.len())?;
+    add_groups(blocks.as_slice(), sums, wanted)?;
     if blocks.is_empty() {
         let first = Block::try_new(*blocks.allocator())?;
         blocks.push_reserved(first);

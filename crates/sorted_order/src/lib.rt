@@ -11,6 +11,7 @@ mod numbers;
 mod order;
 mod probe;
 mod search;
+mod sums;
 
 pub use arena::Arena;
 pub use lent::Lent;

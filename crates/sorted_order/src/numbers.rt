@@ -2,7 +2,7 @@
 ghost use Rattle.std.specs.Prelude.{◌≡◌, ℕ, ◌+◌, ◌<◌, ◌≤◌, ◌∷◌, ◌++◌, length, take, drop};
 ghost use Rattle.std.specs.List.{concat};
 ghost use Rattle.std.specs.Iterator.{YieldsFirst, item_count};
-ghost use Rattle.sorted_order.specs.Blocks.{AreFilled, AreHalfFull};
+ghost use Rattle.sorted_order.specs.Blocks.{AreFilled, AreHalfFull, AreSums};
 
 use crate::block::Block;
 use crate::directory::locate;
@@ -29,8 +29,9 @@ impl<'a> Model for Numbers<'a> {
 }
 
 impl<'a> Numbers<'a> {
-    pub(crate) fn new(blocks: &'a [Block], at: usize, numbers: usize) -> Self
+    pub(crate) fn new(blocks: &'a [Block], sums: &[usize], at: usize, numbers: usize) -> Self
         requires filled { AreFilled blocks.now }
+        requires summed { AreSums sums.now blocks.now }
         requires within { at + numbers ≤ length (concat blocks.now) }
         ensures { result ≡ take numbers (drop at (concat blocks.now)) }
     {
@@ -41,7 +42,7 @@ impl<'a> Numbers<'a> {
                 left: 0,
             };
         }
-        let (block, place) = locate(blocks, at);
+        let (block, place) = locate(blocks, sums, at);
         Numbers {
             here: &blocks[block].as_slice()[place..],
             blocks: &blocks[block + 1..],

@@ -4,10 +4,11 @@ ghost use Rattle.std.specs.List.{All, filter, insert};
 ghost use Rattle.sorted_order.specs.Sought.{IsRising, IsGap, Finds, is_equal};
 
 use crate::block::{Block, HALF};
-use crate::directory::{add_blocks, length_before_block, locate, put_number};
+use crate::directory::{add_blocks, locate, put_number};
 use crate::numbers::Numbers;
 use crate::probe::{Past, Probe};
 use crate::search::{edge, first_from};
+use crate::sums::length_before_block;
 use std::alloc::{AllocError, Global};
 use std::marker::Model;
 
@@ -26,6 +27,7 @@ const MOST_NUMBERS: usize = 4_294_967_040;
 pub struct Order {
     blocks: Vec<Block>,
     spare: Vec<Block>,
+    sums: Vec<usize>,
     count: usize,
 }
 
@@ -42,7 +44,7 @@ impl Model for Order {
       capacity = capacity_of (length o.blocks.items) (length o.spare.items);
     } };
 
-    ghost invariant = { λ o. AreKept o.blocks.items (length o.spare.items) o.count (vec_capacity o.blocks) };
+    ghost invariant = { λ o. AreKept o.blocks.items o.sums.items (length o.spare.items) o.count (vec_capacity o.blocks) };
 }
 
 impl Order {
@@ -53,6 +55,7 @@ impl Order {
         Order {
             blocks: Vec::new(alloc),
             spare: Vec::new(alloc),
+            sums: Vec::new(alloc),
             count: 0,
         }
     }
@@ -95,7 +98,7 @@ impl Order {
         let present = self.blocks.len() + self.spare.len();
         let needed = (self.len() + numbers).div_ceil(HALF) + 1;
         let wanted = needed.max(present * 2).min(MOST_BLOCKS);
-        add_blocks(&mut self.blocks, &mut self.spare, wanted)
+        add_blocks(&mut self.blocks, &mut self.spare, &mut self.sums, wanted)
     }
 
     /// Puts a number at a place: those from there on stand one place later. It takes no memory.
@@ -105,7 +108,13 @@ impl Order {
         ensures items { self.new.items ≡ insert self.old.items at number }
         ensures capacity { self.new.capacity ≡ self.old.capacity }
     {
-        put_number(&mut self.blocks, &mut self.spare, at, number);
+        put_number(
+            &mut self.blocks,
+            &mut self.spare,
+            self.sums.as_mut_slice(),
+            at,
+            number,
+        );
         self.count += 1;
     }
 
@@ -114,7 +123,7 @@ impl Order {
         requires { at < length self.now.items }
         ensures { result ≡ slice_index self.now.items at }
     {
-        let (block, past) = locate(self.blocks.as_slice(), at + 1);
+        let (block, past) = locate(self.blocks.as_slice(), self.sums.as_slice(), at + 1);
         self.blocks[block].as_slice()[past - 1]
     }
 
@@ -123,7 +132,7 @@ impl Order {
         requires { at ≤ length self.now.items }
         ensures { result ≡ drop at self.now.items }
     {
-        Numbers::new(self.blocks.as_slice(), at, self.len() - at)
+        Numbers::new(self.blocks.as_slice(), self.sums.as_slice(), at, self.len() - at)
     }
 
     /// So many numbers from a place on, in order.
@@ -131,7 +140,7 @@ impl Order {
         requires { at + numbers ≤ length self.now.items }
         ensures { result ≡ take numbers (drop at self.now.items) }
     {
-        Numbers::new(self.blocks.as_slice(), at, numbers)
+        Numbers::new(self.blocks.as_slice(), self.sums.as_slice(), at, numbers)
     }
 
     /// How many numbers stand before what is sought.
@@ -185,6 +194,6 @@ impl Order {
         let blocks = self.blocks.as_slice();
         let (block, place) = edge(blocks, probe);
         let number = first_from(blocks, block, place);
-        (length_before_block(blocks, block) + place, number)
+        (length_before_block(blocks, self.sums.as_slice(), block) + place, number)
     }
 }

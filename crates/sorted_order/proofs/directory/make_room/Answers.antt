@@ -17,6 +17,18 @@ split-requires-clause-directory c =
     let h = full_from bs c.as_slice.result.now c.args.at at.0 at.1 c.len-len.result c.index.result.now c.as_slice.ensures.value c.locate-block.ensures.spot c.index.ensures c.len-len.ensures.len c.len-len.ensures.most c.if-len-lt-BLOCK.false in
     omega (arith, c.requires.directory, has_spare bs c.args.at at.0 at.1 (length c.args.spare.now.items) h c.requires.filled c.requires.room)
 
+pub sum_up-requires-clause-all : goal.sum_up-requires-clause-all
+sum_up-requires-clause-all c =
+    let bs = c.args.blocks.now.items in
+    let at = c.locate-block.result in
+    let h = full_from bs c.as_slice.result.now c.args.at at.0 at.1 c.len-len.result c.index.result.now c.as_slice.ensures.value c.locate-block.ensures.spot c.index.ensures c.len-len.ensures.len c.len-len.ensures.most c.if-len-lt-BLOCK.false in
+    omega (arith, ap length c.as_slice-2.ensures.value, ap length c.split.ensures.items, length-halved bs at.0 h.spot.listed, c.split.ensures.spare, c.requires.grouped)
+
+pub sum_up-requires-clause-few : goal.sum_up-requires-clause-few
+sum_up-requires-clause-few c =
+    omega (arith, ap (λ xs. length (concat xs)) c.as_slice-2.ensures.value, ap (λ xs. length (concat xs)) c.split.ensures.items,
+    ap length (concat-halved c.args.blocks.now.items c.locate-block.result.0), c.requires.few)
+
 pub returns-then-place-le-HALF-clause-spot : goal.returns-then-place-le-HALF-clause-spot
 returns-then-place-le-HALF-clause-spot c =
     let bs = c.args.blocks.now.items in

@@ -12,7 +12,7 @@ returns c =
     let w = c.locate-block.result.1 in
     let spot : IsSpot bs (c.args.at + 1) i w = rw c.as_slice.ensures.value at c.locate-block.ensures.spot in
     let some : 0 < w = c.locate-block.ensures.earlier (omega arith) in
-    let same : c.as_slice-2.result.now ≡ block_at bs i =
-    c.as_slice-2.ensures ∙ get_or_read bs i c.index.result.now spot.listed c.index.ensures [] in
+    let same : c.as_slice-3.result.now ≡ block_at bs i =
+    c.as_slice-3.ensures ∙ get_or_read bs i c.index.result.now spot.listed c.index.ensures [] in
     rw same (sym (concat-at bs i (w - 1) c.args.at spot.listed (omega (arith, spot.within)) (omega (arith, spot.whole)))
     ∙ ap (λ (s : Sequence). slice_index s.items c.args.at) c.self.view_is)

@@ -1,6 +1,6 @@
 use Rattle.std.proofs.Common.{◌≡◌, ◌+◌, ◌-◌, ◌<◌, length}
 use Rattle.sorted_order.specs.Blocks.{length_before}
-use Rattle.sorted_order.proofs.directory.locate.Given as goal
+use Rattle.sorted_order.proofs.directory.locate_among.Given as goal
 
 abbrev pub invariant-loop-within : goal.invariant-loop-within
 invariant-loop-within l = record {
