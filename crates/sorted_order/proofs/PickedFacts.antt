@@ -1,17 +1,16 @@
 -- The items with some numbers, in the order of those
-use Rattle.std.proofs.Common.{◌≡◌, ◌≢◌, inl, inr, ℕ, zero, suc, ◌+◌, ◌-◌, ◌<◌, ◌≤◌, List, [], ◌∷◌, ◌++◌, length, take, drop, slice_index, slice_index_or, slice_get, Option, Some, None, Bool, true, false, MatchOption, is_eq, refl, sym, ◌∙◌, ap, subst, arith, length-append, cond}
+use Rattle.std.proofs.Common.{◌≡◌, ◌≢◌, inl, inr, ℕ, zero, suc, ◌+◌, ◌-◌, ◌<◌, ◌≤◌, List, [], ◌∷◌, ◌++◌, length, take, drop, slice_index, slice_index_or, slice_get, Option, Some, None, Bool, true, false, Result, Ok, Err, MatchOption, MatchResult, is_eq, refl, sym, ◌∙◌, ap, subst, arith, length-append, cond}
 use Rattle.std.proofs.lemmas.Bool.{cases_lt}
 use Rattle.std.proofs.lemmas.List.{get_or_default}
 use Rattle.std.proofs.lemmas.List.Edits.{length-insert, get_or-insert_below, get_or-insert_at, get_or-insert_above}
 use Rattle.std.proofs.lemmas.List.Elements.{filter_map-append}
 use Rattle.std.proofs.lemmas.Grind.{in_insert}
-use Rattle.std.proofs.lemmas.Option.{slice_get_within, get_or_from_slice_get, slice_get-get_or, slice_get_past}
+use Rattle.std.proofs.lemmas.Option.{slice_get-get_or}
 use Rattle.std.specs.List.{All, cons_option, filter, insert}
 use Rattle.std.specs.declared.cmp.Ordering.{Ordering}
-use Rattle.std.specs.declared.cmp.Ordering.TheVariants.{Less, Equal, Greater}
-use Rattle.sorted_order.specs.Sought.{IsRising, IsGap, IsMissing, is_equal}
-use Rattle.sorted_order.specs.Stock.{Stock, picked, in_order, Arranges, compared_if, compared_at, IsNumber}
-use Rattle.sorted_order.proofs.SearchFacts.{missing_else, missing_none, found_at}
+use Rattle.std.specs.declared.cmp.Ordering.TheVariants.{Equal}
+use Rattle.sorted_order.specs.Sought.{IsRising, IsGap, IsFound, IsFirstFound, IsMissing, is_equal}
+use Rattle.sorted_order.specs.Stock.{Stock, picked, in_order, Arranges, compared_if, compared_at, IsNumber, FindsNumber}
 
 -- each number is that of an item
 abbrev pub AreNumbers : {T : Type 0} → List T → List ℕ → Type 0
@@ -129,26 +128,7 @@ gap_of_items compared items ns place all gap = record {
       gap.after k 0 h w (compared_is compared items ns k 0 e all w ∙ less);
 }
 
--- what a search among the numbers says of the items
-pub slice_get-picked : {T : Type 0} (items : List T) (ns : List ℕ) (place number : ℕ) (item : T) → AreNumbers items ns
-    → slice_get ns place ≡ Some number → slice_get items number ≡ Some item → slice_get (picked items ns) place ≡ Some item
-slice_get-picked items ns place number item all at there =
-    let here : place < length ns = slice_get_within ns place number at in
-    let w : place < length (picked items ns) = omega (arith, length-picked items ns all) in
-    let same : slice_index ns place ≡ number = get_or_from_slice_get ns place number 0 at in
-    slice_get-get_or (picked items ns) place item w ∙ sym (picked-at items ns place item all here)
-    ∙ ap (λ n. slice_get items n) same ∙ there
-
-pub slice_get-none : {T : Type 0} (items : List T) (ns : List ℕ) (place : ℕ) → AreNumbers items ns
-    → slice_get ns place ≡ None → slice_get (picked items ns) place ≡ None
-slice_get-none items ns place all none =
-    elim (cases_lt place (length ns)) [
-      | inl here ↦
-          let there : slice_get ns place ≡ Some (slice_index_or ns place 0) = slice_get-get_or ns place 0 here in
-          absurd (cc)
-      | inr past ↦ slice_get_past (picked items ns) place (omega (arith, length-picked items ns all))
-    ]
-
+-- those that are equal, among the numbers and among the items
 filter_more : {T : Type 0} (b : Bool) (n : ℕ) (ns : List ℕ) (items : List T) (item : T) → slice_get items n ≡ Some item
     → picked items (cond b (n ∷ ns) ns) ≡ cond b (item ∷ picked items ns) (picked items ns)
 filter_more true n ns items item e = picked_more items n ns item e
@@ -233,64 +213,61 @@ by_gap {T} {P} compared p q items lent order capacity stock place view same_prob
     subst (λ (r : P). IsGap (λ n. compared_at (compared r) items n) order place) same_probe mine in
     subst (λ (s : Stock T). IsGap (compared p) (in_order s) place) view (gap_of_items (compared p) items order place all here)
 
-equal_of : (o : Ordering) → is_eq o ≡ true → o ≡ Equal
-equal_of Less e = absurd (cc)
-equal_of Equal e = refl
-equal_of Greater e = absurd (cc)
-
+-- what a search among the numbers found says of the items
 pub not_equal_of : (o : Ordering) → is_eq o ≡ false → o ≢ Equal
 not_equal_of o e h = let yes : is_eq o ≡ true = rw h refl in cc
-
-pub equal_at : {T : Type 0} (compared : T → Ordering) (item : T) (o : Ordering) (b : Bool) → o ≡ compared item → b ≡ is_eq o → b ≡ true
-    → compared item ≡ Equal
-equal_at compared item o b e f h = sym e ∙ equal_of o (sym f ∙ h)
 
 pub not_equal_at : {T : Type 0} (compared : T → Ordering) (item : T) (o : Ordering) (b : Bool) → o ≡ compared item → b ≡ is_eq o → b ≡ false
     → compared item ≢ Equal
 not_equal_at compared item o b e f h = λ equal. not_equal_of o (sym f ∙ h) (e ∙ equal)
 
-pub number_found : {T : Type 0} (compared : T → Ordering) (items : List T) (order : List ℕ) (capacity : ℕ) (stock : Stock T) (place number : ℕ) (item : T)
-    → record { items = items; order = order; capacity = capacity } ≡ stock → AreNumbers items order → IsGap compared (in_order stock) place
-    → slice_get order place ≡ Some number → item ≡ slice_index_or items number item → compared item ≡ Equal → IsNumber compared stock number
-number_found {T} compared items order capacity stock place number item view all gap at read equal =
-    let here : place < length order = slice_get_within order place number at in
-    let numbered : slice_index order place ≡ number = get_or_from_slice_get order place number 0 at in
-    let within : number < length items = let w = all place 0 here in omega (arith, w, numbered) in
-    let there : slice_get items number ≡ Some item = slice_get-get_or items number item within ∙ ap Some (sym read) in
-    let mine : IsGap compared (picked items order) place = subst (λ (s : Stock T). IsGap compared (in_order s) place) (sym view) gap in
-    subst (λ (s : Stock T). IsNumber compared s number) view (record {
+found_of_items : {T : Type 0} (compared : T → Ordering) (items : List T) (ns : List ℕ) (place : ℕ) → AreNumbers items ns
+    → IsFound (λ n. compared_at compared items n) ns place → IsFound compared (picked items ns) place
+found_of_items compared items ns place all found = record {
+  within = omega (arith, length-picked items ns all, found.within);
+  before = λ k e z h.
+      let l : k < length ns = omega (arith, found.within) in
+      sym (compared_is compared items ns k 0 e all l) ∙ found.before k 0 z h;
+  here = λ e. sym (compared_is compared items ns place 0 e all found.within) ∙ found.here 0;
+}
+
+missing_of_items : {T : Type 0} (compared : T → Ordering) (items : List T) (ns : List ℕ) (place : ℕ) → AreNumbers items ns
+    → IsMissing (λ n. compared_at compared items n) ns place → IsMissing compared (picked items ns) place
+missing_of_items compared items ns place all missing = record {
+  within = omega (arith, length-picked items ns all, missing.within);
+  before = λ k e z h.
+      let l : k < length ns = omega (arith, missing.within) in
+      sym (compared_is compared items ns k 0 e all l) ∙ missing.before k 0 z h;
+  after = λ k e h l.
+      let w : k < length ns = omega (arith, length-picked items ns all) in
+      sym (compared_is compared items ns k 0 e all w) ∙ missing.after k 0 h w;
+}
+
+number_of_item : {T : Type 0} (compared : T → Ordering) (items : List T) (order : List ℕ) (capacity number : ℕ) → AreNumbers items order
+    → IsFirstFound (λ n. compared_at compared items n) order number
+    → IsNumber compared (record { items = items; order = order; capacity = capacity }) number
+number_of_item compared items order capacity number all first =
+    let within : number < length items = let w = all first.place 0 first.found.within in omega (arith, w, first.numbered) in
+    record {
       within = within;
-      equal = λ d. ap compared (get_or_from_slice_get items number item d there) ∙ equal;
-      place = place;
-      found = found_at compared (picked items order) place item mine (slice_get-picked items order place number item all at there) equal;
-      numbered = numbered;
-    })
+      equal = λ d.
+          ap (λ found. compared_if compared found) (sym (slice_get-get_or items number d within))
+          ∙ ap (λ n. compared_at compared items n) (sym first.numbered) ∙ first.found.here 0;
+      place = first.place;
+      found = found_of_items compared items order first.place all first.found;
+      numbered = first.numbered;
+    }
 
-pub number_missing : {T : Type 0} (compared : T → Ordering) (items : List T) (order : List ℕ) (capacity : ℕ) (stock : Stock T) (place number : ℕ) (item : T)
-    → record { items = items; order = order; capacity = capacity } ≡ stock → AreNumbers items order → IsRising compared (in_order stock)
-    → IsGap compared (in_order stock) place → slice_get order place ≡ Some number → item ≡ slice_index_or items number item
-    → compared item ≢ Equal → IsMissing compared (in_order stock) place
-number_missing {T} compared items order capacity stock place number item view all rises gap at read other =
-    let here : place < length order = slice_get_within order place number at in
-    let numbered : slice_index order place ≡ number = get_or_from_slice_get order place number 0 at in
-    let within : number < length items = let w = all place 0 here in omega (arith, w, numbered) in
-    let there : slice_get items number ≡ Some item = slice_get-get_or items number item within ∙ ap Some (sym read) in
-    let stands : slice_get (in_order stock) place ≡ Some item =
-    subst (λ (s : Stock T). slice_get (in_order s) place ≡ Some item) view (slice_get-picked items order place number item all at there) in
-    missing_else compared (in_order stock) place item rises gap stands other
-
-pub none_missing : {T : Type 0} (compared : T → Ordering) (items : List T) (order : List ℕ) (capacity : ℕ) (stock : Stock T) (place : ℕ)
-    → record { items = items; order = order; capacity = capacity } ≡ stock → AreNumbers items order
-    → IsGap compared (in_order stock) place → slice_get order place ≡ None → IsMissing compared (in_order stock) place
-none_missing {T} compared items order capacity stock place view all gap none =
-    missing_none compared (in_order stock) place gap
-    (subst (λ (s : Stock T). slice_get (in_order s) place ≡ None) view (slice_get-none items order place all none))
-
-pub number_within : {T : Type 0} (items : List T) (order : List ℕ) (place number : ℕ) → AreNumbers items order
-    → slice_get order place ≡ Some number → number < length items
-number_within items order place number all at =
-    let w = all place 0 (slice_get_within order place number at) in
-    omega (arith, w, get_or_from_slice_get order place number 0 at)
+pub by_number : {T P : Type 0} (compared : P → T → Ordering) (p q : P) (items lent : List T) (order : List ℕ) (capacity : ℕ) (stock : Stock T) (r : Result ℕ ℕ)
+    → record { items = items; order = order; capacity = capacity } ≡ stock → q ≡ p → lent ≡ items → AreNumbers items order
+    → MatchResult r (IsFirstFound (λ n. compared_at (compared q) lent n) order) (IsMissing (λ n. compared_at (compared q) lent n) order)
+    → FindsNumber (compared p) stock r
+by_number {T} {P} compared p q items lent order capacity stock (Ok number) view same_probe same_items all first =
+    let here : IsFirstFound (λ n. compared_at (compared p) items n) order number = rw (same_probe, same_items) at first in
+    subst (λ (s : Stock T). IsNumber (compared p) s number) view (number_of_item (compared p) items order capacity number all here)
+by_number {T} {P} compared p q items lent order capacity stock (Err place) view same_probe same_items all missing =
+    let here : IsMissing (λ n. compared_at (compared p) items n) order place = rw (same_probe, same_items) at missing in
+    subst (λ (s : Stock T). IsMissing (compared p) (in_order s) place) view (missing_of_items (compared p) items order place all here)
 
 -- what is left to lend
 pub next_within : (limit : ℕ) (old new : List ℕ) (r : Option ℕ) → MatchOption r ((old ≡ []) × (new ≡ [])) (λ n. old ≡ n ∷ new)

@@ -8,7 +8,7 @@ use Rattle.std.specs.declared.cmp.Ordering.TheVariants.{Less, Equal, Greater}
 use Rattle.std.specs.List.{All, concat, filter}
 use Rattle.std.specs.Ordering.{ordering_index}
 use Rattle.sorted_order.specs.Blocks.{AreFilled, block_at, length_before, IsEdge, IsEdgeBlock}
-use Rattle.sorted_order.specs.Sought.{IsRising, IsGap, IsFound, IsMissing, is_equal, past}
+use Rattle.sorted_order.specs.Sought.{IsRising, IsGap, IsFound, IsFirstFound, IsMissing, is_equal, past}
 use Rattle.sorted_order.proofs.BlockFacts.{before_next, before_all, before_within, filled_at, concat-at}
 
 pub All-block : (P : ℕ → Type 0) (bs : List (List ℕ)) (i : ℕ) → i < length bs → All P (concat bs) → All P (block_at bs i)
@@ -128,6 +128,18 @@ missing_none compared items place gap none = record {
       absurd (cc);
 }
 
+-- Nothing that is equal stands at the gap.
+pub missing_unless : {X : Type 0} (compared : X → Ordering) (items : List X) (place : ℕ) → IsRising compared items
+    → IsGap compared items place → ((item : X) → slice_get items place ≡ Some item → compared item ≢ Equal) → IsMissing compared items place
+missing_unless compared items place rises gap other = record {
+  within = gap.within;
+  before = gap.before;
+  after = λ k d h l.
+      let there : slice_get items place ≡ Some (slice_index_or items place d) = slice_get-get_or items place d (omega arith) in
+      let not_equal = other (slice_index_or items place d) there in
+      (missing_else compared items place (slice_index_or items place d) rises gap there not_equal).after k d h l;
+}
+
 pub found_at : {X : Type 0} (compared : X → Ordering) (items : List X) (place : ℕ) (item : X) → IsGap compared items place
     → slice_get items place ≡ Some item → compared item ≡ Equal → IsFound compared items place
 found_at compared items place item gap at equal = record {
@@ -135,6 +147,31 @@ found_at compared items place item gap at equal = record {
   before = gap.before;
   here = λ d. ap compared (get_or_from_slice_get items place item d at) ∙ equal;
 }
+
+-- what stands at the edge in the blocks
+pub found_from : (compared : ℕ → Ordering) (bs lent : List (List ℕ)) (items : List ℕ) (block place number : ℕ) → lent ≡ bs
+    → concat bs ≡ items → IsRising compared items → IsEdge compared (concat lent) (length_before lent block + place)
+    → slice_get (concat lent) (length_before lent block + place) ≡ Some number → compared number ≡ Equal → IsFirstFound compared items number
+found_from compared bs lent items block place number same whole rises edge at equal =
+    let gap = gap_from compared bs lent items block place (length_before lent block) same whole refl rises edge in
+    let numbers : concat lent ≡ items = ap concat same ∙ whole in
+    let there : slice_get items (length_before lent block + place) ≡ Some number = rw numbers at at in
+    record {
+      place = length_before lent block + place;
+      found = found_at compared items (length_before lent block + place) number gap there equal;
+      numbered = get_or_from_slice_get items (length_before lent block + place) number 0 there;
+    }
+
+pub missing_from : (compared : ℕ → Ordering) (bs lent : List (List ℕ)) (items : List ℕ) (block place before : ℕ) → lent ≡ bs
+    → concat bs ≡ items → before ≡ length_before lent block → IsRising compared items
+    → IsEdge compared (concat lent) (length_before lent block + place)
+    → ((number : ℕ) → slice_get (concat lent) (length_before lent block + place) ≡ Some number → compared number ≢ Equal)
+    → IsMissing compared items (before + place)
+missing_from compared bs lent items block place before same whole e rises edge other =
+    let gap = gap_from compared bs lent items block place before same whole e rises edge in
+    let numbers : items ≡ concat lent = sym (ap concat same ∙ whole) in
+    missing_unless compared items (before + place) rises gap
+    (λ number at. other number (ap (λ k. slice_get (concat lent) (k + place)) (sym e) ∙ ap (λ xs. slice_get xs (before + place)) (sym numbers) ∙ at))
 
 -- the place just past what is sought
 past_keeps : (a b : Ordering) → ordering_index a ≤ ordering_index b → ordering_index (past a) ≤ ordering_index (past b)

@@ -1,6 +1,6 @@
 -- How the items of a list stand to what is sought: `Less` before it, `Equal` in its place,
 -- `Greater` after it
-use Rattle.std.specs.Prelude.{◌≡◌, ◌≢◌, ℕ, ◌<◌, ◌≤◌, Bool, true, false, List, length, Result, MatchResult}
+use Rattle.std.specs.Prelude.{◌≡◌, ◌≢◌, ℕ, ◌<◌, ◌≤◌, Bool, true, false, List, length, slice_index, Result, MatchResult}
 use Rattle.std.specs.declared.cmp.Ordering.{Ordering}
 use Rattle.std.specs.declared.cmp.Ordering.TheVariants.{Less, Equal, Greater}
 use Rattle.std.specs.List.{AllWithin, HoldsAt}
@@ -22,6 +22,12 @@ pub record IsFound {X : Type 0} (compared : X → Ordering) (items : List X) (pl
   pub within : place < length items
   pub before : AllWithin (λ x. compared x ≡ Less) items 0 place
   pub here : HoldsAt (λ x. compared x ≡ Equal) items place
+
+-- The number is the first in its place.
+pub record IsFirstFound (compared : ℕ → Ordering) (numbers : List ℕ) (number : ℕ) : Type 0 where
+  pub place : ℕ
+  pub found : IsFound compared numbers place
+  pub numbered : slice_index numbers place ≡ number
 
 -- No item is in its place: those up to this place stand before it, and the others after it.
 pub record IsMissing {X : Type 0} (compared : X → Ordering) (items : List X) (place : ℕ) : Type 0 where

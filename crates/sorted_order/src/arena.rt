@@ -126,17 +126,8 @@ impl<T> Arena<T> {
         requires { IsRising (P.compared probe.now) (in_order self.now) }
         ensures { FindsNumber (P.compared probe.now) self.now result }
     {
-        let (place, found) = self.order.seek(&ByItem::new(self.items.as_slice(), probe));
-        match found {
-            Some(number) => {
-                if probe.compare(&self.items[number as usize]).is_eq() {
-                    Ok(number)
-                } else {
-                    Err(place)
-                }
-            }
-            None => Err(place),
-        }
+        self.order
+            .find_number(&ByItem::new(self.items.as_slice(), probe))
     }
 
     /// How many items in the order stand before what is sought.

@@ -1,13 +1,13 @@
 //! A sequence of numbers in the order that its caller gives.
-ghost use Rattle.std.specs.Prelude.{◌≡◌, ℕ, ◌+◌, ◌-◌, ◌^◌, ◌<◌, ◌≤◌, [], length, take, drop, slice_get, slice_index, IsOk, OnOk};
+ghost use Rattle.std.specs.Prelude.{◌≡◌, ℕ, ◌+◌, ◌-◌, ◌^◌, ◌<◌, ◌≤◌, [], length, take, drop, slice_get, slice_index, MatchResult, IsOk, OnOk};
 ghost use Rattle.std.specs.List.{All, filter, insert};
-ghost use Rattle.sorted_order.specs.Sought.{IsRising, IsGap, Finds, is_equal};
+ghost use Rattle.sorted_order.specs.Sought.{IsRising, IsGap, IsFirstFound, IsMissing, Finds, is_equal};
 
 use crate::block::{Block, HALF};
 use crate::directory::{add_blocks, locate, put_number};
 use crate::numbers::Numbers;
 use crate::probe::{Past, Probe};
-use crate::search::{edge, first_from};
+use crate::search::{edge, equal_from, first_from};
 use crate::sums::length_before_block;
 use std::alloc::{AllocError, Global};
 use std::marker::Model;
@@ -179,6 +179,24 @@ impl Order {
         let first = self.before(probe);
         let end = self.before(&Past::new(probe));
         self.range(first, end - first)
+    }
+
+    /// The first number in the place of what is sought, or, as an error, the place where it would
+    /// stand. Where it finds one it adds up no lengths.
+    pub(crate) fn find_number<P: Probe>(&self, probe: &P) -> Result<u32, usize>
+        requires known { All (P.knows probe.now) self.now.items }
+        requires rising { IsRising (P.compared probe.now) self.now.items }
+        ensures { MatchResult result (IsFirstFound (P.compared probe.now) self.now.items) (IsMissing (P.compared probe.now) self.now.items) }
+    {
+        if self.blocks.is_empty() {
+            return Err(0);
+        }
+        let blocks = self.blocks.as_slice();
+        let (block, place) = edge(blocks, probe);
+        match equal_from(blocks, block, place, probe) {
+            Some(number) => Ok(number),
+            None => Err(length_before_block(blocks, self.sums.as_slice(), block) + place),
+        }
     }
 
     /// How many numbers stand before what is sought, and the number that stands after those.

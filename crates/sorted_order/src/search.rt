@@ -1,5 +1,6 @@
 //! Searches over the blocks of a sequence.
-ghost use Rattle.std.specs.Prelude.{◌≡◌, ℕ, ◌+◌, ◌-◌, ◌^◌, ◌<◌, ◌≤◌, length, slice_get};
+ghost use Rattle.std.specs.Prelude.{◌≡◌, ◌≢◌, ℕ, ◌+◌, ◌-◌, ◌^◌, ◌<◌, ◌≤◌, length, slice_get, Some, MatchOption};
+ghost use Rattle.std.specs.declared.cmp.Ordering.TheVariants.{Equal};
 ghost use Rattle.std.specs.List.{All, concat};
 ghost use Rattle.sorted_order.specs.Blocks.{AreFilled, block_at, length_before, IsSpot, IsEdge, IsEdgeBlock};
 
@@ -72,4 +73,27 @@ pub(crate) fn first_from(blocks: &[Block], block: usize, place: usize) -> Option
         return Some(blocks[block + 1].as_slice()[0]);
     }
     None
+}
+
+/// The number that stands there in the sequence, if it is in the place of what is sought.
+pub(crate) fn equal_from<P: Probe>(
+    blocks: &[Block],
+    block: usize,
+    place: usize,
+    probe: &P,
+) -> Option<u32>
+    requires block { block < length blocks.now }
+    requires place { place ≤ length (block_at blocks.now block) }
+    requires filled { AreFilled blocks.now }
+    requires known { All (P.knows probe.now) (concat blocks.now) }
+    ensures { MatchOption result
+        ((number : ℕ) → slice_get (concat blocks.now) (length_before blocks.now block + place) ≡ Some number → P.compared probe.now number ≢ Equal)
+        (λ number. (slice_get (concat blocks.now) (length_before blocks.now block + place) ≡ Some number) × (P.compared probe.now number ≡ Equal)) }
+{
+    let number = first_from(blocks, block, place)?;
+    if probe.compare(number).is_eq() {
+        Some(number)
+    } else {
+        None
+    }
 }

@@ -1,5 +1,4 @@
-use Rattle.std.proofs.Common.{arith, ◌*◌, ◌<◌, length}
-use Rattle.sorted_order.proofs.SumFacts.{group_listed, rest_within, spot_among, sum_whole}
+use Rattle.sorted_order.proofs.SumFacts.{rest_within, spot_among}
 use Rattle.sorted_order.proofs.directory.locate.Goals as goal
 
 pub locate_among-block-requires-clause-place : goal.locate_among-block-requires-clause-place

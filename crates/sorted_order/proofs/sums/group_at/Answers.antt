@@ -1,4 +1,4 @@
-use Rattle.std.proofs.Common.{◌≡◌, ◌+◌, ◌<◌, length, arith, inl, inr, slice_index}
+use Rattle.std.proofs.Common.{◌+◌, ◌<◌, length, arith, inl, inr}
 use Rattle.std.proofs.lemmas.Bool.{cases_lt}
 use Rattle.sorted_order.proofs.SumFacts.{sum_next, sum_all}
 use Rattle.sorted_order.proofs.sums.group_at.Goals as goal

@@ -1,4 +1,4 @@
-use Rattle.std.proofs.Common.{◌≡◌, ◌+◌, arith, length, ◌<◌, ◌∙◌}
+use Rattle.std.proofs.Common.{arith, ◌∙◌}
 use Rattle.std.proofs.lemmas.List.{length-set}
 use Rattle.sorted_order.proofs.SumFacts.{made_each, next_few, next_rest, next_sum}
 use Rattle.sorted_order.proofs.sums.sum_up.Goals as goal
