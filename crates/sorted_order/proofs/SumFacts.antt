@@ -47,8 +47,12 @@ before_from bs i j = before_sum bs i j (i + j) refl
 
 before_after : (bs : List (List ℕ)) (i : ℕ) → length_before bs i + length (concat (drop i bs)) ≡ length (concat bs)
 before_after bs i =
-    omega (arith, before_from bs i (length bs), before_all bs (i + length bs) (omega arith),
-    before_all (drop i bs) (length bs) (omega (arith, length-drop i bs)))
+    omega (
+      arith,
+      before_from bs i (length bs),
+      before_all bs (i + length bs) (omega arith),
+      before_all (drop i bs) (length bs) (omega (arith, length-drop i bs)),
+    )
 
 -- The sums of the groups before a block's group, and the numbers of the blocks before it in that.
 pub before_block : (xs : List ℕ) (bs : List (List ℕ)) (block : ℕ) → AreSums xs bs → block ≤ length bs
@@ -57,8 +61,13 @@ before_block xs bs block h l =
     let first = block / 64 * 64 in
     let here : 64 * (block / 64) ≡ first = omega arith in
     let all : first + (block - first) ≡ block = omega arith in
-    omega (arith, h.each (block / 64) (omega (arith, h.all)), ap (λ k. length_before bs k) here,
-    before_from bs first (block - first), ap (λ k. length_before bs k) all)
+    omega (
+      arith,
+      h.each (block / 64) (omega (arith, h.all)),
+      ap (λ k. length_before bs k) here,
+      before_from bs first (block - first),
+      ap (λ k. length_before bs k) all,
+    )
 
 -- the place in a group, by the blocks from that on
 pub rest_within : (xs : List ℕ) (bs : List (List ℕ)) (at g rest : ℕ) → AreSums xs bs → g < length xs → sum (take g xs) + rest ≡ at
@@ -107,8 +116,12 @@ before_put_high (b ∷ bs) i w n zero l h f = absurd (omega arith)
 before_put_high (b ∷ bs) zero w n (suc k) l h f =
     omega (arith, length-insert b w n f, length-append (insert b w n) (concat (take k bs)), length-append b (concat (take k bs)))
 before_put_high (b ∷ bs) (suc i) w n (suc k) l h f =
-    omega (arith, before_put_high bs i w n k (omega arith) (omega arith) f, length-append b (concat (take k bs)),
-    length-append b (concat (take k (put bs i w n))))
+    omega (
+      arith,
+      before_put_high bs i w n k (omega arith) (omega arith) f,
+      length-append b (concat (take k bs)),
+      length-append b (concat (take k (put bs i w n))),
+    )
 
 -- A sum raised by one is one more in what it adds up to with the sums around it.
 raised_low : (xs : List ℕ) (g y k : ℕ) → k ≤ g → sum (take k (slice_set xs g y)) ≡ sum (take k xs)
@@ -122,12 +135,24 @@ raised_high xs g y (suc k) l e p h =
     elim (cases_lt g k) [
       | inl past ↦
           let other : k ≢ g = λ same. absurd (omega (arith, same)) in
-          omega (arith, raised_high xs g y k l e past (omega arith), sum_suc (slice_set xs g y) k listed, sum_suc xs k (omega arith),
-          get_or-set_other xs g k y 0 other)
+          omega (
+            arith,
+            raised_high xs g y k l e past (omega arith),
+            sum_suc (slice_set xs g y) k listed,
+            sum_suc xs k (omega arith),
+            get_or-set_other xs g k y 0 other,
+          )
       | inr last ↦
           let same : k ≡ g = omega arith in
-          omega (arith, raised_low xs g y k (omega arith), sum_suc (slice_set xs g y) k listed, sum_suc xs k (omega arith),
-          ap (λ i. slice_index (slice_set xs g y) i) same, ap (λ i. slice_index xs i) same, get_or-set_same xs g y 0 l)
+          omega (
+            arith,
+            raised_low xs g y k (omega arith),
+            sum_suc (slice_set xs g y) k listed,
+            sum_suc xs k (omega arith),
+            ap (λ i. slice_index (slice_set xs g y) i) same,
+            ap (λ i. slice_index xs i) same,
+            get_or-set_same xs g y 0 l,
+          )
     ]
 
 pub AreSums-put : (xs : List ℕ) (bs : List (List ℕ)) (i w n : ℕ) → AreSums xs bs → i < length bs → w ≤ length (block_at bs i)
@@ -140,8 +165,12 @@ AreSums-put xs bs i w n h l f =
           let old : sum (take k xs) ≡ length_before bs (64 * k) = h.each k (omega (arith, length-set xs (i / 64) y)) in
           elim (cases_lt (i / 64) k) [
             | inl past ↦
-                omega (arith, old, before_put_high bs i w n (64 * k) (omega arith) l f,
-                raised_high xs (i / 64) y k (omega (arith, h.all)) refl past (omega (arith, length-set xs (i / 64) y)))
+                omega (
+                  arith,
+                  old,
+                  before_put_high bs i w n (64 * k) (omega arith) l f,
+                  raised_high xs (i / 64) y k (omega (arith, h.all)) refl past (omega (arith, length-set xs (i / 64) y)),
+                )
             | inr low ↦ omega (arith, old, before_put_low bs i w n (64 * k) (omega arith), raised_low xs (i / 64) y k (omega arith))
           ];
     }
@@ -156,9 +185,17 @@ made_each xs bs g y l e each k within =
       | inr last ↦
           let same : k ≡ g + 1 = omega arith in
           let next : 64 * k ≡ 64 * g + 64 = omega arith in
-          omega (arith, e, ap (λ i. sum (take i (slice_set xs g y))) same, sum_next (slice_set xs g y) g (omega (arith, length-set xs g y)),
-          raised_low xs g y g (omega arith), get_or-set_same xs g y 0 l, each g (omega arith),
-          ap (λ i. length_before bs i) next, before_from bs (64 * g) 64)
+          omega (
+            arith,
+            e,
+            ap (λ i. sum (take i (slice_set xs g y))) same,
+            sum_next (slice_set xs g y) g (omega (arith, length-set xs g y)),
+            raised_low xs g y g (omega arith),
+            get_or-set_same xs g y 0 l,
+            each g (omega arith),
+            ap (λ i. length_before bs i) next,
+            before_from bs (64 * g) 64,
+          )
     ]
 
 -- the blocks of the next group, and those behind it

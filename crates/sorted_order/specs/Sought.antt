@@ -1,6 +1,6 @@
 -- How the items of a list stand to what is sought: `Less` before it, `Equal` in its place,
 -- `Greater` after it
-use Rattle.std.specs.Prelude.{◌≡◌, ◌≢◌, ℕ, ◌<◌, ◌≤◌, Bool, true, false, List, length, slice_index, Result, MatchResult}
+use Rattle.std.specs.Prelude.{◌≡◌, ◌≢◌, ℕ, ◌<◌, ◌≤◌, Bool, true, false, List, length, slice_index, slice_get, Option, Some, MatchOption, Result, MatchResult}
 use Rattle.std.specs.declared.cmp.Ordering.{Ordering}
 use Rattle.std.specs.declared.cmp.Ordering.TheVariants.{Less, Equal, Greater}
 use Rattle.std.specs.List.{AllWithin, HoldsAt}
@@ -38,6 +38,13 @@ pub record IsMissing {X : Type 0} (compared : X → Ordering) (items : List X) (
 -- what a search answers: the place where it is, or the place where it would stand
 abbrev pub Finds : {X : Type 0} → (X → Ordering) → List X → Result ℕ ℕ → Type 0
 Finds compared items result = MatchResult result (IsFound compared items) (IsMissing compared items)
+
+-- what a look at one place answers: the number that stands there, if it is in its place
+abbrev pub FindsAt : (ℕ → Ordering) → List ℕ → ℕ → Option ℕ → Type 0
+FindsAt compared numbers place result =
+    MatchOption result
+    ((number : ℕ) → slice_get numbers place ≡ Some number → compared number ≢ Equal)
+    (λ number. (slice_get numbers place ≡ Some number) × (compared number ≡ Equal))
 
 -- whether the item is in its place
 abbrev pub is_equal : Ordering → Bool

@@ -60,8 +60,7 @@ impl<T> Arena<T> {
         (self.items.capacity() - self.len()).min(self.order.room())
     }
 
-    /// Makes room for so many items more. Where there is not so much room, it at least doubles what
-    /// there is room for.
+    /// Makes room for so many items more.
     ///
     /// # Errors
     /// Memory ran out, or there cannot be so much room, which is for fewer than 2^32 items. All

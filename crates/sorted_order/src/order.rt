@@ -1,5 +1,5 @@
 //! A sequence of numbers in the order that its caller gives.
-ghost use Rattle.std.specs.Prelude.{◌≡◌, ℕ, ◌+◌, ◌-◌, ◌^◌, ◌<◌, ◌≤◌, [], length, take, drop, slice_get, slice_index, MatchResult, IsOk, OnOk};
+ghost use Rattle.std.specs.Prelude.{◌≡◌, ℕ, ◌+◌, ◌-◌, ◌*◌, ◌^◌, ◌<◌, ◌≤◌, [], length, take, drop, slice_get, slice_index, min, MatchResult, IsOk, OnOk};
 ghost use Rattle.std.specs.List.{All, filter, insert};
 ghost use Rattle.sorted_order.specs.Sought.{IsRising, IsGap, IsFirstFound, IsMissing, Finds, is_equal};
 
@@ -20,9 +20,12 @@ const MOST_NUMBERS: usize = 4_294_967_040;
 
 /// Numbers of 32 bits in the order that the caller gives.
 ///
-/// They lie in blocks of at most 512. An insertion looks at the lengths of the blocks before its
-/// place, and moves at most 2 KiB of numbers; where it finds a full block, it cuts that into halves
-/// and moves the directory's entries behind it.
+/// They lie in blocks of at most 512, and beside these stands a sum for each group of 64 blocks. A
+/// place is found by passing over the sums of the groups before it, at most one for each 16,384
+/// numbers and one more, and over the lengths of at most 64 blocks. So an insertion looks at those,
+/// raises one sum, and moves at most 2 KiB of numbers. Where it finds a full block, at most once in
+/// 256 insertions on average, it cuts that into halves, moves the directory's entries behind it and
+/// makes all sums anew.
 #[derive(Drop)]
 pub struct Order {
     blocks: Vec<Block>,
@@ -88,17 +91,28 @@ impl Order {
         ensures capacity { self.old.capacity ≤ self.new.capacity }
         ensures ok { OnOk result (length self.new.items + numbers ≤ self.new.capacity) }
         ensures within { length self.old.items + numbers ≤ self.old.capacity → (IsOk result) × (self.new ≡ self.old) }
+        ensures doubles { self.old.capacity < length self.old.items + numbers → OnOk result (min (2 * self.old.capacity) 4294967040 ≤ self.new.capacity) }
     {
         if numbers <= self.room() {
             return Ok(());
         }
-        if numbers > MOST_NUMBERS.saturating_sub(self.len()) {
-            return Err(AllocError);
-        }
+        self.try_count(numbers)?;
         let present = self.blocks.len() + self.spare.len();
         let needed = (self.len() + numbers).div_ceil(HALF) + 1;
         let wanted = needed.max(present * 2).min(MOST_BLOCKS);
         add_blocks(&mut self.blocks, &mut self.spare, &mut self.sums, wanted)
+    }
+
+    /// So many numbers more are to be fewer than 2^32 in all: past that it asks for a growth that is
+    /// always refused.
+    fn try_count(&mut self, numbers: usize) -> Result<(), AllocError>
+        ensures same { self.new ≡ self.old }
+        ensures ok { OnOk result (length self.new.items + numbers ≤ 4294967040) }
+    {
+        if numbers > MOST_NUMBERS.saturating_sub(self.len()) {
+            self.spare.try_reserve(usize::MAX)?;
+        }
+        Ok(())
     }
 
     /// Puts a number at a place: those from there on stand one place later. It takes no memory.
@@ -108,13 +122,8 @@ impl Order {
         ensures items { self.new.items ≡ insert self.old.items at number }
         ensures capacity { self.new.capacity ≡ self.old.capacity }
     {
-        put_number(
-            &mut self.blocks,
-            &mut self.spare,
-            self.sums.as_mut_slice(),
-            at,
-            number,
-        );
+        let sums = self.sums.as_mut_slice();
+        put_number(&mut self.blocks, &mut self.spare, sums, at, number);
         self.count += 1;
     }
 
@@ -132,7 +141,7 @@ impl Order {
         requires { at ≤ length self.now.items }
         ensures { result ≡ drop at self.now.items }
     {
-        Numbers::new(self.blocks.as_slice(), self.sums.as_slice(), at, self.len() - at)
+        self.range(at, self.len() - at)
     }
 
     /// So many numbers from a place on, in order.
@@ -212,6 +221,9 @@ impl Order {
         let blocks = self.blocks.as_slice();
         let (block, place) = edge(blocks, probe);
         let number = first_from(blocks, block, place);
-        (length_before_block(blocks, self.sums.as_slice(), block) + place, number)
+        (
+            length_before_block(blocks, self.sums.as_slice(), block) + place,
+            number,
+        )
     }
 }

@@ -1,8 +1,8 @@
 //! Searches over the blocks of a sequence.
-ghost use Rattle.std.specs.Prelude.{◌≡◌, ◌≢◌, ℕ, ◌+◌, ◌-◌, ◌^◌, ◌<◌, ◌≤◌, length, slice_get, Some, MatchOption};
-ghost use Rattle.std.specs.declared.cmp.Ordering.TheVariants.{Equal};
+ghost use Rattle.std.specs.Prelude.{◌≡◌, ℕ, ◌+◌, ◌-◌, ◌^◌, ◌<◌, ◌≤◌, length, slice_get};
 ghost use Rattle.std.specs.List.{All, concat};
 ghost use Rattle.sorted_order.specs.Blocks.{AreFilled, block_at, length_before, IsSpot, IsEdge, IsEdgeBlock};
+ghost use Rattle.sorted_order.specs.Sought.{FindsAt};
 
 use crate::block::Block;
 use crate::probe::Probe;
@@ -86,9 +86,7 @@ pub(crate) fn equal_from<P: Probe>(
     requires place { place ≤ length (block_at blocks.now block) }
     requires filled { AreFilled blocks.now }
     requires known { All (P.knows probe.now) (concat blocks.now) }
-    ensures { MatchOption result
-        ((number : ℕ) → slice_get (concat blocks.now) (length_before blocks.now block + place) ≡ Some number → P.compared probe.now number ≢ Equal)
-        (λ number. (slice_get (concat blocks.now) (length_before blocks.now block + place) ≡ Some number) × (P.compared probe.now number ≡ Equal)) }
+    ensures { FindsAt (P.compared probe.now) (concat blocks.now) (length_before blocks.now block + place) result }
 {
     let number = first_from(blocks, block, place)?;
     if probe.compare(number).is_eq() {

@@ -26,8 +26,13 @@ sum_up-requires-clause-all c =
 
 pub sum_up-requires-clause-few : goal.sum_up-requires-clause-few
 sum_up-requires-clause-few c =
-    omega (arith, ap (λ xs. length (concat xs)) c.as_slice-2.ensures.value, ap (λ xs. length (concat xs)) c.split.ensures.items,
-    ap length (concat-halved c.args.blocks.now.items c.locate-block.result.0), c.requires.few)
+    omega (
+      arith,
+      ap (λ xs. length (concat xs)) c.as_slice-2.ensures.value,
+      ap (λ xs. length (concat xs)) c.split.ensures.items,
+      ap length (concat-halved c.args.blocks.now.items c.locate-block.result.0),
+      c.requires.few,
+    )
 
 pub returns-then-place-le-HALF-clause-spot : goal.returns-then-place-le-HALF-clause-spot
 returns-then-place-le-HALF-clause-spot c =
