@@ -221,8 +221,10 @@ pub not_equal_at : {T : Type 0} (compared : T → Ordering) (item : T) (o : Orde
     → compared item ≢ Equal
 not_equal_at compared item o b e f h = λ equal. not_equal_of o (sym f ∙ h) (e ∙ equal)
 
-found_of_items : {T : Type 0} (compared : T → Ordering) (items : List T) (ns : List ℕ) (place : ℕ) → AreNumbers items ns
-    → IsFound (λ n. compared_at compared items n) ns place → IsFound compared (picked items ns) place
+found_of_items : {T : Type 0} (compared : T → Ordering) (items : List T) (ns : List ℕ) (place : ℕ)
+    → AreNumbers items ns
+    → IsFound (λ n. compared_at compared items n) ns place
+    → IsFound compared (picked items ns) place
 found_of_items compared items ns place all found = record {
   within = omega (arith, length-picked items ns all, found.within);
   before = λ k e z h.
@@ -231,8 +233,10 @@ found_of_items compared items ns place all found = record {
   here = λ e. sym (compared_is compared items ns place 0 e all found.within) ∙ found.here 0;
 }
 
-missing_of_items : {T : Type 0} (compared : T → Ordering) (items : List T) (ns : List ℕ) (place : ℕ) → AreNumbers items ns
-    → IsMissing (λ n. compared_at compared items n) ns place → IsMissing compared (picked items ns) place
+missing_of_items : {T : Type 0} (compared : T
+    → Ordering) (items : List T) (ns : List ℕ) (place : ℕ) → AreNumbers items ns
+    → IsMissing (λ n. compared_at compared items n) ns place
+    → IsMissing compared (picked items ns) place
 missing_of_items compared items ns place all missing = record {
   within = omega (arith, length-picked items ns all, missing.within);
   before = λ k e z h.
@@ -243,7 +247,8 @@ missing_of_items compared items ns place all missing = record {
       sym (compared_is compared items ns k 0 e all w) ∙ missing.after k 0 h w;
 }
 
-number_of_item : {T : Type 0} (compared : T → Ordering) (items : List T) (order : List ℕ) (capacity number : ℕ) → AreNumbers items order
+number_of_item : {T : Type 0} (compared : T
+    → Ordering) (items : List T) (order : List ℕ) (capacity number : ℕ) → AreNumbers items order
     → IsFirstFound (λ n. compared_at compared items n) order number
     → IsNumber compared (record { items = items; order = order; capacity = capacity }) number
 number_of_item compared items order capacity number all first =
@@ -258,15 +263,23 @@ number_of_item compared items order capacity number all first =
       numbered = first.numbered;
     }
 
-pub by_number : {T P : Type 0} (compared : P → T → Ordering) (p q : P) (items lent : List T) (order : List ℕ) (capacity : ℕ) (stock : Stock T) (r : Result ℕ ℕ)
-    → record { items = items; order = order; capacity = capacity } ≡ stock → q ≡ p → lent ≡ items → AreNumbers items order
+pub by_number : {T P : Type 0} (compared : P → T
+    → Ordering) (p q : P) (items lent : List T) (order : List ℕ) (capacity : ℕ) (stock : Stock T) (r : Result ℕ ℕ)
+    → record { items = items; order = order; capacity = capacity } ≡ stock → q ≡ p → lent ≡ items
+    → AreNumbers items order
     → MatchResult r (IsFirstFound (λ n. compared_at (compared q) lent n) order) (IsMissing (λ n. compared_at (compared q) lent n) order)
     → FindsNumber (compared p) stock r
 by_number {T} {P} compared p q items lent order capacity stock (Ok number) view same_probe same_items all first =
-    let here : IsFirstFound (λ n. compared_at (compared p) items n) order number = rw (same_probe, same_items) at first in
+    let here : IsFirstFound (λ n. compared_at (compared p) items n) order number = rw (
+      same_probe,
+      same_items,
+    ) at first in
     subst (λ (s : Stock T). IsNumber (compared p) s number) view (number_of_item (compared p) items order capacity number all here)
 by_number {T} {P} compared p q items lent order capacity stock (Err place) view same_probe same_items all missing =
-    let here : IsMissing (λ n. compared_at (compared p) items n) order place = rw (same_probe, same_items) at missing in
+    let here : IsMissing (λ n. compared_at (compared p) items n) order place = rw (
+      same_probe,
+      same_items,
+    ) at missing in
     subst (λ (s : Stock T). IsMissing (compared p) (in_order s) place) view (missing_of_items (compared p) items order place all here)
 
 -- what is left to lend

@@ -129,8 +129,10 @@ missing_none compared items place gap none = record {
 }
 
 -- Nothing that is equal stands at the gap.
-pub missing_unless : {X : Type 0} (compared : X → Ordering) (items : List X) (place : ℕ) → IsRising compared items
-    → IsGap compared items place → ((item : X) → slice_get items place ≡ Some item → compared item ≢ Equal) → IsMissing compared items place
+pub missing_unless : {X : Type 0} (compared : X → Ordering) (items : List X) (place : ℕ)
+    → IsRising compared items
+    → IsGap compared items place → ((item : X) → slice_get items place ≡ Some item
+    → compared item ≢ Equal) → IsMissing compared items place
 missing_unless compared items place rises gap other = record {
   within = gap.within;
   before = gap.before;
@@ -149,9 +151,12 @@ found_at compared items place item gap at equal = record {
 }
 
 -- what stands at the edge in the blocks
-pub found_from : (compared : ℕ → Ordering) (bs lent : List (List ℕ)) (items : List ℕ) (block place number : ℕ) → lent ≡ bs
-    → concat bs ≡ items → IsRising compared items → IsEdge compared (concat lent) (length_before lent block + place)
-    → slice_get (concat lent) (length_before lent block + place) ≡ Some number → compared number ≡ Equal → IsFirstFound compared items number
+pub found_from : (compared : ℕ
+    → Ordering) (bs lent : List (List ℕ)) (items : List ℕ) (block place number : ℕ) → lent ≡ bs
+    → concat bs ≡ items → IsRising compared items
+    → IsEdge compared (concat lent) (length_before lent block + place)
+    → slice_get (concat lent) (length_before lent block + place) ≡ Some number
+    → compared number ≡ Equal → IsFirstFound compared items number
 found_from compared bs lent items block place number same whole rises edge at equal =
     let gap = gap_from compared bs lent items block place (length_before lent block) same whole refl rises edge in
     let numbers : concat lent ≡ items = ap concat same ∙ whole in
@@ -162,16 +167,19 @@ found_from compared bs lent items block place number same whole rises edge at eq
       numbered = get_or_from_slice_get items (length_before lent block + place) number 0 there;
     }
 
-pub missing_from : (compared : ℕ → Ordering) (bs lent : List (List ℕ)) (items : List ℕ) (block place before : ℕ) → lent ≡ bs
+pub missing_from : (compared : ℕ
+    → Ordering) (bs lent : List (List ℕ)) (items : List ℕ) (block place before : ℕ) → lent ≡ bs
     → concat bs ≡ items → before ≡ length_before lent block → IsRising compared items
     → IsEdge compared (concat lent) (length_before lent block + place)
-    → ((number : ℕ) → slice_get (concat lent) (length_before lent block + place) ≡ Some number → compared number ≢ Equal)
+    → ((number : ℕ) → slice_get (concat lent) (length_before lent block + place) ≡ Some number
+    → compared number ≢ Equal)
     → IsMissing compared items (before + place)
 missing_from compared bs lent items block place before same whole e rises edge other =
     let gap = gap_from compared bs lent items block place before same whole e rises edge in
     let numbers : items ≡ concat lent = sym (ap concat same ∙ whole) in
     missing_unless compared items (before + place) rises gap
-    (λ number at. other number (ap (λ k. slice_get (concat lent) (k + place)) (sym e) ∙ ap (λ xs. slice_get xs (before + place)) (sym numbers) ∙ at))
+    (λ number at. other number (ap (λ k. slice_get (concat lent) (k + place)) (sym e)
+    ∙ ap (λ xs. slice_get xs (before + place)) (sym numbers) ∙ at))
 
 -- the place just past what is sought
 past_keeps : (a b : Ordering) → ordering_index a ≤ ordering_index b → ordering_index (past a) ≤ ordering_index (past b)

@@ -1,9 +1,9 @@
 -- Good and bad examples of the definitions, by computation
-use Rattle.std.proofs.Common.{◌≡◌, ℕ, zero, suc, ◌<◌, ◌≤◌, [], ◌∷◌, slice_index_or, refl, arith}
+use Rattle.std.proofs.Common.{◌≡◌, ℕ, zero, suc, ◌<◌, ◌≤◌, ◌*◌, [], ◌∷◌, take, slice_index_or, refl, arith}
 use Rattle.std.specs.declared.cmp.Ordering.TheVariants.{Less, Equal}
-use Rattle.std.specs.List.{filter}
+use Rattle.std.specs.List.{filter, sum}
 use Rattle.std.specs.Ordering.{nat_cmp}
-use Rattle.sorted_order.specs.Blocks.{AreFilled, capacity_of, put}
+use Rattle.sorted_order.specs.Blocks.{AreFilled, AreSums, capacity_of, length_before, put}
 use Rattle.sorted_order.specs.Sought.{IsRising, IsFound, is_equal, past}
 use Rattle.sorted_order.specs.Stock.{in_order, Arranges}
 
@@ -23,6 +23,19 @@ put_in_second = refl
 -- a second block of two numbers is too empty
 not_filled : AreFilled ((1 ∷ []) ∷ (2 ∷ 3 ∷ []) ∷ []) → ⊥
 not_filled h = let half : 256 ≤ 2 = h.0 in omega arith
+
+-- a sum for a group of two blocks, and one that leaves a number out
+first_sums : (group : ℕ) → group ≤ 1
+    → sum (take group (3 ∷ [])) ≡ length_before ((1 ∷ 2 ∷ []) ∷ (5 ∷ []) ∷ []) (64 * group)
+first_sums zero h = refl
+first_sums (suc zero) h = refl
+first_sums (suc (suc group)) h = absurd (omega arith)
+
+one_group : AreSums (3 ∷ []) ((1 ∷ 2 ∷ []) ∷ (5 ∷ []) ∷ [])
+one_group = record { all = omega arith; each = first_sums }
+
+not_summed : AreSums (2 ∷ []) ((1 ∷ 2 ∷ []) ∷ (5 ∷ []) ∷ []) → ⊥
+not_summed h = let low : ◌≡◌ {A = ℕ} 2 3 = h.each 1 (omega arith) in omega (arith, low)
 
 -- items in order of arrival, and in order
 ten_to_thirty : in_order {T = ℕ} (record { items = 30 ∷ 10 ∷ 20 ∷ []; order = 1 ∷ 2 ∷ 0 ∷ []; capacity = 4 }) ≡ 10 ∷ 20 ∷ 30 ∷ []

@@ -10,25 +10,30 @@ use Rattle.sorted_order.specs.Blocks.{AreSums, block_at, length_before, put, IsS
 use Rattle.sorted_order.proofs.BlockFacts.{before_all, before_within, length-put}
 
 -- what the sums up to a place add up to
-pub sum_next : (xs : List ℕ) (i : ℕ) → i < length xs → sum (take (i + 1) xs) ≡ sum (take i xs) + slice_index xs i
+pub sum_next : (xs : List ℕ) (i : ℕ) → i < length xs
+    → sum (take (i + 1) xs) ≡ sum (take i xs) + slice_index xs i
 sum_next xs i h = sum_by_more (λ x. x) xs i 0 h
 
-sum_suc : (xs : List ℕ) (i : ℕ) → i < length xs → sum (take (suc i) xs) ≡ sum (take i xs) + slice_index xs i
-sum_suc xs i h = let e : suc i ≡ i + 1 = omega arith in ap (λ k. sum (take k xs)) e ∙ sum_next xs i h
+sum_suc : (xs : List ℕ) (i : ℕ) → i < length xs
+    → sum (take (suc i) xs) ≡ sum (take i xs) + slice_index xs i
+sum_suc xs i h = let e : suc i ≡ i + 1 = omega arith in ap (λ k. sum (take k xs)) e
+    ∙ sum_next xs i h
 
 pub sum_all : (xs : List ℕ) (i : ℕ) → length xs ≤ i → sum (take i xs) ≡ sum xs
 sum_all xs i h = ap sum (take_all i xs h)
 
 -- All sums together count all numbers.
 pub sum_whole : (xs : List ℕ) (bs : List (List ℕ)) → AreSums xs bs → sum xs ≡ length (concat bs)
-sum_whole xs bs h = sym (sum_all xs (length xs) (omega arith)) ∙ h.each (length xs) (omega arith) ∙ before_all bs (64 * length xs) h.all
+sum_whole xs bs h = sym (sum_all xs (length xs) (omega arith)) ∙ h.each (length xs) (omega arith)
+    ∙ before_all bs (64 * length xs) h.all
 
 -- the numbers before a block, by those before an earlier one
 none_before : (i : ℕ) → length_before [] i ≡ 0
 none_before zero = refl
 none_before (suc i) = refl
 
-before_sum : (bs : List (List ℕ)) (i j k : ℕ) → i + j ≡ k → length_before bs k ≡ length_before bs i + length_before (drop i bs) j
+before_sum : (bs : List (List ℕ)) (i j k : ℕ) → i + j ≡ k
+    → length_before bs k ≡ length_before bs i + length_before (drop i bs) j
 before_sum bs zero j k e =
     let same : k ≡ j = omega (arith, e) in
     let here : length_before (drop 0 bs) j ≡ length_before bs j = refl in
@@ -36,16 +41,30 @@ before_sum bs zero j k e =
     omega (arith, ap (λ n. length_before bs n) same, here, none)
 before_sum [] (suc i) j k e =
     let none : drop {A = List ℕ} (suc i) [] ≡ [] = refl in
-    omega (arith, none_before k, none_before (suc i), none_before j, ap (λ xs. length_before xs j) none)
+    omega (
+      arith,
+      none_before k,
+      none_before (suc i),
+      none_before j,
+      ap (λ xs. length_before xs j) none,
+    )
 before_sum (b ∷ bs) (suc i) j zero e = absurd (omega (arith, e))
 before_sum (b ∷ bs) (suc i) j (suc k) e =
     let rest : length_before (drop (suc i) (b ∷ bs)) j ≡ length_before (drop i bs) j = refl in
-    omega (arith, before_sum bs i j k (omega (arith, e)), rest, length-append b (concat (take i bs)), length-append b (concat (take k bs)))
+    omega (
+      arith,
+      before_sum bs i j k (omega (arith, e)),
+      rest,
+      length-append b (concat (take i bs)),
+      length-append b (concat (take k bs)),
+    )
 
-before_from : (bs : List (List ℕ)) (i j : ℕ) → length_before bs (i + j) ≡ length_before bs i + length_before (drop i bs) j
+before_from : (bs : List (List ℕ)) (i j : ℕ)
+    → length_before bs (i + j) ≡ length_before bs i + length_before (drop i bs) j
 before_from bs i j = before_sum bs i j (i + j) refl
 
-before_after : (bs : List (List ℕ)) (i : ℕ) → length_before bs i + length (concat (drop i bs)) ≡ length (concat bs)
+before_after : (bs : List (List ℕ)) (i : ℕ)
+    → length_before bs i + length (concat (drop i bs)) ≡ length (concat bs)
 before_after bs i =
     omega (
       arith,
@@ -55,8 +74,10 @@ before_after bs i =
     )
 
 -- The sums of the groups before a block's group, and the numbers of the blocks before it in that.
-pub before_block : (xs : List ℕ) (bs : List (List ℕ)) (block : ℕ) → AreSums xs bs → block ≤ length bs
-    → sum (take (block / 64) xs) + length (concat (take (block - block / 64 * 64) (drop (block / 64 * 64) bs))) ≡ length_before bs block
+pub before_block : (xs : List ℕ) (bs : List (List ℕ)) (block : ℕ) → AreSums xs bs
+    → block ≤ length bs
+    → sum (take (block / 64) xs)
+    + length (concat (take (block - block / 64 * 64) (drop (block / 64 * 64) bs))) ≡ length_before bs block
 before_block xs bs block h l =
     let first = block / 64 * 64 in
     let here : 64 * (block / 64) ≡ first = omega arith in
@@ -70,13 +91,21 @@ before_block xs bs block h l =
     )
 
 -- the place in a group, by the blocks from that on
-pub rest_within : (xs : List ℕ) (bs : List (List ℕ)) (at g rest : ℕ) → AreSums xs bs → g < length xs → sum (take g xs) + rest ≡ at
-    → at ≤ length (concat bs) → rest ≤ length (concat (take (length bs - g * 64) (drop (g * 64) bs)))
+pub rest_within : (xs : List ℕ) (bs : List (List ℕ)) (at g rest : ℕ) → AreSums xs bs
+    → g < length xs → sum (take g xs) + rest ≡ at
+    → at ≤ length (concat bs)
+    → rest ≤ length (concat (take (length bs - g * 64) (drop (g * 64) bs)))
 rest_within xs bs at g rest h l whole within =
     let here : 64 * g ≡ g * 64 = omega arith in
-    rw (take_rest bs (g * 64)) (omega (arith, h.each g (omega arith), ap (λ k. length_before bs k) here, before_after bs (g * 64)))
+    rw (take_rest bs (g * 64)) (omega (
+      arith,
+      h.each g (omega arith),
+      ap (λ k. length_before bs k) here,
+      before_after bs (g * 64),
+    ))
 
-pub group_listed : (xs : List ℕ) (bs : List (List ℕ)) (at g rest : ℕ) → AreSums xs bs → g < length xs → sum (take g xs) + rest ≡ at
+pub group_listed : (xs : List ℕ) (bs : List (List ℕ)) (at g rest : ℕ) → AreSums xs bs
+    → g < length xs → sum (take g xs) + rest ≡ at
     → at ≤ length (concat bs) → 0 < length bs → (0 < g → 0 < rest) → g * 64 < length bs
 group_listed xs bs at g rest h l whole within some later =
     let here : 64 * g ≡ g * 64 = omega arith in
@@ -84,37 +113,65 @@ group_listed xs bs at g rest h l whole within some later =
       | inl listed ↦ listed
       | inr past ↦
           elim (cases_lt 0 g) [
-            | inl high ↦ absurd (omega (arith, later high, h.each g (omega arith), before_all bs (64 * g) (omega arith)))
+            | inl high ↦ absurd (omega (
+              arith,
+              later high,
+              h.each g (omega arith),
+              before_all bs (64 * g) (omega arith),
+            ))
             | inr first ↦ absurd (omega arith)
           ]
     ]
 
-pub spot_among : (xs : List ℕ) (bs : List (List ℕ)) (at g rest i w : ℕ) → AreSums xs bs → g < length xs → sum (take g xs) + rest ≡ at
+pub spot_among : (xs : List ℕ) (bs : List (List ℕ)) (at g rest i w : ℕ) → AreSums xs bs
+    → g < length xs → sum (take g xs) + rest ≡ at
     → IsSpot (take (length bs - g * 64) (drop (g * 64) bs)) rest i w → IsSpot bs at (g * 64 + i) w
 spot_among xs bs at g rest i w h l whole spot =
     let here : 64 * g ≡ g * 64 = omega arith in
     let there : IsSpot (drop (g * 64) bs) rest i w = rw (take_rest bs (g * 64)) at spot in
     record {
       listed = omega (arith, there.listed, length-drop (g * 64) bs);
-      within = let same = get_or-drop (g * 64) bs i [] in omega (arith, there.within, ap length same);
-      whole = omega (arith, there.whole, before_from bs (g * 64) i, h.each g (omega arith), ap (λ k. length_before bs k) here);
+      within = let same = get_or-drop (g * 64) bs i [] in omega (
+        arith,
+        there.within,
+        ap length same,
+      );
+      whole = omega (
+        arith,
+        there.whole,
+        before_from bs (g * 64) i,
+        h.each g (omega arith),
+        ap (λ k. length_before bs k) here,
+      );
     }
 
 -- One more number in a block is one more before each later block.
-before_put_low : (bs : List (List ℕ)) (i w n k : ℕ) → k ≤ i → length_before (put bs i w n) k ≡ length_before bs k
+before_put_low : (bs : List (List ℕ)) (i w n k : ℕ) → k ≤ i
+    → length_before (put bs i w n) k ≡ length_before bs k
 before_put_low [] i w n k l = refl
 before_put_low (b ∷ bs) zero w n zero l = refl
 before_put_low (b ∷ bs) zero w n (suc k) l = absurd (omega arith)
 before_put_low (b ∷ bs) (suc i) w n zero l = refl
 before_put_low (b ∷ bs) (suc i) w n (suc k) l =
-    omega (arith, before_put_low bs i w n k (omega arith), length-append b (concat (take k bs)), length-append b (concat (take k (put bs i w n))))
+    omega (
+      arith,
+      before_put_low bs i w n k (omega arith),
+      length-append b (concat (take k bs)),
+      length-append b (concat (take k (put bs i w n))),
+    )
 
-before_put_high : (bs : List (List ℕ)) (i w n k : ℕ) → i < k → i < length bs → w ≤ length (block_at bs i)
+before_put_high : (bs : List (List ℕ)) (i w n k : ℕ) → i < k → i < length bs
+    → w ≤ length (block_at bs i)
     → length_before (put bs i w n) k ≡ length_before bs k + 1
 before_put_high [] i w n k l h f = absurd (omega arith)
 before_put_high (b ∷ bs) i w n zero l h f = absurd (omega arith)
 before_put_high (b ∷ bs) zero w n (suc k) l h f =
-    omega (arith, length-insert b w n f, length-append (insert b w n) (concat (take k bs)), length-append b (concat (take k bs)))
+    omega (
+      arith,
+      length-insert b w n f,
+      length-append (insert b w n) (concat (take k bs)),
+      length-append b (concat (take k bs)),
+    )
 before_put_high (b ∷ bs) (suc i) w n (suc k) l h f =
     omega (
       arith,
@@ -127,7 +184,8 @@ before_put_high (b ∷ bs) (suc i) w n (suc k) l h f =
 raised_low : (xs : List ℕ) (g y k : ℕ) → k ≤ g → sum (take k (slice_set xs g y)) ≡ sum (take k xs)
 raised_low xs g y k l = ap sum (take-set-le k xs g y l)
 
-raised_high : (xs : List ℕ) (g y k : ℕ) → g < length xs → y ≡ slice_index xs g + 1 → g < k → k ≤ length xs
+raised_high : (xs : List ℕ) (g y k : ℕ) → g < length xs → y ≡ slice_index xs g + 1 → g < k
+    → k ≤ length xs
     → sum (take k (slice_set xs g y)) ≡ sum (take k xs) + 1
 raised_high xs g y zero l e p h = absurd (omega arith)
 raised_high xs g y (suc k) l e p h =
@@ -155,28 +213,41 @@ raised_high xs g y (suc k) l e p h =
           )
     ]
 
-pub AreSums-put : (xs : List ℕ) (bs : List (List ℕ)) (i w n : ℕ) → AreSums xs bs → i < length bs → w ≤ length (block_at bs i)
+pub AreSums-put : (xs : List ℕ) (bs : List (List ℕ)) (i w n : ℕ) → AreSums xs bs → i < length bs
+    → w ≤ length (block_at bs i)
     → AreSums (slice_set xs (i / 64) (slice_index xs (i / 64) + 1)) (put bs i w n)
 AreSums-put xs bs i w n h l f =
     let y = slice_index xs (i / 64) + 1 in
     record {
       all = omega (arith, h.all, length-put bs i w n, length-set xs (i / 64) y);
       each = λ k within.
-          let old : sum (take k xs) ≡ length_before bs (64 * k) = h.each k (omega (arith, length-set xs (i / 64) y)) in
+          let old : sum (take k xs) ≡ length_before bs (64 * k) = h.each k (omega (
+            arith,
+            length-set xs (i / 64) y,
+          )) in
           elim (cases_lt (i / 64) k) [
             | inl past ↦
                 omega (
                   arith,
                   old,
                   before_put_high bs i w n (64 * k) (omega arith) l f,
-                  raised_high xs (i / 64) y k (omega (arith, h.all)) refl past (omega (arith, length-set xs (i / 64) y)),
+                  raised_high xs (i / 64) y k (omega (arith, h.all)) refl past (omega (
+                    arith,
+                    length-set xs (i / 64) y,
+                  )),
                 )
-            | inr low ↦ omega (arith, old, before_put_low bs i w n (64 * k) (omega arith), raised_low xs (i / 64) y k (omega arith))
+            | inr low ↦ omega (
+              arith,
+              old,
+              before_put_low bs i w n (64 * k) (omega arith),
+              raised_low xs (i / 64) y k (omega arith),
+            )
           ];
     }
 
 -- the sums so far with one more
-pub made_each : (xs : List ℕ) (bs : List (List ℕ)) (g y : ℕ) → g < length xs → y ≡ length (concat (take 64 (drop (64 * g) bs)))
+pub made_each : (xs : List ℕ) (bs : List (List ℕ)) (g y : ℕ) → g < length xs
+    → y ≡ length (concat (take 64 (drop (64 * g) bs)))
     → ((k : ℕ) → k ≤ g → sum (take k xs) ≡ length_before bs (64 * k))
     → (k : ℕ) → k ≤ g + 1 → sum (take k (slice_set xs g y)) ≡ length_before bs (64 * k)
 made_each xs bs g y l e each k within =
@@ -205,9 +276,11 @@ take_group bs m e = elim (cases_lt 64 (length bs)) [
   | inr few ↦ take_all m bs (omega arith) ∙ sym (take_all 64 bs (omega arith))
 ]
 
-pub next_sum : (bs rest : List (List ℕ)) (g m : ℕ) → rest ≡ drop (64 * g) bs → m ≡ min (length rest) 64
+pub next_sum : (bs rest : List (List ℕ)) (g m : ℕ) → rest ≡ drop (64 * g) bs
+    → m ≡ min (length rest) 64
     → length (concat (take m rest)) ≡ length (concat (take 64 (drop (64 * g) bs)))
-next_sum bs rest g m e h = ap (λ xs. length (concat xs)) (take_group rest m h ∙ ap (λ xs. take 64 xs) e)
+next_sum bs rest g m e h = ap (λ xs. length (concat xs)) (take_group rest m h
+    ∙ ap (λ xs. take 64 xs) e)
 
 drop_group : (bs : List (List ℕ)) (m : ℕ) → m ≡ min (length bs) 64 → drop m bs ≡ drop 64 bs
 drop_group bs m e = elim (cases_lt 64 (length bs)) [
@@ -218,11 +291,19 @@ drop_group bs m e = elim (cases_lt 64 (length bs)) [
       drop_of_length-le bs all ∙ sym (drop_of_length-le bs short)
 ]
 
-pub next_rest : (bs rest : List (List ℕ)) (g m : ℕ) → rest ≡ drop (64 * g) bs → m ≡ min (length rest) 64
+pub next_rest : (bs rest : List (List ℕ)) (g m : ℕ) → rest ≡ drop (64 * g) bs
+    → m ≡ min (length rest) 64
     → take (length rest - m) (drop m rest) ≡ drop (64 * (g + 1)) bs
 next_rest bs rest g m e h =
     let next : 64 * g + 64 ≡ 64 * (g + 1) = omega arith in
-    take_rest rest m ∙ drop_group rest m h ∙ ap (λ xs. drop 64 xs) e ∙ drop-drop 64 (64 * g) bs ∙ ap (λ k. drop k bs) next
+    take_rest rest m ∙ drop_group rest m h ∙ ap (λ xs. drop 64 xs) e ∙ drop-drop 64 (64 * g) bs
+    ∙ ap (λ k. drop k bs) next
 
-pub next_few : (bs rest : List (List ℕ)) (g m : ℕ) → rest ≡ drop (64 * g) bs → length (concat (take m rest)) ≤ length (concat bs)
-next_few bs rest g m e = omega (arith, before_within rest m, before_after bs (64 * g), ap (λ xs. length (concat xs)) e)
+pub next_few : (bs rest : List (List ℕ)) (g m : ℕ) → rest ≡ drop (64 * g) bs
+    → length (concat (take m rest)) ≤ length (concat bs)
+next_few bs rest g m e = omega (
+  arith,
+  before_within rest m,
+  before_after bs (64 * g),
+  ap (λ xs. length (concat xs)) e,
+)

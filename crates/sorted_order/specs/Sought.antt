@@ -39,6 +39,11 @@ pub record IsMissing {X : Type 0} (compared : X → Ordering) (items : List X) (
 abbrev pub Finds : {X : Type 0} → (X → Ordering) → List X → Result ℕ ℕ → Type 0
 Finds compared items result = MatchResult result (IsFound compared items) (IsMissing compared items)
 
+-- what a search answers among numbers: the first in its place, or the place where it would stand
+abbrev pub FindsFirst : (ℕ → Ordering) → List ℕ → Result ℕ ℕ → Type 0
+FindsFirst compared numbers result =
+    MatchResult result (IsFirstFound compared numbers) (IsMissing compared numbers)
+
 -- what a look at one place answers: the number that stands there, if it is in its place
 abbrev pub FindsAt : (ℕ → Ordering) → List ℕ → ℕ → Option ℕ → Type 0
 FindsAt compared numbers place result =

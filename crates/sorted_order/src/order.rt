@@ -1,7 +1,7 @@
 //! A sequence of numbers in the order that its caller gives.
-ghost use Rattle.std.specs.Prelude.{◌≡◌, ℕ, ◌+◌, ◌-◌, ◌*◌, ◌^◌, ◌<◌, ◌≤◌, [], length, take, drop, slice_get, slice_index, min, MatchResult, IsOk, OnOk};
+ghost use Rattle.std.specs.Prelude.{◌≡◌, ℕ, ◌+◌, ◌-◌, ◌*◌, ◌^◌, ◌<◌, ◌≤◌, [], length, take, drop, slice_get, slice_index, min, IsOk, OnOk};
 ghost use Rattle.std.specs.List.{All, filter, insert};
-ghost use Rattle.sorted_order.specs.Sought.{IsRising, IsGap, IsFirstFound, IsMissing, Finds, is_equal};
+ghost use Rattle.sorted_order.specs.Sought.{IsRising, IsGap, FindsFirst, Finds, is_equal};
 
 use crate::block::{Block, HALF};
 use crate::directory::{add_blocks, locate, put_number};
@@ -21,8 +21,8 @@ const MOST_NUMBERS: usize = 4_294_967_040;
 /// Numbers of 32 bits in the order that the caller gives.
 ///
 /// They lie in blocks of at most 512, and beside these stands a sum for each group of 64 blocks. A
-/// place is found by passing over the sums of the groups before it, at most one for each 16,384
-/// numbers and one more, and over the lengths of at most 64 blocks. So an insertion looks at those,
+/// place is found by passing over the sums of the groups before it, at most one for each 16,000
+/// numbers and one more, and over the lengths of at most 64 blocks. An insertion looks at those,
 /// raises one sum, and moves at most 2 KiB of numbers. Where it finds a full block, at most once in
 /// 256 insertions on average, it cuts that into halves, moves the directory's entries behind it and
 /// makes all sums anew.
@@ -91,7 +91,8 @@ impl Order {
         ensures capacity { self.old.capacity ≤ self.new.capacity }
         ensures ok { OnOk result (length self.new.items + numbers ≤ self.new.capacity) }
         ensures within { length self.old.items + numbers ≤ self.old.capacity → (IsOk result) × (self.new ≡ self.old) }
-        ensures doubles { self.old.capacity < length self.old.items + numbers → OnOk result (min (2 * self.old.capacity) 4294967040 ≤ self.new.capacity) }
+        ensures doubles { self.old.capacity < length self.old.items + numbers
+            → OnOk result (min (2 * self.old.capacity) 4294967040 ≤ self.new.capacity) }
     {
         if numbers <= self.room() {
             return Ok(());
@@ -103,8 +104,8 @@ impl Order {
         add_blocks(&mut self.blocks, &mut self.spare, &mut self.sums, wanted)
     }
 
-    /// So many numbers more are to be fewer than 2^32 in all: past that it asks for a growth that is
-    /// always refused.
+    /// So many numbers more are to be fewer than 2^32 in all: past that it asks for a growth that
+    /// is always refused.
     fn try_count(&mut self, numbers: usize) -> Result<(), AllocError>
         ensures same { self.new ≡ self.old }
         ensures ok { OnOk result (length self.new.items + numbers ≤ 4294967040) }
@@ -195,7 +196,7 @@ impl Order {
     pub(crate) fn find_number<P: Probe>(&self, probe: &P) -> Result<u32, usize>
         requires known { All (P.knows probe.now) self.now.items }
         requires rising { IsRising (P.compared probe.now) self.now.items }
-        ensures { MatchResult result (IsFirstFound (P.compared probe.now) self.now.items) (IsMissing (P.compared probe.now) self.now.items) }
+        ensures { FindsFirst (P.compared probe.now) self.now.items result }
     {
         if self.blocks.is_empty() {
             return Err(0);

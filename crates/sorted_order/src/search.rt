@@ -86,7 +86,8 @@ pub(crate) fn equal_from<P: Probe>(
     requires place { place ≤ length (block_at blocks.now block) }
     requires filled { AreFilled blocks.now }
     requires known { All (P.knows probe.now) (concat blocks.now) }
-    ensures { FindsAt (P.compared probe.now) (concat blocks.now) (length_before blocks.now block + place) result }
+    ensures { FindsAt (P.compared probe.now) (concat blocks.now)
+        (length_before blocks.now block + place) result }
 {
     let number = first_from(blocks, block, place)?;
     if probe.compare(number).is_eq() {

@@ -11,7 +11,14 @@ loop-group-preserved c =
     let next = sum_next xs g h.listed in
     let listed : g + 1 < length xs = elim (cases_lt (g + 1) (length xs)) [
       | inl some ↦ some
-      | inr end ↦ absurd (omega (arith, sum_all xs (g + 1) end, next, c.loop-group-test.true, h.whole, c.requires.place))
+      | inr end ↦ absurd (omega (
+        arith,
+        sum_all xs (g + 1) end,
+        next,
+        c.loop-group-test.true,
+        h.whole,
+        c.requires.place,
+      ))
     ] in
     record {
       listed = listed;

@@ -10,8 +10,16 @@ overflow_add-numbers c =
     let i = c.loop-block.block-index in
     let here : i < length bs = omega arith in
     let taken : c.len-numbers.result ≡ length (block_at bs i) =
-    c.len-numbers.ensures.len ∙ ap length (get_or_read bs i c.block-item.result here c.block-item.is []) in
-    omega (arith, taken, c.loop-block.invariant, before_next bs i here, before_within bs (suc i), c.requires)
+    c.len-numbers.ensures.len
+    ∙ ap length (get_or_read bs i c.block-item.result here c.block-item.is []) in
+    omega (
+      arith,
+      taken,
+      c.loop-block.invariant,
+      before_next bs i here,
+      before_within bs (suc i),
+      c.requires,
+    )
 
 pub loop-block-preserved : goal.loop-block-preserved
 loop-block-preserved c =
@@ -19,6 +27,7 @@ loop-block-preserved c =
     let i = c.loop-block.block-index in
     let here : i < length bs = omega arith in
     let taken : c.len-numbers.result ≡ length (block_at bs i) =
-    c.len-numbers.ensures.len ∙ ap length (get_or_read bs i c.block-item.result here c.block-item.is []) in
+    c.len-numbers.ensures.len
+    ∙ ap length (get_or_read bs i c.block-item.result here c.block-item.is []) in
     let one : i + 1 ≡ suc i = omega arith in
     rw one (omega (arith, taken, c.loop-block.invariant, before_next bs i here))

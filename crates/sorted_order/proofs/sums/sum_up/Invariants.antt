@@ -7,5 +7,6 @@ abbrev pub invariant-loop-group : goal.invariant-loop-group
 invariant-loop-group l = record {
   groups : length l.sums ≡ length l.initial.sums;
   rest : l.rest ≡ drop (64 * l.group) l.blocks;
-  each : (group : ℕ) → group ≤ l.group → sum (take group l.sums) ≡ length_before l.blocks (64 * group);
+  each : (group : ℕ) → group ≤ l.group
+      → sum (take group l.sums) ≡ length_before l.blocks (64 * group);
 }
