@@ -3,7 +3,7 @@ use Rattle.std.proofs.Common.{◌≡◌, ℕ, inl, inr, Bool, true, false, List,
 use Rattle.std.specs.List.{AllZip}
 use Rattle.std.specs.Fmt.{signed_decimal}
 use Rattle.fed_config.specs.Configuration.{Configuration, IsConfiguration}
-use Rattle.receipt_core.specs.Lines.{lines_of}
+use Rattle.byte_lines.specs.Lines.{lines_of}
 use Rattle.bundle_view.specs.Polling.{Poll, Standing, log_of, polled}
 use Rattle.bundle_view.specs.Standings.{AreNames}
 use Rattle.bundle_view.specs.PollLines.{FirstBad, HasMoment, IsLogOf, RefusesPolls, SaysPoll, Tells, TellsNoMoment, TellsNothing, ToldPoll, outcome_text, poll_of}

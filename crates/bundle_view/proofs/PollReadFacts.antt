@@ -4,8 +4,8 @@ use Rattle.std.specs.List.{AllZip}
 use Rattle.std.specs.Fmt.{signed_decimal}
 use Rattle.std.specs.Io.KnownBytes.{IsAtEnd, prepend_known}
 use Rattle.fed_config.specs.Configuration.{Configuration, IsConfiguration}
-use Rattle.receipt_core.specs.Lines.{Lines, lines_of, with_line, HasLine, HasNoLine, HasMore}
-use Rattle.receipt_core.proofs.StreamFacts.{lines_of-line, lines_of-rest}
+use Rattle.byte_lines.specs.Lines.{Lines, lines_of, with_line, HasLine, HasNoLine, HasMore}
+use Rattle.byte_lines.proofs.StreamFacts.{lines_of-line, lines_of-rest}
 use Rattle.bundle_view.specs.Polling.{Poll, Standing, domains_of, log_of, polled}
 use Rattle.bundle_view.specs.Standings.{AreNames}
 use Rattle.bundle_view.specs.PollLines.{FirstBad, IsLogOf, RefusesPolls, SaysPoll, Tells, TellsNoMoment, TellsNothing, outcome_text, poll_of}

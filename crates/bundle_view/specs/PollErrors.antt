@@ -1,11 +1,11 @@
 -- Refusals of a source, as those of a log
 use Rattle.std.specs.Prelude.{Bool, true, false, Result, Ok, Err}
-use Rattle.receipt_core.specs.declared.line_buf.NextLineError.{NextLineError}
-use Rattle.receipt_core.specs.declared.line_buf.NextLineError.TheVariants as line
+use Rattle.byte_lines.specs.declared.error.DeviceError.{DeviceError}
+use Rattle.byte_lines.specs.declared.error.DeviceError.TheVariants as line
 use Rattle.bundle_view.specs.declared.poll_error.PollError.{PollError}
 use Rattle.bundle_view.specs.declared.poll_error.PollError.TheVariants.{NoRelationship, PastRange, NoMemory, BadLine, BadMoment, Io}
 
-abbrev pub poll_error_of : NextLineError → PollError
+abbrev pub poll_error_of : DeviceError → PollError
 poll_error_of line.Io = Io
 poll_error_of line.NoMemory = NoMemory
 

@@ -4,7 +4,7 @@ use Rattle.std.specs.Int.{w64}
 use Rattle.std.specs.Fmt.{signed_decimal}
 use Rattle.std.specs.List.{AllZip}
 use Rattle.jiff.specs.Words.{IsTimestampNanos, nanos_of_seconds}
-use Rattle.receipt_core.specs.Lines.{Lines, lines_of}
+use Rattle.byte_lines.specs.Lines.{Lines, lines_of}
 use Rattle.bundle_view.specs.Polling.{Poll, Standing, log_of}
 use Rattle.bundle_view.specs.declared.poll_error.PollError.{PollError}
 use Rattle.bundle_view.specs.declared.poll_error.PollError.TheVariants.{NoRelationship, PastRange, NoMemory, BadLine, BadMoment, Io}

@@ -1,7 +1,7 @@
 -- Steps of reading polls
 use Rattle.std.specs.Prelude.{◌≡◌, ℕ, ◌==◌, ◌++◌, ◌∷◌, List, Bool, not, Option, Some, None, ⊤, slice_get, Result, Ok, Err, length}
 use Rattle.std.specs.List.{AllPass, AllZip}
-use Rattle.receipt_core.specs.Lines.{Lines, lines_of}
+use Rattle.byte_lines.specs.Lines.{Lines, lines_of}
 use Rattle.bundle_view.specs.Polling.{Adds, Poll, Standing, domains_of, log_of}
 use Rattle.bundle_view.specs.PollLines.{HasMoment, SaysPoll, Tells, TellsNoMoment, TellsNothing, ToldPoll, poll_of}
 use Rattle.bundle_view.specs.declared.poll_lines.Parts.{Parts}

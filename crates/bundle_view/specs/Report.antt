@@ -7,7 +7,7 @@ use Rattle.bundle_doc.specs.Bundle.{Bundle, doc_id_of}
 use Rattle.bundle_doc.specs.declared.document.DocId.{DocId}
 use Rattle.fed_config.specs.Configuration.{AreDomains, config_id_of}
 use Rattle.receipt_core.specs.Acceptance.{Meaning}
-use Rattle.receipt_core.specs.Device.{AppendsBeginning}
+use Rattle.byte_lines.specs.Device.{AppendsBeginning}
 use Rattle.receipt_core.specs.declared.distrust.Distrust.{Distrust}
 use Rattle.trust_closure.specs.Views.{IsAcceptedList, IsPendingCount}
 use Rattle.bundle_view.specs.Current.{IsCurrent}

@@ -2,7 +2,7 @@
 ghost use Rattle.std.specs.Prelude.{◌≡◌};
 ghost use Rattle.bundle_view.specs.declared.error.ReportError.TheVariants.{Io, NoMemory};
 
-use receipt_core::Fault;
+use byte_lines::Fault;
 use std::alloc::AllocError;
 use thiserror::Error;
 

@@ -2,7 +2,7 @@
 ghost use Rattle.std.specs.Prelude.{◌≡◌};
 ghost use Rattle.bundle_view.specs.declared.poll_error.PollError.TheVariants.{NoMemory};
 
-use receipt_core::NextLineError;
+use byte_lines::DeviceError;
 use std::alloc::AllocError;
 use thiserror::Error;
 
@@ -37,15 +37,15 @@ impl From<AllocError> for PollError {
     }
 }
 
-impl From<NextLineError> for PollError {
+impl From<DeviceError> for PollError {
     ghost use Rattle.bundle_view.specs.PollErrors.{poll_error_of};
 
     ghost from_gives = { λ fault e. e ≡ poll_error_of fault };
 
-    fn from(fault: NextLineError) -> PollError {
+    fn from(fault: DeviceError) -> PollError {
         match fault {
-            NextLineError::Io => PollError::Io,
-            NextLineError::NoMemory => PollError::NoMemory,
+            DeviceError::Io => PollError::Io,
+            DeviceError::NoMemory => PollError::NoMemory,
         }
     }
 }

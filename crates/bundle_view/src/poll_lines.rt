@@ -11,10 +11,10 @@ ghost use Rattle.bundle_view.specs.PollSteps.{IsWord, RecordsLine, TellsParts, i
 
 use crate::poll_error::PollError;
 use crate::poll_log::PollLog;
+use byte_lines::{Line, LineBuf, Source};
 use fed_config::Config;
 use itoa::Buffer;
 use jiff::Timestamp;
-use receipt_core::{Line, LineBuf, Source};
 use std::alloc::Global;
 
 /// Reads polls from lines `<domain> ok <seconds>` and `<domain> fail <seconds>`, with single spaces, and records them in

@@ -1,6 +1,5 @@
 //! The report: what a replica accepts, as a text.
-ghost use Rattle.std.specs.Prelude.{◌≡◌, ◌++◌, true, List, map, length, IfOk, OnOk, Err, codes, decimal, flat_map, option_copied};
-ghost use Rattle.hex.specs.Hex.{encode_lower};
+ghost use Rattle.std.specs.Prelude.{◌≡◌, ◌++◌, true, List, map, length, IfOk, OnOk, Err, codes, flat_map, option_copied};
 ghost use Rattle.bundle_view.specs.Conflicts.{told_by};
 ghost use Rattle.bundle_view.specs.Report.{IsReport, WritesReport, BeginsReport, accepted_line, conflict_line, current_line, distrust_line, document_text, head_text, id_text, kind_text, records_of, sequence_text};
 ghost use Rattle.bundle_view.specs.Sections.{AddsSection, HasHead};
@@ -11,8 +10,7 @@ use crate::current_document::current;
 use crate::error::ReportError;
 use crate::listed::{Listed, list_accepted};
 use bundle_doc::{DocId, Document};
-use itoa::Buffer;
-use receipt_core::{Sink, write_all};
+use byte_lines::{Sink, push_digits, push_number, write_all};
 use spiffe_name::TrustDomain;
 use std::alloc::{AllocError, Global};
 use trust_closure::Closure;
@@ -56,7 +54,7 @@ fn push_head<C: Closure>(out: &mut Vec<u8>, closure: &C) -> Result<(), AllocErro
     ensures { OnOk result (HasHead (C.state closure.now).meaning out.old.items out.new.items) }
 {
     out.extend_from_slice(b"config ")?;
-    push_hex(out, &closure.config().digest().0)?;
+    push_digits(out, &closure.config().digest().0)?;
     out.extend_from_slice(b"\nreceipts ")?;
     push_number(out, closure.receipt_count() as u64)?;
     out.extend_from_slice(b" pending ")?;
@@ -144,7 +142,7 @@ fn push_document(
 ) -> Result<(), AllocError>
     ensures { OnOk result (out.new.items ≡ out.old.items ++ document_text domain.now document.now) }
 {
-    push_hex(out, &document.id(domain).0)?;
+    push_digits(out, &document.id(domain).0)?;
     out.extend_from_slice(b" sequence ")?;
     match document.rank() {
         Some(sequence) => push_number(out, sequence)?,
@@ -186,7 +184,7 @@ fn push_ids(out: &mut Vec<u8>, ids: &[DocId]) -> Result<(), AllocError>
 {
     for id in ids {
         out.extend_from_slice(b" ")?;
-        push_hex(out, &id.0)?;
+        push_digits(out, &id.0)?;
     }
     Ok(())
 }
@@ -201,25 +199,9 @@ fn push_distrusts<C: Closure>(
     for (of, key) in closure.distrusts() {
         if of.as_str() == domain.as_str() {
             out.extend_from_slice(b"  distrust ")?;
-            push_hex(out, &key.0)?;
+            push_digits(out, &key.0)?;
             out.extend_from_slice(b"\n")?;
         }
     }
     Ok(())
-}
-
-fn push_number(out: &mut Vec<u8>, number: u64) -> Result<(), AllocError>
-    ensures { OnOk result (out.new.items ≡ out.old.items ++ decimal number) }
-{
-    let mut buffer = Buffer::new();
-    out.extend_from_slice(buffer.format(number).as_bytes())
-}
-
-fn push_hex(out: &mut Vec<u8>, digest: &[u8; 32]) -> Result<(), AllocError>
-    ensures { OnOk result (out.new.items ≡ out.old.items ++ encode_lower digest.now) }
-{
-    let mut text = [0; 64];
-    // The lengths agree, so it is never refused.
-    let _ = hex::encode_to_slice(digest.as_slice(), &mut text);
-    out.extend_from_slice(&text)
 }

@@ -1,7 +1,7 @@
 //! Rows about reports.
 use crate::fault::RowFault;
 use bundle_view::{ReportError, write_report};
-use receipt_core::{MemSink, Sink};
+use byte_lines::{MemSink, Sink};
 use row_script::Script;
 use std::alloc::{AllocError, Global};
 use trust_closure::Closure;

@@ -5,6 +5,7 @@
 use crate::devices::{AMPLE_ROOM, Devices};
 use crate::words::split_words;
 use bundle_view::{Verdict, read_seconds};
+use byte_lines::{FromRead, MemSink, write_all};
 use fed_config::Config;
 use fedbundle::{
     Call, CommandError, CommandName, RunError, WordsError, read_sessions, read_words, run_bundle,
@@ -13,7 +14,6 @@ use fedbundle::{
 };
 use jiff::Timestamp;
 use jwk_set::KeyId;
-use receipt_core::{FromRead, MemSink, write_all};
 use replica_sync::{read_snapshot, write_snapshot};
 use row_script::Script;
 use spiffe_name::{SpiffeId, TrustDomain};

@@ -1,5 +1,5 @@
 //! The devices of a command, in memory: where its input comes from, and where what it says goes.
-use receipt_core::{FuseSource, MemSink, MemSource, Sink, Source};
+use byte_lines::{FuseSource, MemSink, MemSource, Sink, Source};
 use row_script::Script;
 use std::alloc::{AllocError, Global};
 

@@ -3,8 +3,9 @@ use crate::asked::{Asked, text_of_lines};
 use crate::messages::config_id;
 use crate::replica::{is_record, receipt_of, record_of, tell_held};
 use crate::stop::Stop;
+use byte_lines::Sink;
 use fed_config::ConfigId;
-use receipt_core::{Distrust, Receipt, Sink};
+use receipt_core::{Distrust, Receipt};
 use replica_sync::{Give, SyncError, absorb, write_snapshot};
 use trust_closure::Closure;
 

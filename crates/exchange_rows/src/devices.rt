@@ -1,5 +1,5 @@
 //! Sources of a row's text.
-use receipt_core::MemSource;
+use byte_lines::MemSource;
 use std::alloc::{AllocError, Global};
 
 /// In how many pieces a text comes at most.

@@ -2,7 +2,7 @@
 use crate::asked::{Asked, bucket_of, number_of, text_of_lines, word_of};
 use crate::replica::{receipt_of, record_of, tell_held};
 use crate::stop::Stop;
-use receipt_core::MemSink;
+use byte_lines::MemSink;
 use replica_sync::{Event, run_world, write_snapshot};
 use trust_closure::IndexedClosure;
 

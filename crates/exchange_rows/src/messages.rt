@@ -1,8 +1,9 @@
 //! Questions and answers as texts.
 use crate::asked::{Asked, bucket_of, text_of_lines};
 use crate::stop::Stop;
+use byte_lines::{LineBuf, MemSink, Sink, Source, write_all};
 use fed_config::ConfigId;
-use receipt_core::{Distrust, LineBuf, MemSink, Receipt, ReceiptId, Sink, Source, write_all};
+use receipt_core::{Distrust, Receipt, ReceiptId};
 use replica_gossip::{read_give, read_have, write_have};
 use replica_sync::{Give, Have, SyncError};
 use std::alloc::{AllocError, Global};

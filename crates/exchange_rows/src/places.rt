@@ -4,7 +4,7 @@ use crate::calls::perform;
 use crate::devices::in_pieces;
 use crate::runs::Runs;
 use crate::stop::Stop;
-use receipt_core::{FuseSource, MemSink, Source};
+use byte_lines::{FuseSource, MemSink, Source};
 use trust_closure::Closure;
 
 /// What ends or fails at a place.

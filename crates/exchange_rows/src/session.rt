@@ -4,7 +4,7 @@ use crate::devices::in_pieces;
 use crate::places::AMPLE_ROOM;
 use crate::replica::{replica, tell_held};
 use crate::stop::Stop;
-use receipt_core::{MemSink, Sink};
+use byte_lines::{MemSink, Sink};
 use replica_gossip::{pull, serve_one, write_have};
 use replica_sync::{SyncError, have, write_snapshot};
 use std::alloc::Global;

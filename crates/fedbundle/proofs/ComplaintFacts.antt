@@ -9,7 +9,7 @@ use Rattle.std.proofs.lemmas.List.{length-append, length_push}
 use Rattle.std.proofs.lemmas.List.Elements.{Contains-append_left, Contains-push, Contains-push_cases}
 use Rattle.std.proofs.lemmas.Option.{slice_get_within}
 use Rattle.fed_config.specs.Configuration.{Configuration}
-use Rattle.receipt_core.specs.Lines.{Lines}
+use Rattle.byte_lines.specs.Lines.{Lines}
 use Rattle.receipt_core.proofs.OrderFacts.{cmp_less}
 use Rattle.receipt_core.proofs.RisingFacts.{Has, Contains-from_has}
 use Rattle.fedbundle.specs.Stream.{IsRefused, Complaint, IsOfLine, IsOfRest, complaint_cmp, AreComplaints, AreFirstComplaints}

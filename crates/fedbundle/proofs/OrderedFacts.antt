@@ -7,7 +7,7 @@ use Rattle.std.specs.Cmp.{IsTotalOrder, nat_cmp_total}
 use Rattle.std.proofs.lemmas.Cmp.{on_total}
 use Rattle.std.specs.List.Sorted.{IsStrictlySortedBy}
 use Rattle.fed_config.specs.Configuration.{Configuration}
-use Rattle.receipt_core.specs.Lines.{Lines}
+use Rattle.byte_lines.specs.Lines.{Lines}
 use Rattle.receipt_core.specs.Order.{receipt_total}
 use Rattle.receipt_core.specs.Receipt.{Receipt, receipt_cmp}
 use Rattle.receipt_core.proofs.OrderFacts.{by_order_of, cmp_equal, cmp_greater}

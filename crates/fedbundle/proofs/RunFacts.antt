@@ -9,10 +9,10 @@ use Rattle.std.proofs.lemmas.Grind.{flat_map-append}
 use Rattle.std.proofs.lemmas.List.{length_push}
 use Rattle.fed_config.specs.Configuration.{Configuration, IsConfiguration}
 use Rattle.receipt_core.specs.Acceptance.{Meaning, IsFitting}
-use Rattle.receipt_core.specs.Device.{AppendsBeginning}
-use Rattle.receipt_core.specs.Lines.{Lines, lines_of, with_line, HasLine, HasNoLine, HasMore}
+use Rattle.byte_lines.specs.Device.{AppendsBeginning}
+use Rattle.byte_lines.specs.Lines.{Lines, lines_of, with_line, HasLine, HasNoLine, HasMore}
 use Rattle.receipt_core.specs.Receipt.{Receipt, with_receipt}
-use Rattle.receipt_core.proofs.StreamFacts.{lines_of-line, lines_of-rest}
+use Rattle.byte_lines.proofs.StreamFacts.{lines_of-line, lines_of-rest}
 use Rattle.trust_closure.specs.Changes.{State, Took}
 use Rattle.trust_closure.specs.declared.outcome.Taken.{Taken}
 use Rattle.trust_closure.specs.declared.outcome.Taken.TheVariants.{New as TakenNew, Already as TakenAlready}
@@ -24,8 +24,8 @@ use Rattle.fedbundle.specs.Run.{Reports, BeginsTelling, BeginsReporting, meaning
 use Rattle.fedbundle.specs.Judging.{TakesText, IsTextTooMany, HasJudged, TriesText, StopsJudging}
 use Rattle.fedbundle.specs.declared.run_error.RunError.{RunError}
 use Rattle.fedbundle.specs.declared.run_error.RunError.TheVariants.{Full, NoMemory, Io}
-use Rattle.receipt_core.specs.declared.line_buf.NextLineError.{NextLineError}
-use Rattle.receipt_core.specs.declared.line_buf.NextLineError.TheVariants.{Io as SourceFailed, NoMemory as NoMemoryForLine}
+use Rattle.byte_lines.specs.declared.error.DeviceError.{DeviceError}
+use Rattle.byte_lines.specs.declared.error.DeviceError.TheVariants.{Io as SourceFailed, NoMemory as NoMemoryForLine}
 use Rattle.fedbundle.specs.declared.complaint.LineFault.{LineFault}
 use Rattle.fedbundle.specs.declared.complaint.LineFault.TheVariants.{Cut}
 use Rattle.fedbundle.proofs.TakenFacts.{untaken, unrefused, taken_none, taken_within, taken_same, taken_more, held_already, one_longer}
@@ -300,7 +300,7 @@ so_far_text c stream left next old new told tells now number count text failed n
 pub at_most_one : (old new : State) (text : List ℕ) (number : ℕ) (tells now : Option (List ℕ)) (failed : Bool) (n : ℕ) → TriesText old text number new tells now failed (Ok n) → n ≤ 1
 at_most_one old new text number tells now failed n tried = elim tried [ inl (takes, kept, none) ↦ omega arith | inr (tellings, one) ↦ omega arith ]
 
-pub stops_line : (c : Configuration) (stream told tells : Option (List ℕ)) (e : NextLineError) → IfSome stream (λ bytes. BeginsTelling c (lines_of bytes) told tells)
+pub stops_line : (c : Configuration) (stream told tells : Option (List ℕ)) (e : DeviceError) → IfSome stream (λ bytes. BeginsTelling c (lines_of bytes) told tells)
     → IfSome stream (λ bytes. StopsJudging c (lines_of bytes) told tells (of_line e))
 stops_line c None told tells e begins = tt
 stops_line c (Some xs) told tells SourceFailed begins = begins

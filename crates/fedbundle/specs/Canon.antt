@@ -8,7 +8,7 @@ use Rattle.jwk_set.specs.Element.{key_id_of}
 use Rattle.bundle_doc.specs.Bundle.{Bundle, IsDocument, canonical_text, doc_id_of, document_limit}
 use Rattle.bundle_doc.specs.Refusal.{RefusesBytes}
 use Rattle.bundle_doc.specs.declared.error.DocError.{DocError}
-use Rattle.receipt_core.specs.Device.{TakesUpTo, AppendsBeginning}
+use Rattle.byte_lines.specs.Device.{TakesUpTo, AppendsBeginning}
 use Rattle.fedbundle.specs.declared.error.CommandError.{CommandError}
 use Rattle.fedbundle.specs.declared.error.CommandError.TheVariants.{Document}
 

@@ -4,7 +4,7 @@ use Rattle.std.specs.Io.KnownBytes.{Appends}
 use Rattle.bundle_doc.specs.Bundle.{Bundle, canonical_text}
 use Rattle.bundle_view.specs.Current.{IsCurrent}
 use Rattle.receipt_core.specs.Acceptance.{Meaning}
-use Rattle.receipt_core.specs.Device.{AppendsBeginning}
+use Rattle.byte_lines.specs.Device.{AppendsBeginning}
 
 abbrev pub bundle_text : Bundle → List ℕ
 bundle_text b = canonical_text b ++ 10 ∷ []

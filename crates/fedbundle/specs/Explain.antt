@@ -3,7 +3,7 @@ use Rattle.std.specs.Prelude.{◌≡◌, ℕ, ◌++◌, ◌⊎◌, List, [], ◌
 use Rattle.std.specs.Io.KnownBytes.{Appends}
 use Rattle.bundle_doc.specs.Bundle.{Bundle, IsDocument}
 use Rattle.receipt_core.specs.Acceptance.{Meaning, IsMember}
-use Rattle.receipt_core.specs.Device.{AppendsBeginning}
+use Rattle.byte_lines.specs.Device.{AppendsBeginning}
 use Rattle.receipt_core.specs.Receipt.{Receipt, Pair, line}
 use Rattle.trust_closure.specs.Views.{document_of}
 use Rattle.bundle_view.specs.Explain.{IsShortest}

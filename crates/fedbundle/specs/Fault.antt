@@ -1,7 +1,7 @@
 -- The line that tells of a refusal.
 use Rattle.std.specs.Prelude.{ℕ, ◌++◌, List, [], ◌∷◌, codes, Option}
 use Rattle.std.specs.Io.KnownBytes.{Appends}
-use Rattle.receipt_core.specs.Device.{AppendsBeginning}
+use Rattle.byte_lines.specs.Device.{AppendsBeginning}
 
 abbrev pub fault_line : List ℕ → List ℕ
 fault_line text = codes "fedbundle: " ++ (text ++ 10 ∷ [])

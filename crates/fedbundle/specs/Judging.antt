@@ -3,9 +3,9 @@ use Rattle.std.specs.Prelude.{◌≡◌, ℕ, ◌≤◌, ◌⊎◌, List, [], le
 use Rattle.std.specs.Io.KnownBytes.{Appends}
 use Rattle.fed_config.specs.Configuration.{Configuration}
 use Rattle.receipt_core.specs.Acceptance.{Meaning}
-use Rattle.receipt_core.specs.Device.{AppendsBeginning}
+use Rattle.byte_lines.specs.Device.{AppendsBeginning}
 use Rattle.receipt_core.specs.Line.{IsLine}
-use Rattle.receipt_core.specs.Lines.{Lines}
+use Rattle.byte_lines.specs.Lines.{Lines}
 use Rattle.receipt_core.specs.Receipt.{Receipt}
 use Rattle.trust_closure.specs.Changes.{State, Took}
 use Rattle.trust_closure.specs.Refusals.{IsOneTooMany}

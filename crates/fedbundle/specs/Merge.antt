@@ -2,7 +2,7 @@
 use Rattle.std.specs.Prelude.{◌≡◌, ℕ, ◌⊎◌, List, codes, Option}
 use Rattle.std.specs.Io.KnownBytes.{Appends}
 use Rattle.receipt_core.specs.Acceptance.{Meaning}
-use Rattle.receipt_core.specs.Device.{AppendsBeginning}
+use Rattle.byte_lines.specs.Device.{AppendsBeginning}
 use Rattle.trust_closure.specs.Changes.{State, HasMerged, HasRefusedMerge}
 use Rattle.trust_closure.specs.declared.error.TakeError.{TakeError}
 use Rattle.replica_sync.specs.Snapshots.{IsSnapshot, RefusesSnapshot}

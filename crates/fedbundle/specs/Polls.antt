@@ -6,7 +6,7 @@ use Rattle.std.specs.List.{AllZip, concat}
 use Rattle.jiff.specs.Types.{Timestamp}
 use Rattle.bundle_doc.specs.Bundle.{Bundle}
 use Rattle.receipt_core.specs.Acceptance.{Meaning}
-use Rattle.receipt_core.specs.Device.{AppendsBeginning}
+use Rattle.byte_lines.specs.Device.{AppendsBeginning}
 use Rattle.bundle_view.specs.Current.{IsCurrent}
 use Rattle.bundle_view.specs.Polling.{Standing, IsDue, IsNext, domains_of, polled, standing_in}
 use Rattle.bundle_view.specs.PollLines.{IsLogOf, RefusesPolls}

@@ -2,7 +2,7 @@
 use Rattle.std.specs.Prelude.{◌≡◌, ℕ, List, Option, Ok, Err}
 use Rattle.std.specs.Io.KnownBytes.{Appends}
 use Rattle.receipt_core.specs.Acceptance.{Meaning}
-use Rattle.receipt_core.specs.Device.{AppendsBeginning}
+use Rattle.byte_lines.specs.Device.{AppendsBeginning}
 use Rattle.replica_gossip.specs.Pulling.{Pulls}
 use Rattle.replica_gossip.specs.declared.pulling.PullFault.{PullFault}
 use Rattle.fedbundle.specs.Merge.{count_text}

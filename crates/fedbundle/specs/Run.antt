@@ -3,11 +3,11 @@ use Rattle.std.specs.Prelude.{◌≡◌, ℕ, ◌≤◌, ◌⊎◌, List, [], le
 use Rattle.std.specs.Io.KnownBytes.{Appends}
 use Rattle.fed_config.specs.Configuration.{Configuration}
 use Rattle.receipt_core.specs.Acceptance.{Meaning}
-use Rattle.receipt_core.specs.Device.{AppendsBeginning}
-use Rattle.receipt_core.specs.Lines.{Lines, lines_of}
+use Rattle.byte_lines.specs.Device.{AppendsBeginning}
+use Rattle.byte_lines.specs.Lines.{Lines, lines_of}
 use Rattle.receipt_core.specs.Receipt.{Receipt}
-use Rattle.receipt_core.specs.declared.line_buf.NextLineError.{NextLineError}
-use Rattle.receipt_core.specs.declared.line_buf.NextLineError.TheVariants.{Io as SourceFailed, NoMemory as NoMemoryForLine}
+use Rattle.byte_lines.specs.declared.error.DeviceError.{DeviceError}
+use Rattle.byte_lines.specs.declared.error.DeviceError.TheVariants.{Io as SourceFailed, NoMemory as NoMemoryForLine}
 use Rattle.bundle_view.specs.Report.{WritesReport, BeginsReport}
 use Rattle.bundle_view.specs.declared.error.ReportError.{ReportError}
 use Rattle.bundle_view.specs.declared.error.ReportError.TheVariants.{Io as SinkFailed, NoMemory as NoMemoryForReport}
@@ -49,7 +49,7 @@ FailsReport c stream held holds source_failed sink_failed telling_failed =
     ⊎ ((sink_failed ≡ true) × IfSome stream (λ bytes. BeginsReporting c (lines_of bytes) held holds))
 
 -- the error for a line that could not be had
-abbrev pub of_line : NextLineError → RunError
+abbrev pub of_line : DeviceError → RunError
 of_line SourceFailed = Io
 of_line NoMemoryForLine = NoMemory
 

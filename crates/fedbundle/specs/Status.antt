@@ -8,8 +8,8 @@ use Rattle.bundle_view.specs.declared.observe_error.ObserveError.TheVariants.{Ta
 use Rattle.bundle_view.specs.declared.poll_error.PollError.TheVariants.{NoMemory as NoMemoryToPoll, Io as PollIo}
 use Rattle.replica_sync.specs.declared.error.SyncError.{SyncError}
 use Rattle.replica_sync.specs.declared.error.SyncError.TheVariants.{NoMemory as NoMemoryToSync, Io as SyncIo}
-use Rattle.receipt_core.specs.declared.error.ReadUpToError.{ReadUpToError}
-use Rattle.receipt_core.specs.declared.error.ReadUpToError.TheVariants.{Io as SourceFailed, NoMemory as NoMemoryForBytes}
+use Rattle.byte_lines.specs.declared.error.DeviceError.{DeviceError}
+use Rattle.byte_lines.specs.declared.error.DeviceError.TheVariants.{Io as SourceFailed, NoMemory as NoMemoryForBytes}
 use Rattle.fedbundle.specs.declared.error.CommandError.{CommandError}
 use Rattle.fedbundle.specs.declared.error.CommandError.TheVariants.{Name, Document, Config, Take, Observe, Poll, Sync, Pull, Full, NoMemory, Io}
 use Rattle.fedbundle.specs.declared.run_error.RunError.{RunError}
@@ -42,7 +42,7 @@ status_of NoMemory = 4
 status_of Io = 3
 
 -- the error for a source that gave no bytes
-abbrev pub of_read : ReadUpToError → CommandError
+abbrev pub of_read : DeviceError → CommandError
 of_read SourceFailed = Io
 of_read NoMemoryForBytes = NoMemory
 

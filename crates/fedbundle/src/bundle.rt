@@ -1,14 +1,14 @@
 //! `bundle`: the current document of a domain.
 ghost use Rattle.std.specs.Prelude.{◌≡◌, true, OnOk, IfOk, IfErr, IsErr};
 ghost use Rattle.std.specs.Io.KnownBytes.{Appends};
-ghost use Rattle.receipt_core.specs.Device.{AppendsBeginning};
+ghost use Rattle.byte_lines.specs.Device.{AppendsBeginning};
 ghost use Rattle.fedbundle.specs.CurrentBundle.{PrintsCurrent, BeginsCurrent, bundle_text};
 ghost use Rattle.fedbundle.specs.declared.error.CommandError.TheVariants.{Io};
 
 use crate::error::CommandError;
 use bundle_doc::Document;
 use bundle_view::current;
-use receipt_core::{Fault, Sink, write_all};
+use byte_lines::{Fault, Sink, write_all};
 use spiffe_name::TrustDomain;
 use trust_closure::Closure;
 
@@ -40,7 +40,7 @@ fn write_document<W: Sink>(document: &Document, sink: &mut W) -> Result<(), Faul
     ensures beginning { AppendsBeginning (W.contents sink.old) (W.contents sink.new) (bundle_text document.now) }
     ensures io { IsErr result → W.has_failed sink.new ≡ true }
 {
-    receipt_core::laws::pieces();
+    byte_lines::laws::pieces();
     write_all(sink, document.canonical())?;
     write_all(sink, b"\n")
 }

@@ -6,8 +6,8 @@ ghost use Rattle.jwk_set.specs.Element.{key_id_of};
 
 use crate::error::CommandError;
 use bundle_doc::{Document, MAX_DOCUMENT_BYTES};
+use byte_lines::{Sink, Source, push_digits, read_up_to, write_all};
 use jwk_set::Authority;
-use receipt_core::{Sink, Source, read_up_to, write_all};
 use spiffe_name::TrustDomain;
 use std::alloc::{AllocError, Global};
 
@@ -75,11 +75,8 @@ fn push_key(out: &mut Vec<u8>, authority: &Authority) -> Result<(), AllocError>
 fn push_digest(out: &mut Vec<u8>, label: &[u8], digest: &[u8; 32]) -> Result<(), AllocError>
     ensures { OnOk result (out.new.items ≡ out.old.items ++ digest_line label.now digest.now) }
 {
-    let mut text = [0; 64];
-    // The lengths agree, so it is never refused.
-    let _ = hex::encode_to_slice(digest.as_slice(), &mut text);
     out.extend_from_slice(label)?;
-    out.extend_from_slice(&text)?;
+    push_digits(out, digest)?;
     out.push(b'\n')?;
     Ok(())
 }

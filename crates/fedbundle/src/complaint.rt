@@ -1,11 +1,11 @@
 //! What is told of a line without a receipt that fits.
 ghost use Rattle.std.specs.Prelude.{◌≡◌, true, OnOk, IsErr};
 ghost use Rattle.std.specs.Io.KnownBytes.{Appends};
-ghost use Rattle.receipt_core.specs.Device.{AppendsBeginning};
+ghost use Rattle.byte_lines.specs.Device.{AppendsBeginning};
 ghost use Rattle.fedbundle.specs.Stream.{complaint_text, why_text};
 
+use byte_lines::{Fault, Sink, write_all};
 use itoa::Buffer;
-use receipt_core::{Fault, Sink, write_all};
 
 /// Why a line of a stream gives no receipt.
 #[derive(Clone, Copy, Debug, PartialEq, Eq)]
@@ -31,7 +31,7 @@ pub(crate) fn complain<E: Sink>(sink: &mut E, number: u64, why: LineFault) -> Re
     ensures beginning { AppendsBeginning (E.contents sink.old) (E.contents sink.new) (complaint_text (record { number = number; why = why })) }
     ensures io { IsErr result → E.has_failed sink.new ≡ true }
 {
-    receipt_core::laws::pieces();
+    byte_lines::laws::pieces();
     let mut digits = Buffer::new();
     write_all(sink, b"line ")?;
     write_all(sink, digits.format(number).as_bytes())?;

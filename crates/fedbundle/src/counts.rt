@@ -1,11 +1,11 @@
 //! Lines that tell a number.
 ghost use Rattle.std.specs.Prelude.{◌≡◌, true, IsErr, OnOk};
 ghost use Rattle.std.specs.Io.KnownBytes.{Appends};
-ghost use Rattle.receipt_core.specs.Device.{AppendsBeginning};
+ghost use Rattle.byte_lines.specs.Device.{AppendsBeginning};
 ghost use Rattle.fedbundle.specs.Counts.{counted};
 
+use byte_lines::{Fault, Sink, write_all};
 use itoa::Buffer;
-use receipt_core::{Fault, Sink, write_all};
 
 /// Writes a line of the label and the number. It takes no memory.
 pub(crate) fn write_counted<W: Sink>(label: &[u8], count: u64, sink: &mut W) -> Result<(), Fault>
@@ -13,7 +13,7 @@ pub(crate) fn write_counted<W: Sink>(label: &[u8], count: u64, sink: &mut W) -> 
     ensures beginning { AppendsBeginning (W.contents sink.old) (W.contents sink.new) (counted label.now count) }
     ensures io { IsErr result → W.has_failed sink.new ≡ true }
 {
-    receipt_core::laws::pieces();
+    byte_lines::laws::pieces();
     let mut buffer = Buffer::new();
     write_all(sink, label)?;
     write_all(sink, buffer.format(count).as_bytes())?;

@@ -6,8 +6,8 @@ ghost use Rattle.fedbundle.specs.declared.error.CommandError.TheVariants.{Name, 
 use crate::run_error::RunError;
 use bundle_doc::DocError;
 use bundle_view::{ObserveError, PollError};
+use byte_lines::{DeviceError, Fault};
 use fed_config::ConfigError;
-use receipt_core::{Fault, ReadUpToError};
 use replica_gossip::PullFault;
 use replica_sync::SyncError;
 use spiffe_name::NameError;
@@ -179,13 +179,13 @@ impl From<Fault> for CommandError {
     }
 }
 
-impl From<ReadUpToError> for CommandError {
+impl From<DeviceError> for CommandError {
     ghost from_gives = { λ e c. c ≡ of_read e };
 
-    fn from(error: ReadUpToError) -> CommandError {
+    fn from(error: DeviceError) -> CommandError {
         match error {
-            ReadUpToError::Io => CommandError::Io,
-            ReadUpToError::NoMemory => CommandError::NoMemory,
+            DeviceError::Io => CommandError::Io,
+            DeviceError::NoMemory => CommandError::NoMemory,
         }
     }
 }

@@ -7,7 +7,8 @@ ghost use Rattle.fedbundle.specs.declared.error.CommandError.TheVariants.{Io, No
 use crate::error::CommandError;
 use bundle_doc::{Document, MAX_DOCUMENT_BYTES};
 use bundle_view::explain;
-use receipt_core::{Receipt, Sink, Source, read_up_to, write_all};
+use byte_lines::{Sink, Source, read_up_to, write_all};
+use receipt_core::Receipt;
 use spiffe_name::TrustDomain;
 use std::alloc::{AllocError, Global};
 use trust_closure::Closure;

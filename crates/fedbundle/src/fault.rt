@@ -3,10 +3,10 @@ ghost use Rattle.std.specs.Prelude.{◌≡◌, ◌≤◌, true, OnOk, IfErr, IsE
 ghost use Rattle.fedbundle.specs.Fault.{AppendsFault, BeginsFault, fault_line};
 ghost use Rattle.fedbundle.specs.declared.error.CommandError.TheVariants.{Io};
 ghost use Rattle.std.specs.Io.KnownBytes.{Appends};
-ghost use Rattle.receipt_core.specs.Device.{AppendsBeginning};
+ghost use Rattle.byte_lines.specs.Device.{AppendsBeginning};
 
 use crate::error::CommandError;
-use receipt_core::{Fault, Sink, write_all};
+use byte_lines::{Fault, Sink, write_all};
 use std::fmt;
 use std::fmt::Write;
 
@@ -29,7 +29,7 @@ fn write_line<W: Sink>(text: &[u8], sink: &mut W) -> Result<(), Fault>
     ensures beginning { AppendsBeginning (W.contents sink.old) (W.contents sink.new) (fault_line text.now) }
     ensures io { IsErr result → W.has_failed sink.new ≡ true }
 {
-    receipt_core::laws::pieces();
+    byte_lines::laws::pieces();
     write_all(sink, b"fedbundle: ")?;
     write_all(sink, text)?;
     write_all(sink, b"\n")

@@ -2,14 +2,15 @@
 ghost use Rattle.std.specs.Prelude.{◌≡◌, ◌⊎◌, ℕ, [], true, IfOk, IfErr, OnOk, IfSome, IsErrOf, MatchResult, List};
 ghost use Rattle.std.specs.Io.KnownBytes.{IsAtEnd};
 ghost use Rattle.fed_config.specs.Configuration.{IsConfiguration};
-ghost use Rattle.receipt_core.specs.Lines.{lines_of};
+ghost use Rattle.byte_lines.specs.Lines.{lines_of};
 ghost use Rattle.receipt_core.specs.Line.{IsLine};
 ghost use Rattle.fedbundle.specs.Judging.{JudgesText, FailsText, TriesText, HasJudged, StopsJudging};
 ghost use Rattle.fedbundle.specs.declared.run_error.RunError.TheVariants.{Io};
 
 use crate::complaint::{LineFault, complain};
 use crate::run_error::RunError;
-use receipt_core::{Line, LineBuf, LineError, Receipt, Sink, Source};
+use byte_lines::{Line, LineBuf, Sink, Source};
+use receipt_core::{LineError, Receipt};
 use std::alloc::Global;
 use trust_closure::{Closure, TakeError};
 

@@ -2,7 +2,7 @@
 //! ensures.
 ghost use Rattle.std.specs.Prelude.{◌≡◌, ◌<◌, ◌++◌, ◌↔◌, ℕ, List, length};
 ghost use Rattle.fed_config.specs.Configuration.{Configuration};
-ghost use Rattle.receipt_core.specs.Lines.{Lines};
+ghost use Rattle.byte_lines.specs.Lines.{Lines};
 ghost use Rattle.receipt_core.specs.Receipt.{Receipt};
 ghost use Rattle.bundle_view.specs.Report.{IsReport};
 ghost use Rattle.fedbundle.specs.Stream.{IsTaken, AreTaken, AreTooMany, Complaint, AreComplaints, AreFirstComplaints};

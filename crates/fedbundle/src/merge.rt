@@ -6,7 +6,7 @@ ghost use Rattle.fedbundle.specs.declared.error.CommandError.TheVariants.{Io};
 
 use crate::counts::write_counted;
 use crate::error::CommandError;
-use receipt_core::{Sink, Source};
+use byte_lines::{Sink, Source};
 use replica_sync::read_snapshot;
 use std::alloc::Global;
 use trust_closure::Closure;

@@ -7,9 +7,9 @@ ghost use Rattle.fedbundle.specs.declared.error.CommandError.TheVariants.{Io, No
 
 use crate::error::CommandError;
 use bundle_view::{PollLog, current, read_polls};
+use byte_lines::{Sink, Source, write_all};
 use itoa::Buffer;
 use jiff::Timestamp;
-use receipt_core::{Sink, Source, write_all};
 use spiffe_name::TrustDomain;
 use std::alloc::{AllocError, Global};
 use trust_closure::Closure;

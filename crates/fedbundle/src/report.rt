@@ -1,7 +1,7 @@
 //! `report`: what a replica accepts, from the bytes of a stream of receipts.
 ghost use Rattle.std.specs.Prelude.{◌≡◌, IfOk, OnOk, OnErr, IfSome, IsErrOf};
 ghost use Rattle.std.specs.Io.KnownBytes.{IsAtEnd};
-ghost use Rattle.receipt_core.specs.Lines.{lines_of};
+ghost use Rattle.byte_lines.specs.Lines.{lines_of};
 ghost use Rattle.fedbundle.specs.Stream.{AreTooMany};
 ghost use Rattle.fedbundle.specs.Run.{Reports, BeginsTelling, FailsReport};
 ghost use Rattle.fedbundle.specs.declared.run_error.RunError.TheVariants.{Full, NoMemory, Io};
@@ -9,8 +9,8 @@ ghost use Rattle.fedbundle.specs.declared.run_error.RunError.TheVariants.{Full, 
 use crate::judge::take_lines;
 use crate::run_error::RunError;
 use bundle_view::write_report;
+use byte_lines::{Sink, Source};
 use fed_config::Config;
-use receipt_core::{Sink, Source};
 use std::alloc::Global;
 use trust_closure::{Closure, IndexedClosure};
 

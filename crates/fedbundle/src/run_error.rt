@@ -4,7 +4,7 @@ ghost use Rattle.fedbundle.specs.Run.{of_line, of_report};
 ghost use Rattle.fedbundle.specs.declared.run_error.RunError.TheVariants.{NoMemory, Io};
 
 use bundle_view::ReportError;
-use receipt_core::{Fault, NextLineError};
+use byte_lines::{DeviceError, Fault};
 use std::alloc::AllocError;
 use thiserror::Error;
 
@@ -38,13 +38,13 @@ impl From<Fault> for RunError {
     }
 }
 
-impl From<NextLineError> for RunError {
+impl From<DeviceError> for RunError {
     ghost from_gives = { λ e r. r ≡ of_line e };
 
-    fn from(error: NextLineError) -> RunError {
+    fn from(error: DeviceError) -> RunError {
         match error {
-            NextLineError::Io => RunError::Io,
-            NextLineError::NoMemory => RunError::NoMemory,
+            DeviceError::Io => RunError::Io,
+            DeviceError::NoMemory => RunError::NoMemory,
         }
     }
 }

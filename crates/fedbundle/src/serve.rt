@@ -1,14 +1,14 @@
 //! `serve`: the questions of other replicas, answered.
 ghost use Rattle.std.specs.Prelude.{◌≡◌, ◌⊎◌, true, IfErr, IsErrOf, OnOk};
 ghost use Rattle.std.specs.Io.KnownBytes.{Appends};
-ghost use Rattle.receipt_core.specs.Device.{AppendsBeginning};
+ghost use Rattle.byte_lines.specs.Device.{AppendsBeginning};
 ghost use Rattle.replica_sync.specs.declared.error.SyncError.TheVariants.{Io as DeviceFailed};
 ghost use Rattle.fedbundle.specs.Serve.{ServesSession, served_text};
 ghost use Rattle.fedbundle.specs.declared.error.CommandError.TheVariants.{Io, Sync};
 
 use crate::counts::write_counted;
 use crate::error::CommandError;
-use receipt_core::{Sink, Source};
+use byte_lines::{Sink, Source};
 use replica_gossip::serve_one;
 use std::alloc::Global;
 use trust_closure::Closure;

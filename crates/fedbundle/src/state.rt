@@ -2,8 +2,8 @@
 //!
 //! What a file holds is outside all contracts: these calls are proved only to be safe and to return, and shown by runs
 //! of the program.
+use byte_lines::{FromRead, FromWrite};
 use fed_config::Config;
-use receipt_core::{FromRead, FromWrite};
 use replica_sync::{SyncError, read_snapshot, write_snapshot};
 use std::alloc::{AllocError, Global};
 use std::fs::{File, Files, OpenFile, OpenOptions};

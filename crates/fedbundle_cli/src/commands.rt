@@ -3,13 +3,13 @@
 use crate::stop::Stop;
 use crate::{exchange, options, words};
 use bundle_view::Verdict;
+use byte_lines::{FromRead, FromWrite};
 use fed_config::Config;
 use fedbundle::{
     Call, CommandError, CommandName, StateLock, load_state, lock_state, read_words, run_bundle,
     run_canon, run_distrust, run_explain, run_merge, run_observe, run_polls, run_report,
     save_state,
 };
-use receipt_core::{FromRead, FromWrite};
 use std::io::{Stdin, Stdout};
 use trust_closure::IndexedClosure;
 

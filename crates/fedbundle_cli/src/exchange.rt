@@ -3,9 +3,9 @@ use crate::commands::{held, locked, output};
 use crate::connection::{Connection, accept, connect, listen};
 use crate::options;
 use crate::stop::{Stop, tell_fault};
+use byte_lines::{FromRead, FromWrite};
 use fed_config::Config;
 use fedbundle::{CommandError, run_pull, run_serve, save_state, write_served};
-use receipt_core::{FromRead, FromWrite};
 use std::net::TcpListener;
 use trust_closure::IndexedClosure;
 

@@ -9,8 +9,8 @@ mod options;
 mod stop;
 mod words;
 
+use byte_lines::{FromWrite, write_all};
 use fedbundle::CommandError;
-use receipt_core::{FromWrite, write_all};
 use std::process::ExitCode;
 use stop::Stop;
 

@@ -1,6 +1,6 @@
 // Why the program stops.
+use byte_lines::FromWrite;
 use fedbundle::{CommandError, WordsError, status, write_fault};
-use receipt_core::FromWrite;
 use std::alloc::AllocError;
 
 /// Why the program stops.

@@ -1,8 +1,7 @@
 -- Chains, one receipt after another; and that their ends are accepted.
-use Rattle.std.proofs.Common.{◌≡◌, ℕ, zero, suc, ◌+◌, ◌<◌, List, [], ◌∷◌, ◌++◌, length, ◌⊎◌, inl, inr, ◌↔◌, Bool, false, IsTrue, refl, sym, ap, ◌∙◌, subst, arith, get_or}
+use Rattle.std.proofs.Common.{◌≡◌, List, [], ◌∷◌, ◌++◌, ◌↔◌, Bool, false, IsTrue, refl, sym, subst, arith, get_or}
 use Rattle.std.specs.Prelude.{Contains, Any}
 use Rattle.std.specs.List.{AllByRecursion}
-use Rattle.jwk_set.specs.declared.authority.KeyId.{KeyId}
 use Rattle.bundle_doc.specs.Bundle.{HasKeyId, doc_id_of}
 use Rattle.fed_config.specs.Configuration.{Configuration}
 use Rattle.fed_config.specs.declared.relationship.Relationship.{Relationship}

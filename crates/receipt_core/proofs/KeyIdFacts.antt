@@ -1,5 +1,5 @@
 -- Key ids, one authority after another.
-use Rattle.std.proofs.Common.{◌≡◌, ℕ, ◌<◌, ◌+◌, List, [], ◌∷◌, ◌++◌, Option, Some, None, get_or, take, length, refl, ap, ◌∙◌, add-one, sym, map, append_assoc}
+use Rattle.std.proofs.Common.{◌≡◌, ℕ, ◌<◌, ◌+◌, List, [], ◌∷◌, ◌++◌, get_or, take, length, refl, ap, ◌∙◌, add-one, sym, map, append_assoc}
 use Rattle.std.proofs.Math.Seq.{take-suc}
 use Rattle.std.proofs.lemmas.List.Sums.{fold-append}
 use Rattle.std.specs.declared.cmp.Ordering.{Ordering}
@@ -9,7 +9,7 @@ use Rattle.std.specs.Ordering.{match_ordering}
 use Rattle.jwk_set.specs.declared.authority.Authority.{Authority}
 use Rattle.jwk_set.specs.declared.authority.KeyId.{KeyId}
 use Rattle.jwk_set.specs.Element.{key_id_of}
-use Rattle.receipt_core.specs.Receipt.{key_ids, key_cmp, with_key_id, Pair, offer_of}
+use Rattle.receipt_core.specs.Receipt.{key_ids, with_key_id, Pair, offer_of}
 use Rattle.receipt_core.specs.declared.triple.Triple.{Triple}
 use Rattle.receipt_core.specs.Rising.{with_item, placed}
 

@@ -1,4 +1,3 @@
-mod Pieces
 pub mod KeyIdFacts
 pub mod OrderFacts
 pub mod BracketFacts
@@ -6,9 +5,6 @@ pub mod HexFacts
 pub mod LineFacts
 pub mod RisingFacts
 pub mod VouchingFacts
-pub mod StreamFacts
-pub mod StepFacts
-pub mod CountFacts
 pub mod ReadFacts
 pub mod ChainFacts
 mod StandardFacts

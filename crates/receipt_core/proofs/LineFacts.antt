@@ -1,11 +1,11 @@
 -- The lines of receipts and of records of distrust, piece by piece, and their orders.
-use Rattle.std.proofs.Common.{◌≡◌, ℕ, ◌<◌, ◌+◌, List, [], ◌∷◌, ◌++◌, true, codes, refl, ap, sym, ◌∙◌, subst, arith, append_assoc}
+use Rattle.std.proofs.Common.{◌≡◌, ℕ, ◌<◌, List, [], ◌∷◌, ◌++◌, true, codes, refl, ap, sym, ◌∙◌, subst, arith, append_assoc}
 use Rattle.std.proofs.lemmas.Bool.Decides.{nat_tests}
 use Rattle.std.proofs.lemmas.Map.Lookups.{exact_bytes}
 use Rattle.std.specs.declared.cmp.Ordering.{Ordering}
-use Rattle.std.specs.declared.cmp.Ordering.TheVariants.{Less, Equal, Greater}
+use Rattle.std.specs.declared.cmp.Ordering.TheVariants.{Less, Equal}
 use Rattle.std.specs.Ordering.{nat_cmp, ordering_then}
-use Rattle.std.specs.Cmp.{tied_itself, nat_cmp_total}
+use Rattle.std.specs.Cmp.{tied_itself}
 use Rattle.std.specs.Cmp.Lexicographic.{slice_cmp, nat_list_cmp_total}
 use Rattle.std.specs.List.{All, AllByRecursion}
 use Rattle.std.proofs.lemmas.List.Elements.{All-weaker, All-head, All-tail, All-append, All-cons, All-nil, All-from_recursion}
@@ -13,18 +13,16 @@ use Rattle.hex.specs.Hex.{encode_lower}
 use Rattle.json.specs.Print.{escape, escape_byte}
 use Rattle.serde_json.specs.Data.{Data, string, array, object, Members, member, no_members}
 use Rattle.serde_json.specs.Written.{compact_text}
-use Rattle.spiffe_name.specs.Bytes.{is_domain_byte, is_segment_byte, IsPlainText}
+use Rattle.spiffe_name.specs.Bytes.{is_domain_byte, is_segment_byte}
 use Rattle.spiffe_name.specs.TrustDomain.{IsDomainText}
 use Rattle.spiffe_name.specs.SpiffeId.{Id, IsId, IsSegment, joined, scheme}
 use Rattle.spiffe_name.proofs.Plain.{IsPlainText-domain, IsPlainText-id}
 use Rattle.spiffe_name.proofs.Ids.{one_value}
-use Rattle.jwk_set.specs.declared.authority.KeyId.{KeyId}
 use Rattle.jwk_set.proofs.EscapeFacts.{escape_itself}
 use Rattle.bundle_doc.specs.Bundle.{Bundle, IsBundle, document_tree, canonical_text, with_number, trees}
-use Rattle.bundle_doc.specs.declared.document.DocId.{DocId}
 use Rattle.bundle_doc.proofs.BundleFacts.{IsPlain-document_tree, one_text}
-use Rattle.receipt_core.specs.Receipt.{Receipt, IsReceipt, IsDigest, line, receipt_cmp, key_cmp, triple_cmp, IsDistrust, distrust_line, distrust_cmp}
-use Rattle.receipt_core.specs.Parts.{pieces, distrust_pieces, text_of, parts_cmp, rest_cmp}
+use Rattle.receipt_core.specs.Receipt.{Receipt, IsReceipt, line, receipt_cmp, key_cmp, triple_cmp, IsDistrust, distrust_line, distrust_cmp}
+use Rattle.receipt_core.specs.Parts.{pieces, distrust_pieces, text_of, parts_cmp}
 use Rattle.receipt_core.specs.declared.distrust.Distrust.{Distrust}
 use Rattle.receipt_core.specs.declared.triple.Triple.{Triple}
 use Rattle.receipt_core.proofs.OrderFacts.{Above, Apart, behind, first_apart, first_marked, then_assoc, then_equal, both_equal}

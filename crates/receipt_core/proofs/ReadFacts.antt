@@ -1,10 +1,9 @@
 -- A line is JSON of one value, which says one receipt; and how long it is.
-use Rattle.std.proofs.Common.{◌≡◌, ℕ, ◌+◌, ◌*◌, ◌<◌, ◌≤◌, List, [], ◌∷◌, ◌++◌, length, codes, Option, Some, Ok, true, refl, ap, sym, ◌∙◌, subst, arith, length-append}
+use Rattle.std.proofs.Common.{◌≡◌, ℕ, ◌+◌, ◌<◌, ◌≤◌, List, length, codes, Some, Ok, true, refl, ap, sym, ◌∙◌, subst, arith, length-append}
 use Rattle.std.specs.Str.{IsUtf8}
 use Rattle.hex.specs.Hex.{encode_lower, decode_sized}
 use Rattle.json.proofs.Printed.Utf8.{are_ascii, IsUtf8-are_ascii}
-use Rattle.serde_json.specs.Data.{Data, string, object, Members, member, no_members, depth}
-use Rattle.serde_json.specs.Find.{get}
+use Rattle.serde_json.specs.Data.{Data, string, object, member, no_members, depth}
 use Rattle.serde_json.specs.Read.{read, max_depth}
 use Rattle.jwk_set.specs.Json.{IsJson, IsPlain}
 use Rattle.jwk_set.specs.Element.{HasText}
@@ -12,7 +11,7 @@ use Rattle.jwk_set.proofs.PlainFacts.{IsJson-compact_text}
 use Rattle.spiffe_name.specs.SpiffeId.{Id, IsId}
 use Rattle.spiffe_name.proofs.Ids.{one_value}
 use Rattle.spiffe_name.proofs.Plain.{IsPlainText-domain, IsPlainText-id}
-use Rattle.bundle_doc.specs.Bundle.{Bundle, IsBundle, Fits, IsKept, Means, document_tree, canonical_text}
+use Rattle.bundle_doc.specs.Bundle.{Bundle, IsKept, Means, document_tree, canonical_text}
 use Rattle.bundle_doc.proofs.BundleFacts.{IsPlain-document_tree, Means-document_tree, one_meaning, depth-document_tree}
 use Rattle.receipt_core.specs.Receipt.{Receipt, IsReceipt, IsDigest, line, receipt_tree, IsDistrust, distrust_line, distrust_tree}
 use Rattle.receipt_core.specs.Line.{IsLine, IsNoLine, IsRecord, IsNoRecord, RefusesRecord, IsNoJson, Unless, SaysReceipt, SaysDocument, SaysDistrust}

@@ -1,10 +1,9 @@
 -- Receipts and sets, said of the definitions: a slip in one of these does not check.
-use Rattle.std.proofs.Common.{◌≡◌, [], ◌∷◌, Some, None, codes, refl}
+use Rattle.std.proofs.Common.{◌≡◌, [], ◌∷◌, None, codes, refl}
 use Rattle.std.specs.Ordering.{nat_cmp}
 use Rattle.jwk_set.specs.declared.authority.PublicKey.TheVariants.{Rsa}
 use Rattle.jwk_set.specs.declared.authority.Authority.TheVariants.{Jwt}
 use Rattle.bundle_doc.specs.Bundle.{Bundle}
-use Rattle.receipt_core.specs.Lines.{lines_of}
 use Rattle.receipt_core.specs.Receipt.{Receipt, need_of, offers_of}
 use Rattle.receipt_core.specs.Rising.{with_item, with_items}
 
@@ -43,13 +42,3 @@ there_already = refl
 -- one list for a set, whatever the order
 pub joined : with_items nat_cmp (7 ∷ 3 ∷ 7 ∷ []) (5 ∷ []) ≡ 3 ∷ 5 ∷ 7 ∷ []
 joined = refl
-
--- ---- the lines of a stream
-
--- two lines and a rest
-pub two_lines : lines_of (codes "a\n\nb") ≡ record { whole = codes "a" ∷ [] ∷ []; rest = codes "b" }
-two_lines = refl
-
--- no rest behind the last line feed
-pub no_rest : lines_of (codes "a\n") ≡ record { whole = codes "a" ∷ []; rest = [] }
-no_rest = refl

@@ -1,17 +1,14 @@
 -- Vouching is one membership: what a receipt needs is among what a document offers.
-use Rattle.std.proofs.Common.{◌≡◌, ℕ, zero, suc, ◌+◌, ◌<◌, List, [], ◌∷◌, length, ◌⊎◌, inl, inr, ◌↔◌, Option, Some, None, refl, sym, ap, ◌∙◌, subst, arith, map, fold, get_or}
-use Rattle.std.specs.Prelude.{Contains, Any}
-use Rattle.std.specs.declared.cmp.Ordering.TheVariants.{Equal}
+use Rattle.std.proofs.Common.{◌≡◌, ℕ, zero, suc, ◌<◌, List, [], ◌∷◌, length, ◌⊎◌, inl, inr, ◌↔◌, Option, Some, None, refl, sym, ap, ◌∙◌, subst, arith, map, fold, get_or}
+use Rattle.std.specs.Prelude.{Contains}
 use Rattle.std.specs.List.{AllByRecursion}
 use Rattle.std.proofs.lemmas.Map.Lookups.{exact_bytes}
 use Rattle.jwk_set.specs.Element.{key_id_of}
 use Rattle.jwk_set.specs.declared.authority.Authority.{Authority}
 use Rattle.jwk_set.specs.declared.authority.KeyId.{KeyId}
 use Rattle.bundle_doc.specs.Bundle.{HasKeyId, doc_id_of}
-use Rattle.bundle_doc.specs.declared.document.DocId.{DocId}
 use Rattle.receipt_core.specs.Receipt.{Receipt, Pair, key_cmp, with_key_id, key_ids, offer_of, offers_of, need_of}
 use Rattle.receipt_core.specs.Acceptance.{Vouches, distrust_of}
-use Rattle.receipt_core.specs.Rising.{with_item}
 use Rattle.receipt_core.specs.Sets.{Always}
 use Rattle.receipt_core.specs.declared.distrust.Distrust.{Distrust}
 use Rattle.receipt_core.specs.declared.triple.Triple.{Triple}

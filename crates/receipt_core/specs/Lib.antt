@@ -6,11 +6,3 @@ pub mod Sets
 pub mod Acceptance
 pub mod Chain
 pub mod Line
-pub mod Lines
-pub mod Ahead
-pub mod Streams
-pub mod Steps
-pub mod Device
-pub mod Adaptor
-pub mod Memory
-pub mod Fuse

@@ -1,7 +1,7 @@
 -- When bytes are the line of a receipt or of a record of distrust, and when they are refused.
 use Rattle.std.specs.Prelude.{◌≡◌, ℕ, ◌<◌, ◌≤◌, List, length, codes, Some}
 use Rattle.hex.specs.Hex.{encode_lower}
-use Rattle.serde_json.specs.Data.{Data, string}
+use Rattle.serde_json.specs.Data.{Data}
 use Rattle.serde_json.specs.Find.{get}
 use Rattle.jwk_set.specs.Json.{IsJson}
 use Rattle.jwk_set.specs.Element.{HasText}

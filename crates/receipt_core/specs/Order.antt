@@ -1,6 +1,6 @@
 -- The orders of receipts, triples and records of distrust are total, and tell apart what differs.
-use Rattle.std.specs.Prelude.{◌≡◌, Bool, Some}
-use Rattle.std.specs.Ordering.{eq_by_cmp, as_partial_cmp}
+use Rattle.std.specs.Prelude.{Bool, Some}
+use Rattle.std.specs.Ordering.{eq_by_cmp}
 use Rattle.std.specs.Cmp.{IsTotalOrder, IsEquivalence, IsPartialOrder, then_total, eq_by_cmp_equiv, partial_order_from_total}
 use Rattle.std.specs.Cmp.Lexicographic.{on_texts}
 use Rattle.receipt_core.specs.Receipt.{Receipt, line, receipt_cmp, triple_cmp, distrust_cmp}

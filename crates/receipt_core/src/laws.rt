@@ -4,9 +4,6 @@ ghost use Rattle.std.specs.Prelude.{◌≡◌, ◌↔◌, [], ◌∷◌, ◌++�
 ghost use Rattle.std.specs.declared.cmp.Ordering.TheVariants.{Less};
 ghost use Rattle.std.specs.Ordering.{nat_cmp};
 ghost use Rattle.std.specs.Cmp.Lexicographic.{slice_cmp};
-ghost use Rattle.std.specs.Io.KnownBytes.{Appends};
-ghost use Rattle.receipt_core.specs.Device.{AppendsBeginning};
-ghost use Rattle.receipt_core.specs.Lines.{HasNoFeed, lines_of, with_line};
 ghost use Rattle.receipt_core.specs.Receipt.{Receipt, IsReceipt, line, receipt_cmp, triple_cmp, Pair, pair_of, offers_of, need_of, IsDistrust, distrust_line, distrust_cmp};
 ghost use Rattle.receipt_core.specs.Acceptance.{IsMember, Meaning, Vouches, distrust_of};
 ghost use Rattle.std.specs.List.{AllByRecursion};
@@ -14,17 +11,7 @@ ghost use Rattle.receipt_core.specs.Chain.{IsChain};
 ghost use Rattle.receipt_core.specs.Sets.{AreSets, Always};
 ghost use Rattle.receipt_core.specs.declared.distrust.Distrust.{Distrust};
 
-/// One piece after another is both together, and a beginning of the first, or the first and a beginning of
-/// the second, is a beginning of both.
-pub fn pieces()
-    ensures none { (old : Option (List ℕ)) → Appends old old [] }
-    ensures both { (old between new : Option (List ℕ)) (first second : List ℕ) → Appends old between first
-        → Appends between new second → Appends old new (first ++ second) }
-    ensures in_first { (old new : Option (List ℕ)) (first second : List ℕ) → AppendsBeginning old new first
-        → AppendsBeginning old new (first ++ second) }
-    ensures in_second { (old between new : Option (List ℕ)) (first second : List ℕ) → Appends old between first
-        → AppendsBeginning between new second → AppendsBeginning old new (first ++ second) }
-{}
+pub use byte_lines::laws::{pieces, streams};
 
 /// One line, one receipt, and one record of distrust: the orders of receipts and of records are those of their lines,
 /// and tell apart what differs. A record's line comes before each receipt's.
@@ -47,14 +34,6 @@ pub fn sets()
 pub fn vouching()
     ensures { (records : List Distrust) (p : Pair) (r : Receipt) → Vouches records p r
         ↔ (Contains (offers_of p) (need_of r) × (Contains records (distrust_of r.endpoint.domain r) → ⊥)) }
-{}
-
-/// The lines of bytes, as they are taken from a stream: a text without a line feed that one follows is the first line,
-/// before the lines of what comes after it, and a text without any line feed is the rest.
-pub fn streams()
-    ensures line { (text after : List ℕ) → HasNoFeed text
-        → lines_of ((text ++ (10 ∷ [])) ++ after) ≡ with_line text (lines_of after) }
-    ensures rest { (text : List ℕ) → HasNoFeed text → lines_of text ≡ record { whole = []; rest = text } }
 {}
 
 /// The last document of a chain is accepted under each meaning of this configuration that holds the chain's receipts

@@ -1,13 +1,13 @@
 //! A caller of `next_line` that is proved for every source.
 ghost use Rattle.std.specs.Prelude.{◌≡◌, length, IfOk, IfSome};
-ghost use Rattle.receipt_core.specs.Lines.{lines_of};
+ghost use Rattle.byte_lines.specs.Lines.{lines_of};
 
-use receipt_core::{Line, LineBuf, NextLineError, Source};
+use byte_lines::{DeviceError, Line, LineBuf, Source};
 use std::alloc::Global;
 
 /// How many line feeds end a line of what remains. It stands on what `next_line` ensures, and on
 /// nothing of the source.
-pub(crate) fn count_lines<R: Source>(alloc: Global, source: &mut R) -> Result<u64, NextLineError>
+pub(crate) fn count_lines<R: Source>(alloc: Global, source: &mut R) -> Result<u64, DeviceError>
     ensures { IfOk result (λ n. IfSome (R.remaining source.old)
         (λ bytes. n ≡ length (lines_of bytes).whole)) }
 {

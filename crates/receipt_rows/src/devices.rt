@@ -1,7 +1,7 @@
 //! Devices where all goes well, and at their faults.
 use crate::streams::in_pieces;
 use crate::words::{number, tell, tell_failed, two_numbers};
-use receipt_core::{
+use byte_lines::{
     Fault, FromRead, FromWrite, FuseSink, FuseSource, MemSink, Sink, Source, read_up_to, write_all,
 };
 use row_script::Script;

@@ -1,7 +1,8 @@
 //! Lines of streams, wherever the pieces end in which they come.
 use crate::counting::count_lines;
 use crate::words::{number, tell, tell_failed};
-use receipt_core::{FuseSource, Line, LineBuf, MemSource, NextLineError, Receipt, Source};
+use byte_lines::{DeviceError, FuseSource, Line, LineBuf, MemSource, Source};
+use receipt_core::Receipt;
 use row_script::{Answers, Script};
 use std::alloc::{AllocError, Global};
 
@@ -140,7 +141,7 @@ fn tell_count<R: Source>(
     alloc: Global,
     source: &mut R,
     told: &mut String,
-) -> Result<(), NextLineError> {
+) -> Result<(), DeviceError> {
     let count = count_lines(alloc, source)?;
     Ok(tell(&count, told)?)
 }
@@ -151,7 +152,7 @@ fn tell_lines<R: Source>(
     telling: Telling,
     source: &mut R,
     told: &mut String,
-) -> Result<(), NextLineError> {
+) -> Result<(), DeviceError> {
     let mut lines = LineBuf::new(alloc);
     for _ in 0..u64::MAX {
         if !tell_next(alloc, script, telling, &mut lines, source, told)? {
@@ -169,7 +170,7 @@ fn tell_next<R: Source>(
     lines: &mut LineBuf,
     source: &mut R,
     told: &mut String,
-) -> Result<bool, NextLineError> {
+) -> Result<bool, DeviceError> {
     match lines.next_line(source)? {
         Line::Text(line) => tell_line(alloc, script, telling, line, told)?,
         Line::TooLong => told.push_str("too long\n")?,

@@ -2,7 +2,7 @@
 use Rattle.std.proofs.Common.{◌≡◌, ◌≢◌, ℕ, ◌<◌, ◌⊎◌, inl, inr, List, ◌++◌, length, Option, None, Some, refl, ap, ◌∙◌, subst, arith}
 use Rattle.std.specs.Io.KnownBytes.{Consumes}
 use Rattle.fed_config.specs.Configuration.{Configuration}
-use Rattle.receipt_core.specs.Lines.{HasNoFeed}
+use Rattle.byte_lines.specs.Lines.{HasNoFeed}
 use Rattle.replica_sync.specs.Session.{Question}
 use Rattle.replica_sync.specs.Snapshots.{ended}
 use Rattle.replica_sync.specs.declared.error.SyncError.{SyncError}

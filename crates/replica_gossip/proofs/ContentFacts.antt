@@ -12,7 +12,7 @@ use Rattle.std.proofs.lemmas.List.Sums.{fold-append}
 use Rattle.receipt_core.specs.declared.distrust.Distrust.{Distrust}
 use Rattle.receipt_core.specs.Receipt.{Receipt, line, receipt_cmp, distrust_line, distrust_cmp}
 use Rattle.receipt_core.specs.Acceptance.{Meaning}
-use Rattle.receipt_core.specs.Lines.{HasLine}
+use Rattle.byte_lines.specs.Lines.{HasLine}
 use Rattle.receipt_core.specs.Rising.{with_item, with_items}
 use Rattle.replica_sync.specs.State.{State, meaning_of}
 use Rattle.replica_sync.specs.Snapshots.{ended, last_of, text_of_lines}

@@ -5,10 +5,10 @@ use Rattle.std.proofs.lemmas.Bool.{and_parts}
 use Rattle.std.proofs.lemmas.List.{append_cancel_left}
 use Rattle.std.proofs.lemmas.List.Elements.{All-from_recursion}
 use Rattle.hex.specs.Hex.{encode_lower}
-use Rattle.receipt_core.specs.Lines.{Lines, lines_of, with_line, HasLine, HasNoFeed}
+use Rattle.byte_lines.specs.Lines.{Lines, lines_of, with_line, HasLine, HasNoFeed}
 use Rattle.receipt_core.specs.Receipt.{IsDigest}
 use Rattle.receipt_core.proofs.HexFacts.{Above-encode_lower}
-use Rattle.receipt_core.proofs.StreamFacts.{lines_of-line, lines_of-rest}
+use Rattle.byte_lines.proofs.StreamFacts.{lines_of-line, lines_of-rest}
 use Rattle.replica_sync.specs.Snapshots.{ended}
 use Rattle.replica_sync.proofs.FeedFacts.{Feedless, feedless_both, feedless_decimal}
 use Rattle.replica_gossip.specs.Messages.{Asked, Told, asked_text, distrusts_part, quoted, told_text}

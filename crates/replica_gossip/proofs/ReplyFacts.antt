@@ -7,10 +7,10 @@ use Rattle.std.specs.List.{AllByRecursion}
 use Rattle.std.specs.List.Sorted.{IsStrictlySortedBy}
 use Rattle.std.specs.declared.cmp.Ordering.TheVariants.{Less}
 use Rattle.hex.specs.Hex.{encode_lower}
-use Rattle.receipt_core.specs.Lines.{Lines, lines_of, HasLine, HasNoFeed, HasNoLine}
+use Rattle.byte_lines.specs.Lines.{Lines, lines_of, HasLine, HasNoFeed, HasNoLine}
 use Rattle.receipt_core.specs.Receipt.{IsDistrust, IsReceipt, distrust_line, line}
 use Rattle.receipt_core.proofs.HexFacts.{length-encode_lower}
-use Rattle.receipt_core.proofs.StreamFacts.{lines_of-line, lines_of-rest}
+use Rattle.byte_lines.proofs.StreamFacts.{lines_of-line, lines_of-rest}
 use Rattle.replica_sync.specs.State.{State}
 use Rattle.replica_sync.specs.Session.{Reply}
 use Rattle.replica_sync.specs.Entries.{IsAbove, IsEntry, IsNextEntry, entry_line}

@@ -8,8 +8,8 @@ use Rattle.std.proofs.lemmas.Grind.{flat_map-append}
 use Rattle.std.proofs.lemmas.List.{take_all}
 use Rattle.fed_config.specs.Configuration.{Configuration}
 use Rattle.receipt_core.specs.Acceptance.{Meaning}
-use Rattle.receipt_core.specs.Device.{AppendsBeginning}
-use Rattle.receipt_core.specs.Lines.{HasLine, HasNoLine, HasNoFeed}
+use Rattle.byte_lines.specs.Device.{AppendsBeginning}
+use Rattle.byte_lines.specs.Lines.{HasLine, HasNoLine, HasNoFeed}
 use Rattle.replica_sync.specs.Session.{Question, reply_of}
 use Rattle.replica_sync.specs.declared.error.SyncError.{SyncError}
 use Rattle.replica_sync.specs.declared.error.SyncError.TheVariants.{BadHeader, ConfigDiffers, VersionDiffers, NotCanonical, NotRising, BadCount, Truncated, Refused, Io, NoMemory}

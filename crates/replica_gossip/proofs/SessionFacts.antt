@@ -4,7 +4,7 @@ use Rattle.std.specs.Io.KnownBytes.{Consumes}
 use Rattle.std.specs.List.{AllByRecursion, flat_map}
 use Rattle.fed_config.specs.Configuration.{Configuration}
 use Rattle.receipt_core.specs.Acceptance.{Meaning}
-use Rattle.receipt_core.specs.Lines.{HasLine}
+use Rattle.byte_lines.specs.Lines.{HasLine}
 use Rattle.trust_closure.specs.declared.error.TakeError.{TakeError}
 use Rattle.replica_sync.specs.State.{State, meaning_of}
 use Rattle.replica_sync.specs.Session.{Question, Reply, state_of}

@@ -4,7 +4,7 @@ use Rattle.std.specs.Io.KnownBytes.{Consumes}
 use Rattle.std.specs.List.Sorted.{IsStrictlySortedBy}
 use Rattle.receipt_core.specs.Receipt.{IsReceipt, IsDistrust}
 use Rattle.receipt_core.specs.Acceptance.{Meaning}
-use Rattle.receipt_core.specs.Lines.{HasLine}
+use Rattle.byte_lines.specs.Lines.{HasLine}
 use Rattle.replica_sync.specs.State.{State, no_state}
 use Rattle.replica_sync.specs.Session.{state_of}
 use Rattle.replica_sync.specs.Snapshots.{last_of, text_of_lines}

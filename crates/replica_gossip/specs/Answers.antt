@@ -5,7 +5,7 @@ use Rattle.std.specs.List.Sorted.{IsStrictlySortedBy}
 use Rattle.std.specs.Io.KnownBytes.{Consumes}
 use Rattle.std.specs.Ordering.{nat_cmp}
 use Rattle.std.specs.Cmp.Lexicographic.{slice_cmp}
-use Rattle.receipt_core.specs.Lines.{HasLine, HasNoLine}
+use Rattle.byte_lines.specs.Lines.{HasLine, HasNoLine}
 use Rattle.receipt_core.specs.Receipt.{IsReceipt, line, IsDistrust, distrust_line}
 use Rattle.replica_sync.specs.State.{State}
 use Rattle.replica_sync.specs.Session.{Reply}

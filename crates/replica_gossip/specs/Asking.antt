@@ -3,7 +3,7 @@ use Rattle.std.specs.Prelude.{◌≡◌, ◌≢◌, ◌≤◌, ◌⊎◌, ℕ, L
 use Rattle.std.specs.List.{join_by}
 use Rattle.std.specs.Io.KnownBytes.{Consumes, IsAtEnd}
 use Rattle.fed_config.specs.Configuration.{Configuration, config_id_of}
-use Rattle.receipt_core.specs.Lines.{HasLine, HasNoLine, HasMore}
+use Rattle.byte_lines.specs.Lines.{HasLine, HasNoLine, HasMore}
 use Rattle.replica_sync.specs.Session.{Question}
 use Rattle.replica_sync.specs.declared.error.SyncError.{SyncError}
 use Rattle.replica_sync.specs.declared.error.SyncError.TheVariants.{BadHeader, ConfigDiffers, VersionDiffers, NotCanonical, NotRising, BadCount, Truncated, Refused, Io, NoMemory}

@@ -1,7 +1,7 @@
 -- How the lines behind an answer's first are read, one by one.
 use Rattle.std.specs.Prelude.{◌≡◌, ℕ, List, [], ◌∷◌, ◌++◌, length, Bool, true, false, Option}
 use Rattle.std.specs.Io.KnownBytes.{Consumes}
-use Rattle.receipt_core.specs.Lines.{HasLine}
+use Rattle.byte_lines.specs.Lines.{HasLine}
 use Rattle.replica_sync.specs.State.{State}
 use Rattle.replica_sync.specs.Snapshots.{last_of, text_of_lines}
 use Rattle.replica_sync.specs.Entries.{IsNextEntry}

@@ -4,8 +4,8 @@ use Rattle.std.specs.List.{AllByRecursion}
 use Rattle.std.specs.Io.KnownBytes.{Appends, Consumes}
 use Rattle.fed_config.specs.Configuration.{Configuration, config_id_of}
 use Rattle.receipt_core.specs.Acceptance.{Meaning}
-use Rattle.receipt_core.specs.Device.{AppendsBeginning}
-use Rattle.receipt_core.specs.Lines.{HasNoLine, HasMore}
+use Rattle.byte_lines.specs.Device.{AppendsBeginning}
+use Rattle.byte_lines.specs.Lines.{HasNoLine, HasMore}
 use Rattle.replica_sync.specs.Session.{Question, reply_of}
 use Rattle.replica_gossip.specs.Messages.{asked_of, asked_text, question_text, reply_text}
 use Rattle.replica_gossip.specs.FirstLines.{HasBadFirst, IsAsked, RefusesAsked}

@@ -1,6 +1,6 @@
 -- What the crate's records of first lines say.
 use Rattle.std.specs.Prelude.{◌≡◌, ◌<◌, ◌^◌, ℕ, List, map, Option, Some, None, IfSome}
-use Rattle.receipt_core.specs.Lines.{HasLine}
+use Rattle.byte_lines.specs.Lines.{HasLine}
 use Rattle.receipt_core.specs.Receipt.{IsDigest}
 use Rattle.replica_sync.specs.declared.error.SyncError.{SyncError}
 use Rattle.replica_sync.specs.declared.error.SyncError.TheVariants.{BadHeader, ConfigDiffers, VersionDiffers, NotCanonical, NotRising, BadCount, Truncated, Refused, Io, NoMemory}

@@ -2,7 +2,7 @@
 use Rattle.std.specs.Prelude.{◌≡◌, ℕ, ◌+◌, ◌⊎◌, List, length, Option}
 use Rattle.std.specs.Io.KnownBytes.{Consumes}
 use Rattle.receipt_core.specs.Acceptance.{Meaning}
-use Rattle.receipt_core.specs.Lines.{HasLine, HasNoLine}
+use Rattle.byte_lines.specs.Lines.{HasLine, HasNoLine}
 use Rattle.replica_sync.specs.State.{State, joined, meaning_of}
 use Rattle.replica_sync.specs.Session.{Reply, state_of}
 use Rattle.replica_sync.specs.Snapshots.{text_of_lines}

@@ -1,7 +1,7 @@
 //! Answers, read.
 ghost use Rattle.std.specs.Prelude.{◌≡◌, ◌<◌, ◌||◌, true, IfOk, IfErr, OnOk, MatchOption};
 ghost use Rattle.std.specs.Io.KnownBytes.{Consumes};
-ghost use Rattle.receipt_core.specs.Streams.{stream_of, left_of};
+ghost use Rattle.byte_lines.specs.Streams.{stream_of, left_of};
 ghost use Rattle.replica_sync.specs.Entries.{RefusesText};
 ghost use Rattle.replica_sync.specs.Snapshots.{is_io, last_of};
 ghost use Rattle.replica_gossip.specs.Messages.{reply_text};
@@ -9,7 +9,8 @@ ghost use Rattle.replica_gossip.specs.Answers.{IsAnswer, IsBegun, RefusesGive, R
 ghost use Rattle.replica_gossip.specs.Gathering.{StopsGathering, GathersAll, IsWhole, Pushes, Steps, content_of, pushed};
 
 use crate::told_reader::{Head, next_head};
-use receipt_core::{Distrust, Line, LineBuf, Receipt, Source};
+use byte_lines::{Line, LineBuf, Source};
+use receipt_core::{Distrust, Receipt};
 use replica_sync::entry::{Entry, Wanted, next_entry};
 use replica_sync::{Give, SyncError};
 use std::alloc::{AllocError, Global};

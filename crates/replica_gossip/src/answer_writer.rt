@@ -5,8 +5,9 @@ ghost use Rattle.replica_sync.specs.Snapshots.{ended};
 ghost use Rattle.replica_sync.specs.declared.error.SyncError.TheVariants.{Io, NoMemory};
 
 use crate::spelling::{ToldLine, push_told};
+use byte_lines::{Sink, write_all};
 use jwk_set::KeyId;
-use receipt_core::{Distrust, Receipt, Sink, write_all};
+use receipt_core::{Distrust, Receipt};
 use replica_sync::{Answer, Lacking, SyncError};
 use spiffe_name::TrustDomain;
 use std::alloc::{AllocError, Global};

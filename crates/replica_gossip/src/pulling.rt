@@ -1,7 +1,7 @@
 //! Sessions in which a replica asks.
 ghost use Rattle.std.specs.Prelude.{◌≡◌, ◌+◌, ◌<◌, ◌≤◌, ◌^◌, ◌⊎◌, IfErr, IsErrOf, OnOk, true};
 ghost use Rattle.std.specs.Io.KnownBytes.{Appends};
-ghost use Rattle.receipt_core.specs.Streams.{stream_of, left_of};
+ghost use Rattle.byte_lines.specs.Streams.{stream_of, left_of};
 ghost use Rattle.replica_sync.specs.Session.{question_of};
 ghost use Rattle.replica_gossip.specs.Messages.{question_text, Writes};
 ghost use Rattle.replica_gossip.specs.Questions.{IsWritten};
@@ -11,7 +11,7 @@ ghost use Rattle.replica_sync.specs.declared.error.SyncError.TheVariants.{Io, No
 
 use crate::question_writer::write_have;
 use crate::taking::{Place, take_answer};
-use receipt_core::{LineBuf, Sink, Source};
+use byte_lines::{LineBuf, Sink, Source};
 use replica_sync::{SyncError, have};
 use std::alloc::Global;
 use thiserror::Error;

@@ -2,7 +2,7 @@
 ghost use Rattle.std.specs.Prelude.{◌≡◌, ◌≢◌, ◌<◌, ◌||◌, IfOk, IfErr, MatchResult, None};
 ghost use Rattle.std.specs.Io.KnownBytes.{Consumes};
 ghost use Rattle.fed_config.specs.Configuration.{config_id_of};
-ghost use Rattle.receipt_core.specs.Streams.{stream_of, left_of};
+ghost use Rattle.byte_lines.specs.Streams.{stream_of, left_of};
 ghost use Rattle.replica_sync.specs.Snapshots.{is_io};
 ghost use Rattle.replica_gossip.specs.Messages.{question_text};
 ghost use Rattle.replica_gossip.specs.FirstLines.{IsAskedLine};
@@ -11,8 +11,8 @@ ghost use Rattle.replica_gossip.specs.Asking.{FindsAsked, FindsOwn, IsNoneAsked,
 
 use crate::asked_reader::read_asked;
 use crate::asking::Asking;
+use byte_lines::{Line, LineBuf, Source};
 use fed_config::Config;
-use receipt_core::{Line, LineBuf, Source};
 use replica_sync::{Have, SyncError};
 use std::alloc::Global;
 

@@ -1,12 +1,12 @@
 //! Questions, written.
 ghost use Rattle.std.specs.Prelude.{◌≡◌, ◌≢◌, IfOk, IfErr, OnOk, Err, true};
 ghost use Rattle.std.specs.Io.KnownBytes.{Appends};
-ghost use Rattle.receipt_core.specs.Device.{AppendsBeginning};
+ghost use Rattle.byte_lines.specs.Device.{AppendsBeginning};
 ghost use Rattle.replica_gossip.specs.Messages.{question_text};
 ghost use Rattle.replica_sync.specs.declared.error.SyncError.TheVariants.{Io, NoMemory};
 
 use crate::spelling::{AskedLine, push_asked};
-use receipt_core::{Sink, write_all};
+use byte_lines::{Sink, write_all};
 use replica_sync::{Have, SyncError};
 use std::alloc::{AllocError, Global};
 

@@ -1,13 +1,13 @@
 //! Sessions that are served.
 ghost use Rattle.std.specs.Prelude.{◌≡◌, ◌<◌, ◌⊎◌, IfOk, IsErrOf, true};
-ghost use Rattle.receipt_core.specs.Streams.{stream_of, left_of};
+ghost use Rattle.byte_lines.specs.Streams.{stream_of, left_of};
 ghost use Rattle.replica_gossip.specs.Questions.{Serves};
 ghost use Rattle.replica_gossip.specs.Serving.{ServesNext};
 ghost use Rattle.replica_sync.specs.declared.error.SyncError.TheVariants.{Io};
 
 use crate::answer_writer::write_answer;
 use crate::question_reader::next_own;
-use receipt_core::{LineBuf, Sink, Source};
+use byte_lines::{LineBuf, Sink, Source};
 use replica_sync::{SyncError, answer};
 use std::alloc::Global;
 use trust_closure::Closure;

@@ -4,9 +4,9 @@ ghost use Rattle.std.specs.List.{join_by};
 ghost use Rattle.replica_gossip.specs.Messages.{asked_text, distrusts_part, quoted, told_text};
 ghost use Rattle.replica_gossip.specs.Spelling.{asked_by, told_by};
 
+use byte_lines::{push_digits, push_number};
 use fed_config::ConfigId;
 use receipt_core::ReceiptId;
-use replica_sync::number::{push_digits, push_number};
 use std::alloc::AllocError;
 
 /// What the line of a question says, of whatever format and number of buckets.

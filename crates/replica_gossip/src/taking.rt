@@ -1,11 +1,11 @@
 //! Answers, taken line by line.
 ghost use Rattle.std.specs.Prelude.{◌≡◌, ◌+◌, ◌<◌, ◌≤◌, ◌^◌, ◌⊎◌, true, [], OnOk, IfErr, IsErrOf, MatchResult, Some};
-ghost use Rattle.receipt_core.specs.Streams.{stream_of, left_of};
+ghost use Rattle.byte_lines.specs.Streams.{stream_of, left_of};
 ghost use Rattle.replica_gossip.specs.Taking.{TakesReply, StopsReply, TakesLines, StopsWithin, IsNextOf, TakesNext, HasNotTaken, TakesHere, HasRefusedHere};
 ghost use Rattle.replica_sync.specs.declared.error.SyncError.TheVariants.{Io};
 
 use crate::told_reader::{Expected, Head, next_head};
-use receipt_core::{Line, LineBuf, Source};
+use byte_lines::{Line, LineBuf, Source};
 use replica_sync::SyncError;
 use replica_sync::entry::{Wanted, take_line};
 use std::alloc::Global;

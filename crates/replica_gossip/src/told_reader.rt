@@ -1,6 +1,6 @@
 //! The first lines of answers, read.
 ghost use Rattle.std.specs.Prelude.{◌≡◌, ◌++◌, ◌<◌, ◌^◌, ◌↔◌, ◌||◌, ℕ, List, Option, IsTrue, IfOk, IfErr, IfSome, OnOk, MatchOption, codes};
-ghost use Rattle.receipt_core.specs.Streams.{stream_of, left_of};
+ghost use Rattle.byte_lines.specs.Streams.{stream_of, left_of};
 ghost use Rattle.replica_sync.specs.Snapshots.{is_io};
 ghost use Rattle.replica_gossip.specs.Messages.{Told, distrusts_part, told_text};
 ghost use Rattle.replica_gossip.specs.FirstLines.{IsAbout, IsOwn, IsRecordCount, IsTold, IsToldLine, RefusesTold, config_of};
@@ -9,8 +9,8 @@ ghost use Rattle.replica_gossip.specs.Spelling.{HasHead, HasWords, IsHeadOf, Ref
 
 use crate::scanner::{after, digest_behind, id_of, number_behind};
 use crate::spelling::{ToldLine, push_told};
+use byte_lines::{Line, LineBuf, Source};
 use fed_config::{Config, ConfigId};
-use receipt_core::{Line, LineBuf, Source};
 use replica_sync::SyncError;
 use std::alloc::{AllocError, Global};
 

@@ -7,8 +7,8 @@ use Rattle.std.specs.Io.KnownBytes.{Consumes}
 use Rattle.std.specs.List.{AllByRecursion}
 use Rattle.fed_config.specs.Configuration.{Configuration, IsConfiguration}
 use Rattle.receipt_core.specs.Acceptance.{Meaning, IsMeaning}
-use Rattle.receipt_core.specs.Lines.{Lines, lines_of, with_line, with_byte, before, HasLine, HasNoFeed, HasMore}
-use Rattle.receipt_core.proofs.StreamFacts.{lines_of-line, lines_of-rest}
+use Rattle.byte_lines.specs.Lines.{Lines, lines_of, with_line, with_byte, before, HasLine, HasNoFeed, HasMore}
+use Rattle.byte_lines.proofs.StreamFacts.{lines_of-line, lines_of-rest}
 use Rattle.replica_sync.specs.Snapshots.{Begins, HasBadFirst, HasBadLine, HasMoreBehind, IsSnapshot, IsTold, RefusesFirst, RefusesHeader, RefusesNext, RefusesPlace, RefusesSnapshot, begun_text, count_line, count_of, digits_of, ended, header_line, held_lines, snapshot_text, text_of_lines, version_of}
 use Rattle.replica_sync.specs.declared.error.SyncError.{SyncError}
 use Rattle.replica_sync.specs.declared.error.SyncError.TheVariants.{BadHeader, ConfigDiffers, VersionDiffers, NotCanonical, NotRising, BadCount, Truncated, Refused, Io, NoMemory}

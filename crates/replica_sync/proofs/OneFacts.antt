@@ -13,8 +13,8 @@ use Rattle.fed_config.specs.Configuration.{Configuration}
 use Rattle.receipt_core.specs.declared.distrust.Distrust.{Distrust}
 use Rattle.receipt_core.specs.Receipt.{Receipt, IsReceipt, line, IsDistrust, distrust_line}
 use Rattle.receipt_core.specs.Acceptance.{Meaning, IsMeaning}
-use Rattle.receipt_core.specs.Lines.{Lines, lines_of, with_line}
-use Rattle.receipt_core.proofs.StreamFacts.{lines_of-line}
+use Rattle.byte_lines.specs.Lines.{Lines, lines_of, with_line}
+use Rattle.byte_lines.proofs.StreamFacts.{lines_of-line}
 use Rattle.receipt_core.proofs.LineFacts.{one_line, one_record, record_first}
 use Rattle.replica_sync.specs.Snapshots.{IsSnapshot, header_line, header_of, digits_of, count_line, count_of, count_beginning, records_part, ended, text_of_lines, held_lines, snapshot_text}
 use Rattle.replica_sync.specs.declared.format.Format.{Format}

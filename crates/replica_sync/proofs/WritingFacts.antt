@@ -3,7 +3,7 @@ use Rattle.std.proofs.Common.{◌≡◌, List, [], ◌∷◌, ◌++◌, Option, 
 use Rattle.std.specs.Prelude.{IsErrAnd, Result, Ok, Err}
 use Rattle.std.proofs.lemmas.List.Concat.{flat_map-cons}
 use Rattle.std.specs.Io.KnownBytes.{Appends}
-use Rattle.receipt_core.specs.Device.{AppendsBeginning}
+use Rattle.byte_lines.specs.Device.{AppendsBeginning}
 use Rattle.receipt_core.specs.Acceptance.{Meaning}
 use Rattle.receipt_core.specs.Receipt.{line, distrust_line}
 use Rattle.replica_sync.specs.Snapshots.{snapshot_text, header_line, count_line, ended, text_of_lines}

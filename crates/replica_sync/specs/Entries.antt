@@ -6,8 +6,8 @@ use Rattle.std.specs.Ordering.{nat_cmp}
 use Rattle.std.specs.Cmp.Lexicographic.{slice_cmp}
 use Rattle.receipt_core.specs.Receipt.{IsReceipt, line, with_receipt, IsDistrust, distrust_line, with_distrust}
 use Rattle.receipt_core.specs.Acceptance.{Meaning}
-use Rattle.receipt_core.specs.declared.line_buf.NextLineError.{NextLineError}
-use Rattle.receipt_core.specs.declared.line_buf.NextLineError.TheVariants.{Io as SourceFault, NoMemory as NoLineMemory}
+use Rattle.byte_lines.specs.declared.error.DeviceError.{DeviceError}
+use Rattle.byte_lines.specs.declared.error.DeviceError.TheVariants.{Io as SourceFault, NoMemory as NoLineMemory}
 use Rattle.receipt_core.specs.declared.line_error.LineError.{LineError}
 use Rattle.receipt_core.specs.declared.line_error.LineError.TheVariants.{NotCanonical as NoLine, TooLong, NoMemory as NoReadMemory}
 use Rattle.trust_closure.specs.Refusals.{Room, RefusesReceipt, RefusesDistrust}
@@ -20,7 +20,7 @@ use Rattle.replica_sync.specs.declared.entry.Wanted.TheVariants.{Records, Receip
 use Rattle.replica_sync.specs.declared.error.SyncError.{SyncError}
 use Rattle.replica_sync.specs.declared.error.SyncError.TheVariants.{BadHeader, ConfigDiffers, VersionDiffers, NotCanonical, NotRising, BadCount, Truncated, Refused, Io, NoMemory}
 
-abbrev pub fault_of : NextLineError → SyncError
+abbrev pub fault_of : DeviceError → SyncError
 fault_of SourceFault = Io
 fault_of NoLineMemory = NoMemory
 

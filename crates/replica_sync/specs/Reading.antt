@@ -3,7 +3,7 @@ use Rattle.std.specs.Prelude.{◌≡◌, ℕ, ◌+◌, List, [], ◌∷◌, ◌+
 use Rattle.std.specs.Io.KnownBytes.{Consumes}
 use Rattle.fed_config.specs.Configuration.{Configuration}
 use Rattle.receipt_core.specs.Acceptance.{Meaning, IsMeaning}
-use Rattle.receipt_core.specs.Lines.{HasLine, HasMore}
+use Rattle.byte_lines.specs.Lines.{HasLine, HasMore}
 use Rattle.replica_sync.specs.Snapshots.{IsTold, RefusesNext, text_of_lines, held_lines, count_line, next_number, ended}
 use Rattle.replica_sync.specs.declared.format.Format.{Format}
 use Rattle.replica_sync.specs.declared.error.SyncError.{SyncError}

@@ -6,7 +6,7 @@ use Rattle.hex.specs.Hex.{encode_lower}
 use Rattle.fed_config.specs.Configuration.{Configuration, config_id_of}
 use Rattle.receipt_core.specs.Receipt.{line, distrust_line}
 use Rattle.receipt_core.specs.Acceptance.{Meaning, IsMeaning}
-use Rattle.receipt_core.specs.Lines.{HasLine, HasNoLine, HasMore}
+use Rattle.byte_lines.specs.Lines.{HasLine, HasNoLine, HasMore}
 use Rattle.replica_sync.specs.Entries.{RefusesLine}
 use Rattle.replica_sync.specs.declared.entry.Wanted.{Wanted}
 use Rattle.replica_sync.specs.declared.entry.Wanted.TheVariants.{Receipts, Either}

@@ -3,7 +3,7 @@ ghost use Rattle.std.specs.Prelude.{◌≡◌};
 ghost use Rattle.replica_sync.specs.Entries.{fault_of};
 ghost use Rattle.replica_sync.specs.declared.error.SyncError.TheVariants.{Io, NoMemory};
 
-use receipt_core::{Fault, NextLineError};
+use byte_lines::{DeviceError, Fault};
 use std::alloc::AllocError;
 use thiserror::Error;
 use trust_closure::TakeError;
@@ -59,13 +59,13 @@ impl From<Fault> for SyncError {
     }
 }
 
-impl From<NextLineError> for SyncError {
+impl From<DeviceError> for SyncError {
     ghost from_gives = { λ why e. e ≡ fault_of why };
 
-    fn from(why: NextLineError) -> SyncError {
+    fn from(why: DeviceError) -> SyncError {
         match why {
-            NextLineError::Io => SyncError::Io,
-            NextLineError::NoMemory => SyncError::NoMemory,
+            DeviceError::Io => SyncError::Io,
+            DeviceError::NoMemory => SyncError::NoMemory,
         }
     }
 }

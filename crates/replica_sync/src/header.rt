@@ -1,14 +1,14 @@
 //! The first and the last line of a snapshot.
 ghost use Rattle.std.specs.Prelude.{◌≡◌, ◌++◌, ◌↔◌, ℕ, List, ◌||◌, IsTrue, OnOk, IfOk, IfErr, MatchOption, MatchResult};
 ghost use Rattle.std.specs.Io.KnownBytes.{Consumes};
-ghost use Rattle.receipt_core.specs.Streams.{stream_of};
+ghost use Rattle.byte_lines.specs.Streams.{stream_of};
 ghost use Rattle.replica_sync.specs.Snapshots.{RefusesFirst, ended, is_io, IsHeader, IsNoHeader, IsSplit, RefusesHeader, header_line, count_of, digits_of, records_part, version_of};
 
 use crate::error::SyncError;
 use crate::format::Format;
-use crate::number::{are_digits, push_digits, push_number, read_number};
+use crate::number::{are_digits, read_number};
+use byte_lines::{Line, LineBuf, Source, push_digits, push_number};
 use fed_config::Config;
-use receipt_core::{Line, LineBuf, Source};
 use std::alloc::{AllocError, Global};
 
 /// The first line's digest, as its digits, and its number.

@@ -1,11 +1,10 @@
 //! Numbers and digests in the lines of streams.
-ghost use Rattle.std.specs.Prelude.{◌≡◌, ◌++◌, ◌↔◌, ◌^◌, ◌<◌, ℕ, List, IsTrue, OnOk, Some, decimal};
-ghost use Rattle.hex.specs.Hex.{encode_lower};
+ghost use Rattle.std.specs.Prelude.{◌≡◌, ◌↔◌, ◌^◌, ◌<◌, ℕ, IsTrue, Some, decimal};
 ghost use Rattle.jwk_set.specs.Forms.{Finds};
 ghost use Rattle.replica_sync.specs.Snapshots.{AreDigits, is_digit};
 
+pub use byte_lines::{push_digits, push_number};
 use itoa::Buffer;
-use std::alloc::AllocError;
 use std::str;
 
 /// The number of these decimal digits: `0`, or without a leading zero, and at most 2^64 - 1.
@@ -48,22 +47,4 @@ fn is_hex_digit(byte: u8) -> bool
     ensures { result ≡ is_digit byte }
 {
     (b'0' <= byte && byte <= b'9') || (b'a' <= byte && byte <= b'f')
-}
-
-/// Writes a number after what is there.
-pub fn push_number(out: &mut Vec<u8>, number: u64) -> Result<(), AllocError>
-    ensures { OnOk result (out.new.items ≡ out.old.items ++ decimal number) }
-{
-    let mut buffer = Buffer::new();
-    out.extend_from_slice(buffer.format(number).as_bytes())
-}
-
-/// Writes the digits of a digest after what is there.
-pub fn push_digits(out: &mut Vec<u8>, digest: &[u8; 32]) -> Result<(), AllocError>
-    ensures { OnOk result (out.new.items ≡ out.old.items ++ encode_lower digest.now) }
-{
-    let mut text = [0; 64];
-    // The lengths agree, so it is never refused.
-    let _ = hex::encode_to_slice(digest.as_slice(), &mut text);
-    out.extend_from_slice(&text)
 }

@@ -2,7 +2,7 @@
 ghost use Rattle.std.specs.Prelude.{◌≡◌, ◌+◌, ◌<◌, ◌≤◌, ◌||◌, ◌↔◌, true, [], IsTrue, IfOk, OnOk, IfErr, MatchResult, length};
 ghost use Rattle.std.specs.Io.KnownBytes.{Consumes, IsAtEnd};
 ghost use Rattle.receipt_core.specs.Acceptance.{IsMeaning};
-ghost use Rattle.receipt_core.specs.Streams.{stream_of, left_of};
+ghost use Rattle.byte_lines.specs.Streams.{stream_of, left_of};
 ghost use Rattle.replica_sync.specs.Snapshots.{IsSnapshot, IsTold, RefusesNext, RefusesPlace, RefusesSnapshot, count_of, is_io, last_line, next_number, wanted_of};
 ghost use Rattle.replica_sync.specs.Reading.{FailsBehind, HoldsAll, Judges, RefusesEnd, Steps};
 ghost use Rattle.trust_closure.specs.Changes.{empty_of};
@@ -11,8 +11,8 @@ use crate::entry::{Wanted, take_line};
 use crate::error::SyncError;
 use crate::format::Format;
 use crate::header::{read_first, write_count};
+use byte_lines::{Line, LineBuf, Source};
 use fed_config::Config;
-use receipt_core::{Line, LineBuf, Source};
 use std::alloc::{AllocError, Global};
 use trust_closure::Closure;
 

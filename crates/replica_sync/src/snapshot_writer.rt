@@ -7,8 +7,9 @@ ghost use Rattle.replica_sync.specs.Writing.{Writes};
 use crate::error::SyncError;
 use crate::format::Format;
 use crate::header::{write_count, write_header};
+use byte_lines::{Sink, write_all};
 use jwk_set::KeyId;
-use receipt_core::{Distrust, Sink, write_all};
+use receipt_core::Distrust;
 use spiffe_name::TrustDomain;
 use std::alloc::{AllocError, Global};
 use trust_closure::Closure;
@@ -31,7 +32,7 @@ pub fn write_snapshot<C: Closure, W: Sink>(
     ensures writes { Writes (W.contents sink.old) (W.contents sink.new) (snapshot_text Format.Second (C.state closure.now).meaning) result }
     ensures fault { W.has_failed sink.new ≡ (is_io result || W.has_failed sink.old) }
 {
-    receipt_core::laws::pieces();
+    byte_lines::laws::pieces();
     let header = write_header(alloc, closure.config(), Format::Second)?;
     put_line(sink, header)?;
     let records = put_records(alloc, closure, sink)?;
@@ -52,7 +53,7 @@ fn put_records<C: Closure, W: Sink>(
     ensures count { IfOk result (λ count. count ≡ length (C.state closure.now).meaning.records) }
     ensures fault { W.has_failed sink.new ≡ (is_io result || W.has_failed sink.old) }
 {
-    receipt_core::laws::pieces();
+    byte_lines::laws::pieces();
     let _config = closure.config();
     let mut count = 0u64;
     'records: for (domain, key) in closure.distrusts() {
@@ -71,7 +72,7 @@ fn put_receipts<C: Closure, W: Sink>(
     ensures writes { Writes (W.contents sink.old) (W.contents sink.new) (text_of_lines (map line (C.state closure.now).meaning.held)) result }
     ensures fault { W.has_failed sink.new ≡ (is_io result || W.has_failed sink.old) }
 {
-    receipt_core::laws::pieces();
+    byte_lines::laws::pieces();
     'receipts: for receipt in closure.receipts() {
         let text = receipt.write_line(alloc)?;
         put_line(sink, text)?;
@@ -84,7 +85,7 @@ fn put_line<W: Sink>(sink: &mut W, mut text: Vec<u8>) -> Result<(), SyncError>
     ensures writes { Writes (W.contents sink.old) (W.contents sink.new) (ended text.items) result }
     ensures fault { W.has_failed sink.new ≡ (is_io result || W.has_failed sink.old) }
 {
-    receipt_core::laws::pieces();
+    byte_lines::laws::pieces();
     text.extend_from_slice(b"\n")?;
     write_all(sink, text.as_slice())?;
     Ok(())

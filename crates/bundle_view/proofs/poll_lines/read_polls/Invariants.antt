@@ -1,6 +1,6 @@
 -- The log is that of the lines so far, each of which took at least one byte.
 use Rattle.std.proofs.Common.{◌≡◌, ◌+◌, ◌^◌, ◌<◌}
-use Rattle.receipt_core.specs.Streams.{stream_of, left_of}
+use Rattle.byte_lines.specs.Streams.{stream_of, left_of}
 use Rattle.bundle_view.specs.Polling.{polled}
 use Rattle.bundle_view.specs.PollSteps.{HasRead}
 use Rattle.bundle_view.proofs.poll_lines.read_polls.Given as goal

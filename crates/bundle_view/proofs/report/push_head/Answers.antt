@@ -9,6 +9,6 @@ returns g c = record {
   is_pending = c.pending_count.ensures;
   now = head_made (g.C.Closure.state c.args.closure.now).meaning c.pending_count.result c.digest.result.0 c.receipt_count.result _ _ _ _ _ _ _ _
       (c.digest.ensures ∙ ap config_id_of c.config.ensures.config) c.receipt_count.ensures
-      c.in_ok-extend_from_slice.ensures.items c.in_ok-push_hex.ensures c.in_ok-extend_from_slice-2.ensures.items c.in_ok-push_number.ensures
+      c.in_ok-extend_from_slice.ensures.items c.in_ok-push_digits.ensures c.in_ok-extend_from_slice-2.ensures.items c.in_ok-push_number.ensures
       c.in_ok-extend_from_slice-3.ensures.items c.in_ok-push_number-2.ensures c.in_ok-extend_from_slice-4.ensures.items;
 }

@@ -1,6 +1,6 @@
 use Rattle.std.proofs.Common.{◌≡◌, codes, decimal, ◌++◌, ◌∙◌, subst}
 use Rattle.std.specs.Io.KnownBytes.{Appends}
-use Rattle.receipt_core.specs.Device.{AppendsBeginning}
+use Rattle.byte_lines.specs.Device.{AppendsBeginning}
 use Rattle.fedbundle.specs.Stream.{why_text}
 use Rattle.fedbundle.proofs.complaint.complain.Goals as goal
 

@@ -1,6 +1,6 @@
 -- What was read is judged, each line took at least one byte, and at most one complaint comes of a line.
 use Rattle.std.proofs.Common.{◌+◌, ◌^◌, ◌<◌, ◌≤◌}
-use Rattle.receipt_core.specs.Streams.{stream_of, left_of}
+use Rattle.byte_lines.specs.Streams.{stream_of, left_of}
 use Rattle.fedbundle.proofs.RunFacts.{SoFar}
 use Rattle.fedbundle.proofs.judge.take_lines.Given as goal
 

@@ -1,7 +1,7 @@
 use Rattle.std.proofs.Common.{◌≡◌, sym, ap, ◌∙◌, inr, Err}
 use Rattle.std.proofs.lemmas.Result.{err_from_is_err_and}
 use Rattle.receipt_core.specs.Acceptance.{Meaning}
-use Rattle.receipt_core.specs.Lines.{lines_of}
+use Rattle.byte_lines.specs.Lines.{lines_of}
 use Rattle.fedbundle.specs.Run.{of_report}
 use Rattle.fedbundle.specs.declared.run_error.RunError.TheVariants.{Io}
 use Rattle.fedbundle.proofs.RunFacts.{begun_none, if_some, told_whole, reporting, reported, only_io}

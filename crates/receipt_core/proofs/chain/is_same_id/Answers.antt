@@ -1,4 +1,4 @@
-use Rattle.std.proofs.Common.{◌≡◌, ◌∙◌, sym, ap}
+use Rattle.std.proofs.Common.{◌∙◌, sym, ap}
 use Rattle.spiffe_name.proofs.Ids.{one_value}
 use Rattle.receipt_core.proofs.chain.is_same_id.Goals as goal
 

@@ -1,4 +1,4 @@
-use Rattle.std.proofs.Common.{◌≡◌, ◌∙◌, ap, sym}
+use Rattle.std.proofs.Common.{◌∙◌, ap, sym}
 use Rattle.std.specs.Cmp.{tied_itself}
 use Rattle.receipt_core.specs.Receipt.{triple_cmp}
 use Rattle.receipt_core.specs.Order.{triple_total}

@@ -1,8 +1,5 @@
-use Rattle.std.proofs.Common.{◌≡◌, refl, false}
-use Rattle.receipt_core.specs.Receipt.{pair_of}
-use Rattle.receipt_core.specs.Acceptance.{IsFitting, Vouches}
-use Rattle.receipt_core.specs.Chain.{HasVoucher, IsChain, IsFirst}
-use Rattle.receipt_core.proofs.ChainFacts.{next_told, distrusted_told, seeded_told, distrusted_seeded, chain_told, no_first, told_no, not_told, fitting_told}
+use Rattle.std.proofs.Common.{refl, false}
+use Rattle.receipt_core.proofs.ChainFacts.{seeded_told, distrusted_seeded, told_no, not_told}
 use Rattle.receipt_core.proofs.chain.is_seeded.Goals as goal
 
 pub returns-then-is_distrusted : goal.returns-then-is_distrusted

@@ -1,4 +1,4 @@
-use Rattle.std.proofs.Common.{◌≡◌, [], ap, sym, ◌∙◌}
+use Rattle.std.proofs.Common.{[], ap, sym, ◌∙◌}
 use Rattle.receipt_core.specs.Receipt.{Receipt, receipt_id_of}
 use Rattle.receipt_core.proofs.LineFacts.{line_text, pieces_grown}
 use Rattle.sha2.specs.Sha256.{sha256}

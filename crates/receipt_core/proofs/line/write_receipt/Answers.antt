@@ -1,4 +1,4 @@
-use Rattle.std.proofs.Common.{◌≡◌, ap, sym, ◌∙◌}
+use Rattle.std.proofs.Common.{ap, sym, ◌∙◌}
 use Rattle.hex.specs.Hex.{encode_lower}
 use Rattle.bundle_doc.specs.Bundle.{canonical_text}
 use Rattle.receipt_core.specs.Parts.{pieces}

@@ -1,4 +1,4 @@
-use Rattle.std.proofs.Common.{ap, length, arith}
+use Rattle.std.proofs.Common.{arith}
 use Rattle.receipt_core.proofs.ReadFacts.{no_long_line}
 use Rattle.receipt_core.proofs.line_reader.read_receipt.Goals as goal
 

@@ -1,4 +1,4 @@
-use Rattle.std.proofs.Common.{◌≡◌, ap, sym, Ok, Err, Some}
+use Rattle.std.proofs.Common.{ap, Some}
 use Rattle.receipt_core.proofs.HexFacts.{decoded_digest}
 use Rattle.receipt_core.proofs.members.decoded.Goals as goal
 

@@ -1,4 +1,4 @@
-use Rattle.std.proofs.Common.{◌≡◌, ◌∙◌, ap, sym}
+use Rattle.std.proofs.Common.{◌∙◌, ap, sym}
 use Rattle.receipt_core.specs.Receipt.{with_key_id, key_cmp}
 use Rattle.receipt_core.proofs.KeyIdFacts.{insert_key-with_item}
 use Rattle.receipt_core.proofs.offers.add_key_id.Goals as goal

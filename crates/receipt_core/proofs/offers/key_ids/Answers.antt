@@ -1,4 +1,4 @@
-use Rattle.std.proofs.Common.{◌≡◌, ◌∙◌, ap, sym}
+use Rattle.std.proofs.Common.{◌∙◌, ap, sym}
 use Rattle.receipt_core.specs.Receipt.{with_key_id}
 use Rattle.receipt_core.proofs.KeyIdFacts.{key_ids-more}
 use Rattle.jwk_set.specs.Element.{key_id_of}

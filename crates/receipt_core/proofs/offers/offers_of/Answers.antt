@@ -1,4 +1,4 @@
-use Rattle.std.proofs.Common.{◌≡◌, ◌++◌, ◌∙◌, ap, sym, map, append-nil}
+use Rattle.std.proofs.Common.{◌++◌, ◌∙◌, ap, sym, map, append-nil}
 use Rattle.receipt_core.specs.Receipt.{Pair, offer_of, key_ids}
 use Rattle.receipt_core.proofs.KeyIdFacts.{offers_more}
 use Rattle.receipt_core.proofs.offers.offers_of.Goals as goal

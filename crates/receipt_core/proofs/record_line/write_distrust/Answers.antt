@@ -1,4 +1,4 @@
-use Rattle.std.proofs.Common.{◌≡◌, ap, sym, ◌∙◌}
+use Rattle.std.proofs.Common.{sym, ◌∙◌}
 use Rattle.receipt_core.specs.Parts.{distrust_pieces}
 use Rattle.receipt_core.proofs.LineFacts.{distrust_line_text, distrust_pushed}
 use Rattle.receipt_core.proofs.record_line.write_distrust.Goals as goal

@@ -1,5 +1,5 @@
 use Rattle.std.proofs.Common.{◌≡◌, ◌+◌, ◌<◌, arith}
-use Rattle.receipt_core.proofs.CountFacts.{CountsTo-line, CountsTo-rest}
+use Rattle.byte_lines.proofs.CountFacts.{CountsTo-line, CountsTo-rest}
 use Rattle.receipt_rows.proofs.counting.count_lines.Goals as goal
 
 pub lines-preserved-in-Text : goal.lines-preserved-in-Text

@@ -1,7 +1,7 @@
 -- What was counted, with the lines of what is left, is what all gives, and each line took at least one byte.
 use Rattle.std.proofs.Common.{◌+◌, ◌^◌, ◌<◌}
-use Rattle.receipt_core.specs.Streams.{stream_of, left_of}
-use Rattle.receipt_core.proofs.CountFacts.{CountsTo}
+use Rattle.byte_lines.specs.Streams.{stream_of, left_of}
+use Rattle.byte_lines.proofs.CountFacts.{CountsTo}
 use Rattle.receipt_rows.proofs.counting.count_lines.Given as goal
 
 abbrev pub invariant-lines : goal.invariant-lines

@@ -1,5 +1,5 @@
 use Rattle.std.proofs.Common.{◌≡◌, ◌∙◌, Bool, refl, sym, ap, subst}
-use Rattle.receipt_core.specs.Streams.{stream_of}
+use Rattle.byte_lines.specs.Streams.{stream_of}
 use Rattle.replica_sync.specs.State.{State, no_state}
 use Rattle.replica_sync.specs.Snapshots.{last_of}
 use Rattle.replica_gossip.specs.Answers.{content_lines}

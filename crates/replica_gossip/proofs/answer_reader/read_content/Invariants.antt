@@ -1,6 +1,6 @@
 -- The lines so far are those of what was read, and the last of them is known.
 use Rattle.std.proofs.Common.{◌≡◌}
-use Rattle.receipt_core.specs.Streams.{stream_of, left_of}
+use Rattle.byte_lines.specs.Streams.{stream_of, left_of}
 use Rattle.replica_sync.specs.Snapshots.{last_of}
 use Rattle.replica_gossip.specs.Answers.{content_lines}
 use Rattle.replica_gossip.specs.Gathering.{Gathers, content_of}

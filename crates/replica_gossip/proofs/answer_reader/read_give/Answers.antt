@@ -1,6 +1,6 @@
 use Rattle.std.proofs.Common.{sym, subst}
 use Rattle.std.specs.Io.KnownBytes.{Consumes}
-use Rattle.receipt_core.specs.Streams.{stream_of}
+use Rattle.byte_lines.specs.Streams.{stream_of}
 use Rattle.replica_sync.specs.Session.{Reply}
 use Rattle.replica_sync.proofs.SnapshotFacts.{refused_by}
 use Rattle.replica_gossip.specs.Messages.{reply_text}

@@ -1,7 +1,7 @@
 use Rattle.std.proofs.Common.{◌≡◌, ◌∙◌, subst}
 use Rattle.std.specs.List.{flat_map}
 use Rattle.std.specs.Io.KnownBytes.{Appends}
-use Rattle.receipt_core.specs.Device.{AppendsBeginning}
+use Rattle.byte_lines.specs.Device.{AppendsBeginning}
 use Rattle.replica_sync.specs.Snapshots.{ended}
 use Rattle.replica_gossip.specs.Messages.{Writes, told_of, told_text, record_text, receipt_text}
 use Rattle.replica_gossip.proofs.Written.{begins-first, begins-second, writes-err, writes-then}

@@ -1,5 +1,5 @@
 use Rattle.std.proofs.Common.{ap, subst}
-use Rattle.receipt_core.specs.Device.{AppendsBeginning}
+use Rattle.byte_lines.specs.Device.{AppendsBeginning}
 use Rattle.std.specs.List.{flat_map}
 use Rattle.replica_gossip.specs.Messages.{receipt_text}
 use Rattle.replica_gossip.proofs.Written.{wrote-piece, wrote-begun, writes-err}

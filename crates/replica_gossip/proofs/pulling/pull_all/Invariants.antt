@@ -1,6 +1,6 @@
 -- So many buckets were asked about, and each line took at least one byte.
 use Rattle.std.proofs.Common.{◌+◌, ◌<◌, ◌^◌}
-use Rattle.receipt_core.specs.Streams.{stream_of, left_of}
+use Rattle.byte_lines.specs.Streams.{stream_of, left_of}
 use Rattle.replica_gossip.proofs.PullingFacts.{AskedUpTo}
 use Rattle.replica_gossip.proofs.pulling.pull_all.Given as goal
 

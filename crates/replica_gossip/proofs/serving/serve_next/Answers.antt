@@ -1,6 +1,6 @@
 use Rattle.std.proofs.Common.{inl, subst}
 use Rattle.std.proofs.lemmas.Result.{err_from_is_err_and}
-use Rattle.receipt_core.specs.Streams.{stream_of}
+use Rattle.byte_lines.specs.Streams.{stream_of}
 use Rattle.replica_gossip.specs.Questions.{RefusesFurther}
 use Rattle.replica_gossip.proofs.Written.{nothing-appended}
 use Rattle.replica_gossip.proofs.serving.serve_next.Goals as goal

@@ -1,6 +1,6 @@
 use Rattle.std.proofs.Common.{arith}
 use Rattle.std.proofs.lemmas.Result.{err_from_is_err_and}
-use Rattle.receipt_core.specs.Streams.{stream_of}
+use Rattle.byte_lines.specs.Streams.{stream_of}
 use Rattle.replica_gossip.proofs.ServingFacts.{served-more, served-up-to}
 use Rattle.replica_gossip.proofs.serving.serve_one.Goals as goal
 

@@ -1,6 +1,6 @@
 -- So many questions were answered, each of which took at least one byte.
 use Rattle.std.proofs.Common.{◌+◌, ◌^◌, ◌<◌}
-use Rattle.receipt_core.specs.Streams.{stream_of, left_of}
+use Rattle.byte_lines.specs.Streams.{stream_of, left_of}
 use Rattle.replica_gossip.specs.Serving.{Served}
 use Rattle.replica_gossip.proofs.serving.serve_one.Given as goal
 

@@ -1,6 +1,6 @@
 use Rattle.std.proofs.Common.{◌+◌}
 use Rattle.std.proofs.lemmas.Result.{IfErr-weaker, on_ok_weaker}
-use Rattle.receipt_core.specs.Streams.{stream_of}
+use Rattle.byte_lines.specs.Streams.{stream_of}
 use Rattle.replica_sync.proofs.SnapshotFacts.{refused_by}
 use Rattle.replica_gossip.specs.Taking.{StopsReply, StopsWithin}
 use Rattle.replica_gossip.proofs.AnswerFacts.{answer_refused, answer_stops, answer_taken}

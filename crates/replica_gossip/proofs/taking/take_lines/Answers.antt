@@ -1,5 +1,5 @@
 use Rattle.std.proofs.Common.{arith}
-use Rattle.receipt_core.specs.Streams.{stream_of}
+use Rattle.byte_lines.specs.Streams.{stream_of}
 use Rattle.replica_sync.proofs.SnapshotFacts.{refused_by}
 use Rattle.replica_gossip.specs.Taking.{StopsWithin}
 use Rattle.replica_gossip.proofs.TakingFacts.{so_far_none, so_far_more, so_far_fails}

@@ -1,6 +1,6 @@
 -- So much of the answer is taken, and each line took at least one byte.
 use Rattle.std.proofs.Common.{◌+◌, ◌≤◌}
-use Rattle.receipt_core.specs.Streams.{stream_of, left_of}
+use Rattle.byte_lines.specs.Streams.{stream_of, left_of}
 use Rattle.replica_gossip.proofs.TakingFacts.{SoFar}
 use Rattle.replica_gossip.proofs.taking.take_lines.Given as goal
 

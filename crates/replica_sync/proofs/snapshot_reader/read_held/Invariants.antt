@@ -1,6 +1,6 @@
 -- The lines so far are those of what is held, and the last of them and the number of the next are known.
 use Rattle.std.proofs.Common.{◌≡◌}
-use Rattle.receipt_core.specs.Streams.{stream_of, left_of}
+use Rattle.byte_lines.specs.Streams.{stream_of, left_of}
 use Rattle.replica_sync.specs.Snapshots.{last_line, next_number}
 use Rattle.replica_sync.specs.Reading.{Holds}
 use Rattle.replica_sync.proofs.snapshot_reader.read_held.Given as goal

@@ -1,6 +1,6 @@
 use Rattle.std.proofs.Common.{ap, inl, subst}
 use Rattle.receipt_core.specs.Acceptance.{Meaning}
-use Rattle.receipt_core.specs.Streams.{kept}
+use Rattle.byte_lines.specs.Streams.{kept}
 use Rattle.replica_sync.specs.Snapshots.{RefusesSnapshot}
 use Rattle.replica_sync.proofs.SnapshotFacts.{fresh, nothing_left, refused_by, held_refused, end_refused, snapshot_read}
 use Rattle.replica_sync.proofs.snapshot_reader.read_snapshot.Goals as goal

@@ -1,6 +1,6 @@
 use Rattle.std.proofs.Common.{◌≡◌, ℕ, List, ap, ◌∙◌, subst, map, rules}
 use Rattle.std.specs.Io.KnownBytes.{Appends}
-use Rattle.receipt_core.specs.Device.{AppendsBeginning}
+use Rattle.byte_lines.specs.Device.{AppendsBeginning}
 use Rattle.receipt_core.specs.Receipt.{line, distrust_line}
 use Rattle.replica_sync.specs.Snapshots.{header_line, count_line, ended, text_of_lines}
 use Rattle.replica_sync.specs.declared.format.Format.TheVariants.{Second}

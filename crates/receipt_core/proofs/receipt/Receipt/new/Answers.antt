@@ -1,4 +1,4 @@
-use Rattle.std.proofs.Common.{◌≡◌, ◌∙◌}
+use Rattle.std.proofs.Common.{◌∙◌}
 use Rattle.receipt_core.proofs.receipt.Receipt.new.Goals as goal
 
 pub invariant_of-result : goal.invariant_of-result

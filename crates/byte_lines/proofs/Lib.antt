@@ -1,0 +1,5 @@
+mod Pieces
+pub mod StreamFacts
+pub mod StepFacts
+pub mod CountFacts
+mod StandardFacts

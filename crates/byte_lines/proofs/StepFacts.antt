@@ -1,0 +1,87 @@
+-- Lemmas on the steps of a line buffer.
+use Rattle.std.proofs.Common.{◌≡◌, ◌≢◌, ℕ, suc, ◌+◌, ◌-◌, ◌<◌, ◌≤◌, Bool, true, false, if◌then◌else◌, List, [], ◌∷◌, ◌++◌, length, take, drop, Option, None, Some, Result, Err, refl, sym, ap, ◌∙◌, subst, append_assoc, append-nil, take-append-drop, length-append, length-take, arith, unwrap_or}
+use Rattle.std.proofs.lemmas.List.Elements.{All-append, All-take}
+use Rattle.std.specs.Io.KnownBytes.{Keeps, Consumes, IsAtEnd, prepend_known}
+use Rattle.byte_lines.specs.Lines.{HasNoFeed, HasLine, HasNoLine, HasMore}
+use Rattle.byte_lines.specs.Inside.Ahead.{AtFeed}
+use Rattle.byte_lines.specs.Streams.{stream_of, left_of}
+use Rattle.byte_lines.specs.Inside.Steps.{TakesFound, Passes}
+use Rattle.byte_lines.specs.declared.line_buf.LineBuf.{LineBuf}
+use Rattle.byte_lines.specs.declared.line_buf.Found.{Found}
+use Rattle.byte_lines.specs.declared.error.DeviceError.{DeviceError}
+use Rattle.byte_lines.specs.declared.error.DeviceError.TheVariants.{Io}
+use Rattle.byte_lines.proofs.StreamFacts.{Consumes-from_kept, Consumes-front, Consumes-feed, HasLine-after, HasNoLine-after, HasNoLine-end, HasMore-text, IsAtEnd-empty}
+
+-- the bytes before the first line feed, or all
+front_plain : (ahead : List ℕ) (place : Option ℕ) (count : ℕ) → AtFeed ahead place → count ≡ unwrap_or place (length ahead) → HasNoFeed (take count ahead) × (count ≤ length ahead)
+front_plain ahead None count none is = (All-take (λ (x : ℕ). x ≢ 10) count ahead none, omega arith)
+front_plain ahead (Some k) count feed is = (subst (λ n. HasNoFeed (take n ahead)) (sym is) feed.plain, omega (arith, feed.inside))
+
+pub too_much : (given : Bool) (line ahead left : List ℕ) (place : Option ℕ) (count : ℕ) → given ≡ false → HasNoFeed line → AtFeed ahead place
+    → count ≡ unwrap_or place (length ahead) → 8388608 - length line < count → left ≡ drop count ahead → Passes ((if given then [] else line) ++ ahead) left
+too_much true line ahead left place count waiting plain feed is over rest = cc
+too_much false line ahead left place count waiting plain feed is over rest =
+    let front = front_plain ahead place count feed is in
+    let size : length (take count ahead) ≡ count = omega (arith, length-take count ahead, front.1) in
+    record {
+      text = line ++ take count ahead;
+      plain = All-append (λ (x : ℕ). x ≢ 10) line (take count ahead) plain front.0;
+      long = omega (arith, length-append line (take count ahead));
+      parts = ap (λ l. line ++ l) (sym (take-append-drop count ahead)) ∙ sym (append_assoc line (take count ahead) (drop count ahead))
+          ∙ ap (λ l. (line ++ take count ahead) ++ l) (sym rest);
+    }
+
+-- ---- what the exits of a call say
+
+pub spent_on : (front old new : List ℕ) (before after total : ℕ) → length (front ++ old) + before ≤ total → length new + after ≤ length old + before → length (front ++ new) + after ≤ total
+spent_on front old new before after total spent less = omega (arith, length-append front old, length-append front new)
+
+pub TakesFound-io : {S : Type 0} (remaining : S → Option (List ℕ)) (budget : S → ℕ) (old : LineBuf) (before : S) (new : LineBuf) (after : S) (result : Result Found DeviceError) (e : DeviceError)
+    → result ≡ Err e → e ≡ Io → left_of budget new after ≤ left_of budget old before → TakesFound remaining budget old before new after result
+TakesFound-io remaining budget old before new after result e is io spends =
+    subst (TakesFound remaining budget old before new after) (sym (is ∙ ap Err io)) (record { finds = tt; keeps = λ bad. cc; spends = spends; falls = tt })
+
+pub TakesFound-memory : {S : Type 0} (remaining : S → Option (List ℕ)) (budget : S → ℕ) (old : LineBuf) (before : S) (new : LineBuf) (after : S) (result : Result Found DeviceError) (e : DeviceError)
+    → result ≡ Err e → Keeps (stream_of remaining old before) (stream_of remaining new after) → left_of budget new after ≤ left_of budget old before
+    → TakesFound remaining budget old before new after result
+TakesFound-memory remaining budget old before new after result e is keeps spends =
+    subst (TakesFound remaining budget old before new after) (sym is) (record { finds = tt; keeps = λ _. keeps; spends = spends; falls = tt })
+
+pub length_line : (bytes text rest : List ℕ) → bytes ≡ text ++ (10 ∷ rest) → length bytes ≡ length text + suc (length rest)
+length_line bytes text rest parts = ap length parts ∙ length-append text (10 ∷ rest)
+
+pub taken_line : (s : Option (List ℕ)) (bytes text rest : List ℕ) (a : Option (List ℕ)) → Keeps s (prepend_known bytes a) → bytes ≡ text ++ (10 ∷ rest)
+    → Consumes s (prepend_known rest a) (text ++ (10 ∷ []))
+taken_line s bytes text rest a keeps parts =
+    Consumes-from_kept s (prepend_known bytes a) (prepend_known rest a) (text ++ (10 ∷ [])) keeps (Consumes-feed bytes text rest a parts)
+
+pub kept_none : (given : Bool) (line ahead : List ℕ) → line ≡ [] → (if given then [] else line) ++ ahead ≡ ahead
+kept_none true line ahead none = refl
+kept_none false line ahead none = ap (λ l. l ++ ahead) none
+
+passed : (s : Option (List ℕ)) (bytes ahead : List ℕ) (a : Option (List ℕ)) → Keeps s (prepend_known bytes a) → (p : Passes bytes ahead) → Consumes s (prepend_known ahead a) p.text
+passed s bytes ahead a keeps p = Consumes-from_kept s (prepend_known bytes a) (prepend_known ahead a) p.text keeps (Consumes-front bytes p.text ahead a p.parts)
+
+pub long_line : (s : Option (List ℕ)) (bytes ahead rest left : List ℕ) (a b : Option (List ℕ)) → Keeps s (prepend_known bytes a) → Passes bytes ahead → left ≡ rest
+    → ((text : List ℕ) × HasLine (prepend_known ahead a) (prepend_known rest b) text) → (text : List ℕ) × HasLine s (prepend_known left b) text × (8388608 < length text)
+long_line s bytes ahead rest left a b keeps p same (text, line) =
+    let whole = HasLine-after s (prepend_known ahead a) (prepend_known rest b) p.text text p.plain (passed s bytes ahead a keeps p) line in
+    (p.text ++ text, subst (λ l. HasLine s (prepend_known l b) (p.text ++ text)) (sym same) whole, omega (arith, length-append p.text text, p.long))
+
+pub long_cut : (s : Option (List ℕ)) (bytes ahead rest left : List ℕ) (a b : Option (List ℕ)) → Keeps s (prepend_known bytes a) → Passes bytes ahead → left ≡ rest
+    → HasNoLine (prepend_known ahead a) → IsAtEnd (prepend_known rest b) → HasNoLine s × HasMore s × IsAtEnd (prepend_known left b)
+long_cut s bytes ahead rest left a b keeps p same none end =
+    let came = passed s bytes ahead a keeps p in (
+      HasNoLine-after s (prepend_known ahead a) p.text p.plain came none,
+      HasMore-text s (prepend_known ahead a) p.text (omega (arith, p.long)) came,
+      subst (λ l. IsAtEnd (prepend_known l b)) (sym same) end,
+    )
+
+pub length_passed : (bytes ahead : List ℕ) → Passes bytes ahead → length ahead < length bytes
+length_passed bytes ahead p = omega (arith, ap length p.parts, length-append p.text ahead, p.long)
+
+-- all that is kept is a rest
+pub short_cut : (s : Option (List ℕ)) (bytes : List ℕ) (a : Option (List ℕ)) → Keeps s (prepend_known bytes a) → HasNoFeed bytes → 0 < length bytes → IsAtEnd a → HasNoLine s × HasMore s
+short_cut s bytes a keeps plain some end =
+    let came = Consumes-from_kept s (prepend_known bytes a) (prepend_known [] a) bytes keeps (Consumes-front bytes bytes [] a (sym (append-nil bytes))) in
+    (HasNoLine-end s (prepend_known [] a) bytes plain came (IsAtEnd-empty [] a refl end), HasMore-text s (prepend_known [] a) bytes some came)

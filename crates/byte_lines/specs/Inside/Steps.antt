@@ -1,0 +1,40 @@
+-- What the steps of a line buffer do.
+use Rattle.std.specs.Prelude.{◌≡◌, ℕ, ◌<◌, ◌≤◌, ◌++◌, ◌∷◌, List, [], length, false, true, Option, Result, Ok, Err, IfOk, IsErrOf}
+use Rattle.std.specs.Io.KnownBytes.{Keeps, IsAtEnd}
+use Rattle.std.specs.declared.alloc.AllocError.{AllocError}
+use Rattle.byte_lines.specs.Lines.{HasNoFeed, HasLine, HasNoLine, HasMore}
+use Rattle.byte_lines.specs.Inside.Ahead.{ahead_of}
+use Rattle.byte_lines.specs.Streams.{kept, stream_of, left_of}
+use Rattle.byte_lines.specs.declared.line_buf.LineBuf.{LineBuf}
+use Rattle.byte_lines.specs.declared.line_buf.Found.{Found}
+use Rattle.byte_lines.specs.declared.line_buf.Found.TheVariants.{Text, TooLong, Cut, End}
+use Rattle.byte_lines.specs.declared.line_buf.Gathered.{Gathered}
+use Rattle.byte_lines.specs.declared.line_buf.Gathered.TheVariants.{Part, Line, TooMuch}
+use Rattle.byte_lines.specs.declared.error.DeviceError.{DeviceError}
+use Rattle.byte_lines.specs.declared.error.DeviceError.TheVariants.{NoMemory}
+
+-- what was found, where `given` is the line that the buffer then holds
+abbrev pub FindsIn : Option (List ℕ) → Option (List ℕ) → List ℕ → Found → Type 0
+FindsIn old new given Text = HasLine old new given × (length given ≤ 8388608)
+FindsIn old new given TooLong = ((text : List ℕ) × HasLine old new text × (8388608 < length text))
+FindsIn old new given Cut = HasNoLine old × HasMore old × IsAtEnd new
+FindsIn old new given End = IsAtEnd old × IsAtEnd new
+
+pub record TakesFound {S : Type 0} (remaining : S → Option (List ℕ)) (budget : S → ℕ) (old : LineBuf) (before : S) (new : LineBuf) (after : S) (result : Result Found DeviceError) : Type 0 where
+  pub finds : IfOk result (FindsIn (stream_of remaining old before) (stream_of remaining new after) new.line.items)
+  pub keeps : IsErrOf result NoMemory → Keeps (stream_of remaining old before) (stream_of remaining new after)
+  pub spends : left_of budget new after ≤ left_of budget old before
+  pub falls : IfOk result (λ found. (found ≡ End → ⊥) → left_of budget new after < left_of budget old before)
+
+-- a text without a line feed that is longer than a line may be was passed
+pub record Passes (old new : List ℕ) : Type 0 where
+  pub text : List ℕ
+  pub plain : HasNoFeed text
+  pub long : 8388608 < length text
+  pub parts : old ≡ text ++ new
+
+abbrev pub Gathers : LineBuf → LineBuf → Result Gathered AllocError → Type 0
+Gathers old new (Ok Part) = (kept new ≡ kept old) × (ahead_of new.ahead ≡ []) × (new.is_given ≡ false)
+Gathers old new (Ok Line) = (kept old ≡ new.line.items ++ (10 ∷ kept new)) × (new.is_given ≡ true)
+Gathers old new (Ok TooMuch) = Passes (kept old) (ahead_of new.ahead) × (new.line.items ≡ []) × (new.is_given ≡ false)
+Gathers old new (Err e) = (kept new ≡ kept old)

@@ -1,0 +1,40 @@
+-- What a call over a `LineBuf` says of the stream: the bytes that the buffer keeps, followed by those that the source
+-- still has. Where the source cannot tell them, nothing is said of the stream.
+use Rattle.std.specs.Prelude.{◌≡◌, ℕ, ◌+◌, ◌<◌, ◌≤◌, ◌++◌, List, [], length, if◌then◌else◌, Option, Result, IfOk, IsErrOf}
+use Rattle.std.specs.Io.KnownBytes.{Keeps, IsAtEnd, prepend_known}
+use Rattle.byte_lines.specs.Lines.{HasLine, HasNoLine, HasMore}
+use Rattle.byte_lines.specs.Inside.Ahead.{ahead_of}
+use Rattle.byte_lines.specs.declared.line_buf.LineBuf.{LineBuf}
+use Rattle.byte_lines.specs.declared.line_buf.Line.{Line}
+use Rattle.byte_lines.specs.declared.line_buf.Line.TheVariants.{Text, TooLong, Cut, End}
+use Rattle.byte_lines.specs.declared.error.DeviceError.{DeviceError}
+use Rattle.byte_lines.specs.declared.error.DeviceError.TheVariants.{NoMemory}
+
+-- what a buffer keeps: the beginning of a line, unless that was handed out, and what it read ahead
+abbrev pub kept : LineBuf → List ℕ
+kept lines = (if lines.is_given then [] else lines.line.items) ++ ahead_of lines.ahead
+
+abbrev pub stream_of : {S : Type 0} → (S → Option (List ℕ)) → LineBuf → S → Option (List ℕ)
+stream_of remaining lines source = prepend_known (kept lines) (remaining source)
+
+-- the stream has at most so many bytes
+abbrev pub left_of : {S : Type 0} → (S → ℕ) → LineBuf → S → ℕ
+left_of budget lines source = length (kept lines) + budget source
+
+-- of the stream `old` this is the first line, or its rest, and `new` is what follows
+abbrev pub Finds : Option (List ℕ) → Option (List ℕ) → Line → Type 0
+Finds old new (Text text) = HasLine old new text.now × (length text.now ≤ 8388608)
+Finds old new TooLong = ((text : List ℕ) × HasLine old new text × (8388608 < length text))
+Finds old new Cut = HasNoLine old × HasMore old × IsAtEnd new
+Finds old new End = IsAtEnd old × IsAtEnd new
+
+-- what a call of `next_line` does to a buffer and its source
+pub record TakesLine {S : Type 0} (remaining : S → Option (List ℕ)) (budget : S → ℕ) (old : LineBuf) (before : S) (new : LineBuf) (after : S) (result : Result Line DeviceError) : Type 0 where
+  -- the line is the first of the stream, and the stream loses it
+  pub finds : IfOk result (Finds (stream_of remaining old before) (stream_of remaining new after))
+  -- want of memory loses no byte
+  pub keeps : IsErrOf result NoMemory → Keeps (stream_of remaining old before) (stream_of remaining new after)
+  -- the stream never grows
+  pub spends : left_of budget new after ≤ left_of budget old before
+  -- and it shrinks wherever it has not come to its end
+  pub falls : IfOk result (λ line. (line ≡ End → ⊥) → left_of budget new after < left_of budget old before)

@@ -1,0 +1,93 @@
+//! A sink made of a writer of std.
+ghost use Rattle.std.specs.Prelude.{◌≡◌, ◌<◌, false, is_err, IsErr, OnOk, OkIff, MatchResult};
+ghost use Rattle.std.specs.Io.KnownBytes.{Keeps};
+
+use crate::error::Fault;
+use crate::sink::Sink;
+use std::io;
+use std::io::Write;
+
+/// A sink over a writer of std. Each fault of the writer counts as a failure, an interrupted write
+/// too, and so does a write of 0 bytes where there were bytes to write.
+///
+/// Where the writer keeps bytes back, as a `BufWriter` does, a write may be Ok before the bytes are
+/// out: call `flush` at the end.
+#[derive(Drop)]
+pub struct FromWrite<W> {
+    writer: W,
+    failed: bool,
+}
+
+impl<W: Write> FromWrite<W> {
+    ghost use Rattle.byte_lines.specs.Adaptor.{writer_of, writer_failed};
+
+    /// A sink whose bytes go to the writer.
+    pub fn new(writer: W) -> FromWrite<W>
+        ensures writer { writer_of result ≡ writer }
+        ensures sound { writer_failed result ≡ false }
+    {
+        FromWrite {
+            writer,
+            failed: false,
+        }
+    }
+
+    /// Has the writer put out what it keeps back. A fault is a failure of the sink.
+    pub fn flush(&mut self) -> Result<(), Fault>
+        ensures keeps { Keeps (W.contents (writer_of self.old)) (W.contents (writer_of self.new)) }
+        ensures fault { writer_failed self.new ≡ is_err result }
+        ensures lasting { OnOk result (writer_failed self.old ≡ false) }
+    {
+        if self.failed || self.writer.flush().is_err() {
+            self.failed = true;
+            return Err(Fault);
+        }
+        Ok(())
+    }
+
+    /// The writer, with what it was given.
+    pub fn into_inner(self) -> W
+        ensures { result ≡ writer_of self }
+    {
+        self.writer
+    }
+
+    // What a write of the writer is to the sink, where there were bytes to write.
+    fn settle(&mut self, written: io::Result<usize>) -> Result<usize, Fault>
+        requires { writer_failed self.old ≡ false }
+        ensures outcome { MatchResult written (λ n. OkIff result (0 < n) n) (λ _. IsErr result) }
+        ensures fault { writer_failed self.new ≡ is_err result }
+        ensures writer { writer_of self.new ≡ writer_of self.old }
+    {
+        match written {
+            Ok(n) if n > 0 => Ok(n),
+            _ => {
+                self.failed = true;
+                Err(Fault)
+            }
+        }
+    }
+}
+
+impl<W: Write> Sink for FromWrite<W> {
+    ghost use Rattle.byte_lines.specs.Adaptor.{writer_of, writer_failed};
+
+    ghost contents = { λ sink. W.contents (writer_of sink) };
+
+    ghost has_failed = { writer_failed };
+
+    fn write(&mut self, bytes: &[u8]) -> Result<usize, Fault> {
+        if self.failed {
+            return Err(Fault);
+        }
+        if bytes.is_empty() {
+            return Ok(0);
+        }
+        let written = self.writer.write(bytes);
+        self.settle(written)
+    }
+
+    fn failed(&self) -> bool {
+        self.failed
+    }
+}

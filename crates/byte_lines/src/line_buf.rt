@@ -1,0 +1,158 @@
+//! Lines of a source.
+ghost use Rattle.std.specs.Prelude.{◌≡◌, ◌+◌, ◌-◌, ◌<◌, ◌≤◌, ◌||◌, ◌++◌, ◌∷◌, ℕ, List, true, false, [], length, take, drop, is_err, IfOk, OnOk, OnErr, IsErrOf, vec_len};
+ghost use Rattle.std.specs.Borrow.{sem};
+ghost use Rattle.std.specs.Io.BufRead.{Rests};
+ghost use Rattle.std.specs.Io.KnownBytes.{Keeps, Consumes, IsAtEnd};
+ghost use Rattle.byte_lines.specs.Device.{is_source_fault};
+ghost use Rattle.byte_lines.specs.Lines.{HasNoFeed};
+
+use crate::error::DeviceError;
+use crate::read_ahead::ReadAhead;
+use crate::source::Source;
+use std::alloc::{AllocError, Global};
+
+/// The most bytes of a line that is given, without its line feed.
+const LONGEST_LINE: usize = 8_388_608;
+
+/// What a source has next.
+#[derive(Debug)]
+pub enum Line<'a> {
+    /// A line of at most 8,388,608 bytes, without the line feed (byte 10) that ends it.
+    Text(&'a [u8]),
+    /// A longer line, with the line feed that ends it. Its bytes are lost.
+    TooLong,
+    /// Bytes that no line feed ends, of whatever length, at least one. They are lost.
+    Cut,
+    /// No byte.
+    End,
+}
+
+/// Gives the lines of a source, one after another. It keeps the bytes that it read ahead, and the
+/// beginning of a line of which it could not read more: at most 8,388,608 bytes and one chunk of
+/// 65,536 bytes. Where the pieces end in which the bytes come means nothing.
+#[derive(Drop)]
+pub struct LineBuf {
+    ahead: ReadAhead,
+    // The line that was given last, or the beginning of the next one.
+    line: Vec<u8>,
+    is_given: bool,
+    ghost within: { vec_len line ≤ 8388608 },
+    ghost unbroken: { HasNoFeed line.items },
+}
+
+impl LineBuf {
+    ghost use Rattle.byte_lines.specs.contracts.line_buf.LineBuf.{the_row};
+    ghost use Rattle.byte_lines.specs.Inside.Ahead.{ahead_of, chunk_room};
+    ghost use Rattle.byte_lines.specs.Streams.{kept, stream_of, left_of, TakesLine};
+    ghost use Rattle.byte_lines.specs.Inside.Steps.{TakesFound, Gathers};
+
+    /// A buffer that keeps nothing yet. No memory is taken before the first line is asked for.
+    pub fn new(alloc: Global) -> LineBuf
+        ensures { kept result ≡ [] }
+    {
+        LineBuf {
+            ahead: ReadAhead::new(alloc),
+            line: Vec::new(alloc),
+            is_given: false,
+        }
+    }
+
+    /// The next line of what is kept followed by what the source still has. Each byte is copied once,
+    /// and of a line that is too long nothing is kept while the rest of it is passed.
+    ///
+    /// # Errors
+    ///
+    /// `Io` where the source failed: nothing is said then of what remains. `NoMemory` where the
+    /// allocator refused: no byte is lost, and the next call begins at the same line.
+    pub fn next_line<R: Source>(&mut self, source: &mut R) -> Result<Line<'_>, DeviceError>
+        ensures* takes { sem 𝓛 (Rests the_row self.entry (λ new.
+            TakesLine R.remaining R.budget self.old source.old new source.new result)) }
+        ensures fault { R.has_failed source.new ≡ (is_source_fault result || R.has_failed source.old) }
+    {
+        match self.advance(source)? {
+            Found::Text => Ok(Line::Text(self.line.as_slice())),
+            Found::TooLong => Ok(Line::TooLong),
+            Found::Cut => Ok(Line::Cut),
+            Found::End => Ok(Line::End),
+        }
+    }
+
+    // The same without the line itself, which is then the one that was given.
+    fn advance<R: Source>(&mut self, source: &mut R) -> Result<Found, DeviceError>
+        ensures takes { TakesFound R.remaining R.budget self.old source.old self.new source.new result }
+        ensures fault { R.has_failed source.new ≡ (is_source_fault result || R.has_failed source.old) }
+    {
+        self.begin()?;
+        'pieces: while self.ahead.fill(source)? {
+            match self.gather()? {
+                Gathered::Part => {}
+                Gathered::Line => return Ok(Found::Text),
+                Gathered::TooMuch => {
+                    let is_ended = self.ahead.skip_line(source)?;
+                    return Ok(if is_ended { Found::TooLong } else { Found::Cut });
+                }
+            }
+        }
+        if self.line.len() == 0 {
+            return Ok(Found::End);
+        }
+        self.is_given = true;
+        Ok(Found::Cut)
+    }
+
+    // Lets go of the line that was given, and takes memory for the chunk.
+    fn begin(&mut self) -> Result<(), AllocError>
+        ensures kept { kept self.new ≡ kept self.old }
+        ensures ready { OnOk result (0 < chunk_room self.new.ahead) }
+        ensures open { self.new.is_given ≡ false }
+    {
+        if self.is_given {
+            self.line.clear();
+            self.is_given = false;
+        }
+        self.ahead.reserve()
+    }
+
+    // Moves what was read ahead to the line, up to the line feed. Of a line that grows too long
+    // nothing is kept.
+    fn gather(&mut self) -> Result<Gathered, AllocError>
+        requires open { self.old.is_given ≡ false }
+        ensures gathers { Gathers self.old self.new result }
+        ensures room { chunk_room self.new.ahead ≡ chunk_room self.old.ahead }
+    {
+        let place = self.ahead.line_feed();
+        let piece = self.ahead.as_slice();
+        let count = place.unwrap_or(piece.len());
+        if count > LONGEST_LINE - self.line.len() {
+            self.line.clear();
+            self.ahead.pass(count);
+            return Ok(Gathered::TooMuch);
+        }
+        self.line.extend_from_slice(&piece[..count])?;
+        if place.is_none() {
+            self.ahead.pass_all();
+            return Ok(Gathered::Part);
+        }
+        self.ahead.pass(count + 1);
+        self.is_given = true;
+        Ok(Gathered::Line)
+    }
+}
+
+// What `advance` came to.
+enum Found {
+    Text,
+    TooLong,
+    Cut,
+    End,
+}
+
+// What `gather` came to.
+enum Gathered {
+    // All that was read ahead, and no line feed.
+    Part,
+    // A line.
+    Line,
+    // The beginning of a line that is too long, which was passed.
+    TooMuch,
+}

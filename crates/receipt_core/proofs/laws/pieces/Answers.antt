@@ -1,6 +1,0 @@
-use Rattle.std.proofs.KnownBytes.{Appends-nil, Appends-trans}
-use Rattle.receipt_core.proofs.Pieces.{AppendsBeginning-first, AppendsBeginning-second}
-use Rattle.receipt_core.proofs.laws.pieces.Goals as goal
-
-pub returns : goal.returns
-returns c = record { none = Appends-nil; both = Appends-trans; in_first = AppendsBeginning-first; in_second = AppendsBeginning-second }

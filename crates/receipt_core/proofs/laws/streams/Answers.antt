@@ -1,8 +1,0 @@
-use Rattle.receipt_core.proofs.StreamFacts.{lines_of-line, lines_of-rest}
-use Rattle.receipt_core.proofs.laws.streams.Goals as goal
-
-pub returns-clause-line : goal.returns-clause-line
-returns-clause-line c = lines_of-line
-
-pub returns-clause-rest : goal.returns-clause-rest
-returns-clause-rest c = lines_of-rest
