@@ -11,11 +11,11 @@ use Rattle.fed_config.specs.Configuration.{Configuration}
 use Rattle.receipt_core.specs.declared.distrust.Distrust.{Distrust}
 use Rattle.receipt_core.specs.declared.triple.Triple.{Triple}
 use Rattle.receipt_core.specs.Receipt.{Receipt, Pair, pair_of, IsReceipt}
-use Rattle.receipt_core.specs.Order.{distrust_total}
 use Rattle.receipt_core.specs.Acceptance.{Meaning, IsMeaning, IsFitting, IsReleased, pair_of_seed}
 use Rattle.label_net.proofs.Edges.{slice_get-left, slice_get-append_cases, slice_get-map_cases}
 use Rattle.label_net.proofs.Mirroring.{slice_get-more, slice_get-push_cases}
 use Rattle.trust_closure.specs.Nodes.{pairs_of, is_raised}
+use Rattle.trust_closure.specs.NodeCounts.{flags_of}
 use Rattle.trust_closure.specs.Changes.{IsGain}
 use Rattle.trust_closure.specs.Flags.{raised_count}
 use Rattle.trust_closure.specs.Held.{Hoard, meaning_of}
@@ -24,10 +24,10 @@ use Rattle.trust_closure.specs.Pairs.{Paired, IsPairing, no_pair}
 use Rattle.trust_closure.specs.Plain.{AreSound, AreReleased, IsHadNode, IsFirstHad, IsSet, IsSettled, IsRoomierPaired}
 use Rattle.trust_closure.proofs.Bridge.{pair-of_receipt_node}
 use Rattle.trust_closure.proofs.FlagFacts.{gain-from_flags, count-fewer}
-use Rattle.trust_closure.proofs.IndexFacts.{pairing-flags, same-more, pairs-push, with_arrival, hoard-before, with_mistrust}
+use Rattle.trust_closure.proofs.IndexFacts.{pairing-counts, same-more, pairs-push, with_arrival, hoard-before, with_mistrust, distrust-sets, always-all}
+use Rattle.trust_closure.proofs.NodeCountFacts.{length-flags}
 use Rattle.trust_closure.proofs.MemberFacts.{member_more}
 use Rattle.trust_closure.proofs.PlainFacts.{item_at, plain-tells}
-use Rattle.trust_closure.proofs.RisingFacts.{with_item_keeps}
 
 raised-within : (flags : List Bool) (k : ℕ) → is_raised flags k ≡ true → k < length flags
 raised-within flags k e = elim (cases_lt k (length flags)) [ inl l ↦ l | inr l ↦ absurd (both_ways (is_raised flags k) (get_or_past flags k false l) e) ]
@@ -53,7 +53,7 @@ module _ (h new : Hoard) (p q : Paired) (offers : List Triple) (released others 
     (release : (r : Receipt) → IsReleased (meaning_of h) r → IsReleased (meaning_of new) r)
     (i : IsSettled h p offers released) (j : IsSettled new q offers others)
     (firsts : (node number : ℕ) → slice_get p.firsts node ≡ Some number → slice_get q.firsts node ≡ Some number)
-    (sizes : length p.flags ≤ length q.flags) where
+    (sizes : length p.counts ≤ length q.counts) where
   had-carry : (node : ℕ) → IsHadNode (length h.config.seeds) released node → IsHadNode (length new.config.seeds) others node
   had-carry node had = elim had [
     | inl l ↦ inl (subst (λ (c : Configuration). node < length c.seeds) config l)
@@ -63,7 +63,7 @@ module _ (h new : Hoard) (p q : Paired) (offers : List Triple) (released others 
         inr (f.0, subst (λ (c : Configuration). node ≡ length c.seeds + f.0) config f.1, (j.settled f.0 r.0 (arrivals f.0 r.0 r.1)).1 (release r.0 ((i.settled f.0 r.0 r.1).0 f.2)))
   ]
 
-  kept-carry : (k : ℕ) → is_raised p.flags k ≡ true → is_raised q.flags k ≡ true
+  kept-carry : (k : ℕ) → is_raised (flags_of p.counts) k ≡ true → is_raised (flags_of q.counts) k ≡ true
   kept-carry k e =
       let f = (i.flags k).0 e in
       let at = firsts f.node k f.first in
@@ -79,36 +79,39 @@ module _ (h new : Hoard) (p q : Paired) (offers : List Triple) (released others 
         (ap (λ k. slice_get (pairs_of h.config.seeds new.arrived) k) e ∙ pair-of_receipt_node h.config.seeds new.arrived a.place r.0 (arrivals a.place r.0 r.1) ∙ ap (λ (y : Pair). Some y) r.2)
   ]
 
-  pub few-carry : raised_count p.flags ≤ raised_count q.flags
-  few-carry = count-fewer p.flags q.flags sizes kept-carry
+  flag-sizes : length (flags_of p.counts) ≤ length (flags_of q.counts)
+  flag-sizes = omega (arith, sizes, length-flags p.counts, length-flags q.counts)
 
-  pub gain-carry : (n : ℕ) → raised_count q.flags ≡ raised_count p.flags + n → IsGain (meaning_of h) (meaning_of new) n
+  pub few-carry : raised_count (flags_of p.counts) ≤ raised_count (flags_of q.counts)
+  few-carry = count-fewer (flags_of p.counts) (flags_of q.counts) flag-sizes kept-carry
+
+  pub gain-carry : (n : ℕ) → raised_count (flags_of q.counts) ≡ raised_count (flags_of p.counts) + n → IsGain (meaning_of h) (meaning_of new) n
   gain-carry n count =
-      gain-from_flags no_pair (meaning_of h) (meaning_of new) (pairs_of h.config.seeds h.arrived) (pairs_of new.config.seeds new.arrived) p.numbers q.numbers p.flags q.flags
-      (plain-tells h p offers released i) (plain-tells new q offers others j) kept-carry (λ k x e f at. pairs-carry k x at) n count sizes
+      gain-from_flags no_pair (meaning_of h) (meaning_of new) (pairs_of h.config.seeds h.arrived) (pairs_of new.config.seeds new.arrived) p.numbers q.numbers (flags_of p.counts) (flags_of q.counts)
+      (plain-tells h p offers released i) (plain-tells new q offers others j) kept-carry (λ k x e f at. pairs-carry k x at) n count flag-sizes
 
 -- ---- flags raised anew
 
 pub settled-from : (h : Hoard) (p q : Paired) (offers : List Triple) (old released : List Bool) → IsSet h p offers old → length released ≡ length old → AreReleased (meaning_of h) h.arrived released
-    → q.numbers ≡ p.numbers → q.firsts ≡ p.firsts → length q.flags ≡ length p.flags
-    → ((number : ℕ) → (is_raised q.flags number ≡ true) ↔ IsFirstHad (length h.config.seeds) released p.firsts (length p.firsts) number) → IsSettled h q offers released
+    → q.numbers ≡ p.numbers → q.firsts ≡ p.firsts → length q.counts ≡ length p.counts
+    → ((number : ℕ) → (is_raised (flags_of q.counts) number ≡ true) ↔ IsFirstHad (length h.config.seeds) released p.firsts (length p.firsts) number) → IsSettled h q offers released
 settled-from h p q offers old released s size are numbers firsts flags raised = record {
   set = record {
     valid = s.valid;
     once = s.once;
     same = s.same;
     offers = s.offers;
-    pairing = pairing-flags (pairs_of h.config.seeds h.arrived) p q s.pairing numbers firsts flags;
+    pairing = pairing-counts (pairs_of h.config.seeds h.arrived) p q s.pairing numbers firsts flags;
     size = size ∙ s.size;
   };
   settled = are;
-  flags = λ n. subst (λ (fs : List ℕ). (is_raised q.flags n ≡ true) ↔ IsFirstHad (length h.config.seeds) released fs (length fs) n) (sym firsts) (raised n);
+  flags = λ n. subst (λ (fs : List ℕ). (is_raised (flags_of q.counts) n ≡ true) ↔ IsFirstHad (length h.config.seeds) released fs (length fs) n) (sym firsts) (raised n);
 }
 
-pub firsts-within : (h : Hoard) (p : Paired) (offers : List Triple) (released : List Bool) → IsSet h p offers released → All (λ f. f < length p.flags) p.firsts
+pub firsts-within : (h : Hoard) (p : Paired) (offers : List Triple) (released : List Bool) → IsSet h p offers released → All (λ f. f < length p.counts) p.firsts
 firsts-within h p offers released s k d l =
     let f = s.pairing.first k (get_or p.firsts k d) (slice_get-get_or p.firsts k d l) in
-    omega (arith, All-contains (λ n. n < length (pairs_of h.config.seeds h.arrived)) p.numbers (get_or p.firsts k d) s.pairing.within f.0, s.pairing.flagged)
+    omega (arith, All-contains (λ n. n < length (pairs_of h.config.seeds h.arrived)) p.numbers (get_or p.firsts k d) s.pairing.within f.0, s.pairing.counted)
 
 -- ---- one more receipt
 
@@ -142,16 +145,16 @@ sound-push h new p offers released r i form is place s at raised =
 
 -- ---- one more record of distrust
 
-pub set-closed : (old new : Hoard) (x : Distrust) (p : Paired) (offers : List Triple) (released lowered : List Bool) → IsSet old p offers released → IsBefore old x new → IsMeaning (meaning_of new) → length lowered ≡ length released → IsSet new p offers lowered
-set-closed old new x p offers released lowered s before valid size =
-    let is = hoard-before old new x before in
-    let valid' : IsMeaning (meaning_of (with_mistrust old x new.capacity)) = subst (λ h. IsMeaning (meaning_of h)) is valid in
+pub set-closed : (old new : Hoard) (xs : List Distrust) (p : Paired) (offers : List Triple) (released lowered : List Bool) → IsSet old p offers released → IsBefore old xs new → IsMeaning (meaning_of new) → length lowered ≡ length released → IsSet new p offers lowered
+set-closed old new xs p offers released lowered s before valid size =
+    let is = hoard-before old new xs before in
+    let valid' : IsMeaning (meaning_of (with_mistrust old xs new.capacity)) = subst (λ h. IsMeaning (meaning_of h)) is valid in
     subst (λ h. IsSet h p offers lowered) (sym is) (record { valid = valid'; once = s.once; same = s.same; offers = s.offers; pairing = s.pairing; size = size ∙ s.size })
 
-pub release-fewer : (old new : Hoard) (x : Distrust) → IsBefore old x new → (s : Receipt) → IsReleased (meaning_of new) s → IsReleased (meaning_of old) s
-release-fewer old new x before s released =
+pub release-fewer : (old new : Hoard) (xs : List Distrust) → IsBefore old xs new → (s : Receipt) → IsReleased (meaning_of new) s → IsReleased (meaning_of old) s
+release-fewer old new xs before s released =
     released-more (meaning_of new) (meaning_of old) before.config (λ t c. subst (λ (ts : List Receipt). Contains ts t) before.held c)
-    (λ y c. subst (λ (ys : List Distrust). Contains ys y) (sym before.records) (with_item_keeps distrust_total x old.records y c)) s released
+    (λ y c. subst (λ (ys : List Distrust). Contains ys y) (sym before.records) ((distrust-sets.all_members xs old.records y (always-all xs) (always-all old.records)).1 (inr c))) s released
 
 pub sound-lowered : (m : Meaning) (arrived : List Receipt) (flags : List Bool) → ((n : ℕ) → is_raised flags n ≡ false) → AreSound m arrived flags
 sound-lowered m arrived flags low place r at raised = absurd (both_ways (is_raised flags place) (low place) raised)
@@ -166,20 +169,20 @@ settled-roomier h new p q offers released i is r =
         once = i.set.once;
         same = i.set.same;
         offers = i.set.offers;
-        pairing = pairing-flags (pairs_of h.config.seeds h.arrived) p q i.set.pairing r.numbers r.firsts (ap length r.flags);
+        pairing = pairing-counts (pairs_of h.config.seeds h.arrived) p q i.set.pairing r.numbers r.firsts (ap length r.counts);
         size = i.set.size;
       };
       settled = i.settled;
       flags = λ n.
-          subst (λ fs. (is_raised q.flags n ≡ true) ↔ IsFirstHad (length h.config.seeds) released fs (length fs) n) (sym r.firsts)
-          (subst (λ fs. (is_raised fs n ≡ true) ↔ IsFirstHad (length h.config.seeds) released p.firsts (length p.firsts) n) (sym r.flags) (i.flags n));
+          subst (λ fs. (is_raised (flags_of q.counts) n ≡ true) ↔ IsFirstHad (length h.config.seeds) released fs (length fs) n) (sym r.firsts)
+          (subst (λ ks. (is_raised (flags_of ks) n ≡ true) ↔ IsFirstHad (length h.config.seeds) released p.firsts (length p.firsts) n) (sym r.counts) (i.flags n));
     })
 
 -- ---- what is gained and lost
 
-pub firsts-lowered : (h : Hoard) (p low : Paired) (offers : List Triple) (released : List Bool) → IsSet h p offers released → low.firsts ≡ p.firsts → length low.flags ≡ length p.flags → All (λ f. f < length low.flags) low.firsts
+pub firsts-lowered : (h : Hoard) (p low : Paired) (offers : List Triple) (released : List Bool) → IsSet h p offers released → low.firsts ≡ p.firsts → length low.counts ≡ length p.counts → All (λ f. f < length low.counts) low.firsts
 firsts-lowered h p low offers released s firsts flags =
-    subst (λ (fs : List ℕ). All (λ f. f < length low.flags) fs) (sym firsts) (subst (λ (n : ℕ). All (λ f. f < n) p.firsts) (sym flags) (firsts-within h p offers released s))
+    subst (λ (fs : List ℕ). All (λ f. f < length low.counts) fs) (sym firsts) (subst (λ (n : ℕ). All (λ f. f < n) p.firsts) (sym flags) (firsts-within h p offers released s))
 
 pub raised-as : (flags : List Bool) (a b : ℕ) (rs ss : List Bool) (fs gs : List ℕ) → a ≡ b → rs ≡ ss → fs ≡ gs
     → ((n : ℕ) → (is_raised flags n ≡ true) ↔ IsFirstHad a rs fs (length fs) n) → (n : ℕ) → (is_raised flags n ≡ true) ↔ IsFirstHad b ss gs (length gs) n
@@ -189,26 +192,26 @@ raised-as flags a b rs ss fs gs seeds released firsts raised n =
     (subst (λ (ns : List ℕ). (is_raised flags n ≡ true) ↔ IsFirstHad a rs ns (length ns) n) firsts (raised n)))
 
 pub gain-added : (h new : Hoard) (p q : Paired) (offers : List Triple) (released others : List Bool) (r : Receipt) (first : ℕ) → IsSettled h p offers released → IsReceipt r → new ≡ with_arrival h r → IsSettled new q offers others
-    → q.firsts ≡ p.firsts ++ first ∷ [] → length q.flags ≡ length p.flags + 1
-    → (raised_count p.flags ≤ raised_count q.flags) × ((n : ℕ) → raised_count q.flags ≡ raised_count p.flags + n → IsGain (meaning_of h) (meaning_of new) n)
+    → q.firsts ≡ p.firsts ++ first ∷ [] → length q.counts ≡ length p.counts + 1
+    → (raised_count (flags_of p.counts) ≤ raised_count (flags_of q.counts)) × ((n : ℕ) → raised_count (flags_of q.counts) ≡ raised_count (flags_of p.counts) + n → IsGain (meaning_of h) (meaning_of new) n)
 gain-added h new p q offers released others r first i form is j list size =
     let config : h.config ≡ new.config = sym (ap (λ (x : Hoard). x.config) is) in
     let firsts : (node number : ℕ) → slice_get p.firsts node ≡ Some number → slice_get q.firsts node ≡ Some number =
     λ node number at. ap (λ fs. slice_get fs node) list ∙ slice_get-more p.firsts (first ∷ []) node number at in
-    let sizes : length p.flags ≤ length q.flags = omega (arith, size) in (
+    let sizes : length p.counts ≤ length q.counts = omega (arith, size) in (
       few-carry h new p q offers released others config (arrivals-more h new r is) (release-more h new r i.set.valid form i.set.same is) i j firsts sizes,
       gain-carry h new p q offers released others config (arrivals-more h new r is) (release-more h new r i.set.valid form i.set.same is) i j firsts sizes,
     )
 
-pub loss-fallen : (old new : Hoard) (x : Distrust) (p q : Paired) (offers : List Triple) (released others : List Bool) → IsSettled old p offers released → IsBefore old x new → IsSettled new q offers others
-    → q.firsts ≡ p.firsts → length q.flags ≡ length p.flags
-    → (raised_count q.flags ≤ raised_count p.flags) × ((n : ℕ) → raised_count p.flags ≡ raised_count q.flags + n → IsGain (meaning_of new) (meaning_of old) n)
-loss-fallen old new x p q offers released others i before j list size =
+pub loss-fallen : (old new : Hoard) (xs : List Distrust) (p q : Paired) (offers : List Triple) (released others : List Bool) → IsSettled old p offers released → IsBefore old xs new → IsSettled new q offers others
+    → q.firsts ≡ p.firsts → length q.counts ≡ length p.counts
+    → (raised_count (flags_of q.counts) ≤ raised_count (flags_of p.counts)) × ((n : ℕ) → raised_count (flags_of p.counts) ≡ raised_count (flags_of q.counts) + n → IsGain (meaning_of new) (meaning_of old) n)
+loss-fallen old new xs p q offers released others i before j list size =
     let arrivals : (place : ℕ) (r : Receipt) → slice_get new.arrived place ≡ Some r → slice_get old.arrived place ≡ Some r =
     λ place r at. ap (λ rs. slice_get rs place) (sym before.arrived) ∙ at in
     let firsts : (node number : ℕ) → slice_get q.firsts node ≡ Some number → slice_get p.firsts node ≡ Some number =
     λ node number at. ap (λ fs. slice_get fs node) (sym list) ∙ at in
-    let sizes : length q.flags ≤ length p.flags = omega (arith, size) in (
-      few-carry new old q p offers others released before.config arrivals (release-fewer old new x before) j i firsts sizes,
-      gain-carry new old q p offers others released before.config arrivals (release-fewer old new x before) j i firsts sizes,
+    let sizes : length q.counts ≤ length p.counts = omega (arith, size) in (
+      few-carry new old q p offers others released before.config arrivals (release-fewer old new xs before) j i firsts sizes,
+      gain-carry new old q p offers others released before.config arrivals (release-fewer old new xs before) j i firsts sizes,
     )

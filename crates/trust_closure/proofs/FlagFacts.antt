@@ -1,9 +1,8 @@
 -- Flags that are raised, and how many
-use Rattle.std.proofs.Common.{◌≡◌, ℕ, zero, suc, ◌+◌, ◌-◌, ◌<◌, ◌≤◌, ◌⊎◌, inl, inr, Bool, true, false, ◌&&◌, cond, List, [], ◌∷◌, ◌++◌, length, get_or, set, take, map, Some, arith, refl, sym, ap, ◌∙◌, subst}
-use Rattle.std.specs.Prelude.{Contains, slice_get, not, count_by}
+use Rattle.std.proofs.Common.{◌≡◌, ℕ, zero, suc, ◌+◌, ◌-◌, ◌<◌, ◌≤◌, ◌⊎◌, inl, inr, Bool, true, false, ◌&&◌, cond, List, [], ◌∷◌, length, get_or, take, map, Some, arith, refl, sym, ap, ◌∙◌, subst}
+use Rattle.std.specs.Prelude.{Contains, slice_get, not, count_by, ◌↔◌}
 use Rattle.std.proofs.lemmas.Bool.{cases_lt, cases_eq, cases_Bool, both_ways, and_parts, and_from, not-true, not_from_false, false_from_ne_true}
-use Rattle.std.proofs.lemmas.List.{length-set, length-map, get_or-set_same, get_or-set_other, take_all, take_more, get_or_past}
-use Rattle.std.proofs.lemmas.List.Elements.{Contains-push, Contains-append_left, Contains-push_cases}
+use Rattle.std.proofs.lemmas.List.{length-map, take_all, get_or_past}
 use Rattle.std.proofs.lemmas.List.Sums.{count_by_more_yes, count_by_more_no}
 use Rattle.std.proofs.lemmas.Option.{same_Some, slice_get-get_or, get_or_from_slice_get}
 use Rattle.receipt_core.specs.Receipt.{Pair}
@@ -11,7 +10,16 @@ use Rattle.receipt_core.specs.Acceptance.{Meaning, IsMember}
 use Rattle.label_net.proofs.Arrows.{Contains-head, Contains-later, Contains-cons_cases, Contains-map, Contains-from_map}
 use Rattle.trust_closure.specs.Count.{AreDifferent, IsCount}
 use Rattle.trust_closure.specs.Nodes.{is_raised}
-use Rattle.trust_closure.specs.Flags.{raised_count, Raises, TellsMembers}
+use Rattle.trust_closure.specs.Flags.{raised_count, TellsMembers}
+
+-- the number is that of the first node with the document of one of these nodes
+abbrev pub IsFirstOf : List ℕ → List ℕ → ℕ → Type 0
+IsFirstOf firsts nodes number = (node : ℕ) × Contains nodes node × (slice_get firsts node ≡ Some number)
+
+-- The flags of these nodes' first numbers are raised, and the others are as they were.
+pub record Raises (firsts nodes : List ℕ) (old new : List Bool) : Type 0 where
+  pub size : length new ≡ length old
+  pub each : (number : ℕ) → (is_raised new number ≡ true) ↔ ((is_raised old number ≡ true) ⊎ IsFirstOf firsts nodes number)
 
 -- ---- the numbers below a bound that pass a test
 
@@ -112,52 +120,6 @@ module _ (narrow wide : ℕ → Bool) (within : (k : ℕ) → narrow k ≡ true 
                   omega (arith, before, length-passing_no narrow n (narrow n) a, length-passing_no wide n (wide n) w, length-passing_no only_wide n (only_wide n) o)
             ]
       ]
-
--- ---- a flag is raised
-
-pub Raises-none : (firsts : List ℕ) (flags : List Bool) → Raises firsts [] flags flags
-Raises-none firsts flags = record {
-  size = refl;
-  each = λ n. (λ e. inl e, λ h. elim h [ inl e ↦ e | inr f ↦ absurd (omega (arith, f.1.1)) ]);
-}
-
-pub Raises-more : (firsts nodes : List ℕ) (old mid : List Bool) (k node number : ℕ) → k < length nodes → get_or nodes k 0 ≡ node → slice_get firsts node ≡ Some number → number < length mid → Raises firsts (take k nodes) old mid → Raises firsts (take (k + 1) nodes) old (set mid number true)
-Raises-more firsts nodes old mid k node number l at is within h =
-    let list : take (k + 1) nodes ≡ take k nodes ++ node ∷ [] = take_more nodes k 0 l ∙ ap (λ n. take k nodes ++ n ∷ []) at in
-    record {
-      size = length-set mid number true ∙ h.size;
-      each = λ n.
-          elim (cases_eq n number) [
-            | inl s ↦ (
-              λ e. inr (node, subst (λ ns. Contains ns node) (sym list) (last (take k nodes)), is ∙ ap (λ (x : ℕ). Some x) (sym s)),
-              λ g. ap (λ i. get_or (set mid number true) i false) s ∙ get_or-set_same mid number true false within,
-            )
-            | inr d ↦
-                let same : is_raised (set mid number true) n ≡ is_raised mid n = get_or-set_other mid number n true false d in (
-                  λ e. elim ((h.each n).0 (sym same ∙ e)) [
-                    | inl a ↦ inl a
-                    | inr f ↦ inr (f.0, subst (λ ns. Contains ns f.0) (sym list) (earlier (take k nodes) f.0 f.1), f.2)
-                  ],
-                  λ g. same ∙ (h.each n).1 (elim g [
-                    | inl a ↦ inl a
-                    | inr f ↦
-                        elim (split (take k nodes) f.0 (subst (λ ns. Contains ns f.0) list f.1)) [
-                          | inl c ↦ inr (f.0, c, f.2)
-                          | inr e ↦ absurd (d (same_Some n number (sym f.2 ∙ ap (λ i. slice_get firsts i) (sym e) ∙ is)))
-                        ]
-                  ]),
-                )
-          ];
-    }
-  where
-    last : (xs : List ℕ) → Contains (xs ++ node ∷ []) node
-    last xs = Contains-push xs node
-
-    earlier : (xs : List ℕ) (x : ℕ) → Contains xs x → Contains (xs ++ node ∷ []) x
-    earlier xs x c = Contains-append_left xs (node ∷ []) x c
-
-    split : (xs : List ℕ) (x : ℕ) → Contains (xs ++ node ∷ []) x → Contains xs x ⊎ (node ≡ x)
-    split xs x c = Contains-push_cases xs node x c
 
 -- ---- how many are gained
 

@@ -1,22 +1,24 @@
 -- The flags of an indexed closure tell what is accepted
-use Rattle.std.proofs.Common.{◌≡◌, ℕ, zero, suc, ◌+◌, ◌-◌, ◌<◌, ◌≤◌, inl, inr, Bool, true, false, List, [], ◌∷◌, ◌++◌, length, get_or, take, drop, map, Some, None, arith, refl, sym, ap, ◌∙◌, subst}
+use Rattle.std.proofs.Common.{◌≡◌, ℕ, zero, suc, ◌+◌, ◌-◌, ◌^◌, ◌<◌, ◌≤◌, ◌⊎◌, inl, inr, Bool, true, false, List, [], ◌∷◌, ◌++◌, length, get_or, map, Some, None, arith, refl, sym, ap, ◌∙◌, subst}
 use Rattle.std.specs.Prelude.{Contains, slice_get, ◌↔◌, ◌≢◌, AllPairs}
 use Rattle.std.proofs.lemmas.List.Quantifiers.{all_pairs_push}
 use Rattle.std.specs.List.{All, AllByRecursion}
 use Rattle.std.proofs.lemmas.Bool.{cases_lt, both_ways}
-use Rattle.std.proofs.lemmas.List.{append_assoc, append-nil, map_push, length_push, get_or_past, get_or_append_left, get_or_push, take-append-drop}
-use Rattle.std.proofs.lemmas.List.Elements.{Contains-append_left, Contains-append_right, Contains-append_cases, Contains-get_or, Contains-push, Contains-push_cases, All-contains, All-same}
+use Rattle.std.proofs.lemmas.List.{append_assoc, append-nil, map_push, length_push, get_or_past}
+use Rattle.std.proofs.lemmas.List.Elements.{Contains-append_left, Contains-get_or, Contains-push, Contains-push_cases, All-contains, All-same}
 use Rattle.std.proofs.lemmas.Option.{slice_get_within, same_Some, slice_get-get_or, get_or_from_slice_get}
 use Rattle.fed_config.specs.declared.seed.Seed.{Seed}
 use Rattle.fed_config.specs.Configuration.{Configuration, HasDomain, AreDomains, domain_cmp}
-use Rattle.wait_index.specs.Net.{IsReached, root, ListsReached}
+use Rattle.wait_index.specs.Index.{Index, Last}
+use Rattle.wait_index.specs.Net.{IsReached, root, ListsReached, TellsFallen}
 use Rattle.std.specs.List.Sorted.{IsStrictlySortedBy}
 use Rattle.std.specs.Prelude.{sum_by}
 use Rattle.std.proofs.Common.{cond}
 use Rattle.std.proofs.lemmas.List.Sums.{sum_by_push}
 use Rattle.receipt_core.specs.declared.distrust.Distrust.{Distrust}
 use Rattle.receipt_core.specs.declared.triple.Triple.{Triple}
-use Rattle.receipt_core.specs.Receipt.{Receipt, Pair, pair_of, IsReceipt, offers_of, receipt_cmp, with_receipt, distrust_cmp, with_distrust}
+use Rattle.receipt_core.specs.Receipt.{Receipt, Pair, pair_of, IsReceipt, offers_of, receipt_cmp, with_receipt, distrust_cmp}
+use Rattle.receipt_core.specs.Rising.{with_items}
 use Rattle.receipt_core.specs.Order.{receipt_total, distrust_total}
 use Rattle.receipt_core.specs.Sets.{AreSets, Always}
 use Rattle.receipt_core.proofs.LineFacts.{one_receipt, one_distrust}
@@ -29,13 +31,15 @@ use Rattle.trust_closure.specs.Views.{IsPendingCount}
 use Rattle.receipt_core.specs.Acceptance.{Meaning, IsMeaning, IsMember, IsReleased, IsFitting, pair_of_seed}
 use Rattle.label_net.specs.Labels.{Wired, IsOfKey, Closes, HasNode, IsRooted, IsRoomier as IsRoomierWired}
 use Rattle.label_net.proofs.Edges.{slice_get-left, slice_get-map_cases, slice_get-Contains, Contains-slice_get, one_place, root-of_spot}
-use Rattle.label_net.proofs.Mirroring.{slice_get-more, slice_get-push_cases, Mirrors-shut}
+use Rattle.label_net.proofs.Mirroring.{Mirrors-shut}
 use Rattle.trust_closure.specs.Nodes.{pairs_of, is_raised}
-use Rattle.trust_closure.specs.Flags.{raised_count, IsFirstOf, Raises, TellsMembers}
+use Rattle.trust_closure.specs.Flags.{raised_count, TellsMembers}
+use Rattle.trust_closure.specs.NodeCounts.{flags_of, count_at, AreCounts, AddsNodes}
 use Rattle.trust_closure.specs.Held.{Hoard, meaning_of, HasAdded}
 use Rattle.trust_closure.specs.NetOf.{spots_of, spot_of_seed, spot_of_receipt, IsShutBy, IsWiringOf, triple_by}
 use Rattle.trust_closure.specs.Pairs.{Paired, IsPairing, HasRaised, no_pair}
-use Rattle.trust_closure.specs.Indexed.{IsBuilt, IsIndexed, IsBefore, HasRoom, IsKept, Reserves, IsIndexOf, indexed_of, IsSeeded}
+use Rattle.trust_closure.specs.Work.{ClosesAtOnce}
+use Rattle.trust_closure.specs.Indexed.{IsBuilt, IsIndexed, WasCounted, IsBefore, HasRoom, IsKept, Reserves, IsIndexOf, indexed_of, IsSeeded}
 use Rattle.trust_closure.specs.declared.indexed.Spare.{Spare}
 use Rattle.trust_closure.specs.Changes.{IsGain}
 use Rattle.std.proofs.Common.{eqb}
@@ -44,8 +48,9 @@ use Rattle.std.proofs.lemmas.List.{get_or_default}
 use Rattle.std.proofs.lemmas.List.Folds.{Any-from_list_any, list_any_at}
 use Rattle.wait_index.specs.Net.{is_among}
 use Rattle.trust_closure.specs.Count.{AreDifferent}
-use Rattle.trust_closure.proofs.CountFacts.{no_longer}
-use Rattle.trust_closure.proofs.FlagFacts.{gain-from_flags, passing, passing-to, passing-from, passing-differ, only_wide, length-only_wide, different-map}
+use Rattle.trust_closure.proofs.CountFacts.{no_longer, contains_first, contains_cases, contains_none}
+use Rattle.trust_closure.proofs.NodeCountFacts.{length-flags, flags-counted, flags-kept, flags-push, count_at-push, counts-from_zero}
+use Rattle.trust_closure.proofs.FlagFacts.{IsFirstOf, gain-from_flags, passing, passing-to, passing-from, passing-differ, only_wide, length-only_wide, different-map}
 use Rattle.trust_closure.proofs.MemberFacts.{member_more}
 use Rattle.trust_closure.proofs.Wirings.{domain-one_number, wiring-node, wiring-root, node-number}
 use Rattle.trust_closure.proofs.RisingFacts.{each_has}
@@ -69,14 +74,14 @@ module _ (h : Hoard) (p : Paired) (w : Wired) (b : IsBuilt h p w) where
       let a = node-accepted (get_or w.marked k d) (b.reached.reached (get_or w.marked k d) c) in
       omega (arith, slice_get_within (pairs_of h.config.seeds h.arrived) (get_or w.marked k d) a.pair a.at, b.pairing.sizes)
 
-  pub firsts-within : All (λ f. f < length p.flags) p.firsts
+  pub firsts-within : All (λ f. f < length p.counts) p.firsts
   firsts-within k d l =
       let f = b.pairing.first k (get_or p.firsts k d) (slice_get-get_or p.firsts k d l) in
-      omega (arith, All-contains (λ n. n < length (pairs_of h.config.seeds h.arrived)) p.numbers (get_or p.firsts k d) b.pairing.within f.0, b.pairing.flagged)
+      omega (arith, All-contains (λ n. n < length (pairs_of h.config.seeds h.arrived)) p.numbers (get_or p.firsts k d) b.pairing.within f.0, b.pairing.counted)
 
-  pub tells : ((number : ℕ) → (is_raised p.flags number ≡ true) ↔ IsFirstOf p.firsts w.marked number) → TellsMembers (meaning_of h) (pairs_of h.config.seeds h.arrived) p.numbers p.flags
-  tells flags = record {
-    size = b.pairing.flagged;
+  tells-flags : ((number : ℕ) → (is_raised (flags_of p.counts) number ≡ true) ↔ IsFirstOf p.firsts w.marked number) → TellsMembers (meaning_of h) (pairs_of h.config.seeds h.arrived) p.numbers (flags_of p.counts)
+  tells-flags flags = record {
+    size = length-flags p.counts ∙ b.pairing.counted;
     sound = λ n q e at.
         let f = (flags n).0 e in
         let a = node-accepted f.0 (b.reached.reached f.0 f.1) in
@@ -92,76 +97,16 @@ module _ (h : Hoard) (p : Paired) (w : Wired) (b : IsBuilt h p w) where
     once = λ one other q. pairing-once (pairs_of h.config.seeds h.arrived) p b.pairing one other q;
   }
 
+  pub tells : AreCounts p.firsts w.marked p.counts → TellsMembers (meaning_of h) (pairs_of h.config.seeds h.arrived) p.numbers (flags_of p.counts)
+  tells are = tells-flags (flags-counted p.firsts w.marked p.counts marked-within are)
+
 -- a raised flag is membership
 pub raised-member : (h : Hoard) (p : Paired) (w : Wired) → IsIndexed h p w → (q : Pair) → HasRaised (pairs_of h.config.seeds h.arrived) p q ↔ IsMember (meaning_of h) q
 raised-member h p w i q =
-    let t = tells h p w i.built i.flags in (
+    let t = tells h p w i.built i.counts in (
       λ r. t.sound r.number q r.raised r.at,
       λ a. let f = t.all q a in record { number = f.0; has = t.listed f.0 f.1; at = f.2; raised = f.1 },
     )
-
--- ---- flags after more nodes are marked
-
--- the flags of marked nodes stand, and those of the nodes that are marked now are raised
-pub flags-more : (old_firsts firsts marked more : List ℕ) (old_flags flags : List Bool) (first count : ℕ) → count ≡ length marked
-    → firsts ≡ old_firsts ++ first ∷ [] → take count more ≡ marked → All (λ n. n < length old_firsts) marked
-    → ((n : ℕ) → (is_raised old_flags n ≡ true) ↔ IsFirstOf old_firsts marked n)
-    → Raises firsts (drop count more) (old_flags ++ false ∷ []) flags
-    → (n : ℕ) → (is_raised flags n ≡ true) ↔ IsFirstOf firsts more n
-flags-more old_firsts firsts marked more old_flags flags first count size list front small before raises n =
-    let parts : take count more ++ drop count more ≡ more = take-append-drop count more in (
-      λ e. elim ((raises.each n).0 e) [
-        | inl a ↦
-            let f = (before n).0 (old a) in (
-              f.0,
-              subst (λ ns. Contains ns f.0) parts (Contains-append_left (take count more) (drop count more) f.0 (subst (λ ns. Contains ns f.0) (sym front) f.1)),
-              ap (λ fs. slice_get fs f.0) list ∙ slice_get-more old_firsts (first ∷ []) f.0 n f.2,
-            )
-        | inr f ↦ (f.0, subst (λ ns. Contains ns f.0) parts (Contains-append_right (take count more) (drop count more) f.0 f.1), f.2)
-      ],
-      λ f.
-          (raises.each n).1
-          (elim (Contains-append_cases (take count more) (drop count more) f.0 (subst (λ ns. Contains ns f.0) (sym parts) f.1)) [
-            | inl c ↦
-                let d : Contains marked f.0 = subst (λ ns. Contains ns f.0) front c in
-                let l : f.0 < length old_firsts = All-contains (λ k. k < length old_firsts) marked f.0 small d in
-                inl (kept ((before n).1 (f.0, d, earlier f.0 l (ap (λ fs. slice_get fs f.0) (sym list) ∙ f.2))))
-            | inr c ↦ inr (f.0, c, f.2)
-          ]),
-    )
-  where
-    old : is_raised (old_flags ++ false ∷ []) n ≡ true → is_raised old_flags n ≡ true
-    old e =
-        elim (cases_lt n (length old_flags)) [
-          | inl l ↦ sym (get_or_append_left old_flags (false ∷ []) false n l) ∙ e
-          | inr l ↦ absurd (both_ways (is_raised (old_flags ++ false ∷ []) n) (past l) e)
-        ]
-      where
-        past : length old_flags ≤ n → get_or (old_flags ++ false ∷ []) n false ≡ false
-        past l =
-            elim (cases_lt n (length (old_flags ++ false ∷ []))) [
-              | inl b ↦ get_or_push old_flags false false n (omega (arith, l, b, length_push old_flags false))
-              | inr b ↦ get_or_past (old_flags ++ false ∷ []) n false b
-            ]
-
-    kept : is_raised old_flags n ≡ true → is_raised (old_flags ++ false ∷ []) n ≡ true
-    kept e =
-        elim (cases_lt n (length old_flags)) [
-          | inl l ↦ get_or_append_left old_flags (false ∷ []) false n l ∙ e
-          | inr l ↦ absurd (both_ways (is_raised old_flags n) (get_or_past old_flags n false l) e)
-        ]
-
-    earlier : (k : ℕ) → k < length old_firsts → slice_get (old_firsts ++ first ∷ []) k ≡ Some n → slice_get old_firsts k ≡ Some n
-    earlier k l e =
-        elim (slice_get-push_cases old_firsts first k n e) [
-          | inl a ↦ a.1
-          | inr a ↦ absurd (omega (arith, l, a.0))
-        ]
-
--- after all flags were lowered, those of the marked nodes are raised
-pub flags-again : (firsts marked : List ℕ) (lowered flags : List Bool) → ((n : ℕ) → is_raised lowered n ≡ false) → Raises firsts marked lowered flags → (n : ℕ) → (is_raised flags n ≡ true) ↔ IsFirstOf firsts marked n
-flags-again firsts marked lowered flags low raises n =
-    (λ e. elim ((raises.each n).0 e) [ inl a ↦ absurd (both_ways (is_raised lowered n) (low n) a) | inr f ↦ f ], λ f. (raises.each n).1 (inr f))
 
 -- ---- one more receipt
 
@@ -171,22 +116,22 @@ pairs-push seeds arrived r = ap (λ ps. map pair_of_seed seeds ++ ps) (map_push 
 pub spots-push : (seeds : List Seed) (arrived : List Receipt) (r : Receipt) → spots_of seeds (arrived ++ r ∷ []) ≡ spots_of seeds arrived ++ spot_of_receipt r ∷ []
 spots-push seeds arrived r = ap (λ ss. map spot_of_seed seeds ++ ss) (map_push spot_of_receipt arrived r) ∙ sym (append_assoc (map spot_of_seed seeds) (map spot_of_receipt arrived) (spot_of_receipt r ∷ []))
 
--- the same flags, as many
-pub pairing-flags : (pairs : List Pair) (p q : Paired) → IsPairing pairs p → q.numbers ≡ p.numbers → q.firsts ≡ p.firsts → length q.flags ≡ length p.flags → IsPairing pairs q
-pairing-flags pairs p q h numbers firsts flags =
-    let one : IsPairing pairs (record { numbers = p.numbers; firsts = p.firsts; flags = q.flags; capacity = q.capacity }) =
-    record { sizes = h.sizes; flagged = flags ∙ h.flagged; forms = h.forms; within = h.within; few = h.few; rising = h.rising; first = h.first }
+-- other counts, as many
+pub pairing-counts : (pairs : List Pair) (p q : Paired) → IsPairing pairs p → q.numbers ≡ p.numbers → q.firsts ≡ p.firsts → length q.counts ≡ length p.counts → IsPairing pairs q
+pairing-counts pairs p q h numbers firsts counts =
+    let one : IsPairing pairs (record { numbers = p.numbers; firsts = p.firsts; counts = q.counts; capacity = q.capacity }) =
+    record { sizes = h.sizes; counted = counts ∙ h.counted; forms = h.forms; within = h.within; few = h.few; rising = h.rising; first = h.first }
     in
-    subst (λ ns. IsPairing pairs (record { numbers = ns; firsts = q.firsts; flags = q.flags; capacity = q.capacity })) (sym numbers)
-    (subst (λ fs. IsPairing pairs (record { numbers = p.numbers; firsts = fs; flags = q.flags; capacity = q.capacity })) (sym firsts) one)
+    subst (λ ns. IsPairing pairs (record { numbers = ns; firsts = q.firsts; counts = q.counts; capacity = q.capacity })) (sym numbers)
+    (subst (λ fs. IsPairing pairs (record { numbers = p.numbers; firsts = fs; counts = q.counts; capacity = q.capacity })) (sym firsts) one)
 
 receipt-sets : AreSets IsReceipt receipt_cmp
 receipt-sets = AreSets-from_total IsReceipt receipt_cmp receipt_total one_receipt
 
-distrust-sets : AreSets Always distrust_cmp
+pub distrust-sets : AreSets Always distrust_cmp
 distrust-sets = AreSets-from_total Always distrust_cmp distrust_total (λ a b p q. one_distrust a b)
 
-always-all : {A : Type 0} (xs : List A) → AllByRecursion Always xs
+pub always-all : {A : Type 0} (xs : List A) → AllByRecursion Always xs
 always-all [] = tt
 always-all (x ∷ xs) = (tt, always-all xs)
 
@@ -219,8 +164,8 @@ built-more h new p q w v r b form unheld is valid wired reached pairing =
       pairing = subst (λ ps. IsPairing ps q) (sym (pairs-push h.config.seeds h.arrived r)) pairing;
     })
 
-pub built-flags : (h : Hoard) (p q : Paired) (w : Wired) → IsBuilt h p w → q.numbers ≡ p.numbers → q.firsts ≡ p.firsts → length q.flags ≡ length p.flags → IsBuilt h q w
-built-flags h p q w b numbers firsts flags = record {
+pub built-counts : (h : Hoard) (p q : Paired) (w : Wired) → IsBuilt h p w → q.numbers ≡ p.numbers → q.firsts ≡ p.firsts → length q.counts ≡ length p.counts → IsBuilt h q w
+built-counts h p q w b numbers firsts counts = record {
   valid = b.valid;
   same = b.same;
   once = b.once;
@@ -228,7 +173,7 @@ built-flags h p q w b numbers firsts flags = record {
   are_domains = b.are_domains;
   wired = b.wired;
   reached = b.reached;
-  pairing = pairing-flags (pairs_of h.config.seeds h.arrived) p q b.pairing numbers firsts flags;
+  pairing = pairing-counts (pairs_of h.config.seeds h.arrived) p q b.pairing numbers firsts counts;
 }
 
 pub count-push : (flags : List Bool) → raised_count (flags ++ false ∷ []) ≡ raised_count flags
@@ -236,126 +181,160 @@ count-push flags = sum_by_push (λ b. cond b 1 0) flags false ∙ (let e : sum_b
 
 -- what is gained with one more receipt
 pub gain-more : (h new : Hoard) (p q : Paired) (w v : Wired) (r : Receipt) (nodes : List ℕ) (n : ℕ) → IsIndexed h p w → IsIndexed new q v → new ≡ with_arrival h r
-    → Raises q.firsts nodes (p.flags ++ false ∷ []) q.flags → raised_count q.flags ≡ raised_count (p.flags ++ false ∷ []) + n → IsGain (meaning_of h) (meaning_of new) n
-gain-more h new p q w v r nodes n i j is raises count =
+    → AddsNodes q.firsts nodes (p.counts ++ 0 ∷ []) q.counts → raised_count (flags_of q.counts) ≡ raised_count (flags_of (p.counts ++ 0 ∷ [])) + n → IsGain (meaning_of h) (meaning_of new) n
+gain-more h new p q w v r nodes n i j is adds count =
     let prefix : pairs_of new.config.seeds new.arrived ≡ pairs_of h.config.seeds h.arrived ++ pair_of r ∷ [] = ap (λ (x : Hoard). pairs_of x.config.seeds x.arrived) is ∙ pairs-push h.config.seeds h.arrived r in
-    gain-from_flags no_pair (meaning_of h) (meaning_of new) (pairs_of h.config.seeds h.arrived) (pairs_of new.config.seeds new.arrived) p.numbers q.numbers p.flags q.flags
-    (tells h p w i.built i.flags) (tells new q v j.built j.flags)
-    (λ k e. (raises.each k).1 (inl (still k e)))
+    gain-from_flags no_pair (meaning_of h) (meaning_of new) (pairs_of h.config.seeds h.arrived) (pairs_of new.config.seeds new.arrived) p.numbers q.numbers (flags_of p.counts) (flags_of q.counts)
+    (tells h p w i.built i.counts) (tells new q v j.built j.counts)
+    (flags-kept p.counts q.counts (λ k. omega (arith, adds.each k, count_at-push p.counts k)))
     (λ k x e f at. ap (λ ps. slice_get ps k) prefix ∙ slice_get-left (pairs_of h.config.seeds h.arrived) (pair_of r ∷ []) k x at)
-    n (count ∙ ap (λ m. m + n) (count-push p.flags))
-    (omega (arith, raises.size, length_push p.flags false))
-  where
-    still : (k : ℕ) → is_raised p.flags k ≡ true → is_raised (p.flags ++ false ∷ []) k ≡ true
-    still k e =
-        elim (cases_lt k (length p.flags)) [
-          | inl l ↦ get_or_append_left p.flags (false ∷ []) false k l ∙ e
-          | inr l ↦ absurd (both_ways (is_raised p.flags k) (get_or_past p.flags k false l) e)
-        ]
+    n (count ∙ ap (λ m. m + n) (ap raised_count (flags-push p.counts (p.counts ++ 0 ∷ []) refl) ∙ count-push (flags_of p.counts)))
+    (omega (arith, adds.size, length_push p.counts 0, length-flags p.counts, length-flags q.counts))
 
--- ---- one more record of distrust
+-- ---- more records of distrust
 
-wiring-closed : (domains : List (List ℕ)) (records : List Distrust) (x : Distrust) (spots : List (Spot Triple)) (old new : Wired) (number : ℕ) → IsStrictlySortedBy domain_cmp domains
-    → slice_get domains number ≡ Some x.domain → IsWiringOf domains records spots old → {count : ℕ} → Closes old (IsOfKey number x.key) new count → IsWiringOf domains (with_distrust x records) spots new
-wiring-closed domains records x spots old new number rising at h c =
-    let mirrors = Mirrors-shut spots (map (triple_by domains) old.labels) (IsShutBy records) old.net h.mirrors (IsShutBy (with_distrust x records)) c.net.flags c.net.sizes (λ i t e.
+-- Labels are closed by these records exactly where they were before, or are meant.
+abbrev pub Shuts : List (List ℕ) → List Distrust → List Distrust → (Label → Type 0) → Type 0
+Shuts domains old new IsMeant = (label : Label) → label.domain < length domains → IsShutBy new (triple_by domains label) ↔ (IsShutBy old (triple_by domains label) ⊎ IsMeant label)
+
+wiring-closed : (domains : List (List ℕ)) (records more : List Distrust) (IsMeant : Label → Type 0) (spots : List (Spot Triple)) (old new : Wired) (turns : ℕ)
+    → IsWiringOf domains records spots old → Shuts domains records more IsMeant → Closes old IsMeant new turns → IsWiringOf domains more spots new
+wiring-closed domains records more IsMeant spots old new turns h shuts c =
+    let mirrors = Mirrors-shut spots (map (triple_by domains) old.labels) (IsShutBy records) old.net h.mirrors (IsShutBy more) c.net.flags c.net.sizes (λ i t e.
     let f = slice_get-map_cases (triple_by domains) old.labels i t e in
     let l : f.0.domain < length domains = All-contains (λ (a : Label). a.domain < length domains) old.labels f.0 h.within (slice_get-Contains old.labels i f.0 f.1) in
-    let m = distrust-sets.members x (record { domain = t.domain; key = t.key }) records tt (always-all records) in
     let before = h.mirrors.closed i t e in
-    let is = c.net.closed i f.0 f.1 in (
-      λ shut. m.1 (elim (is.0 shut) [
-        | inl a ↦ inr (before.0 a)
-        | inr k ↦ inl (
-            sym (ap (λ (d : List ℕ). let y : Distrust = record { domain = d; key = t.key } in y)
-            (ap (λ (s : Triple). s.domain) (sym f.2) ∙ ap (λ j. get_or domains j []) k.0 ∙ get_or_from_slice_get domains number x.domain [] at)
-            ∙ ap (λ q. let y : Distrust = record { domain = x.domain; key = q } in y) (ap (λ (s : Triple). s.key) (sym f.2) ∙ k.1)))
-      ]),
-      λ has. is.1 (elim (m.0 has) [
-        | inl same ↦ inr (
-          domain-one_number domains rising f.0.domain number l (slice_get_within domains number x.domain at)
-              (ap (λ (s : Triple). s.domain) f.2 ∙ sym (ap (λ (y : Distrust). y.domain) same) ∙ sym (get_or_from_slice_get domains number x.domain [] at)),
-          ap (λ (s : Triple). s.key) f.2 ∙ sym (ap (λ (y : Distrust). y.key) same),
-        )
-        | inr a ↦ inl (before.1 a)
-      ]),
+    let is = c.net.closed i f.0 f.1 in
+    let both = shuts f.0 l in (
+      λ shut. subst (IsShutBy more) f.2 (both.1 (elim (is.0 shut) [ inl a ↦ inl (subst (IsShutBy records) (sym f.2) (before.0 a)) | inr k ↦ inr k ])),
+      λ has. is.1 (elim (both.0 (subst (IsShutBy more) (sym f.2) has)) [ inl a ↦ inl (before.1 (subst (IsShutBy records) f.2 a)) | inr k ↦ inr k ]),
     ))
     in
     record {
       within = All-same (λ (a : Label). a.domain < length domains) new.labels old.labels c.labels h.within;
-      mirrors = subst (λ ls. Mirrors spots (map (triple_by domains) ls) (IsShutBy (with_distrust x records)) new.net) (sym c.labels)
-          (subst (Mirrors spots (map (triple_by domains) old.labels) (IsShutBy (with_distrust x records))) (sym c.net.net_is) mirrors);
+      mirrors = subst (λ ls. Mirrors spots (map (triple_by domains) ls) (IsShutBy more) new.net) (sym c.labels)
+          (subst (Mirrors spots (map (triple_by domains) old.labels) (IsShutBy more)) (sym c.net.net_is) mirrors);
     }
 
-abbrev pub with_mistrust : Hoard → Distrust → ℕ → Hoard
-with_mistrust h x capacity = record { config = h.config; arrived = h.arrived; held = h.held; records = with_distrust x h.records; capacity = capacity }
+-- the labels of a key in a domain are those that one record closes
+pub key-shut : (domains : List (List ℕ)) (x : Distrust) (number : ℕ) → IsStrictlySortedBy domain_cmp domains → slice_get domains number ≡ Some x.domain
+    → (label : Label) → label.domain < length domains → IsOfKey number x.key label ↔ IsShutBy (x ∷ []) (triple_by domains label)
+key-shut domains x number rising at label l = (
+  λ k. subst (Contains (x ∷ []))
+      (sym (ap (λ (d : List ℕ). let y : Distrust = record { domain = d; key = label.key } in y)
+      (ap (λ j. get_or domains j []) k.0 ∙ get_or_from_slice_get domains number x.domain [] at)
+      ∙ ap (λ q. let y : Distrust = record { domain = x.domain; key = q } in y) k.1))
+      (contains_first x []),
+  λ has. elim (contains_cases x [] (record { domain = get_or domains label.domain []; key = label.key }) has) [
+    | inl same ↦ (
+      domain-one_number domains rising label.domain number l (slice_get_within domains number x.domain at)
+          (sym (ap (λ (y : Distrust). y.domain) same) ∙ sym (get_or_from_slice_get domains number x.domain [] at)),
+      sym (ap (λ (y : Distrust). y.key) same),
+    )
+    | inr none ↦ absurd (contains_none (record { domain = get_or domains label.domain []; key = label.key }) none)
+  ],
+)
 
-pub hoard-before : (old new : Hoard) (x : Distrust) → IsBefore old x new → new ≡ with_mistrust old x new.capacity
-hoard-before old new x b =
+-- what more records close is what these close, or those
+pub shuts-more : (domains : List (List ℕ)) (more records : List Distrust) (IsMeant : Label → Type 0)
+    → ((label : Label) → label.domain < length domains → IsMeant label ↔ IsShutBy more (triple_by domains label)) → Shuts domains records (with_items distrust_cmp more records) IsMeant
+shuts-more domains more records IsMeant means label l =
+    let t = triple_by domains label in
+    let m = distrust-sets.all_members more records (record { domain = t.domain; key = t.key }) (always-all more) (always-all records) in (
+      λ has. elim (m.0 has) [ inl new ↦ inr ((means label l).1 new) | inr a ↦ inl a ],
+      λ h. m.1 (elim h [ inl a ↦ inr a | inr k ↦ inl ((means label l).0 k) ]),
+    )
+
+abbrev pub with_mistrust : Hoard → List Distrust → ℕ → Hoard
+with_mistrust h more capacity = record { config = h.config; arrived = h.arrived; held = h.held; records = with_items distrust_cmp more h.records; capacity = capacity }
+
+pub hoard-before : (old new : Hoard) (more : List Distrust) → IsBefore old more new → new ≡ with_mistrust old more new.capacity
+hoard-before old new more b =
     ap (λ c. let h : Hoard = record { config = c; arrived = new.arrived; held = new.held; records = new.records; capacity = new.capacity } in h) b.config
     ∙ ap (λ a. let h : Hoard = record { config = old.config; arrived = a; held = new.held; records = new.records; capacity = new.capacity } in h) b.arrived
     ∙ ap (λ a. let h : Hoard = record { config = old.config; arrived = old.arrived; held = a; records = new.records; capacity = new.capacity } in h) b.held
     ∙ ap (λ a. let h : Hoard = record { config = old.config; arrived = old.arrived; held = old.held; records = a; capacity = new.capacity } in h) b.records
 
-pub built-closed : (old new : Hoard) (x : Distrust) (p q : Paired) (w v : Wired) (number : ℕ) → IsBuilt old p w → IsBefore old x new → IsMeaning (meaning_of new)
-    → ((domains : List (List ℕ)) → AreDomains old.config domains → slice_get domains number ≡ Some x.domain) → {count : ℕ} → Closes w (IsOfKey number x.key) v count → ListsReached v.net v.marked
-    → q.numbers ≡ p.numbers → q.firsts ≡ p.firsts → length q.flags ≡ length p.flags → IsBuilt new q v
-built-closed old new x p q w v number b before valid at closes reached numbers firsts flags =
-    let is = hoard-before old new x before in
-    let valid' : IsMeaning (meaning_of (with_mistrust old x new.capacity)) = subst (λ h. IsMeaning (meaning_of h)) is valid in
+pub built-closed : (old new : Hoard) (more : List Distrust) (p q : Paired) (w v : Wired) (IsMeant : Label → Type 0) (turns : ℕ) → IsBuilt old p w → IsBefore old more new → IsMeaning (meaning_of new)
+    → ((domains : List (List ℕ)) → AreDomains old.config domains → Shuts domains old.records (with_items distrust_cmp more old.records) IsMeant) → Closes w IsMeant v turns → ListsReached v.net v.marked
+    → q.numbers ≡ p.numbers → q.firsts ≡ p.firsts → length q.counts ≡ length p.counts → IsBuilt new q v
+built-closed old new more p q w v IsMeant turns b before valid shuts closes reached numbers firsts counts =
+    let is = hoard-before old new more before in
+    let valid' : IsMeaning (meaning_of (with_mistrust old more new.capacity)) = subst (λ h. IsMeaning (meaning_of h)) is valid in
     subst (λ h. IsBuilt h q v) (sym is) (record {
       valid = valid';
       same = b.same;
       once = b.once;
       domains = b.domains;
       are_domains = b.are_domains;
-      wired = wiring-closed b.domains old.records x (spots_of old.config.seeds old.arrived) w v number b.are_domains.rising (at b.domains b.are_domains) b.wired closes;
+      wired = wiring-closed b.domains old.records (with_items distrust_cmp more old.records) IsMeant (spots_of old.config.seeds old.arrived) w v turns b.wired (shuts b.domains b.are_domains) closes;
       reached = reached;
-      pairing = pairing-flags (pairs_of old.config.seeds old.arrived) p q b.pairing numbers firsts flags;
+      pairing = pairing-counts (pairs_of old.config.seeds old.arrived) p q b.pairing numbers firsts counts;
     })
 
--- what is accepted with one more record was accepted without it
-pub kept-closed : (old new : Hoard) (x : Distrust) (p q : Paired) (w v : Wired) → IsIndexed old p w → IsIndexed new q v → IsBefore old x new → q.numbers ≡ p.numbers → (k : ℕ) → is_raised q.flags k ≡ true → is_raised p.flags k ≡ true
-kept-closed old new x p q w v i j before numbers k e =
-    let is = hoard-before old new x before in
+-- the counts are those of before a close
+pub was-counted : (h : Hoard) (p : Paired) (w v : Wired) (i : Index) (IsMeant : Label → Type 0) (turns : ℕ) → IsIndexed h p w → Closes w IsMeant v turns → i.marked ≡ v.marked → i.last ≡ v.last → WasCounted p i
+was-counted h p w v i IsMeant turns is c marked last = record {
+  net = w.net;
+  marked = w.marked;
+  closing = c.numbers;
+  reached = is.built.reached;
+  within = marked-within h p w is.built;
+  fell = subst (λ (l : Last). TellsFallen w.net c.numbers l.fallen l.kept i.marked) (sym last)
+      (subst (TellsFallen w.net c.numbers v.last.fallen v.last.kept) (sym marked) c.fallen);
+  many = subst (λ (l : Last). length l.fallen + l.kept ≡ length w.marked) (sym last) c.many;
+  counts = is.counts;
+}
+
+-- how much work a close was
+pub closes-at_once : (old new : Hoard) (p : Paired) (w v : Wired) (was after : Spare) (before turns : ℕ) (records : List Distrust) (IsMeant : Label → Type 0) → IsBuilt old p w → Closes w IsMeant v turns
+    → ((domains : List (List ℕ)) → AreDomains old.config domains → (label : Label) → label.domain < length domains → IsMeant label ↔ IsShutBy records (triple_by domains label))
+    → ClosesAtOnce (indexed_of old w was before) records (indexed_of new v after turns)
+closes-at_once old new p w v was after before turns records IsMeant b c means = record {
+  labels = map (triple_by b.domains) w.labels;
+  net = b.wired.mirrors;
+  closing = c.numbers;
+  within = subst (λ n. All (λ number. number < n) c.numbers) (sym (length-map w.labels (triple_by b.domains))) c.are.within;
+  exactly = λ number t at.
+      let f = slice_get-map_cases (triple_by b.domains) w.labels number t at in
+      let l : f.0.domain < length b.domains = All-contains (λ (a : Label). a.domain < length b.domains) w.labels f.0 b.wired.within (slice_get-Contains w.labels number f.0 f.1) in
+      let is = c.are.exactly number f.0 f.1 in
+      let shut = means b.domains b.are_domains f.0 l in
+      (λ has. subst (IsShutBy records) f.2 (shut.0 (is.0 has)), λ s. is.1 (shut.1 (subst (IsShutBy records) (sym f.2) s)));
+  turns = c.turns;
+  near = c.near;
+}
+
+-- what is accepted with more records was accepted without them
+pub kept-closed : (old new : Hoard) (xs : List Distrust) (p q : Paired) (w v : Wired) → IsIndexed old p w → IsIndexed new q v → IsBefore old xs new → q.numbers ≡ p.numbers → (k : ℕ) → is_raised (flags_of q.counts) k ≡ true → is_raised (flags_of p.counts) k ≡ true
+kept-closed old new xs p q w v i j before numbers k e =
+    let is = hoard-before old new xs before in
     let same : pairs_of new.config.seeds new.arrived ≡ pairs_of old.config.seeds old.arrived = ap (λ (h : Hoard). pairs_of h.config.seeds h.arrived) is in
-    let fewer = tells new q v j.built j.flags in
-    let more = tells old p w i.built i.flags in
+    let fewer = tells new q v j.built j.counts in
+    let more = tells old p w i.built i.counts in
     let l : k < length (pairs_of new.config.seeds new.arrived) = omega (arith, within, fewer.size) in
     let at = slice_get-get_or (pairs_of new.config.seeds new.arrived) k no_pair l in
     let m = fewer.sound k (get_or (pairs_of new.config.seeds new.arrived) k no_pair) e at in
     let less = member_more (meaning_of new) (meaning_of old) before.config (λ r c. subst (λ rs. Contains rs r) before.held c)
-    (λ y c. subst (λ ys. Contains ys y) (sym before.records) ((distrust-sets.members x y old.records tt (always-all old.records)).1 (inr c)))
+    (λ y c. subst (λ ys. Contains ys y) (sym before.records) ((distrust-sets.all_members xs old.records y (always-all xs) (always-all old.records)).1 (inr c)))
     (get_or (pairs_of new.config.seeds new.arrived) k no_pair) m
     in
     let f = more.all (get_or (pairs_of new.config.seeds new.arrived) k no_pair) less in
     let here = more.once k f.0 (get_or (pairs_of new.config.seeds new.arrived) k no_pair) (subst (λ ns. Contains ns k) numbers (fewer.listed k e)) (more.listed f.0 f.1) (ap (λ ps. slice_get ps k) (sym same) ∙ at) f.2 in
-    ap (λ a. is_raised p.flags a) here ∙ f.1
+    ap (λ a. is_raised (flags_of p.counts) a) here ∙ f.1
   where
-    within : k < length q.flags
-    within = elim (cases_lt k (length q.flags)) [ inl b ↦ b | inr b ↦ absurd (both_ways (is_raised q.flags k) (get_or_past q.flags k false b) e) ]
+    within : k < length (flags_of q.counts)
+    within = elim (cases_lt k (length (flags_of q.counts))) [ inl b ↦ b | inr b ↦ absurd (both_ways (is_raised (flags_of q.counts) k) (get_or_past (flags_of q.counts) k false b) e) ]
 
--- what is lost with one more record
-pub loss-closed : (old new : Hoard) (x : Distrust) (p q : Paired) (w v : Wired) (n : ℕ) → IsIndexed old p w → IsIndexed new q v → IsBefore old x new
-    → length q.flags ≡ length p.flags → q.numbers ≡ p.numbers → raised_count p.flags ≡ raised_count q.flags + n → IsGain (meaning_of new) (meaning_of old) n
-loss-closed old new x p q w v n i j before size numbers count =
-    let same : pairs_of new.config.seeds new.arrived ≡ pairs_of old.config.seeds old.arrived = ap (λ (h : Hoard). pairs_of h.config.seeds h.arrived) (hoard-before old new x before) in
-    gain-from_flags no_pair (meaning_of new) (meaning_of old) (pairs_of new.config.seeds new.arrived) (pairs_of old.config.seeds old.arrived) q.numbers p.numbers q.flags p.flags
-    (tells new q v j.built j.flags) (tells old p w i.built i.flags) (kept-closed old new x p q w v i j before numbers)
+-- what is lost with more records
+pub loss-closed : (old new : Hoard) (xs : List Distrust) (p q : Paired) (w v : Wired) (n : ℕ) → IsIndexed old p w → IsIndexed new q v → IsBefore old xs new
+    → length q.counts ≡ length p.counts → q.numbers ≡ p.numbers → raised_count (flags_of p.counts) ≡ raised_count (flags_of q.counts) + n → IsGain (meaning_of new) (meaning_of old) n
+loss-closed old new xs p q w v n i j before size numbers count =
+    let same : pairs_of new.config.seeds new.arrived ≡ pairs_of old.config.seeds old.arrived = ap (λ (h : Hoard). pairs_of h.config.seeds h.arrived) (hoard-before old new xs before) in
+    gain-from_flags no_pair (meaning_of new) (meaning_of old) (pairs_of new.config.seeds new.arrived) (pairs_of old.config.seeds old.arrived) q.numbers p.numbers (flags_of q.counts) (flags_of p.counts)
+    (tells new q v j.built j.counts) (tells old p w i.built i.counts) (kept-closed old new xs p q w v i j before numbers)
     (λ k y e f at. ap (λ ps. slice_get ps k) (sym same) ∙ at)
-    n count (omega (arith, size))
-
--- the index after the labels of a key were closed, and after flags were raised anew
-pub indexed-closed : (old new : Hoard) (x : Distrust) (p lowered q : Paired) (w v : Wired) (number : ℕ) (nodes : List ℕ) → IsIndexed old p w → IsBefore old x new → IsMeaning (meaning_of new)
-    → ((domains : List (List ℕ)) → AreDomains old.config domains → slice_get domains number ≡ Some x.domain) → {count : ℕ} → Closes w (IsOfKey number x.key) v count → ListsReached v.net v.marked
-    → lowered.numbers ≡ p.numbers → lowered.firsts ≡ p.firsts → length lowered.flags ≡ length p.flags → ((k : ℕ) → is_raised lowered.flags k ≡ false)
-    → q.numbers ≡ lowered.numbers → q.firsts ≡ lowered.firsts → nodes ≡ v.marked → Raises lowered.firsts nodes lowered.flags q.flags → IsIndexed new q v
-indexed-closed old new x p lowered q w v number nodes i before valid at closes reached n1 f1 s1 low n2 f2 is raises =
-    let right : Raises q.firsts v.marked lowered.flags q.flags = subst (λ fs. Raises fs v.marked lowered.flags q.flags) (sym f2) (subst (λ ns. Raises lowered.firsts ns lowered.flags q.flags) is raises) in
-    record {
-      built = built-closed old new x p q w v number i.built before valid at closes reached (n2 ∙ n1) (f2 ∙ f1) (raises.size ∙ s1);
-      flags = flags-again q.firsts v.marked lowered.flags q.flags low right;
-    }
+    n count (omega (arith, size, length-flags p.counts, length-flags q.counts))
 
 -- the same hoard, where nothing of the meaning has changed
 pub hoard-same : (old new : Hoard) → meaning_of new ≡ meaning_of old → new.arrived ≡ old.arrived → new.capacity ≡ old.capacity → new ≡ old
@@ -364,7 +343,7 @@ hoard-same old new meaning arrived capacity =
     ∙ ap (λ a. let h : Hoard = record { config = old.config; arrived = a; held = old.held; records = old.records; capacity = new.capacity } in h) arrived
     ∙ ap (λ n. let h : Hoard = record { config = old.config; arrived = old.arrived; held = old.held; records = old.records; capacity = n } in h) capacity
 
-pub before-added : (old new : Hoard) (x : Distrust) → HasAdded (meaning_of old) x (meaning_of new) → new.arrived ≡ old.arrived → IsBefore old x new
+pub before-added : (old new : Hoard) (x : Distrust) → HasAdded (meaning_of old) x (meaning_of new) → new.arrived ≡ old.arrived → IsBefore old (x ∷ []) new
 before-added old new x a arrived = record {
   config = ap (λ (m : Meaning). m.config) a.meaning;
   arrived = arrived;
@@ -377,8 +356,8 @@ before-added old new x a arrived = record {
 same-wiring : (w : Wired) → IsRoomierWired w w
 same-wiring w = record { labels = refl; net = refl; marked = refl; last = refl; nodes = omega arith; edges = omega arith }
 
-indexed-roomier : (h new : Hoard) (p q : Paired) (w v : Wired) → IsIndexed h p w → new ≡ record h { capacity = new.capacity } → q.numbers ≡ p.numbers → q.firsts ≡ p.firsts → q.flags ≡ p.flags → IsRoomierWired w v → IsIndexed new q v
-indexed-roomier h new p q w v i is numbers firsts flags r =
+indexed-roomier : (h new : Hoard) (p q : Paired) (w v : Wired) → IsIndexed h p w → new ≡ record h { capacity = new.capacity } → q.numbers ≡ p.numbers → q.firsts ≡ p.firsts → q.counts ≡ p.counts → IsRoomierWired w v → IsIndexed new q v
+indexed-roomier h new p q w v i is numbers firsts counts r =
     let b = i.built in
     let other : Hoard = record h { capacity = new.capacity } in
     subst (λ x. IsIndexed x q v) (sym is) (record {
@@ -394,11 +373,10 @@ indexed-roomier h new p q w v i is numbers firsts flags r =
               (subst (Mirrors (spots_of h.config.seeds h.arrived) (map (triple_by b.domains) w.labels) (IsShutBy h.records)) (sym r.net) b.wired.mirrors);
         };
         reached = subst (λ ns. ListsReached v.net ns) (sym r.marked) (subst (λ net. ListsReached net w.marked) (sym r.net) b.reached);
-        pairing = pairing-flags (pairs_of h.config.seeds h.arrived) p q b.pairing numbers firsts (ap length flags);
+        pairing = pairing-counts (pairs_of h.config.seeds h.arrived) p q b.pairing numbers firsts (ap length counts);
       };
-      flags = λ n.
-          subst (λ ms. (is_raised q.flags n ≡ true) ↔ IsFirstOf q.firsts ms n) (sym r.marked)
-          (subst (λ fs. (is_raised q.flags n ≡ true) ↔ IsFirstOf fs w.marked n) (sym firsts) (subst (λ fs. (is_raised fs n ≡ true) ↔ IsFirstOf p.firsts w.marked n) (sym flags) (i.flags n)));
+      counts = subst (λ ms. AreCounts q.firsts ms q.counts) (sym r.marked)
+          (subst (λ fs. AreCounts fs w.marked q.counts) (sym firsts) (subst (AreCounts p.firsts w.marked) (sym counts) i.counts));
     })
 
 pub room-kept : (h new : Hoard) (p q : Paired) (w v : Wired) (spare : Spare) → HasRoom h p w spare → new ≡ record h { capacity = new.capacity } → h.capacity ≤ new.capacity → q.firsts ≡ p.firsts → p.capacity ≤ q.capacity → IsRoomierWired w v → HasRoom new q v spare
@@ -410,25 +388,25 @@ room-kept h new p q w v spare r is held firsts pairs wired = record {
   few = omega (arith, r.few, ap length firsts);
 }
 
-pub reserves-from : (h new : Hoard) (p q : Paired) (w v : Wired) (spare more : Spare) → IsKept h p w spare → new ≡ record h { capacity = new.capacity } → q.numbers ≡ p.numbers → q.firsts ≡ p.firsts → q.flags ≡ p.flags → IsRoomierWired w v → HasRoom new q v more → spare.receipts ≤ more.receipts → spare.offers ≤ more.offers → Reserves h new p q w v spare more
-reserves-from h new p q w v spare more k is numbers firsts flags r room receipts offers = record {
+pub reserves-from : (h new : Hoard) (p q : Paired) (w v : Wired) (spare more : Spare) → IsKept h p w spare → new ≡ record h { capacity = new.capacity } → q.numbers ≡ p.numbers → q.firsts ≡ p.firsts → q.counts ≡ p.counts → IsRoomierWired w v → HasRoom new q v more → spare.receipts ≤ more.receipts → spare.offers ≤ more.offers → Reserves h new p q w v spare more
+reserves-from h new p q w v spare more k is numbers firsts counts r room receipts offers = record {
   meaning = ap meaning_of is;
   arrived = ap (λ (x : Hoard). x.arrived) is;
   marked = r.marked;
-  kept = record { indexed = indexed-roomier h new p q w v k.indexed is numbers firsts flags r; room = room };
+  kept = record { indexed = indexed-roomier h new p q w v k.indexed is numbers firsts counts r; room = room };
   roomier = record { receipts = receipts; offers = offers };
 }
 
 -- a refusal leaves the room
-pub reserves-kept : (h new : Hoard) (p q : Paired) (w v : Wired) (spare : Spare) → IsKept h p w spare → new ≡ record h { capacity = new.capacity } → h.capacity ≤ new.capacity → q.numbers ≡ p.numbers → q.firsts ≡ p.firsts → q.flags ≡ p.flags → p.capacity ≤ q.capacity → IsRoomierWired w v → Reserves h new p q w v spare spare
-reserves-kept h new p q w v spare k is held numbers firsts flags pairs r =
-    reserves-from h new p q w v spare spare k is numbers firsts flags r (room-kept h new p q w v spare k.room is held firsts pairs r) (omega arith) (omega arith)
+pub reserves-kept : (h new : Hoard) (p q : Paired) (w v : Wired) (spare : Spare) → IsKept h p w spare → new ≡ record h { capacity = new.capacity } → h.capacity ≤ new.capacity → q.numbers ≡ p.numbers → q.firsts ≡ p.firsts → q.counts ≡ p.counts → p.capacity ≤ q.capacity → IsRoomierWired w v → Reserves h new p q w v spare spare
+reserves-kept h new p q w v spare k is held numbers firsts counts pairs r =
+    reserves-from h new p q w v spare spare k is numbers firsts counts r (room-kept h new p q w v spare k.room is held firsts pairs r) (omega arith) (omega arith)
 
 pub reserves-held : (h new : Hoard) (p : Paired) (w : Wired) (spare : Spare) → IsKept h p w spare → new ≡ record h { capacity = new.capacity } → h.capacity ≤ new.capacity → Reserves h new p p w w spare spare
 reserves-held h new p w spare k is held = reserves-kept h new p p w w spare k is held refl refl refl (omega arith) (same-wiring w)
 
-pub reserves-pairs : (h new : Hoard) (p q : Paired) (w : Wired) (spare : Spare) → IsKept h p w spare → new ≡ record h { capacity = new.capacity } → h.capacity ≤ new.capacity → q.numbers ≡ p.numbers → q.firsts ≡ p.firsts → q.flags ≡ p.flags → p.capacity ≤ q.capacity → Reserves h new p q w w spare spare
-reserves-pairs h new p q w spare k is held numbers firsts flags pairs = reserves-kept h new p q w w spare k is held numbers firsts flags pairs (same-wiring w)
+pub reserves-pairs : (h new : Hoard) (p q : Paired) (w : Wired) (spare : Spare) → IsKept h p w spare → new ≡ record h { capacity = new.capacity } → h.capacity ≤ new.capacity → q.numbers ≡ p.numbers → q.firsts ≡ p.firsts → q.counts ≡ p.counts → p.capacity ≤ q.capacity → Reserves h new p q w w spare spare
+reserves-pairs h new p q w spare k is held numbers firsts counts pairs = reserves-kept h new p q w w spare k is held numbers firsts counts pairs (same-wiring w)
 
 -- ---- what the index is
 
@@ -453,8 +431,8 @@ index-parts h p w b =
     get_or_seed (s ∷ seeds) zero l = (s, refl)
     get_or_seed (s ∷ seeds) (suc n) l = get_or_seed seeds n (omega (arith, l))
 
-pub index-of_kept : (h : Hoard) (p : Paired) (w : Wired) (spare : Spare) → IsKept h p w spare → length h.arrived ≡ length h.held → IsIndexOf (indexed_of h w spare)
-index-of_kept h p w spare k once =
+pub index-of_kept : (h : Hoard) (p : Paired) (w : Wired) (spare : Spare) (turns : ℕ) → IsKept h p w spare → length h.arrived ≡ length h.held → IsIndexOf (indexed_of h w spare turns)
+index-of_kept h p w spare turns k once =
     let b = k.indexed.built in
     let parts = index-parts h p w b in
     record { labels = map (triple_by b.domains) w.labels; net = b.wired.mirrors; held = b.same; once = once; seeds = parts.0; receipts = parts.1 }
@@ -483,21 +461,10 @@ wired-seed h seeds s w a b c d node triples wired room has rooted is offers doma
     subst (λ ss. IsWiringOf domains h.records ss d) (sym (map_push spot_of_seed seeds s))
     (subst (λ (ts : List Triple). IsWiringOf domains h.records (spots ++ record { rooted = true; offers = ts; awaits = None } ∷ []) d) is third)
 
-lowered-push : (flags : List Bool) → ((n : ℕ) → is_raised flags n ≡ false) → (n : ℕ) → is_raised (flags ++ false ∷ []) n ≡ false
-lowered-push flags h n =
-    elim (cases_lt n (length flags)) [
-      | inl l ↦ get_or_append_left flags (false ∷ []) false n l ∙ h n
-      | inr l ↦
-          elim (cases_lt n (length (flags ++ false ∷ []))) [
-            | inl b ↦ get_or_push flags false false n (omega (arith, l, b, length_push flags false))
-            | inr b ↦ get_or_past (flags ++ false ∷ []) n false b
-          ]
-    ]
-
 pub seeded-more : (h : Hoard) (seeds : List Seed) (s : Seed) (p a q : Paired) (w d : Wired) (first : ℕ) → h.arrived ≡ [] → IsSeeded h seeds p w
-    → IsPairing (pairs_of seeds h.arrived ++ pair_of_seed s ∷ []) q → a.flags ≡ p.flags → a.firsts ≡ p.firsts → q.flags ≡ a.flags ++ false ∷ [] → q.firsts ≡ a.firsts ++ first ∷ [] → length a.firsts + 1 ≤ a.capacity → q.capacity ≡ a.capacity
+    → IsPairing (pairs_of seeds h.arrived ++ pair_of_seed s ∷ []) q → a.counts ≡ p.counts → a.firsts ≡ p.firsts → q.counts ≡ a.counts ++ 0 ∷ [] → q.firsts ≡ a.firsts ++ first ∷ [] → length a.firsts + 1 ≤ a.capacity → q.capacity ≡ a.capacity
     → ((domains : List (List ℕ)) → AreDomains h.config domains → IsWiringOf domains h.records (map spot_of_seed (seeds ++ s ∷ [])) d) → ListsReached d.net d.marked → IsSeeded h (seeds ++ s ∷ []) q d
-seeded-more h seeds s p a q w d first none g pairing f1 f2 flags firsts room capacity wired reached =
+seeded-more h seeds s p a q w d first none g pairing f1 f2 counts firsts room capacity wired reached =
     let pairs : pairs_of seeds h.arrived ++ pair_of_seed s ∷ [] ≡ pairs_of (seeds ++ s ∷ []) h.arrived =
     ap (λ rs. (map pair_of_seed seeds ++ map pair_of rs) ++ pair_of_seed s ∷ []) none
     ∙ ap (λ ps. ps ++ pair_of_seed s ∷ []) (append-nil (map pair_of_seed seeds))
@@ -507,7 +474,7 @@ seeded-more h seeds s p a q w d first none g pairing f1 f2 flags firsts room cap
     in
     record {
       pairing = subst (λ ps. IsPairing ps q) pairs pairing;
-      lowered = λ n. ap (λ fs. is_raised fs n) (flags ∙ ap (λ fs. fs ++ false ∷ []) f1) ∙ lowered-push p.flags g.lowered n;
+      lowered = λ n. ap (λ ks. count_at ks n) (counts ∙ ap (λ ks. ks ++ 0 ∷ []) f1) ∙ count_at-push p.counts n ∙ g.lowered n;
       room = omega (arith, ap length firsts, length_push a.firsts first, room, capacity);
       firsts = omega (arith, ap length firsts, length_push a.firsts first, ap length f2, g.firsts, length_push seeds s);
       wired = wired;
@@ -535,13 +502,13 @@ built-seeded h domains p w seeds valid held arrived are is g =
     }
 
 pub kept-seeded : (h : Hoard) (p q : Paired) (w : Wired) (nodes : List ℕ) (seeds : List Seed) → IsBuilt h p w → IsSeeded h seeds p w → h.arrived ≡ [] → length seeds ≤ 4096
-    → q.numbers ≡ p.numbers → q.firsts ≡ p.firsts → q.capacity ≡ p.capacity → nodes ≡ w.marked → Raises p.firsts nodes p.flags q.flags → IsKept h q w (record { receipts = 0; offers = 0 })
-kept-seeded h p q w nodes seeds b g none few numbers firsts capacity is raises =
-    let right : Raises q.firsts w.marked p.flags q.flags = subst (λ fs. Raises fs w.marked p.flags q.flags) (sym firsts) (subst (λ ns. Raises p.firsts ns p.flags q.flags) is raises) in
+    → q.numbers ≡ p.numbers → q.firsts ≡ p.firsts → q.capacity ≡ p.capacity → nodes ≡ w.marked → AddsNodes p.firsts nodes p.counts q.counts → IsKept h q w (record { receipts = 0; offers = 0 })
+kept-seeded h p q w nodes seeds b g none few numbers firsts capacity is adds =
+    let right : AddsNodes q.firsts w.marked p.counts q.counts = subst (λ fs. AddsNodes fs w.marked p.counts q.counts) (sym firsts) (subst (λ ns. AddsNodes p.firsts ns p.counts q.counts) is adds) in
     record {
       indexed = record {
-        built = built-flags h p q w b numbers firsts raises.size;
-        flags = flags-again q.firsts w.marked p.flags q.flags g.lowered right;
+        built = built-counts h p q w b numbers firsts adds.size;
+        counts = counts-from_zero q.firsts w.marked p.counts q.counts g.lowered right;
       };
       room = record {
         held = omega (arith, ap length none);
@@ -552,9 +519,14 @@ kept-seeded h p q w nodes seeds b g none few numbers firsts capacity is raises =
       };
     }
 
+-- there are few nodes
+pub pairs-few : (h : Hoard) (p : Paired) → IsPairing (pairs_of h.config.seeds h.arrived) p → length h.config.seeds ≤ 4096 → length h.arrived ≤ 65536 → length p.firsts < 2 ^ 32
+pairs-few h p pairing seeds arrived =
+    omega (arith, pairing.sizes, length-append (map pair_of_seed h.config.seeds) (map pair_of h.arrived), length-map h.config.seeds pair_of_seed, length-map h.arrived pair_of, seeds, arrived)
+
 -- ---- pending receipts
 
-different-from_pairs : {A : Type 0} (xs : List A) → AllPairs ◌≢◌ xs → AreDifferent xs
+pub different-from_pairs : {A : Type 0} (xs : List A) → AllPairs ◌≢◌ xs → AreDifferent xs
 different-from_pairs [] h = tt
 different-from_pairs (x ∷ xs) h =
     (λ c. h 0 (suc c.0) x (omega arith) (omega (arith, c.1)) (sym c.2), different-from_pairs xs (λ i j d l b. h (suc i) (suc j) d (omega (arith, l)) (omega (arith, b))))
@@ -563,19 +535,19 @@ length-passing_all : (n : ℕ) → length (passing (λ k. true) n) ≡ n
 length-passing_all zero = refl
 length-passing_all (suc n) = ap suc (length-passing_all n)
 
-among-from : (nodes : List ℕ) (n : ℕ) → Contains nodes n → is_among nodes n ≡ true
+pub among-from : (nodes : List ℕ) (n : ℕ) → Contains nodes n → is_among nodes n ≡ true
 among-from nodes n c = list_any_at (λ m. eqb m n) nodes c.0 n c.1 (eq-eqb (get_or nodes c.0 n) n c.2)
 
-among-to : (nodes : List ℕ) (n : ℕ) → is_among nodes n ≡ true → Contains nodes n
+pub among-to : (nodes : List ℕ) (n : ℕ) → is_among nodes n ≡ true → Contains nodes n
 among-to nodes n t =
     let a = Any-from_list_any (λ m. eqb m n) nodes t in
     (a.0, a.2, get_or_default nodes a.0 n a.1 a.2 ∙ a.3 ∙ eqb-true a.1 n a.4)
 
 -- nodes that are not marked
-abbrev unmarked : List ℕ → ℕ → List ℕ
+abbrev pub unmarked : List ℕ → ℕ → List ℕ
 unmarked marked count = passing (only_wide (λ k. is_among marked k) (λ k. true) (λ k e. refl)) count
 
-length-unmarked : (marked : List ℕ) (count : ℕ) → AllPairs ◌≢◌ marked → All (λ n. n < count) marked → length (unmarked marked count) + length marked ≡ count
+pub length-unmarked : (marked : List ℕ) (count : ℕ) → AllPairs ◌≢◌ marked → All (λ n. n < count) marked → length (unmarked marked count) + length marked ≡ count
 length-unmarked marked count once within =
     let among = λ (k : ℕ). is_among marked k in
     let less : length (passing among count) ≤ length marked = no_longer (passing among count) marked (passing-differ among count) (λ k c. among-to marked k (passing-to among count k c).1) in

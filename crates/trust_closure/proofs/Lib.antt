@@ -12,8 +12,10 @@ pub mod Vouching
 pub mod Bridge
 pub mod Wirings
 pub mod FlagFacts
+pub mod NodeCountFacts
 pub mod PairFacts
 pub mod IndexFacts
+mod RecountFacts
 mod PlainFacts
 mod Carrying
 mod SownFacts

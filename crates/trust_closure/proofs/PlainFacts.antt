@@ -11,12 +11,15 @@ use Rattle.receipt_core.specs.Receipt.{Receipt, Pair, pair_of, offers_of, need_o
 use Rattle.receipt_core.specs.Acceptance.{Meaning, IsMeaning, IsMember, IsFitting, IsReleased, Vouches, pair_of_seed}
 use Rattle.label_net.proofs.Edges.{slice_get-append_cases, slice_get-map_cases, slice_get-Contains, Contains-slice_get}
 use Rattle.trust_closure.specs.Nodes.{pairs_of, is_raised}
-use Rattle.trust_closure.specs.Flags.{Raises, TellsMembers}
+use Rattle.trust_closure.specs.Flags.{TellsMembers}
+use Rattle.trust_closure.specs.NodeCounts.{flags_of}
 use Rattle.trust_closure.specs.Held.{Hoard, meaning_of}
 use Rattle.trust_closure.specs.Pairs.{Paired, HasRaised}
 use Rattle.trust_closure.specs.Plain.{AreSeedOffers, IsOfferedBelow, IsOffered, IsVouched, AreSound, AreQuietBelow, AreReleased, IsHadNode, IsFirstHad, IsSettled}
 use Rattle.trust_closure.proofs.Bridge.{pair-of_seed_node, pair-of_receipt_node}
 use Rattle.trust_closure.proofs.CountFacts.{contains_first, contains_later, contains_none, contains_cases}
+use Rattle.trust_closure.proofs.FlagFacts.{Raises}
+use Rattle.trust_closure.proofs.NodeCountFacts.{length-flags}
 use Rattle.trust_closure.proofs.MemberFacts.{member_least, member_seed, member_released, member_grounds}
 use Rattle.trust_closure.proofs.PairFacts.{pairing-once}
 use Rattle.trust_closure.proofs.RisingFacts.{each_has}
@@ -210,9 +213,9 @@ module _ (h : Hoard) (p : Paired) (seed_offers : List Triple) (released : List B
         }
   ]
 
-  pub plain-tells : TellsMembers (meaning_of h) (pairs_of h.config.seeds h.arrived) p.numbers p.flags
+  pub plain-tells : TellsMembers (meaning_of h) (pairs_of h.config.seeds h.arrived) p.numbers (flags_of p.counts)
   plain-tells = record {
-    size = i.set.pairing.flagged;
+    size = length-flags p.counts ∙ i.set.pairing.counted;
     sound = λ n q e at. let f = (i.flags n).0 e in had-member f.node q f.had (sym (i.set.pairing.first f.node n f.first).1 ∙ at);
     listed = λ n e. let f = (i.flags n).0 e in (i.set.pairing.first f.node n f.first).0;
     all = λ q a.

@@ -1,8 +1,8 @@
 -- The documents of a configuration in a plain closure, and what is pending there
 use Rattle.std.proofs.Common.{◌≡◌, ℕ, zero, suc, ◌+◌, ◌<◌, ◌≤◌, inl, inr, Bool, true, false, List, [], ◌∷◌, ◌++◌, length, get_or, map, Some, append-nil, arith, refl, sym, ap, ◌∙◌, subst}
 use Rattle.std.specs.Prelude.{Contains, slice_get}
-use Rattle.std.proofs.lemmas.Bool.{cases_lt, both_ways, not-true, not_from_false, false_from_ne_true}
-use Rattle.std.proofs.lemmas.List.{length-map, length_push, map_push, get_or_past, get_or_append_left, get_or_push}
+use Rattle.std.proofs.lemmas.Bool.{both_ways, not-true, not_from_false, false_from_ne_true}
+use Rattle.std.proofs.lemmas.List.{length-map, length_push, map_push}
 use Rattle.std.proofs.lemmas.List.Elements.{Contains-append_left, Contains-append_right, Contains-append_cases, Contains-push, Contains-push_cases}
 use Rattle.std.proofs.lemmas.Option.{slice_get_within, slice_get-get_or, get_or_from_slice_get}
 use Rattle.fed_config.specs.declared.seed.Seed.{Seed}
@@ -12,22 +12,15 @@ use Rattle.receipt_core.specs.Acceptance.{IsMeaning, pair_of_seed}
 use Rattle.label_net.proofs.Arrows.{Contains-map, Contains-from_map}
 use Rattle.label_net.proofs.Edges.{slice_get-Contains, Contains-slice_get, one_place}
 use Rattle.trust_closure.specs.Nodes.{pairs_of, is_raised}
+use Rattle.trust_closure.specs.NodeCounts.{count_at}
 use Rattle.trust_closure.specs.Flags.{raised_count}
 use Rattle.trust_closure.specs.Held.{Hoard, meaning_of}
 use Rattle.trust_closure.specs.Views.{IsPendingCount}
 use Rattle.trust_closure.specs.Pairs.{Paired, IsPairing}
 use Rattle.trust_closure.specs.Plain.{AreSeedOffers, IsSet, IsSettled, IsSown, AreReleased}
 use Rattle.trust_closure.proofs.CountFacts.{contains_none}
+use Rattle.trust_closure.proofs.NodeCountFacts.{count_at-push}
 use Rattle.trust_closure.proofs.FlagFacts.{passing, passing-to, passing-from, passing-differ, only_wide, length-only_wide, count-passing, different-map}
-
-none-lowered : (flags : List Bool) → ((n : ℕ) → is_raised flags n ≡ false) → (n : ℕ) → is_raised (flags ++ false ∷ []) n ≡ false
-none-lowered flags low n = elim (cases_lt n (length flags)) [
-  | inl l ↦ get_or_append_left flags (false ∷ []) false n l ∙ low n
-  | inr l ↦ elim (cases_lt n (length (flags ++ false ∷ []))) [
-    | inl b ↦ get_or_push flags false false n (omega (arith, l, b, length_push flags false))
-    | inr b ↦ get_or_past (flags ++ false ∷ []) n false b
-  ]
-]
 
 offers-more : (seeds : List Seed) (s : Seed) (offers more : List Triple) → AreSeedOffers seeds offers → more ≡ offers_of (pair_of_seed s) → AreSeedOffers (seeds ++ s ∷ []) (offers ++ more)
 offers-more seeds s offers more are is t = (
@@ -42,9 +35,9 @@ offers-more seeds s offers more are is t = (
 )
 
 pub sown-more : (h : Hoard) (seeds : List Seed) (s : Seed) (p a q : Paired) (offers more all : List Triple) (first : ℕ) → h.arrived ≡ [] → IsSown h seeds p offers
-    → IsPairing (pairs_of seeds h.arrived ++ pair_of_seed s ∷ []) q → a.flags ≡ p.flags → a.firsts ≡ p.firsts → q.flags ≡ a.flags ++ false ∷ [] → q.firsts ≡ a.firsts ++ first ∷ [] → length a.firsts + 1 ≤ a.capacity → q.capacity ≡ a.capacity
+    → IsPairing (pairs_of seeds h.arrived ++ pair_of_seed s ∷ []) q → a.counts ≡ p.counts → a.firsts ≡ p.firsts → q.counts ≡ a.counts ++ 0 ∷ [] → q.firsts ≡ a.firsts ++ first ∷ [] → length a.firsts + 1 ≤ a.capacity → q.capacity ≡ a.capacity
     → more ≡ offers_of (pair_of_seed s) → all ≡ offers ++ more → IsSown h (seeds ++ s ∷ []) q all
-sown-more h seeds s p a q offers more all first none g pairing f1 f2 flags firsts room capacity is whole =
+sown-more h seeds s p a q offers more all first none g pairing f1 f2 counts firsts room capacity is whole =
     let pairs : pairs_of seeds h.arrived ++ pair_of_seed s ∷ [] ≡ pairs_of (seeds ++ s ∷ []) h.arrived =
     ap (λ rs. (map pair_of_seed seeds ++ map pair_of rs) ++ pair_of_seed s ∷ []) none
     ∙ ap (λ ps. ps ++ pair_of_seed s ∷ []) (append-nil (map pair_of_seed seeds))
@@ -54,7 +47,7 @@ sown-more h seeds s p a q offers more all first none g pairing f1 f2 flags first
     in
     record {
       pairing = subst (λ ps. IsPairing ps q) pairs pairing;
-      lowered = λ n. ap (λ fs. is_raised fs n) (flags ∙ ap (λ fs. fs ++ false ∷ []) f1) ∙ none-lowered p.flags g.lowered n;
+      lowered = λ n. ap (λ ks. count_at ks n) (counts ∙ ap (λ ks. ks ++ 0 ∷ []) f1) ∙ count_at-push p.counts n ∙ g.lowered n;
       room = omega (arith, ap length firsts, length_push a.firsts first, room, capacity);
       firsts = omega (arith, ap length firsts, length_push a.firsts first, ap length f2, g.firsts, length_push seeds s);
       offers = subst (AreSeedOffers (seeds ++ s ∷ [])) (sym whole) (offers-more seeds s offers more g.offers is);

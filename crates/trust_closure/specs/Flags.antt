@@ -1,5 +1,5 @@
 -- Which of the different documents are accepted, by flags
-use Rattle.std.specs.Prelude.{◌≡◌, ◌↔◌, ◌⊎◌, ℕ, Bool, true, List, length, count_by, Contains, slice_get, Some}
+use Rattle.std.specs.Prelude.{◌≡◌, ℕ, Bool, true, List, length, count_by, Contains, slice_get, Some}
 use Rattle.receipt_core.specs.Receipt.{Pair}
 use Rattle.receipt_core.specs.Acceptance.{Meaning, IsMember}
 use Rattle.trust_closure.specs.Nodes.{is_raised}
@@ -7,15 +7,6 @@ use Rattle.trust_closure.specs.Nodes.{is_raised}
 -- how many flags are raised
 abbrev pub raised_count : List Bool → ℕ
 raised_count flags = count_by (λ flag. flag) flags
-
--- the number is that of the first node with the document of one of these nodes
-abbrev pub IsFirstOf : List ℕ → List ℕ → ℕ → Type 0
-IsFirstOf firsts nodes number = (node : ℕ) × Contains nodes node × (slice_get firsts node ≡ Some number)
-
--- The flags of these nodes' first numbers are raised, and the others are as they were.
-pub record Raises (firsts nodes : List ℕ) (old new : List Bool) : Type 0 where
-  pub size : length new ≡ length old
-  pub each : (number : ℕ) → (is_raised new number ≡ true) ↔ ((is_raised old number ≡ true) ⊎ IsFirstOf firsts nodes number)
 
 -- Each accepted document has one number among these, whose flag is raised, and each raised flag is that of an accepted
 -- document.

@@ -1,15 +1,18 @@
 -- What an indexed closure keeps
-use Rattle.std.specs.Prelude.{◌≡◌, ◌≢◌, ◌↔◌, AllPairs, ◌+◌, ◌^◌, ◌<◌, ◌≤◌, ℕ, true, false, map, List, Contains, length, slice_get, Some}
+use Rattle.std.specs.Prelude.{◌≡◌, ◌≢◌, ◌↔◌, AllPairs, ◌+◌, ◌^◌, ◌<◌, ◌≤◌, ℕ, map, List, Contains, length, slice_get, Some}
+use Rattle.std.specs.List.{All}
 use Rattle.fed_config.specs.Configuration.{AreDomains}
 use Rattle.fed_config.specs.declared.seed.Seed.{Seed}
 use Rattle.receipt_core.specs.declared.distrust.Distrust.{Distrust}
-use Rattle.receipt_core.specs.Receipt.{Receipt, with_distrust}
+use Rattle.receipt_core.specs.Receipt.{Receipt, distrust_cmp}
+use Rattle.receipt_core.specs.Rising.{with_items}
 use Rattle.receipt_core.specs.declared.triple.Triple.{Triple}
 use Rattle.receipt_core.specs.Acceptance.{IsMeaning, IsReleased}
-use Rattle.wait_index.specs.Net.{ListsReached}
+use Rattle.wait_index.specs.Index.{Index}
+use Rattle.wait_index.specs.Net.{Net, ListsReached, TellsFallen}
 use Rattle.label_net.specs.Labels.{Wired}
-use Rattle.trust_closure.specs.Nodes.{pairs_of, is_raised}
-use Rattle.trust_closure.specs.Flags.{IsFirstOf}
+use Rattle.trust_closure.specs.Nodes.{pairs_of}
+use Rattle.trust_closure.specs.NodeCounts.{count_at, AreCounts}
 use Rattle.trust_closure.specs.Held.{Hoard, meaning_of}
 use Rattle.trust_closure.specs.NetOf.{spots_of, spot_of_seed, IsNetOf, IsWiringOf}
 use Rattle.trust_closure.specs.Pairs.{Paired, IsPairing}
@@ -33,22 +36,33 @@ pub record IsBuilt (h : Hoard) (p : Paired) (w : Wired) : Type 0 where
   pub reached : ListsReached w.net w.marked
   pub pairing : IsPairing (pairs_of h.config.seeds h.arrived) p
 
--- Besides, the flags of the marked nodes' documents are raised, and no others.
+-- Besides, the count of each document is how many of the marked nodes have it.
 pub record IsIndexed (h : Hoard) (p : Paired) (w : Wired) : Type 0 where
   pub built : IsBuilt h p w
-  pub flags : (number : ℕ) → (is_raised p.flags number ≡ true) ↔ IsFirstOf p.firsts w.marked number
+  pub counts : AreCounts p.firsts w.marked p.counts
 
--- The new hoard has the record besides, which the old one had not.
-pub record IsBefore (old : Hoard) (x : Distrust) (new : Hoard) : Type 0 where
+-- The counts are still those of the nodes that were marked before the last close, which told what fell.
+pub record WasCounted (p : Paired) (i : Index) : Type 0 where
+  pub net : Net
+  pub marked : List ℕ
+  pub closing : List ℕ
+  pub reached : ListsReached net marked
+  pub within : All (λ node. node < length p.firsts) marked
+  pub fell : TellsFallen net closing i.last.fallen i.last.kept i.marked
+  pub many : length i.last.fallen + i.last.kept ≡ length marked
+  pub counts : AreCounts p.firsts marked p.counts
+
+-- The new hoard has these records besides.
+pub record IsBefore (old : Hoard) (more : List Distrust) (new : Hoard) : Type 0 where
   pub config : new.config ≡ old.config
   pub arrived : new.arrived ≡ old.arrived
   pub held : new.held ≡ old.held
-  pub records : new.records ≡ with_distrust x old.records
+  pub records : new.records ≡ with_items distrust_cmp more old.records
 
--- The index is still that of what was held before the record was.
-pub record WasIndexed (new : Hoard) (x : Distrust) (p : Paired) (w : Wired) : Type 0 where
+-- The index is still that of what was held before these records were.
+pub record WasIndexed (new : Hoard) (more : List Distrust) (p : Paired) (w : Wired) : Type 0 where
   pub old : Hoard
-  pub before : IsBefore old x new
+  pub before : IsBefore old more new
   pub indexed : IsIndexed old p w
 
 -- There is room for so many receipts more and so many offers of theirs.
@@ -78,14 +92,16 @@ pub record Reserves (h new : Hoard) (p q : Paired) (w v : Wired) (room more : Sp
   pub kept : IsKept new q v more
   pub roomier : IsRoomier (room_of room) (room_of more)
 
--- What a caller sees: the meaning and the room, the receipts in order of arrival, and the index.
+-- What a caller sees: the meaning and the room, the receipts in order of arrival, the index, and how many edges the last
+-- close looked at.
 pub record Indexed : Type 0 where
   pub state : State
   pub arrived : List Receipt
   pub wired : Wired
+  pub turns : ℕ
 
-abbrev pub indexed_of : Hoard → Wired → Spare → Indexed
-indexed_of h w s = record { state = state_of h s; arrived = h.arrived; wired = w }
+abbrev pub indexed_of : Hoard → Wired → Spare → ℕ → Indexed
+indexed_of h w s turns = record { state = state_of h s; arrived = h.arrived; wired = w; turns = turns }
 
 -- The index has one node for each configured document, which is marked, and one for each receipt, in order of arrival,
 -- for each receipt one wait edge, for each node as many offer edges as it has offers, and no other, one label for each
@@ -100,10 +116,10 @@ pub record IsIndexOf (i : Indexed) : Type 0 where
   pub receipts : (place : ℕ) (r : Receipt) → slice_get i.arrived place ≡ Some r
       → Contains i.wired.marked (length i.state.meaning.config.seeds + place) ↔ IsReleased i.state.meaning r
 
--- The index and the different documents of these configured documents, before a flag is raised.
+-- The index and the different documents of these configured documents, before a count is raised.
 pub record IsSeeded (h : Hoard) (seeds : List Seed) (p : Paired) (w : Wired) : Type 0 where
   pub pairing : IsPairing (pairs_of seeds h.arrived) p
-  pub lowered : (number : ℕ) → is_raised p.flags number ≡ false
+  pub lowered : (number : ℕ) → count_at p.counts number ≡ 0
   pub room : length p.firsts ≤ p.capacity
   pub firsts : length p.firsts ≡ length seeds
   pub wired : (domains : List (List ℕ)) → AreDomains h.config domains → IsWiringOf domains h.records (map spot_of_seed seeds) w

@@ -8,7 +8,9 @@ pub mod Refusals
 pub mod Changes
 pub mod NetOf
 pub mod Flags
+pub mod NodeCounts
 pub mod Pairs
 pub mod Indexed
+pub mod Work
 pub mod Plain
 pub mod Merge

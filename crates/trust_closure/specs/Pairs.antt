@@ -1,5 +1,5 @@
 -- Different documents of domains, in order, each by the number of the first that came
-use Rattle.std.specs.Prelude.{◌≡◌, ℕ, ◌<◌, ◌≤◌, ◌⊎◌, List, [], AllPairs, Bool, true, length, Contains, slice_get, slice_index_or, Some, None}
+use Rattle.std.specs.Prelude.{◌≡◌, ℕ, ◌<◌, ◌≤◌, ◌⊎◌, List, [], AllPairs, true, length, Contains, slice_get, slice_index_or, Some, None}
 use Rattle.std.specs.List.{All, insert, filter}
 use Rattle.std.specs.declared.cmp.Ordering.{Ordering}
 use Rattle.std.specs.declared.cmp.Ordering.TheVariants.{Less, Equal}
@@ -8,6 +8,7 @@ use Rattle.fed_config.specs.Configuration.{domain_cmp}
 use Rattle.bundle_doc.specs.Bundle.{Bundle, IsBundle}
 use Rattle.receipt_core.specs.Receipt.{Pair}
 use Rattle.sorted_order.specs.Sought.{IsMissing, is_equal}
+use Rattle.trust_closure.specs.NodeCounts.{flags_of}
 use Rattle.trust_closure.specs.Nodes.{is_raised, raised_documents}
 use Rattle.trust_closure.specs.Views.{document_cmp}
 
@@ -22,11 +23,12 @@ no_pair = record { domain = []; document = record { authorities = []; rank = Non
 abbrev pub pair_at : List Pair → ℕ → Pair
 pair_at pairs number = slice_index_or pairs number no_pair
 
--- the numbers in order, each node's first number, each number's flag, and how many nodes there is room for in all
+-- the numbers in order, each node's first number, how many marked nodes have each number's document, and how many nodes
+-- there is room for in all
 pub record Paired : Type 0 where
   pub numbers : List ℕ
   pub firsts : List ℕ
-  pub flags : List Bool
+  pub counts : List ℕ
   pub capacity : ℕ
 
 -- the pairs with these numbers rise
@@ -36,7 +38,7 @@ AreRising pairs numbers = AllPairs (λ i j. pair_cmp (pair_at pairs i) (pair_at 
 -- The numbers are those of different pairs, in order; and each pair has the number of the first that is equal.
 pub record IsPairing (pairs : List Pair) (p : Paired) : Type 0 where
   pub sizes : length p.firsts ≡ length pairs
-  pub flagged : length p.flags ≡ length pairs
+  pub counted : length p.counts ≡ length pairs
   pub forms : All (λ q. IsBundle q.document) pairs
   pub within : All (λ n. n < length pairs) p.numbers
   pub few : length p.numbers ≤ length pairs
@@ -53,7 +55,7 @@ pub record HasRaised (pairs : List Pair) (p : Paired) (q : Pair) : Type 0 where
   pub number : ℕ
   pub has : Contains p.numbers number
   pub at : slice_get pairs number ≡ Some q
-  pub raised : is_raised p.flags number ≡ true
+  pub raised : is_raised (flags_of p.counts) number ≡ true
 
 -- the numbers of the domain's pairs
 abbrev pub numbers_of : List Pair → List ℕ → List ℕ → List ℕ
@@ -61,4 +63,4 @@ numbers_of pairs numbers domain = filter (λ n. is_equal (domain_cmp (pair_at pa
 
 -- the domain's documents whose flags are raised, in order
 abbrev pub raised_of : List Pair → Paired → List ℕ → List Bundle
-raised_of pairs p domain = raised_documents pairs p.flags (numbers_of pairs p.numbers domain)
+raised_of pairs p domain = raised_documents pairs (flags_of p.counts) (numbers_of pairs p.numbers domain)

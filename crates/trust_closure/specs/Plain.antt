@@ -6,6 +6,7 @@ use Rattle.receipt_core.specs.declared.triple.Triple.{Triple}
 use Rattle.receipt_core.specs.Receipt.{Receipt, pair_of, offers_of, need_of}
 use Rattle.receipt_core.specs.Acceptance.{Meaning, IsMeaning, IsReleased, pair_of_seed}
 use Rattle.trust_closure.specs.Nodes.{pairs_of, is_raised}
+use Rattle.trust_closure.specs.NodeCounts.{flags_of, count_at}
 use Rattle.trust_closure.specs.Held.{Hoard, meaning_of}
 use Rattle.trust_closure.specs.NetOf.{IsShutBy}
 use Rattle.trust_closure.specs.Indexed.{IsBefore}
@@ -69,13 +70,13 @@ pub record IsSet (h : Hoard) (p : Paired) (seed_offers : List Triple) (released 
 pub record IsSettled (h : Hoard) (p : Paired) (seed_offers : List Triple) (released : List Bool) : Type 0 where
   pub set : IsSet h p seed_offers released
   pub settled : AreReleased (meaning_of h) h.arrived released
-  pub flags : (number : ℕ) → (is_raised p.flags number ≡ true) ↔ IsFirstHad (length h.config.seeds) released p.firsts (length p.firsts) number
+  pub flags : (number : ℕ) → (is_raised (flags_of p.counts) number ≡ true) ↔ IsFirstHad (length h.config.seeds) released p.firsts (length p.firsts) number
 
--- The flags are still those of what was held before a record of distrust was.
+-- The flags are still those of what was held before these records were.
 pub record WasSettled (new : Hoard) (p : Paired) (seed_offers : List Triple) (released : List Bool) : Type 0 where
   pub old : Hoard
-  pub distrust : Distrust
-  pub before : IsBefore old distrust new
+  pub more : List Distrust
+  pub before : IsBefore old more new
   pub settled : IsSettled old p seed_offers released
 
 -- There is room for so many receipts more.
@@ -98,12 +99,12 @@ plain_state h spare = record { meaning = meaning_of h; room = record { receipts 
 pub record IsRoomierPaired (old new : Paired) : Type 0 where
   pub numbers : new.numbers ≡ old.numbers
   pub firsts : new.firsts ≡ old.firsts
-  pub flags : new.flags ≡ old.flags
+  pub counts : new.counts ≡ old.counts
 
--- The first of the configured documents have their numbers, with flags that are not raised, and their offers.
+-- The first of the configured documents have their numbers, with counts of 0, and their offers.
 pub record IsSown (h : Hoard) (seeds : List Seed) (p : Paired) (seed_offers : List Triple) : Type 0 where
   pub pairing : IsPairing (pairs_of seeds h.arrived) p
-  pub lowered : (number : ℕ) → is_raised p.flags number ≡ false
+  pub lowered : (number : ℕ) → count_at p.counts number ≡ 0
   pub room : length p.firsts ≤ p.capacity
   pub firsts : length p.firsts ≡ length seeds
   pub offers : AreSeedOffers seeds seed_offers

@@ -1,16 +1,19 @@
 //! What is held, its different documents and its index change together.
-ghost use Rattle.std.specs.Prelude.{◌≡◌, ℕ, ◌+◌, ◌^◌, ◌<◌, ◌≤◌, ◌∷◌, ◌++◌, [], false, length, take};
+ghost use Rattle.std.specs.Prelude.{◌≡◌, ℕ, ◌+◌, ◌^◌, ◌<◌, ◌≤◌, ◌∷◌, ◌++◌, [], length, take};
 ghost use Rattle.fed_config.specs.Configuration.{HasDomain};
 ghost use Rattle.receipt_core.specs.Receipt.{pair_of, offers_of, with_receipt};
 ghost use Rattle.trust_closure.specs.Changes.{IsGain, TakesDistrust};
 ghost use Rattle.trust_closure.specs.Held.{Hoard, meaning_of, IsAbsent};
-ghost use Rattle.trust_closure.specs.Indexed.{IsBuilt, IsIndexed, IsBefore, WasIndexed};
+ghost use Rattle.trust_closure.specs.Indexed.{IsBuilt, IsIndexed, IsBefore, WasIndexed, indexed_of};
+ghost use Rattle.trust_closure.specs.Work.{ClosesAtOnce, Works};
+ghost use Rattle.trust_closure.specs.declared.indexed.Spare.{Spare};
 
 use crate::error::TakeError;
 use crate::held::Held;
 use crate::outcome::Distrusted;
 use crate::pairs::Pairs;
 use crate::records::Addition;
+use crate::recount::recount;
 use crate::wire::{add_receipt, domain_number};
 use jwk_set::KeyId;
 use label_net::Wiring;
@@ -44,6 +47,7 @@ pub(crate) fn add(
 {
     let count = wiring.reach().marked().len();
     place_receipt(held, pairs, wiring, place, receipt);
+    let _few = held.config();
     pairs.raise(&wiring.reach().marked()[count..])
 }
 
@@ -65,7 +69,7 @@ fn place_receipt(
     ensures built { IsBuilt held.new pairs.new wiring.new }
     ensures held { held.new ≡ record held.old { arrived = held.old.arrived ++ receipt ∷ []; held = with_receipt receipt held.old.held } }
     ensures firsts { (first : ℕ) × (pairs.new.firsts ≡ pairs.old.firsts ++ first ∷ []) }
-    ensures flags { pairs.new.flags ≡ pairs.old.flags ++ false ∷ [] }
+    ensures counts { pairs.new.counts ≡ pairs.old.counts ++ 0 ∷ [] }
     ensures front { take (length wiring.old.marked) wiring.new.marked ≡ wiring.old.marked }
     ensures pairs_room { pairs.new.capacity ≡ pairs.old.capacity }
     ensures nodes { wiring.old.nodes ≡ wiring.new.nodes + 1 }
@@ -78,8 +82,17 @@ fn place_receipt(
     let _valid = held.config();
 }
 
-/// Distrusts a key in a domain. It takes no memory: the labels of the key are closed at once, and the flags are raised
-/// anew.
+/// What came of a close of labels.
+#[derive(Clone, Copy, Drop)]
+struct Fall {
+    /// How many documents of domains were accepted and are not now.
+    lost: usize,
+    /// How many edges the close looked at.
+    turns: usize,
+}
+
+/// Distrusts a key in a domain, and notes the turns where the record is new. It takes no memory: the labels of the key
+/// are closed at once, and of the counts only those of documents whose nodes fell are looked at.
 ///
 /// # Errors
 /// The domain is none of the configuration, or there are as many records as there may be.
@@ -87,12 +100,15 @@ pub(crate) fn lose(
     held: &mut Held,
     pairs: &mut Pairs,
     wiring: &mut Wiring,
+    turns: &mut usize,
     domain: &TrustDomain,
     key: KeyId,
 ) -> Result<Distrusted, TakeError>
     requires indexed { IsIndexed held.old pairs.old wiring.old }
     ensures indexed { IsIndexed held.new pairs.new wiring.new }
     ensures meaning { TakesDistrust (meaning_of held.old) (record { domain = domain.now; key = key }) (meaning_of held.new) result }
+    ensures work { (spare : Spare) → Works (indexed_of held.old wiring.old spare turns.old) (record { domain = domain.now; key = key })
+        (indexed_of held.new wiring.new spare turns.new) result }
     ensures arrived { held.new.arrived ≡ held.old.arrived }
     ensures capacity { held.new.capacity ≡ held.old.capacity }
     ensures firsts { pairs.new.firsts ≡ pairs.old.firsts }
@@ -101,36 +117,39 @@ pub(crate) fn lose(
     ensures edges { wiring.new.edges ≡ wiring.old.edges }
 {
     match held.add_record(domain, key)? {
-        Addition::Added => Ok(Distrusted::New {
-            lost: close(held, pairs, wiring, domain, key),
-        }),
+        Addition::Added => {
+            let fall = close(held, pairs, wiring, domain, key);
+            *turns = fall.turns;
+            Ok(Distrusted::New { lost: fall.lost })
+        }
         Addition::There => Ok(Distrusted::Already),
         Addition::Full => Err(TakeError::Full),
     }
 }
 
-/// Closes the labels of a key that is distrusted from now on, and answers how many documents of domains were accepted
-/// and are not now.
+/// Closes the labels of a key that is distrusted from now on.
 fn close(
     held: &Held,
     pairs: &mut Pairs,
     wiring: &mut Wiring,
     domain: &TrustDomain,
     key: KeyId,
-) -> usize
+) -> Fall
     requires domain { HasDomain held.now.config domain.now }
-    requires before { WasIndexed held.now (record { domain = domain.now; key = key }) pairs.old wiring.old }
+    requires before { WasIndexed held.now (record { domain = domain.now; key = key } ∷ []) pairs.old wiring.old }
     ensures indexed { IsIndexed held.now pairs.new wiring.new }
-    ensures loss { (old : Hoard) → IsBefore old (record { domain = domain.now; key = key }) held.now
-        → IsIndexed old pairs.old wiring.old → IsGain (meaning_of held.now) (meaning_of old) result }
+    ensures loss { (old : Hoard) → IsBefore old (record { domain = domain.now; key = key } ∷ []) held.now
+        → IsIndexed old pairs.old wiring.old → IsGain (meaning_of held.now) (meaning_of old) result.lost }
+    ensures work { (old : Hoard) (spare : Spare) (turns : ℕ) → IsBefore old (record { domain = domain.now; key = key } ∷ []) held.now
+        → IsIndexed old pairs.old wiring.old
+        → ClosesAtOnce (indexed_of old wiring.old spare turns) (record { domain = domain.now; key = key } ∷ []) (indexed_of held.now wiring.new spare result.turns) }
     ensures firsts { pairs.new.firsts ≡ pairs.old.firsts }
     ensures pairs_room { pairs.new.capacity ≡ pairs.old.capacity }
     ensures nodes { wiring.new.nodes ≡ wiring.old.nodes }
     ensures edges { wiring.new.edges ≡ wiring.old.edges }
 {
     let number = domain_number(held.config(), domain);
-    wiring.close_key(number, key);
-    let before = pairs.lower();
-    let after = pairs.raise(wiring.reach().marked());
-    before - after
+    let turns = wiring.close_key(number, key);
+    let lost = recount(pairs, wiring.reach());
+    Fall { lost, turns }
 }

@@ -5,6 +5,7 @@ ghost use Rattle.wait_index.specs.Net.{ListsReached};
 ghost use Rattle.trust_closure.specs.Views.{IsAcceptedList, IsPendingCount, document_of, receipts_in};
 ghost use Rattle.trust_closure.specs.Changes.{empty_of, Takes, TakesDistrust, Merges};
 ghost use Rattle.trust_closure.specs.Refusals.{IsRoomier};
+ghost use Rattle.trust_closure.specs.Work.{Works};
 
 use crate::closure::NoMemory;
 use crate::error::TakeError;
@@ -34,6 +35,9 @@ pub struct IndexedClosure {
     pairs: Pairs,
     wiring: Wiring,
     spare: Spare,
+
+    /// How many edges the last close looked at.
+    turns: usize,
 }
 
 impl Model for IndexedClosure {
@@ -41,7 +45,7 @@ impl Model for IndexedClosure {
 
     ghost Value = { Indexed };
 
-    ghost view = { λ c. indexed_of c.held c.wiring c.spare };
+    ghost view = { λ c. indexed_of c.held c.wiring c.spare c.turns };
 
     ghost invariant = { λ c. IsKept c.held c.pairs c.wiring c.spare };
 }
@@ -54,7 +58,8 @@ impl IndexedClosure {
     /// # Errors
     /// Memory ran out.
     pub fn new(alloc: Global, config: &Config) -> Result<Self, NoMemory>
-        ensures { IfOk result (λ c. c.state.meaning ≡ empty_of config.now) }
+        ensures empty { IfOk result (λ c. c.state.meaning ≡ empty_of config.now) }
+        ensures turns { IfOk result (λ c. c.turns ≡ 0) }
     {
         let held = Held::new(alloc, config)?;
         let mut pairs = Pairs::new(alloc);
@@ -70,6 +75,7 @@ impl IndexedClosure {
                 receipts: 0,
                 offers: 0,
             },
+            turns: 0,
         })
     }
 
@@ -108,15 +114,18 @@ impl IndexedClosure {
         merge_into(self, other)
     }
 
-    /// Distrusts a key in a domain: it vouches for nothing there any more. It takes no memory.
+    /// Distrusts a key in a domain: it vouches for nothing there any more. It takes no memory. All labels of the key are
+    /// closed at once, and [`turns`](IndexedClosure::turns) tells how many edges that looked at.
     pub fn distrust(&mut self, domain: &TrustDomain, key: KeyId) -> Result<Distrusted, TakeError>
         ensures meaning { TakesDistrust self.old.state.meaning (record { domain = domain.now; key = key }) self.new.state.meaning result }
+        ensures work { Works self.old (record { domain = domain.now; key = key }) self.new result }
         ensures room { self.new.state.room ≡ self.old.state.room }
     {
         lose(
             &mut self.held,
             &mut self.pairs,
             &mut self.wiring,
+            &mut self.turns,
             domain,
             key,
         )
@@ -202,6 +211,14 @@ impl IndexedClosure {
         ensures offers { result.1 ≡ self.now.state.room.offers }
     {
         (self.spare.receipts, self.spare.offers)
+    }
+
+    /// How many edges the last `distrust` or `merge` that held a new record of distrust looked at. There was none yet
+    /// where it is 0, or no label of the distrusted keys was open. An edge that was looked at twice counts twice.
+    pub fn turns(&self) -> usize
+        ensures { result ≡ self.now.turns }
+    {
+        self.turns
     }
 
     /// The index.

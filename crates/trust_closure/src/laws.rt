@@ -1,11 +1,13 @@
 //! What holds of every configuration, every set of receipts and every set of records of distrust.
-ghost use Rattle.std.specs.Prelude.{◌≡◌, ℕ, ◌↔◌, Bool, true, List, Contains};
+ghost use Rattle.std.specs.Prelude.{◌≡◌, ℕ, ◌+◌, ◌*◌, ◌≤◌, ◌↔◌, Bool, true, List, Contains, length};
 ghost use Rattle.std.specs.List.Sorted.{IsStrictlySortedBy};
 ghost use Rattle.bundle_doc.specs.Bundle.{Bundle};
 ghost use Rattle.receipt_core.specs.declared.distrust.Distrust.{Distrust};
 ghost use Rattle.receipt_core.specs.Receipt.{Receipt, Pair, receipt_cmp, distrust_cmp};
 ghost use Rattle.receipt_core.specs.Acceptance.{Meaning, IsMember, IsClosed};
 ghost use Rattle.trust_closure.specs.Changes.{IsGain};
+ghost use Rattle.trust_closure.specs.Indexed.{Indexed};
+ghost use Rattle.trust_closure.specs.Work.{ClosesAtOnce};
 ghost use Rattle.trust_closure.specs.Views.{IsAcceptedList, IsPendingCount};
 
 /// What is accepted is the least set that has the configured documents and, with a document, that of each held receipt
@@ -25,6 +27,12 @@ pub fn larger_and_smaller()
     ensures sets { (one other : Meaning) → one.config ≡ other.config
         → ((r : Receipt) → (Contains one.held r ↔ Contains other.held r)) → ((x : Distrust) → (Contains one.records x ↔ Contains other.records x))
         → (p : Pair) → (IsMember one p ↔ IsMember other p) }
+{}
+
+/// Whatever the keys that are distrusted and however many their labels are, a close looks at each edge at most twice.
+pub fn each_edge_twice()
+    ensures { (old new : Indexed) (records : List Distrust) → ClosesAtOnce old records new
+        → new.turns ≤ 2 * (length old.wired.net.offers + length old.wired.net.waits) }
 {}
 
 /// A number that a clause calls a count is the only one.

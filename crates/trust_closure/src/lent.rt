@@ -1,6 +1,7 @@
 //! What a closure lends, in order and without memory.
 ghost use Rattle.std.specs.Prelude.{◌≡◌, length};
 ghost use Rattle.std.specs.Iterator.{YieldsFirstBy, YieldsFirstRef, item_count};
+ghost use Rattle.trust_closure.specs.NodeCounts.{flags_of};
 ghost use Rattle.trust_closure.specs.Nodes.{pairs_of, raised_documents, AreNumbers};
 ghost use Rattle.trust_closure.specs.Records.{distrusts_of, AreWithin};
 
@@ -25,7 +26,7 @@ pub struct Receipts<'a> {
 #[derive(Drop)]
 pub struct Accepted<'a> {
     numbers: Numbers<'a>,
-    flags: &'a [bool],
+    counts: &'a [u32],
     seeds: &'a [Seed],
     receipts: &'a [Receipt],
 }
@@ -49,13 +50,14 @@ impl<'a> Model for Receipts<'a> {
 impl<'a> Model for Accepted<'a> {
     ghost use Rattle.std.specs.Prelude.{List};
     ghost use Rattle.bundle_doc.specs.Bundle.{Bundle};
+    ghost use Rattle.trust_closure.specs.NodeCounts.{flags_of};
     ghost use Rattle.trust_closure.specs.Nodes.{pairs_of, raised_documents, AreNumbers};
 
     ghost Value = { List Bundle };
 
-    ghost view = { λ a. raised_documents (pairs_of a.seeds.now a.receipts.now) a.flags.now a.numbers };
+    ghost view = { λ a. raised_documents (pairs_of a.seeds.now a.receipts.now) (flags_of a.counts.now) a.numbers };
 
-    ghost invariant = { λ a. AreNumbers (pairs_of a.seeds.now a.receipts.now) a.flags.now a.numbers };
+    ghost invariant = { λ a. AreNumbers (pairs_of a.seeds.now a.receipts.now) (flags_of a.counts.now) a.numbers };
 }
 
 impl<'a> Model for Distrusts<'a> {
@@ -79,19 +81,19 @@ impl<'a> Receipts<'a> {
 }
 
 impl<'a> Accepted<'a> {
-    /// Those with these numbers whose flags are raised.
+    /// Those with these numbers whose counts are not 0.
     pub(crate) fn new(
         numbers: Numbers<'a>,
-        flags: &'a [bool],
+        counts: &'a [u32],
         seeds: &'a [Seed],
         receipts: &'a [Receipt],
     ) -> Self
-        requires { AreNumbers (pairs_of seeds.now receipts.now) flags.now numbers }
-        ensures { result ≡ raised_documents (pairs_of seeds.now receipts.now) flags.now numbers.entry }
+        requires { AreNumbers (pairs_of seeds.now receipts.now) (flags_of counts.now) numbers }
+        ensures { result ≡ raised_documents (pairs_of seeds.now receipts.now) (flags_of counts.now) numbers.entry }
     {
         Accepted {
             numbers,
-            flags,
+            counts,
             seeds,
             receipts,
         }
@@ -132,7 +134,7 @@ impl<'a> Iterator for Accepted<'a> {
 
     fn next(&mut self) -> Option<&'a Document> {
         while let Some(number) = self.numbers.next() {
-            if self.flags[number as usize] {
+            if self.counts[number as usize] != 0 {
                 return Some(document_at(self.seeds, self.receipts, number as usize));
             }
         }

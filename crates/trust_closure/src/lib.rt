@@ -4,6 +4,7 @@
 mod both;
 mod closure;
 mod copies;
+mod counts;
 mod error;
 mod flags;
 mod grow;
@@ -21,6 +22,7 @@ mod plain_closure;
 mod probes;
 mod record;
 mod records;
+mod recount;
 mod rounds;
 mod seeding;
 mod sowing;

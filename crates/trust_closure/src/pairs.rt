@@ -1,12 +1,13 @@
 //! Different documents of domains in order.
-ghost use Rattle.std.specs.Prelude.{◌≡◌, ℕ, ◌+◌, ◌^◌, ◌<◌, ◌≤◌, ◌↔◌, ◌∷◌, ◌++◌, [], false, length, IsTrue, OnOk};
+ghost use Rattle.std.specs.Prelude.{◌≡◌, ℕ, ◌+◌, ◌^◌, ◌<◌, ◌≤◌, ◌↔◌, ◌∷◌, ◌++◌, [], length, IsTrue, OnOk};
 ghost use Rattle.std.specs.List.{All};
 ghost use Rattle.trust_closure.specs.Nodes.{pairs_of, is_raised};
-ghost use Rattle.trust_closure.specs.Flags.{raised_count, Raises};
+ghost use Rattle.trust_closure.specs.NodeCounts.{flags_of, count_at, nodes_with, AddsNodes};
+ghost use Rattle.trust_closure.specs.Flags.{raised_count};
 ghost use Rattle.trust_closure.specs.Pairs.{IsPairing, AreRising, PutsFirst, HasRaised, raised_of};
 ghost use Rattle.trust_closure.specs.Views.{document_cmp, document_of};
 
-use crate::flags::{lower_all, raise_all};
+use crate::counts::{clear, lower_all, raise_all};
 use crate::lent::Accepted;
 use crate::nodes::{document_at, domain_at};
 use bundle_doc::Document;
@@ -20,12 +21,13 @@ use std::marker::Model;
 use wait_index::NodeNo;
 
 /// The documents of domains that the nodes have, each different one once in their order, by the number of its first node;
-/// that number for each node; and for each node a flag, which says of a first one whether its document is accepted.
+/// that number for each node; and for each node a count, which says of a first one how many marked nodes have its
+/// document. A document is accepted where its count is not 0.
 #[derive(Drop)]
 pub(crate) struct Pairs {
     order: Order,
     firsts: Vec<u32>,
-    flags: Vec<bool>,
+    counts: Vec<u32>,
 }
 
 impl Model for Pairs {
@@ -37,8 +39,8 @@ impl Model for Pairs {
     ghost view = { λ p. record {
       numbers = p.order.items;
       firsts = p.firsts.items;
-      flags = p.flags.items;
-      capacity = min p.order.capacity (min (vec_capacity p.firsts) (vec_capacity p.flags));
+      counts = p.counts.items;
+      capacity = min p.order.capacity (min (vec_capacity p.firsts) (vec_capacity p.counts));
     } };
 }
 
@@ -108,12 +110,12 @@ fn compare_documents(a: &Document, b: &Document) -> Ordering
 impl Pairs {
     /// No nodes, without room.
     pub(crate) fn new(alloc: Global) -> Self
-        ensures { result ≡ record { numbers = []; firsts = []; flags = []; capacity = 0 } }
+        ensures { result ≡ record { numbers = []; firsts = []; counts = []; capacity = 0 } }
     {
         Pairs {
             order: Order::new(alloc),
             firsts: Vec::new(alloc),
-            flags: Vec::new(alloc),
+            counts: Vec::new(alloc),
         }
     }
 
@@ -126,23 +128,23 @@ impl Pairs {
 
     /// Makes room for so many nodes more.
     pub(crate) fn try_reserve(&mut self, nodes: usize) -> Result<(), AllocError>
-        requires flags { length self.old.flags ≡ length self.old.firsts }
+        requires counts { length self.old.counts ≡ length self.old.firsts }
         requires numbers { length self.old.numbers ≤ length self.old.firsts }
         requires few { length self.old.firsts + nodes < 2 ^ 64 }
         ensures numbers { self.new.numbers ≡ self.old.numbers }
         ensures firsts { self.new.firsts ≡ self.old.firsts }
-        ensures flags { self.new.flags ≡ self.old.flags }
+        ensures counts { self.new.counts ≡ self.old.counts }
         ensures capacity { self.old.capacity ≤ self.new.capacity }
         ensures ok { OnOk result (length self.new.firsts + nodes ≤ self.new.capacity) }
     {
         let more = self.firsts.len() - self.order.len() + nodes;
         self.order.try_reserve(more)?;
         self.firsts.try_reserve(nodes)?;
-        self.flags.try_reserve(nodes)?;
+        self.counts.try_reserve(nodes)?;
         Ok(())
     }
 
-    /// Adds the next node, with its document, to those of these nodes. There is room for it. Its flag is not raised.
+    /// Adds the next node, with its document, to those of these nodes. There is room for it. Its count is 0.
     pub(crate) fn add(
         &mut self,
         seeds: &[Seed],
@@ -154,7 +156,7 @@ impl Pairs {
         requires room { length self.old.firsts < self.old.capacity }
         requires few { length self.old.firsts < 2 ^ 32 }
         ensures pairing { IsPairing (pairs_of seeds.now receipts.now ++ document_of domain.now document.now ∷ []) self.new }
-        ensures flags { self.new.flags ≡ self.old.flags ++ false ∷ [] }
+        ensures counts { self.new.counts ≡ self.old.counts ++ 0 ∷ [] }
         ensures firsts { (first : ℕ) × (self.new.firsts ≡ self.old.firsts ++ first ∷ []) }
         ensures capacity { self.new.capacity ≡ self.old.capacity }
     {
@@ -168,35 +170,52 @@ impl Pairs {
         let number = self.firsts.len() as u32;
         let first = first_number(&mut self.order, &sought, number);
         self.firsts.push_reserved(first);
-        self.flags.push_reserved(false);
+        self.counts.push_reserved(0);
     }
 
-    /// Raises the flags of these nodes' documents, and answers how many were not raised.
+    /// Adds one for each of these nodes to the count of its document, and answers how many documents are accepted now
+    /// and were not before.
     pub(crate) fn raise(&mut self, nodes: &[NodeNo]) -> usize
         requires nodes { All (λ n. n < length self.old.firsts) nodes.now }
-        requires firsts { All (λ f. f < length self.old.flags) self.old.firsts }
+        requires firsts { All (λ f. f < length self.old.counts) self.old.firsts }
+        requires few { (number : ℕ) → count_at self.old.counts number + length nodes.now < 2 ^ 32 }
         ensures numbers { self.new.numbers ≡ self.old.numbers }
         ensures firsts { self.new.firsts ≡ self.old.firsts }
-        ensures raised { Raises self.old.firsts nodes.now self.old.flags self.new.flags }
-        ensures count { raised_count self.new.flags ≡ raised_count self.old.flags + result }
+        ensures adds { AddsNodes self.old.firsts nodes.now self.old.counts self.new.counts }
+        ensures count { raised_count (flags_of self.new.counts) ≡ raised_count (flags_of self.old.counts) + result }
         ensures capacity { self.new.capacity ≡ self.old.capacity }
     {
-        raise_all(&mut self.flags, &self.firsts, nodes)
+        raise_all(&mut self.counts, &self.firsts, nodes)
     }
 
-    /// Lowers all flags, and answers how many were raised.
-    pub(crate) fn lower(&mut self) -> usize
+    /// Takes one for each of these nodes off the count of its document, and answers how many documents were accepted
+    /// and are not now.
+    pub(crate) fn lower(&mut self, nodes: &[NodeNo]) -> usize
+        requires nodes { All (λ n. n < length self.old.firsts) nodes.now }
+        requires firsts { All (λ f. f < length self.old.counts) self.old.firsts }
+        requires counted { (number : ℕ) → nodes_with self.old.firsts nodes.now number ≤ count_at self.old.counts number }
         ensures numbers { self.new.numbers ≡ self.old.numbers }
         ensures firsts { self.new.firsts ≡ self.old.firsts }
-        ensures size { length self.new.flags ≡ length self.old.flags }
-        ensures lowered { (number : ℕ) → is_raised self.new.flags number ≡ false }
-        ensures count { result ≡ raised_count self.old.flags }
+        ensures takes { AddsNodes self.old.firsts nodes.now self.new.counts self.old.counts }
+        ensures count { raised_count (flags_of self.old.counts) ≡ raised_count (flags_of self.new.counts) + result }
         ensures capacity { self.new.capacity ≡ self.old.capacity }
     {
-        lower_all(&mut self.flags)
+        lower_all(&mut self.counts, &self.firsts, nodes)
     }
 
-    /// Whether the document's flag is raised: it is none where no node has the document.
+    /// Sets all counts to 0, and answers how many documents were accepted.
+    pub(crate) fn clear(&mut self) -> usize
+        ensures numbers { self.new.numbers ≡ self.old.numbers }
+        ensures firsts { self.new.firsts ≡ self.old.firsts }
+        ensures size { length self.new.counts ≡ length self.old.counts }
+        ensures cleared { (number : ℕ) → count_at self.new.counts number ≡ 0 }
+        ensures count { result ≡ raised_count (flags_of self.old.counts) }
+        ensures capacity { self.new.capacity ≡ self.old.capacity }
+    {
+        clear(&mut self.counts)
+    }
+
+    /// Whether the document is accepted: some marked node has it.
     pub(crate) fn is_raised(
         &self,
         seeds: &[Seed],
@@ -215,12 +234,12 @@ impl Pairs {
             document,
         };
         match self.order.find(&sought) {
-            Ok(place) => flag_at(&self.flags, self.order.get(place) as usize),
+            Ok(place) => flag_at(&self.counts, self.order.get(place) as usize),
             Err(_) => false,
         }
     }
 
-    /// The domain's documents whose flags are raised, in order.
+    /// The domain's accepted documents, in order.
     pub(crate) fn accepted<'a>(
         &'a self,
         seeds: &'a [Seed],
@@ -237,7 +256,7 @@ impl Pairs {
         };
         Accepted::new(
             self.order.matching(&sought),
-            self.flags.as_slice(),
+            self.counts.as_slice(),
             seeds,
             receipts,
         )
@@ -261,9 +280,9 @@ fn first_number(order: &mut Order, sought: &SoughtPair<'_>, number: u32) -> u32
     }
 }
 
-fn flag_at(flags: &[bool], number: usize) -> bool
-    requires { number < length flags.now }
-    ensures { result ≡ is_raised flags.now number }
+fn flag_at(counts: &[u32], number: usize) -> bool
+    requires { number < length counts.now }
+    ensures { result ≡ is_raised (flags_of counts.now) number }
 {
-    flags[number]
+    counts[number] != 0
 }

@@ -1,5 +1,5 @@
 //! Takes and distrusts by rounds over all receipts.
-ghost use Rattle.std.specs.Prelude.{◌≡◌, ℕ, ◌+◌, ◌^◌, ◌<◌, ◌≤◌, ◌↔◌, ◌∷◌, ◌++◌, [], false, length, vec_capacity, Contains, IsOk, OnOk};
+ghost use Rattle.std.specs.Prelude.{◌≡◌, ℕ, ◌+◌, ◌^◌, ◌<◌, ◌≤◌, ◌↔◌, ◌∷◌, ◌++◌, [], false, List, length, vec_capacity, Contains, IsOk, OnOk};
 ghost use Rattle.receipt_core.specs.Receipt.{Receipt, with_receipt};
 ghost use Rattle.trust_closure.specs.Flags.{raised_count};
 ghost use Rattle.trust_closure.specs.Changes.{IsGain, Takes, TakesDistrust};
@@ -102,12 +102,12 @@ pub(crate) fn add(
     place_receipt(held, pairs, seed_offers, released, place, receipt);
     let _valid = held.config();
     settle(held, seed_offers, released);
-    let before = pairs.lower();
+    let before = pairs.clear();
     let after = raise_had(pairs, held.config().seeds().len(), released);
     after - before
 }
 
-/// Holds a receipt that is absent, at its place, with flags that are not raised.
+/// Holds a receipt that is absent, at its place, with a flag that is not raised and a count of 0.
 fn place_receipt(
     held: &mut Held,
     pairs: &mut Pairs,
@@ -126,7 +126,7 @@ fn place_receipt(
     ensures sound { AreSound (meaning_of held.new) held.new.arrived released.new.items }
     ensures held { held.new ≡ record held.old { arrived = held.old.arrived ++ receipt ∷ []; held = with_receipt receipt held.old.held } }
     ensures firsts { (first : ℕ) × (pairs.new.firsts ≡ pairs.old.firsts ++ first ∷ []) }
-    ensures flags { pairs.new.flags ≡ pairs.old.flags ++ false ∷ [] }
+    ensures counts { pairs.new.counts ≡ pairs.old.counts ++ 0 ∷ [] }
     ensures capacity { pairs.new.capacity ≡ pairs.old.capacity }
     ensures released { released.new.items ≡ released.old.items ++ false ∷ [] }
     ensures released_capacity { vec_capacity released.new ≡ vec_capacity released.old }
@@ -169,12 +169,12 @@ pub(crate) fn lose(
     }
 }
 
-/// Lowers all flags, raises anew those that stand without a record that is new, and answers how many documents of
+/// Lowers all flags, raises anew those that stand without records that are new, and answers how many documents of
 /// domains were accepted and are not now.
 fn fall(held: &Held, pairs: &mut Pairs, seed_offers: &[Triple], released: &mut Vec<bool>) -> usize
     requires before { WasSettled held.now pairs.old seed_offers.now released.old.items }
     ensures settled { IsSettled held.now pairs.new seed_offers.now released.new.items }
-    ensures loss { (old : Hoard) (x : Distrust) → IsBefore old x held.now → IsSettled old pairs.old seed_offers.now released.old.items
+    ensures loss { (old : Hoard) (more : List Distrust) → IsBefore old more held.now → IsSettled old pairs.old seed_offers.now released.old.items
         → IsGain (meaning_of held.now) (meaning_of old) result }
     ensures firsts { pairs.new.firsts ≡ pairs.old.firsts }
     ensures capacity { pairs.new.capacity ≡ pairs.old.capacity }
@@ -184,7 +184,7 @@ fn fall(held: &Held, pairs: &mut Pairs, seed_offers: &[Triple], released: &mut V
     let _valid = held.config();
     lower(released);
     settle(held, seed_offers, released);
-    let before = pairs.lower();
+    let before = pairs.clear();
     let after = raise_had(pairs, held.config().seeds().len(), released);
     before - after
 }
@@ -219,7 +219,7 @@ fn grow(
     receipts: usize,
 ) -> Result<(), AllocError>
     requires spare { HasSpare held.old pairs.old (length released.old.items) (vec_capacity released.old) spare.old }
-    requires flags { length pairs.old.flags ≡ length pairs.old.firsts }
+    requires counts { length pairs.old.counts ≡ length pairs.old.firsts }
     requires numbers { length pairs.old.numbers ≤ length pairs.old.firsts }
     ensures spare { HasSpare held.new pairs.new (length released.new.items) (vec_capacity released.new) spare.new }
     ensures held { held.new ≡ record held.old { capacity = held.new.capacity } }

@@ -1,9 +1,10 @@
 //! Rounds over all receipts: what a document that is had vouches for is had too.
-ghost use Rattle.std.specs.Prelude.{◌≡◌, ℕ, ◌+◌, ◌<◌, ◌≤◌, ◌↔◌, true, false, length, Contains, IsTrue, Some, slice_get, slice_set};
+ghost use Rattle.std.specs.Prelude.{◌≡◌, ℕ, ◌+◌, ◌^◌, ◌<◌, ◌≤◌, ◌↔◌, true, false, length, Contains, IsTrue, Some, slice_get, slice_set};
 ghost use Rattle.std.specs.List.{All};
 ghost use Rattle.receipt_core.specs.Receipt.{Receipt, need_of};
 ghost use Rattle.receipt_core.specs.Acceptance.{IsMeaning};
 ghost use Rattle.trust_closure.specs.Nodes.{is_raised};
+ghost use Rattle.trust_closure.specs.NodeCounts.{flags_of, count_at};
 ghost use Rattle.trust_closure.specs.Flags.{raised_count};
 ghost use Rattle.trust_closure.specs.Held.{meaning_of};
 ghost use Rattle.trust_closure.specs.Plain.{AreSeedOffers, IsOffered, IsOfferedBelow, IsVouched, AreSound, AreQuietBelow, AreReleased, IsHadNode, IsFirstHad};
@@ -98,17 +99,18 @@ fn has_triple(triples: &[Triple], sought: &Triple) -> bool
     triples.contains(sought)
 }
 
-/// Raises the flags of the documents that are had, and answers how many those are. No flag was raised.
+/// Adds one for each document that is had to its count, and answers how many different ones those are. All counts were 0.
 pub(crate) fn raise_had(pairs: &mut Pairs, seeds: usize, released: &[bool]) -> usize
     requires size { length pairs.old.firsts ≡ seeds + length released.now }
-    requires flagged { length pairs.old.flags ≡ length pairs.old.firsts }
-    requires firsts { All (λ f. f < length pairs.old.flags) pairs.old.firsts }
-    requires lowered { (number : ℕ) → is_raised pairs.old.flags number ≡ false }
+    requires counted { length pairs.old.counts ≡ length pairs.old.firsts }
+    requires firsts { All (λ f. f < length pairs.old.counts) pairs.old.firsts }
+    requires lowered { (number : ℕ) → count_at pairs.old.counts number ≡ 0 }
+    requires few { length pairs.old.firsts < 2 ^ 32 }
     ensures numbers { pairs.new.numbers ≡ pairs.old.numbers }
     ensures firsts { pairs.new.firsts ≡ pairs.old.firsts }
-    ensures size { length pairs.new.flags ≡ length pairs.old.flags }
-    ensures raised { (number : ℕ) → (is_raised pairs.new.flags number ≡ true) ↔ IsFirstHad seeds released.now pairs.old.firsts (length pairs.old.firsts) number }
-    ensures count { raised_count pairs.new.flags ≡ result }
+    ensures size { length pairs.new.counts ≡ length pairs.old.counts }
+    ensures raised { (number : ℕ) → (is_raised (flags_of pairs.new.counts) number ≡ true) ↔ IsFirstHad seeds released.now pairs.old.firsts (length pairs.old.firsts) number }
+    ensures count { raised_count (flags_of pairs.new.counts) ≡ result }
     ensures capacity { pairs.new.capacity ≡ pairs.old.capacity }
 {
     let mut count = 0;

@@ -1,10 +1,13 @@
--- What is marked from now on is accepted from now on.
-use Rattle.std.proofs.Common.{◌≡◌, ◌++◌, ◌∷◌, ◌+◌, ◌-◌, ◌<◌, [], List, ℕ, Bool, false, length, take, drop, ap, sym, subst, ◌∙◌}
+-- What is marked from now on is counted from now on.
+use Rattle.std.proofs.Common.{◌≡◌, ◌++◌, ◌∷◌, ◌+◌, ◌-◌, ◌<◌, [], List, ℕ, length, take, drop, arith, ap, sym, subst, ◌∙◌}
 use Rattle.std.specs.List.{All}
-use Rattle.std.proofs.lemmas.List.{take_rest}
+use Rattle.std.proofs.lemmas.List.{take_rest, length-take, length-drop}
 use Rattle.std.proofs.lemmas.List.Elements.{All-drop}
-use Rattle.trust_closure.specs.Flags.{Raises, raised_count}
-use Rattle.trust_closure.proofs.IndexFacts.{marked-within, firsts-within, built-flags, flags-more, gain-more}
+use Rattle.trust_closure.specs.Flags.{raised_count}
+use Rattle.trust_closure.specs.NodeCounts.{flags_of, count_at, AddsNodes}
+use Rattle.trust_closure.specs.Indexed.{IsIndexed}
+use Rattle.trust_closure.proofs.NodeCountFacts.{counts-more, count_at-push, nodes_with-few}
+use Rattle.trust_closure.proofs.IndexFacts.{marked-within, marked-few, firsts-within, built-counts, gain-more}
 use Rattle.trust_closure.proofs.grow.add.Goals as goal
 
 pub raise-requires-clause-nodes : goal.raise-requires-clause-nodes
@@ -20,6 +23,32 @@ raise-requires-clause-nodes c =
 pub raise-requires-clause-firsts : goal.raise-requires-clause-firsts
 raise-requires-clause-firsts c = firsts-within c.place_receipt.new.held c.place_receipt.new.pairs c.place_receipt.new.wiring c.place_receipt.ensures.built
 
+-- there are no more nodes than configured documents and receipts
+pub raise-requires-clause-few : goal.raise-requires-clause-few
+raise-requires-clause-few c n =
+    let h = c.place_receipt.new.held in
+    let p = c.args.pairs.now in
+    let w = c.place_receipt.new.wiring in
+    let before = c.args.wiring.now in
+    let count = length c.marked-count.result.now in
+    let nodes = c.marked.result.now in
+    let at : count_at c.place_receipt.new.pairs.counts n ≡ count_at p.counts n = ap (λ ks. count_at ks n) c.place_receipt.ensures.counts ∙ count_at-push p.counts n in
+    omega (
+      arith,
+      at,
+      c.requires.indexed.counts n,
+      nodes_with-few p.firsts before.marked n,
+      ap length c.place_receipt.ensures.front,
+      length-take (length before.marked) w.marked,
+      ap length (take_rest nodes count),
+      length-drop count nodes,
+      ap length (c.marked.ensures.nodes ∙ c.reach-2.ensures.marked),
+      marked-few h c.place_receipt.new.pairs w c.place_receipt.ensures.built,
+      c.config-few.ensures.form.few_seeds,
+      c.config-few.ensures.valid.few,
+      c.config-few.ensures.size,
+    )
+
 pub returns-clause-indexed : goal.returns-clause-indexed
 returns-clause-indexed c =
     let h = c.place_receipt.new.held in
@@ -31,19 +60,20 @@ returns-clause-indexed c =
     let marked : nodes ≡ w.marked = c.marked.ensures.nodes ∙ c.reach-2.ensures.marked in
     let size : count ≡ length c.args.wiring.now.marked = ap length (c.marked-count.ensures.nodes ∙ c.reach.ensures.marked) in
     let rest : take (length nodes - count) (drop count nodes) ≡ drop count w.marked = take_rest nodes count ∙ ap (drop count) marked in
-    let raises : Raises q.firsts (drop count w.marked) (c.args.pairs.now.flags ++ false ∷ []) q.flags =
-    subst (λ (fs : List Bool). Raises q.firsts (drop count w.marked) fs q.flags) c.place_receipt.ensures.flags
-    (subst (λ (fs : List ℕ). Raises fs (drop count w.marked) p.flags q.flags) (sym c.raise.ensures.firsts)
-    (subst (λ (ns : List ℕ). Raises p.firsts ns p.flags q.flags) rest c.raise.ensures.raised))
+    let adds : AddsNodes q.firsts (drop count w.marked) (c.args.pairs.now.counts ++ 0 ∷ []) q.counts =
+    subst (λ (ks : List ℕ). AddsNodes q.firsts (drop count w.marked) ks q.counts) c.place_receipt.ensures.counts
+    (subst (λ (fs : List ℕ). AddsNodes fs (drop count w.marked) p.counts q.counts) (sym c.raise.ensures.firsts)
+    (subst (λ (ns : List ℕ). AddsNodes p.firsts ns p.counts q.counts) rest c.raise.ensures.adds))
     in
-    record {
-      built = built-flags h p q w c.place_receipt.ensures.built c.raise.ensures.numbers c.raise.ensures.firsts c.raise.ensures.raised.size;
-      flags = flags-more c.args.pairs.now.firsts q.firsts c.args.wiring.now.marked w.marked c.args.pairs.now.flags q.flags c.place_receipt.ensures.firsts.0 count size
+    let indexed : IsIndexed h q w = record {
+      built = built-counts h p q w c.place_receipt.ensures.built c.raise.ensures.numbers c.raise.ensures.firsts c.raise.ensures.adds.size;
+      counts = counts-more c.args.pairs.now.firsts q.firsts c.args.wiring.now.marked w.marked c.args.pairs.now.counts q.counts c.place_receipt.ensures.firsts.0 count
           (c.raise.ensures.firsts ∙ c.place_receipt.ensures.firsts.1)
           (ap (λ n. take n w.marked) size ∙ c.place_receipt.ensures.front)
           (marked-within c.args.held.now c.args.pairs.now c.args.wiring.now c.requires.indexed.built)
-          c.requires.indexed.flags raises;
-    }
+          c.requires.indexed.counts adds;
+    } in
+    indexed
 
 pub returns-clause-gain : goal.returns-clause-gain
 returns-clause-gain c =
@@ -56,18 +86,18 @@ returns-clause-gain c =
     let marked : nodes ≡ w.marked = c.marked.ensures.nodes ∙ c.reach-2.ensures.marked in
     let size : count ≡ length c.args.wiring.now.marked = ap length (c.marked-count.ensures.nodes ∙ c.reach.ensures.marked) in
     let rest : take (length nodes - count) (drop count nodes) ≡ drop count w.marked = take_rest nodes count ∙ ap (drop count) marked in
-    let raises : Raises q.firsts (drop count w.marked) (c.args.pairs.now.flags ++ false ∷ []) q.flags =
-    subst (λ (fs : List Bool). Raises q.firsts (drop count w.marked) fs q.flags) c.place_receipt.ensures.flags
-    (subst (λ (fs : List ℕ). Raises fs (drop count w.marked) p.flags q.flags) (sym c.raise.ensures.firsts)
-    (subst (λ (ns : List ℕ). Raises p.firsts ns p.flags q.flags) rest c.raise.ensures.raised))
+    let adds : AddsNodes q.firsts (drop count w.marked) (c.args.pairs.now.counts ++ 0 ∷ []) q.counts =
+    subst (λ (ks : List ℕ). AddsNodes q.firsts (drop count w.marked) ks q.counts) c.place_receipt.ensures.counts
+    (subst (λ (fs : List ℕ). AddsNodes fs (drop count w.marked) p.counts q.counts) (sym c.raise.ensures.firsts)
+    (subst (λ (ns : List ℕ). AddsNodes p.firsts ns p.counts q.counts) rest c.raise.ensures.adds))
     in
-    gain-more c.args.held.now h c.args.pairs.now q c.args.wiring.now w c.args.receipt (drop count w.marked) c.raise.result c.requires.indexed
-    (record {
-      built = built-flags h p q w c.place_receipt.ensures.built c.raise.ensures.numbers c.raise.ensures.firsts c.raise.ensures.raised.size;
-      flags = flags-more c.args.pairs.now.firsts q.firsts c.args.wiring.now.marked w.marked c.args.pairs.now.flags q.flags c.place_receipt.ensures.firsts.0 count size
+    let indexed : IsIndexed h q w = record {
+      built = built-counts h p q w c.place_receipt.ensures.built c.raise.ensures.numbers c.raise.ensures.firsts c.raise.ensures.adds.size;
+      counts = counts-more c.args.pairs.now.firsts q.firsts c.args.wiring.now.marked w.marked c.args.pairs.now.counts q.counts c.place_receipt.ensures.firsts.0 count
           (c.raise.ensures.firsts ∙ c.place_receipt.ensures.firsts.1)
           (ap (λ n. take n w.marked) size ∙ c.place_receipt.ensures.front)
           (marked-within c.args.held.now c.args.pairs.now c.args.wiring.now c.requires.indexed.built)
-          c.requires.indexed.flags raises;
-    })
-    c.place_receipt.ensures.held raises (c.raise.ensures.count ∙ ap (λ fs. raised_count fs + c.raise.result) c.place_receipt.ensures.flags)
+          c.requires.indexed.counts adds;
+    } in
+    gain-more c.args.held.now h c.args.pairs.now q c.args.wiring.now w c.args.receipt (drop count w.marked) c.raise.result c.requires.indexed indexed
+    c.place_receipt.ensures.held adds (c.raise.ensures.count ∙ ap (λ ks. raised_count (flags_of ks) + c.raise.result) c.place_receipt.ensures.counts)

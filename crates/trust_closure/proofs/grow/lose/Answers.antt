@@ -10,14 +10,14 @@ use Rattle.trust_closure.specs.Indexed.{IsIndexed}
 use Rattle.trust_closure.proofs.IndexFacts.{hoard-same, before-added}
 use Rattle.trust_closure.proofs.grow.lose.Goals as goal
 
-pub close-requires-clause-domain : goal.close-requires-clause-domain
-close-requires-clause-domain c =
+pub close-fall-requires-clause-domain : goal.close-fall-requires-clause-domain
+close-fall-requires-clause-domain c =
     let x : Distrust = record { domain = c.args.domain.now; key = c.args.key } in
     let added : HasAdded (meaning_of c.args.held.now) x (meaning_of c.add_record.new.self) = subst (λ (a : Addition). Adds (meaning_of c.args.held.now) x (meaning_of c.add_record.new.self) a) c.in-Added.is c.in_ok-add_record.ensures.meaning in
     subst (λ (k : Configuration). HasDomain k c.args.domain.now) (sym (ap (λ (m : Meaning). m.config) added.meaning)) added.domain
 
-pub close-requires-clause-before : goal.close-requires-clause-before
-close-requires-clause-before c =
+pub close-fall-requires-clause-before : goal.close-fall-requires-clause-before
+close-fall-requires-clause-before c =
     let x : Distrust = record { domain = c.args.domain.now; key = c.args.key } in
     let added : HasAdded (meaning_of c.args.held.now) x (meaning_of c.add_record.new.self) = subst (λ (a : Addition). Adds (meaning_of c.args.held.now) x (meaning_of c.add_record.new.self) a) c.in-Added.is c.in_ok-add_record.ensures.meaning in
     record { old = c.args.held.now; before = before-added c.args.held.now c.add_record.new.self x added c.in_ok-add_record.ensures.arrived; indexed = c.requires.indexed }
@@ -27,7 +27,7 @@ returns-in-Added-clause-meaning c =
     let x : Distrust = record { domain = c.args.domain.now; key = c.args.key } in
     let added : HasAdded (meaning_of c.args.held.now) x (meaning_of c.add_record.new.self) = subst (λ (a : Addition). Adds (meaning_of c.args.held.now) x (meaning_of c.add_record.new.self) a) c.in-Added.is c.in_ok-add_record.ensures.meaning in
     let before = before-added c.args.held.now c.add_record.new.self x added c.in_ok-add_record.ensures.arrived in
-    record { domain = added.domain; unheld = added.unheld; few = added.few; meaning = added.meaning; loss = c.close.ensures.loss c.args.held.now before c.requires.indexed }
+    record { domain = added.domain; unheld = added.unheld; few = added.few; meaning = added.meaning; loss = c.close-fall.ensures.loss c.args.held.now before c.requires.indexed }
 
 pub returns-in-There-clause-indexed : goal.returns-in-There-clause-indexed
 returns-in-There-clause-indexed c =
@@ -59,3 +59,10 @@ pub returns-in_err-add_record-clause-meaning : goal.returns-in_err-add_record-cl
 returns-in_err-add_record-clause-meaning c =
     let p = err_from_is_err_and c.from_residual.result c.from_residual.ensures.1 in
     rw (p.1, p.2) (record { cause = c.in_err-add_record.ensures.meaning.0; meaning = c.in_err-add_record.ensures.meaning.1 })
+
+pub returns-in-Added-clause-work : goal.returns-in-Added-clause-work
+returns-in-Added-clause-work c spare =
+    let x : Distrust = record { domain = c.args.domain.now; key = c.args.key } in
+    let added : HasAdded (meaning_of c.args.held.now) x (meaning_of c.add_record.new.self) = subst (λ (a : Addition). Adds (meaning_of c.args.held.now) x (meaning_of c.add_record.new.self) a) c.in-Added.is c.in_ok-add_record.ensures.meaning in
+    let before = before-added c.args.held.now c.add_record.new.self x added c.in_ok-add_record.ensures.arrived in
+    c.close-fall.ensures.work c.args.held.now spare c.args.turns.now before c.requires.indexed

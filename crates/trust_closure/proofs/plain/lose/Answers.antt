@@ -1,5 +1,5 @@
 -- A record that is new lowers flags.
-use Rattle.std.proofs.Common.{sym, subst}
+use Rattle.std.proofs.Common.{◌∷◌, [], sym, subst}
 use Rattle.std.proofs.lemmas.Result.{err_from_is_err_and}
 use Rattle.receipt_core.specs.declared.distrust.Distrust.{Distrust}
 use Rattle.trust_closure.specs.declared.records.Addition.{Addition}
@@ -12,14 +12,14 @@ pub fall-requires : goal.fall-requires
 fall-requires c =
     let x : Distrust = record { domain = c.args.domain.now; key = c.args.key } in
     let added : HasAdded (meaning_of c.args.held.now) x (meaning_of c.add_record.new.self) = subst (λ (a : Addition). Adds (meaning_of c.args.held.now) x (meaning_of c.add_record.new.self) a) c.in-Added.is c.in_ok-add_record.ensures.meaning in
-    record { before = record { old = c.args.held.now; distrust = x; before = before-added c.args.held.now c.add_record.new.self x added c.in_ok-add_record.ensures.arrived; settled = c.requires.settled } }
+    record { before = record { old = c.args.held.now; more = x ∷ []; before = before-added c.args.held.now c.add_record.new.self x added c.in_ok-add_record.ensures.arrived; settled = c.requires.settled } }
 
 pub returns-in-Added-clause-meaning : goal.returns-in-Added-clause-meaning
 returns-in-Added-clause-meaning c =
     let x : Distrust = record { domain = c.args.domain.now; key = c.args.key } in
     let added : HasAdded (meaning_of c.args.held.now) x (meaning_of c.add_record.new.self) = subst (λ (a : Addition). Adds (meaning_of c.args.held.now) x (meaning_of c.add_record.new.self) a) c.in-Added.is c.in_ok-add_record.ensures.meaning in
     let before = before-added c.args.held.now c.add_record.new.self x added c.in_ok-add_record.ensures.arrived in
-    record { domain = added.domain; unheld = added.unheld; few = added.few; meaning = added.meaning; loss = c.fall.ensures.loss c.args.held.now x before c.requires.settled }
+    record { domain = added.domain; unheld = added.unheld; few = added.few; meaning = added.meaning; loss = c.fall.ensures.loss c.args.held.now (x ∷ []) before c.requires.settled }
 
 pub returns-in-There-clause-settled : goal.returns-in-There-clause-settled
 returns-in-There-clause-settled c =

@@ -1,7 +1,8 @@
 -- The flags of the documents that are had so far are raised.
-use Rattle.std.proofs.Common.{◌≡◌, ℕ, true, length}
+use Rattle.std.proofs.Common.{◌≡◌, ◌≤◌, ℕ, true, length}
 use Rattle.std.specs.Prelude.{◌↔◌}
 use Rattle.trust_closure.specs.Nodes.{is_raised}
+use Rattle.trust_closure.specs.NodeCounts.{flags_of, count_at}
 use Rattle.trust_closure.specs.Flags.{raised_count}
 use Rattle.trust_closure.specs.Plain.{IsFirstHad}
 use Rattle.trust_closure.proofs.rounds.raise_had.Given as goal
@@ -10,8 +11,9 @@ abbrev pub invariant-loop-node : goal.invariant-loop-node
 invariant-loop-node l = record {
   numbers : l.pairs.numbers ≡ l.initial.pairs.numbers;
   firsts : l.pairs.firsts ≡ l.initial.pairs.firsts;
-  size : length l.pairs.flags ≡ length l.initial.pairs.flags;
-  raised : (number : ℕ) → (is_raised l.pairs.flags number ≡ true) ↔ IsFirstHad l.seeds l.released l.initial.pairs.firsts l.node number;
-  count : raised_count l.pairs.flags ≡ l.count;
+  size : length l.pairs.counts ≡ length l.initial.pairs.counts;
+  few : (number : ℕ) → count_at l.pairs.counts number ≤ l.node;
+  raised : (number : ℕ) → (is_raised (flags_of l.pairs.counts) number ≡ true) ↔ IsFirstHad l.seeds l.released l.initial.pairs.firsts l.node number;
+  count : raised_count (flags_of l.pairs.counts) ≡ l.count;
   capacity : l.pairs.capacity ≡ l.initial.pairs.capacity;
 }

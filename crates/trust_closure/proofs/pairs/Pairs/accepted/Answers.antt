@@ -4,6 +4,7 @@ use Rattle.std.specs.List.{All}
 use Rattle.trust_closure.specs.Nodes.{pairs_of}
 use Rattle.trust_closure.specs.Pairs.{IsPairing}
 use Rattle.trust_closure.proofs.AcceptedFacts.{domain-sought, numbers-within}
+use Rattle.trust_closure.proofs.NodeCountFacts.{length-flags}
 use Rattle.trust_closure.proofs.pairs.Pairs.accepted.Goals as goal
 
 pub matching-requires-clause-rising : goal.matching-requires-clause-rising
@@ -16,6 +17,6 @@ new-requires c =
     let pairs = pairs_of c.args.seeds.now c.args.receipts.now in
     let h = subst (IsPairing pairs) (sym c.self.view_is) c.requires in
     record {
-      flagged = ap length c.as_slice.ensures.value ∙ h.flagged;
+      flagged = length-flags c.as_slice.result.now ∙ ap length c.as_slice.ensures.value ∙ h.counted;
       within = subst (All (λ n. n < length pairs)) (sym c.matching.ensures) (numbers-within pairs c.self.inside.order.items c.args.domain.now h.within);
     }

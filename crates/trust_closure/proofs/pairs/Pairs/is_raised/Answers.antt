@@ -3,6 +3,7 @@ use Rattle.std.proofs.Common.{◌∙◌, false, refl, subst, sym, ap}
 use Rattle.std.specs.Prelude.{◌↔◌, IsTrue}
 use Rattle.std.proofs.lemmas.Bool.{both_ways}
 use Rattle.trust_closure.specs.Nodes.{pairs_of, is_raised}
+use Rattle.trust_closure.specs.NodeCounts.{flags_of}
 use Rattle.trust_closure.specs.Pairs.{IsPairing, HasRaised}
 use Rattle.trust_closure.specs.Views.{document_of}
 use Rattle.trust_closure.proofs.PairFacts.{rising-sought, raised-found, raised-missing}
@@ -20,7 +21,7 @@ returns-in-Ok c =
     let h = subst (IsPairing pairs) (sym c.self.view_is) c.requires in
     subst (λ v. IsTrue c.flag_at.result ↔ HasRaised pairs v q) c.self.view_is
     (raised-found pairs _ h c.in-Ok.place c.get.result q c.flag_at.result c.canonical-form.ensures.form c.in-Ok.ensures c.get.ensures
-    (c.flag_at.ensures ∙ ap (λ fs. is_raised fs c.get.result) c.deref.ensures.value))
+    (c.flag_at.ensures ∙ ap (λ ks. is_raised (flags_of ks) c.get.result) c.deref.ensures.value))
 
 pub returns-in-Err : goal.returns-in-Err
 returns-in-Err c =

@@ -1,0 +1,11 @@
+-- The nodes so far are counted no more.
+use Rattle.std.proofs.Common.{◌≡◌, ◌+◌, take}
+use Rattle.trust_closure.specs.Flags.{raised_count}
+use Rattle.trust_closure.specs.NodeCounts.{flags_of, AddsNodes}
+use Rattle.trust_closure.proofs.counts.lower_all.Given as goal
+
+abbrev pub invariant-loop-node : goal.invariant-loop-node
+invariant-loop-node l = record {
+  takes : AddsNodes l.firsts (take l.node-index l.nodes) l.counts l.initial.counts;
+  count : raised_count (flags_of l.initial.counts) ≡ raised_count (flags_of l.counts) + l.count;
+}

@@ -1,0 +1,27 @@
+-- How many of the marked nodes have each of the different documents
+use Rattle.std.specs.Prelude.{◌≡◌, ◌+◌, ◌==◌, not, ℕ, Bool, List, map, length, count_by, slice_index_or}
+
+-- a document's flag is raised where its count is not 0
+abbrev pub flags_of : List ℕ → List Bool
+flags_of counts = map (λ count. not (count == 0)) counts
+
+-- the count of the document with the number
+abbrev pub count_at : List ℕ → ℕ → ℕ
+count_at counts number = slice_index_or counts number 0
+
+-- the number of the first node with the node's document
+abbrev pub first_of_node : List ℕ → ℕ → ℕ
+first_of_node firsts node = slice_index_or firsts node 0
+
+-- how many of the nodes have the document with the number
+abbrev pub nodes_with : List ℕ → List ℕ → ℕ → ℕ
+nodes_with firsts nodes number = count_by (λ node. first_of_node firsts node == number) nodes
+
+-- The count of each document is how many of these nodes have it.
+abbrev pub AreCounts : List ℕ → List ℕ → List ℕ → Type 0
+AreCounts firsts nodes counts = (number : ℕ) → count_at counts number ≡ nodes_with firsts nodes number
+
+-- Each of the nodes adds one to the count of its document.
+pub record AddsNodes (firsts nodes old new : List ℕ) : Type 0 where
+  pub size : length new ≡ length old
+  pub each : (number : ℕ) → count_at new number ≡ count_at old number + nodes_with firsts nodes number

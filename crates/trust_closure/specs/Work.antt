@@ -1,0 +1,34 @@
+-- How much work it is to distrust keys
+use Rattle.std.specs.Prelude.{◌≡◌, ◌↔◌, ◌*◌, ◌<◌, ◌≤◌, ℕ, [], ◌∷◌, Bool, List, Contains, Result, MatchResult, length, slice_get, Some}
+use Rattle.std.specs.List.{All}
+use Rattle.receipt_core.specs.declared.distrust.Distrust.{Distrust}
+use Rattle.receipt_core.specs.declared.triple.Triple.{Triple}
+use Rattle.wait_index.specs.Net.{visits_of, ClosesIn, HasReachOf, edges_at}
+use Rattle.trust_closure.specs.Indexed.{Indexed}
+use Rattle.trust_closure.specs.NetOf.{IsNetOf, IsShutBy}
+use Rattle.trust_closure.specs.declared.error.TakeError.{TakeError}
+use Rattle.trust_closure.specs.declared.outcome.Distrusted.{Distrusted}
+use Rattle.trust_closure.specs.declared.outcome.Distrusted.TheVariants.{New, Already}
+
+-- All labels of the keys that these records distrust are closed at once, in so many turns, each of
+-- which looked at one edge. It lies at a label that those lead to, and at most two turns looked at
+-- it.
+pub record ClosesAtOnce (old : Indexed) (records : List Distrust) (new : Indexed) : Type 0 where
+  pub labels : List Triple
+  pub net : IsNetOf old.state.meaning.config.seeds old.arrived old.state.meaning.records labels old.wired.net
+  pub closing : List ℕ
+  pub within : All (λ number. number < length labels) closing
+  pub exactly : (number : ℕ) (label : Triple) → slice_get labels number ≡ Some label
+      → Contains closing number ↔ IsShutBy records label
+  pub turns : ClosesIn old.wired.net closing (visits_of old.wired.net old.wired.marked)
+      (visits_of new.wired.net new.wired.marked) new.turns
+  pub near : (reach : ℕ → Bool) → HasReachOf old.wired.net closing reach
+      → new.turns ≤ 2 * edges_at old.wired.net reach
+
+-- A record that is new has its labels closed, and no other record is any work.
+abbrev pub Worked : Indexed → Distrust → Indexed → Distrusted → Type 0
+Worked old x new (New lost) = ClosesAtOnce old (x ∷ []) new
+Worked old x new Already = new.turns ≡ old.turns
+
+abbrev pub Works : Indexed → Distrust → Indexed → Result Distrusted TakeError → Type 0
+Works old x new result = MatchResult result (Worked old x new) (λ why. new.turns ≡ old.turns)
