@@ -39,7 +39,7 @@ use Rattle.trust_closure.specs.Held.{Hoard, meaning_of, HasAdded}
 use Rattle.trust_closure.specs.NetOf.{spots_of, spot_of_seed, spot_of_receipt, IsShutBy, IsWiringOf, triple_by}
 use Rattle.trust_closure.specs.Pairs.{Paired, IsPairing, HasRaised, no_pair}
 use Rattle.trust_closure.specs.Work.{ClosesAtOnce}
-use Rattle.trust_closure.specs.Indexed.{IsBuilt, IsIndexed, WasCounted, IsBefore, HasRoom, IsKept, Reserves, IsIndexOf, indexed_of, IsSeeded}
+use Rattle.trust_closure.specs.Indexed.{IsBuilt, IsIndexed, WasCounted, IsDistrusted, IsBefore, HasRoom, IsKept, Reserves, IsIndexOf, indexed_of, IsSeeded}
 use Rattle.trust_closure.specs.declared.indexed.Spare.{Spare}
 use Rattle.trust_closure.specs.Changes.{IsGain}
 use Rattle.std.proofs.Common.{eqb}
@@ -51,6 +51,7 @@ use Rattle.trust_closure.specs.Count.{AreDifferent}
 use Rattle.trust_closure.proofs.CountFacts.{no_longer, contains_first, contains_cases, contains_none}
 use Rattle.trust_closure.proofs.NodeCountFacts.{length-flags, flags-counted, flags-kept, flags-push, count_at-push, counts-from_zero}
 use Rattle.trust_closure.proofs.FlagFacts.{IsFirstOf, gain-from_flags, passing, passing-to, passing-from, passing-differ, only_wide, length-only_wide, different-map}
+use Rattle.trust_closure.proofs.ConfigFacts.{one_domains}
 use Rattle.trust_closure.proofs.MemberFacts.{member_more}
 use Rattle.trust_closure.proofs.Wirings.{domain-one_number, wiring-node, wiring-root, node-number}
 use Rattle.trust_closure.proofs.RisingFacts.{each_has}
@@ -245,6 +246,22 @@ shuts-more domains more records IsMeant means label l =
       λ h. m.1 (elim h [ inl a ↦ inr a | inr k ↦ inl ((means label l).0 k) ]),
     )
 
+-- the labels of distrusted keys are those that the records close
+pub distrusted-shut : (h : Hoard) (domains : List (List ℕ)) → AreDomains h.config domains → (label : Label) → label.domain < length domains → IsDistrusted h label ↔ IsShutBy h.records (triple_by domains label)
+distrusted-shut h domains are =
+    subst (λ (ds : List (List ℕ)). (label : Label) → label.domain < length ds → IsDistrusted h label ↔ IsShutBy h.records (triple_by ds label)) (sym (one_domains h.config domains are))
+    (λ label l. (λ d. d.shut, λ s. record { within = l; shut = s }))
+
+-- what more records close is what the old ones close, or what all do
+pub shuts-all : (domains : List (List ℕ)) (old new more : List Distrust) (IsMeant : Label → Type 0) → new ≡ with_items distrust_cmp more old
+    → ((label : Label) → label.domain < length domains → IsMeant label ↔ IsShutBy new (triple_by domains label)) → Shuts domains old (with_items distrust_cmp more old) IsMeant
+shuts-all domains old new more IsMeant is means label l =
+    let t = triple_by domains label in
+    let m = distrust-sets.all_members more old (record { domain = t.domain; key = t.key }) (always-all more) (always-all old) in (
+      λ has. inr ((means label l).1 (subst (λ (xs : List Distrust). IsShutBy xs t) (sym is) has)),
+      λ h. elim h [ inl a ↦ m.1 (inr a) | inr k ↦ subst (λ (xs : List Distrust). IsShutBy xs t) is ((means label l).0 k) ],
+    )
+
 abbrev pub with_mistrust : Hoard → List Distrust → ℕ → Hoard
 with_mistrust h more capacity = record { config = h.config; arrived = h.arrived; held = h.held; records = with_items distrust_cmp more h.records; capacity = capacity }
 
@@ -351,6 +368,14 @@ before-added old new x a arrived = record {
   records = ap (λ (m : Meaning). m.records) a.meaning;
 }
 
+pub before-all : (old new : Hoard) (more : List Distrust) → meaning_of new ≡ record (meaning_of old) { records = with_items distrust_cmp more old.records } → new.arrived ≡ old.arrived → IsBefore old more new
+before-all old new more meaning arrived = record {
+  config = ap (λ (m : Meaning). m.config) meaning;
+  arrived = arrived;
+  held = ap (λ (m : Meaning). m.held) meaning;
+  records = ap (λ (m : Meaning). m.records) meaning;
+}
+
 -- ---- more room
 
 same-wiring : (w : Wired) → IsRoomierWired w w
@@ -393,6 +418,7 @@ reserves-from h new p q w v spare more k is numbers firsts counts r room receipt
   meaning = ap meaning_of is;
   arrived = ap (λ (x : Hoard). x.arrived) is;
   marked = r.marked;
+  net = r.net;
   kept = record { indexed = indexed-roomier h new p q w v k.indexed is numbers firsts counts r; room = room };
   roomier = record { receipts = receipts; offers = offers };
 }

@@ -1,5 +1,5 @@
 -- All that another closure holds is taken in
-use Rattle.std.proofs.Common.{◌≡◌, ℕ, ◌+◌, ◌≤◌, inl, inr, true, false, List, [], ◌∷◌, length, Less, Equal, Greater, refl, sym, ap, ◌∙◌, subst, arith}
+use Rattle.std.proofs.Common.{◌≡◌, ℕ, ◌+◌, ◌<◌, ◌≤◌, ◌⊎◌, inl, inr, true, false, List, [], ◌∷◌, length, Less, Equal, Greater, refl, sym, ap, ◌∙◌, subst, arith}
 use Rattle.std.specs.declared.cmp.Ordering.{Ordering}
 use Rattle.std.specs.Cmp.{tied_itself}
 use Rattle.std.specs.Cmp.Lexicographic.{on_texts}
@@ -16,7 +16,10 @@ use Rattle.receipt_core.specs.Order.{receipt_total}
 use Rattle.receipt_core.specs.Receipt.{Receipt, receipt_cmp, distrust_cmp, pair_of, offers_of}
 use Rattle.receipt_core.specs.Rising.{placed, with_item, with_items}
 use Rattle.receipt_core.specs.Acceptance.{IsFitting, Meaning, IsMeaning}
-use Rattle.trust_closure.specs.Changes.{State, Takes, TakesDistrust, HasMerged, Took, Distrusts}
+use Rattle.trust_closure.specs.Changes.{State, Takes, HasMerged, Took}
+use Rattle.trust_closure.specs.Held.{Adds, AddsOrRefuses}
+use Rattle.trust_closure.specs.declared.records.Addition.{Addition}
+use Rattle.trust_closure.specs.declared.records.Addition.TheVariants.{Added, There, Full as NoPlace}
 use Rattle.trust_closure.specs.Merge.{IsShare, AreKnown, AreWelcome, offers_count}
 use Rattle.trust_closure.specs.Refusals.{Room, IsRoomier, IsOfWrongEndpoint, RefusesReceipt, RefusesDistrust, RefusesMerge, WantsCopies, all_records}
 use Rattle.trust_closure.specs.declared.copies.Share.{Share}
@@ -25,8 +28,6 @@ use Rattle.trust_closure.specs.declared.error.TakeError.TheVariants.{UnknownDoma
 use Rattle.trust_closure.specs.declared.outcome.Refused.{Refused}
 use Rattle.trust_closure.specs.declared.outcome.Taken.{Taken}
 use Rattle.trust_closure.specs.declared.outcome.Taken.TheVariants.{New as TakenNew, Already as TakenAlready}
-use Rattle.trust_closure.specs.declared.outcome.Distrusted.{Distrusted}
-use Rattle.trust_closure.specs.declared.outcome.Distrusted.TheVariants.{New as DistrustedNew, Already as DistrustedAlready}
 use Rattle.trust_closure.proofs.CountFacts.{contains_first, contains_later, contains_none, contains_cases}
 use Rattle.trust_closure.proofs.RisingFacts.{with_item_longer, each_has}
 use Rattle.trust_closure.proofs.MergeFacts.{receipt_sets, record_sets, always}
@@ -158,62 +159,81 @@ IsJoining-end start now all rest joining e =
 
 -- ---- records in turn
 
-pub record IsDistrusting (start now : State) (all rest : List Distrust) : Type 0 where
-  pub config : now.meaning.config ≡ start.meaning.config
-  pub held : now.meaning.held ≡ start.meaning.held
-  pub records : with_items distrust_cmp rest now.meaning.records ≡ with_items distrust_cmp all start.meaning.records
-  pub known : AreKnown now.meaning rest
-  pub room : now.room ≡ start.room
+pub record IsDistrusting (start now : Meaning) (all rest : List Distrust) : Type 0 where
+  pub config : now.config ≡ start.config
+  pub held : now.held ≡ start.held
+  pub records : with_items distrust_cmp rest now.records ≡ with_items distrust_cmp all start.records
+  pub known : AreKnown now rest
 
-pub IsDistrusting-start : (start : State) (all : List Distrust) → AreKnown start.meaning all → IsDistrusting start start all all
-IsDistrusting-start start all known = record { config = refl; held = refl; records = refl; known = known; room = refl }
+pub IsDistrusting-start : (start : Meaning) (all : List Distrust) → AreKnown start all → IsDistrusting start start all all
+IsDistrusting-start start all known = record { config = refl; held = refl; records = refl; known = known }
 
-distrusted : (start now new : State) (all later : List Distrust) (x : Distrust) → IsMeaning now.meaning → IsDistrusting start now all (x ∷ later) → new.room ≡ now.room → (done : Distrusted) → Distrusts now.meaning x new.meaning done → IsDistrusting start new all later
-distrusted start now new all later x is joining room (DistrustedNew lost) h = record {
+distrusted : (start now new : Meaning) (all later : List Distrust) (x : Distrust) → IsMeaning now → IsDistrusting start now all (x ∷ later) → (done : Addition) → Adds now x new done → IsDistrusting start new all later
+distrusted start now new all later x is joining Added h = record {
   config = ap (λ (m : Meaning). m.config) h.meaning ∙ joining.config;
   held = ap (λ (m : Meaning). m.held) h.meaning ∙ joining.held;
   records = ap (λ (m : Meaning). with_items distrust_cmp later m.records) h.meaning ∙ joining.records;
   known = subst (λ (m : Meaning). AreKnown m later) (sym h.meaning) (record { domains = λ y has. joining.known.domains y (contains_later x later y has); few = joining.known.few });
-  room = room ∙ joining.room;
 }
-distrusted start now new all later x is joining room DistrustedAlready h =
-    let same : with_item distrust_cmp x now.meaning.records ≡ now.meaning.records = record_sets.present x now.meaning.records is.records_rising h.held in
+distrusted start now new all later x is joining There h =
+    let same : with_item distrust_cmp x now.records ≡ now.records = record_sets.present x now.records is.records_rising h.0 in
     let few = joining.known.few in
     let size = ap (λ xs. length (with_items distrust_cmp later xs)) same in
     record {
-      config = ap (λ (m : Meaning). m.config) h.meaning ∙ joining.config;
-      held = ap (λ (m : Meaning). m.held) h.meaning ∙ joining.held;
-      records = ap (λ (m : Meaning). with_items distrust_cmp later m.records) h.meaning ∙ ap (with_items distrust_cmp later) (sym same) ∙ joining.records;
-      known = subst (λ (m : Meaning). AreKnown m later) (sym h.meaning) (record { domains = λ y has. joining.known.domains y (contains_later x later y has); few = omega arith });
-      room = room ∙ joining.room;
+      config = ap (λ (m : Meaning). m.config) h.1 ∙ joining.config;
+      held = ap (λ (m : Meaning). m.held) h.1 ∙ joining.held;
+      records = ap (λ (m : Meaning). with_items distrust_cmp later m.records) h.1 ∙ ap (with_items distrust_cmp later) (sym same) ∙ joining.records;
+      known = subst (λ (m : Meaning). AreKnown m later) (sym h.1) (record { domains = λ y has. joining.known.domains y (contains_later x later y has); few = omega arith });
     }
+distrusted start now new all later x is joining NoPlace h = absurd h
 
-never_distrusts : (start now : State) (all later : List Distrust) (x : Distrust) → IsDistrusting start now all (x ∷ later) → (why : TakeError) → RefusesDistrust now.meaning x why → ⊥
+never_distrusts : (start now : Meaning) (all later : List Distrust) (x : Distrust) → IsDistrusting start now all (x ∷ later) → (why : TakeError) → RefusesDistrust now x why → ⊥
 never_distrusts start now all later x joining UnknownDomain h = h (joining.known.domains x (contains_first x later))
 never_distrusts start now all later x joining WrongEndpoint h = h
 never_distrusts start now all later x joining Full h =
     let few = joining.known.few in
     let full = h.full in
-    let longer = record_sets.longer x now.meaning.records tt (always now.meaning.records) h.unheld in
-    let grows = with_items_grows distrust_cmp later (with_item distrust_cmp x now.meaning.records) in
+    let longer = record_sets.longer x now.records tt (always now.records) h.unheld in
+    let grows = with_items_grows distrust_cmp later (with_item distrust_cmp x now.records) in
     absurd (omega arith)
 never_distrusts start now all later x joining NoMemory h = h
 never_distrusts start now all later x joining ConfigDiffers h = h
 
-distrusts_next : (start now new : State) (all later : List Distrust) (x : Distrust) → IsMeaning now.meaning → IsDistrusting start now all (x ∷ later) → new.room ≡ now.room → (result : Result Distrusted TakeError) → TakesDistrust now.meaning x new.meaning result → IsDistrusting start new all later
-distrusts_next start now new all later x is joining room (Ok done) h = distrusted start now new all later x is joining room done h
-distrusts_next start now new all later x is joining room (Err why) h = absurd (never_distrusts start now all later x joining why h.cause)
+distrusts_next : (start now new : Meaning) (all later : List Distrust) (x : Distrust) → IsMeaning now → IsDistrusting start now all (x ∷ later) → (result : Result Addition TakeError) → AddsOrRefuses now x new result → IsDistrusting start new all later
+distrusts_next start now new all later x is joining (Ok done) h = distrusted start now new all later x is joining done h
+distrusts_next start now new all later x is joining (Err why) h = absurd (never_distrusts start now all later x joining why h.0)
 
-pub IsDistrusting-next : (start now new : State) (m : Meaning) (all rest later : List Distrust) (x : Distrust) (result : Result Distrusted TakeError) → m ≡ now.meaning → IsMeaning m → IsDistrusting start now all rest → rest ≡ x ∷ later → new.room ≡ now.room → TakesDistrust now.meaning x new.meaning result → IsDistrusting start new all later
-IsDistrusting-next start now new m all rest later x result same is joining e room h =
-    distrusts_next start now new all later x (subst IsMeaning same is) (subst (IsDistrusting start now all) e joining) room result h
+pub IsDistrusting-next : (start now new : Meaning) (all rest later : List Distrust) (x : Distrust) (result : Result Addition TakeError) → IsMeaning now → IsDistrusting start now all rest → rest ≡ x ∷ later → AddsOrRefuses now x new result → IsDistrusting start new all later
+IsDistrusting-next start now new all rest later x result is joining e h =
+    distrusts_next start now new all later x is (subst (IsDistrusting start now all) e joining) result h
 
-pub IsDistrusting-end : (start now : State) (all rest : List Distrust) → IsDistrusting start now all rest → rest ≡ [] → now.meaning ≡ record start.meaning { records = with_items distrust_cmp all start.meaning.records }
+pub IsDistrusting-end : (start now : Meaning) (all rest : List Distrust) → IsDistrusting start now all rest → rest ≡ [] → now ≡ record start { records = with_items distrust_cmp all start.records }
 IsDistrusting-end start now all rest joining e =
-    let records : now.meaning.records ≡ with_items distrust_cmp all start.meaning.records = sym (ap (λ xs. with_items distrust_cmp xs now.meaning.records) e) ∙ joining.records in
+    let records : now.records ≡ with_items distrust_cmp all start.records = sym (ap (λ xs. with_items distrust_cmp xs now.records) e) ∙ joining.records in
     let config = joining.config in
     let held = joining.held in
     λ i. record { config = config i; held = held i; records = records i }
+
+-- there are more records, or nothing has changed
+abbrev pub HasGrown : Meaning → Meaning → Type 0
+HasGrown start now = (length start.records < length now.records) ⊎ (now ≡ start)
+
+grows_to : (start now new : Meaning) → length now.records < length new.records → HasGrown start now → HasGrown start new
+grows_to start now new longer (inl more) = inl (omega (arith, more, longer))
+grows_to start now new longer (inr same) = inl (omega (arith, longer, ap (λ (m : Meaning). length m.records) same))
+
+stays_as : (start now new : Meaning) → new ≡ now → HasGrown start now → HasGrown start new
+stays_as start now new same grown = subst (HasGrown start) (sym same) grown
+
+pub grown_next : (start now new : Meaning) (x : Distrust) (result : Result Addition TakeError)
+    → AddsOrRefuses now x new result → HasGrown start now → HasGrown start new
+grown_next start now new x (Ok Added) h grown =
+    let longer = record_sets.longer x now.records tt (always now.records) h.unheld in
+    let size = ap (λ (m : Meaning). length m.records) h.meaning in
+    grows_to start now new (omega (arith, longer, size)) grown
+grown_next start now new x (Ok There) h grown = stays_as start now new h.1 grown
+grown_next start now new x (Ok NoPlace) h grown = absurd h
+grown_next start now new x (Err why) h grown = stays_as start now new h.1 grown
 
 -- ---- all in turn
 

@@ -13,8 +13,9 @@ use Rattle.wait_index.specs.Net.{Net, ListsReached, TellsFallen}
 use Rattle.label_net.specs.Labels.{Wired}
 use Rattle.trust_closure.specs.Nodes.{pairs_of}
 use Rattle.trust_closure.specs.NodeCounts.{count_at, AreCounts}
-use Rattle.trust_closure.specs.Held.{Hoard, meaning_of}
-use Rattle.trust_closure.specs.NetOf.{spots_of, spot_of_seed, IsNetOf, IsWiringOf}
+use Rattle.label_net.specs.declared.label.Label.{Label}
+use Rattle.trust_closure.specs.Held.{Hoard, meaning_of, domains_of}
+use Rattle.trust_closure.specs.NetOf.{spots_of, spot_of_seed, IsShutBy, triple_by, IsNetOf, IsWiringOf}
 use Rattle.trust_closure.specs.Pairs.{Paired, IsPairing}
 use Rattle.trust_closure.specs.Refusals.{Room, IsRoomier}
 use Rattle.trust_closure.specs.Changes.{State}
@@ -65,6 +66,11 @@ pub record WasIndexed (new : Hoard) (more : List Distrust) (p : Paired) (w : Wir
   pub before : IsBefore old more new
   pub indexed : IsIndexed old p w
 
+-- The label names a domain of the configuration, and its key is distrusted there.
+pub record IsDistrusted (h : Hoard) (label : Label) : Type 0 where
+  pub within : label.domain < length (domains_of h.config)
+  pub shut : IsShutBy h.records (triple_by (domains_of h.config) label)
+
 -- There is room for so many receipts more and so many offers of theirs.
 pub record HasRoom (h : Hoard) (p : Paired) (w : Wired) (room : Spare) : Type 0 where
   pub held : length h.arrived + room.receipts ≤ h.capacity
@@ -89,6 +95,7 @@ pub record Reserves (h new : Hoard) (p q : Paired) (w v : Wired) (room more : Sp
   pub meaning : meaning_of new ≡ meaning_of h
   pub arrived : new.arrived ≡ h.arrived
   pub marked : v.marked ≡ w.marked
+  pub net : v.net ≡ w.net
   pub kept : IsKept new q v more
   pub roomier : IsRoomier (room_of room) (room_of more)
 

@@ -1,5 +1,5 @@
 -- How much work it is to distrust keys
-use Rattle.std.specs.Prelude.{◌≡◌, ◌↔◌, ◌*◌, ◌<◌, ◌≤◌, ℕ, [], ◌∷◌, Bool, List, Contains, Result, MatchResult, length, slice_get, Some}
+use Rattle.std.specs.Prelude.{◌≡◌, ◌↔◌, ◌⊎◌, ◌+◌, ◌*◌, ◌<◌, ◌≤◌, ℕ, [], ◌∷◌, Bool, List, Contains, Result, MatchResult, length, slice_get, Some}
 use Rattle.std.specs.List.{All}
 use Rattle.receipt_core.specs.declared.distrust.Distrust.{Distrust}
 use Rattle.receipt_core.specs.declared.triple.Triple.{Triple}
@@ -32,3 +32,12 @@ Worked old x new Already = new.turns ≡ old.turns
 
 abbrev pub Works : Indexed → Distrust → Indexed → Result Distrusted TakeError → Type 0
 Works old x new result = MatchResult result (Worked old x new) (λ why. new.turns ≡ old.turns)
+
+-- how many edges the index has
+abbrev pub edge_count : Indexed → ℕ
+edge_count i = length i.wired.net.offers + length i.wired.net.waits
+
+-- No labels were closed, or all at once, whatever the number of their keys: so each of the edges was looked at at most
+-- twice.
+abbrev pub WorksOnce : ℕ → ℕ → ℕ → Type 0
+WorksOnce edges before after = (after ≡ before) ⊎ (after ≤ 2 * edges)

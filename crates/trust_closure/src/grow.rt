@@ -1,15 +1,20 @@
 //! What is held, its different documents and its index change together.
-ghost use Rattle.std.specs.Prelude.{◌≡◌, ℕ, ◌+◌, ◌^◌, ◌<◌, ◌≤◌, ◌∷◌, ◌++◌, [], length, take};
+ghost use Rattle.std.specs.Prelude.{◌≡◌, ℕ, ◌+◌, ◌*◌, ◌^◌, ◌<◌, ◌≤◌, ◌∷◌, ◌++◌, [], List, length, take};
 ghost use Rattle.fed_config.specs.Configuration.{HasDomain};
-ghost use Rattle.receipt_core.specs.Receipt.{pair_of, offers_of, with_receipt};
+ghost use Rattle.receipt_core.specs.declared.distrust.Distrust.{Distrust};
+ghost use Rattle.receipt_core.specs.Receipt.{distrust_cmp, pair_of, offers_of, with_receipt};
+ghost use Rattle.receipt_core.specs.Rising.{with_items};
 ghost use Rattle.trust_closure.specs.Changes.{IsGain, TakesDistrust};
 ghost use Rattle.trust_closure.specs.Held.{Hoard, meaning_of, IsAbsent};
 ghost use Rattle.trust_closure.specs.Indexed.{IsBuilt, IsIndexed, IsBefore, WasIndexed, indexed_of};
-ghost use Rattle.trust_closure.specs.Work.{ClosesAtOnce, Works};
+ghost use Rattle.trust_closure.specs.Merge.{AreKnown};
+ghost use Rattle.trust_closure.specs.Work.{ClosesAtOnce, Works, WorksOnce};
 ghost use Rattle.trust_closure.specs.declared.indexed.Spare.{Spare};
 
 use crate::error::TakeError;
 use crate::held::Held;
+use crate::lent::Distrusts;
+use crate::merge::hold_all;
 use crate::outcome::Distrusted;
 use crate::pairs::Pairs;
 use crate::records::Addition;
@@ -152,4 +157,46 @@ fn close(
     let turns = wiring.close_key(number, key);
     let lost = recount(pairs, wiring.reach());
     Fall { lost, turns }
+}
+
+/// Distrusts keys in domains of the configuration, as many as there may be. It takes no memory. Where one of the records
+/// is new, all their labels are closed at once, and the turns are noted.
+pub(crate) fn lose_all(
+    held: &mut Held,
+    pairs: &mut Pairs,
+    wiring: &mut Wiring,
+    turns: &mut usize,
+    records: Distrusts<'_>,
+)
+    requires indexed { IsIndexed held.old pairs.old wiring.old }
+    requires known { AreKnown (meaning_of held.old) records }
+    ensures indexed { IsIndexed held.new pairs.new wiring.new }
+    ensures meaning { meaning_of held.new ≡ record (meaning_of held.old) { records = with_items distrust_cmp records.entry (meaning_of held.old).records } }
+    ensures work { WorksOnce (length wiring.old.net.offers + length wiring.old.net.waits) turns.old turns.new }
+    ensures arrived { held.new.arrived ≡ held.old.arrived }
+    ensures capacity { held.new.capacity ≡ held.old.capacity }
+    ensures firsts { pairs.new.firsts ≡ pairs.old.firsts }
+    ensures pairs_room { pairs.new.capacity ≡ pairs.old.capacity }
+    ensures nodes { wiring.new.nodes ≡ wiring.old.nodes }
+    ensures edges { wiring.new.edges ≡ wiring.old.edges }
+{
+    if hold_all(held, records) {
+        *turns = close_all(held, pairs, wiring);
+    }
+}
+
+/// Closes the labels of all keys that are distrusted, and answers how many edges that looked at.
+fn close_all(held: &Held, pairs: &mut Pairs, wiring: &mut Wiring) -> usize
+    requires before { (more : List Distrust) × WasIndexed held.now more pairs.old wiring.old }
+    ensures indexed { IsIndexed held.now pairs.new wiring.new }
+    ensures few { result ≤ 2 * (length wiring.old.net.offers + length wiring.old.net.waits) }
+    ensures firsts { pairs.new.firsts ≡ pairs.old.firsts }
+    ensures pairs_room { pairs.new.capacity ≡ pairs.old.capacity }
+    ensures nodes { wiring.new.nodes ≡ wiring.old.nodes }
+    ensures edges { wiring.new.edges ≡ wiring.old.edges }
+{
+    let _valid = held.config();
+    let turns = wiring.close_where(held);
+    recount(pairs, wiring.reach());
+    turns
 }

@@ -10,10 +10,11 @@ use crate::closure::NoMemory;
 use crate::error::TakeError;
 use crate::lent::{Distrusts, Receipts};
 use crate::probes::{InBucket, OfReceipt, SpotInBuckets};
-use crate::record::record_of;
+use crate::record::{Record, record_of};
 use crate::records::{Addition, Records};
 use fed_config::Config;
 use jwk_set::KeyId;
+use label_net::{Label, LabelTest};
 use receipt_core::Receipt;
 use sorted_order::{Arena, Lent, Order};
 use spiffe_name::TrustDomain;
@@ -207,6 +208,21 @@ impl Held {
             Some(number) => self.records.holds(&record_of(&key.0, number)),
             None => false,
         }
+    }
+}
+
+/// Meant are the labels of keys that are distrusted.
+impl LabelTest for Held {
+    ghost use Rattle.trust_closure.specs.Indexed.{IsDistrusted};
+
+    ghost IsMeant = { IsDistrusted };
+
+    fn is_meant(&self, label: &Label) -> bool {
+        let record = Record {
+            key: label.key,
+            domain: label.domain,
+        };
+        self.records.holds(&record)
     }
 }
 

@@ -5,11 +5,11 @@ ghost use Rattle.wait_index.specs.Net.{ListsReached};
 ghost use Rattle.trust_closure.specs.Views.{IsAcceptedList, IsPendingCount, document_of, receipts_in};
 ghost use Rattle.trust_closure.specs.Changes.{empty_of, Takes, TakesDistrust, Merges};
 ghost use Rattle.trust_closure.specs.Refusals.{IsRoomier};
-ghost use Rattle.trust_closure.specs.Work.{Works};
+ghost use Rattle.trust_closure.specs.Work.{Works, WorksOnce, edge_count};
 
 use crate::closure::NoMemory;
 use crate::error::TakeError;
-use crate::grow::lose;
+use crate::grow::{lose, lose_all};
 use crate::held::Held;
 use crate::indexed::{Spare, reserve, take_into};
 use crate::lent::{Accepted, Distrusts, Receipts};
@@ -93,6 +93,7 @@ impl IndexedClosure {
     pub fn take(&mut self, receipt: Receipt) -> Result<Taken, Refused>
         ensures takes { Takes self.old.state receipt self.new.state result }
         ensures grows { GrowsAtItsEnd self.old receipt self.new result }
+        ensures turns { self.new.turns ≡ self.old.turns }
     {
         take_into(
             &mut self.held,
@@ -109,7 +110,10 @@ impl IndexedClosure {
     /// # Errors
     /// What is held stays. The causes and their order are those of [`crate::Closure::merge`].
     pub fn merge(&mut self, other: &Self) -> Result<usize, TakeError>
-        ensures { Merges self.old.state other.now.state.meaning self.new.state result }
+        ensures merges { Merges self.old.state other.now.state.meaning self.new.state result }
+
+        // However many the records are, their labels are closed at once.
+        ensures work { WorksOnce (edge_count self.old) self.old.turns self.new.turns }
     {
         merge_into(self, other)
     }
@@ -194,6 +198,8 @@ impl IndexedClosure {
         ensures room { IsRoomier self.old.state.room self.new.state.room }
         ensures ok { OnOk result (IsRoomier (record { receipts = receipts; offers = offers }) self.new.state.room) }
         ensures within { IsRoomier (record { receipts = receipts; offers = offers }) self.old.state.room → IsOk result }
+        ensures net { self.new.wired.net ≡ self.old.wired.net }
+        ensures turns { self.new.turns ≡ self.old.turns }
     {
         reserve(
             &mut self.held,
@@ -233,7 +239,13 @@ impl IndexedClosure {
 }
 
 impl Mergeable for IndexedClosure {
+    ghost use Rattle.trust_closure.specs.Work.{edge_count};
+
     ghost state = { λ c. c.state };
+
+    ghost edges = { edge_count };
+
+    ghost turns = { λ c. c.turns };
 
     fn held(&self) -> &Held {
         &self.held
@@ -243,8 +255,14 @@ impl Mergeable for IndexedClosure {
         self.take(receipt)
     }
 
-    fn distrust_one(&mut self, domain: &TrustDomain, key: KeyId) -> Result<Distrusted, TakeError> {
-        self.distrust(domain, key)
+    fn distrust_all(&mut self, records: Distrusts<'_>) {
+        lose_all(
+            &mut self.held,
+            &mut self.pairs,
+            &mut self.wiring,
+            &mut self.turns,
+            records,
+        );
     }
 
     fn make_room(&mut self, receipts: usize, offers: usize) -> Result<(), NoMemory> {

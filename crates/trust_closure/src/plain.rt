@@ -1,6 +1,8 @@
 //! Takes and distrusts by rounds over all receipts.
 ghost use Rattle.std.specs.Prelude.{◌≡◌, ℕ, ◌+◌, ◌^◌, ◌<◌, ◌≤◌, ◌↔◌, ◌∷◌, ◌++◌, [], false, List, length, vec_capacity, Contains, IsOk, OnOk};
-ghost use Rattle.receipt_core.specs.Receipt.{Receipt, with_receipt};
+ghost use Rattle.receipt_core.specs.Receipt.{Receipt, distrust_cmp, with_receipt};
+ghost use Rattle.receipt_core.specs.Rising.{with_items};
+ghost use Rattle.trust_closure.specs.Merge.{AreKnown};
 ghost use Rattle.trust_closure.specs.Flags.{raised_count};
 ghost use Rattle.trust_closure.specs.Changes.{IsGain, Takes, TakesDistrust};
 ghost use Rattle.trust_closure.specs.Held.{Hoard, meaning_of, IsAbsent};
@@ -12,6 +14,8 @@ ghost use Rattle.trust_closure.specs.Plain.{AreSeedOffers, IsSet, IsSettled, Was
 use crate::error::TakeError;
 use crate::flags::lower_all;
 use crate::held::{Held, Standing};
+use crate::lent::Distrusts;
+use crate::merge::hold_all;
 use crate::outcome::{Distrusted, Refused, Taken};
 use crate::pairs::Pairs;
 use crate::records::Addition;
@@ -167,6 +171,30 @@ pub(crate) fn lose(
         Addition::There => Ok(Distrusted::Already),
         Addition::Full => Err(TakeError::Full),
     }
+}
+
+/// Distrusts keys in domains of the configuration, as many as there may be: the flags are lowered once, and rounds raise
+/// anew those that stand.
+pub(crate) fn lose_all(
+    held: &mut Held,
+    pairs: &mut Pairs,
+    seed_offers: &[Triple],
+    released: &mut Vec<bool>,
+    records: Distrusts<'_>,
+)
+    requires settled { IsSettled held.old pairs.old seed_offers.now released.old.items }
+    requires known { AreKnown (meaning_of held.old) records }
+    ensures settled { IsSettled held.new pairs.new seed_offers.now released.new.items }
+    ensures meaning { meaning_of held.new ≡ record (meaning_of held.old) { records = with_items distrust_cmp records.entry (meaning_of held.old).records } }
+    ensures arrived { held.new.arrived ≡ held.old.arrived }
+    ensures held_capacity { held.new.capacity ≡ held.old.capacity }
+    ensures firsts { pairs.new.firsts ≡ pairs.old.firsts }
+    ensures capacity { pairs.new.capacity ≡ pairs.old.capacity }
+    ensures size { length released.new.items ≡ length released.old.items }
+    ensures released_capacity { vec_capacity released.new ≡ vec_capacity released.old }
+{
+    hold_all(held, records);
+    fall(held, pairs, seed_offers, released);
 }
 
 /// Lowers all flags, raises anew those that stand without records that are new, and answers how many documents of

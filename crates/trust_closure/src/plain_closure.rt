@@ -12,7 +12,7 @@ use crate::lent::{Accepted, Distrusts, Receipts};
 use crate::merge::{Mergeable, merge_into};
 use crate::outcome::{Distrusted, Refused, Taken};
 use crate::pairs::Pairs;
-use crate::plain::{lose, reserve, take_into};
+use crate::plain::{lose, lose_all, reserve, take_into};
 use crate::rounds::{count_raised, raise_had};
 use crate::sowing::sow_all;
 use bundle_doc::Document;
@@ -217,6 +217,11 @@ impl PlainClosure {
 impl Mergeable for PlainClosure {
     ghost state = { λ c. c };
 
+    // It has no edges, and no turns.
+    ghost edges = { λ c. 0 };
+
+    ghost turns = { λ c. 0 };
+
     fn held(&self) -> &Held {
         &self.held
     }
@@ -225,8 +230,14 @@ impl Mergeable for PlainClosure {
         self.take(receipt)
     }
 
-    fn distrust_one(&mut self, domain: &TrustDomain, key: KeyId) -> Result<Distrusted, TakeError> {
-        self.distrust(domain, key)
+    fn distrust_all(&mut self, records: Distrusts<'_>) {
+        lose_all(
+            &mut self.held,
+            &mut self.pairs,
+            &self.seed_offers,
+            &mut self.released,
+            records,
+        );
     }
 
     fn make_room(&mut self, receipts: usize, offers: usize) -> Result<(), NoMemory> {

@@ -11,6 +11,7 @@ use std::marker::Model;
 const MOST_RECORDS: usize = 4_096;
 
 /// What came of a record of distrust.
+#[derive(Drop)]
 pub(crate) enum Addition {
     /// It was not held, and is held now.
     Added,

@@ -1,5 +1,5 @@
 -- The share of the other is taken in whole.
-use Rattle.std.proofs.Common.{refl, sym, ap, subst, ◌∙◌, arith}
+use Rattle.std.proofs.Common.{inl, inr, refl, sym, ap, subst, ◌∙◌, arith}
 use Rattle.std.proofs.lemmas.Result.{err_from_is_err_and}
 use Rattle.receipt_core.specs.Acceptance.{Meaning}
 use Rattle.trust_closure.specs.Held.{meaning_of}
@@ -7,16 +7,16 @@ use Rattle.trust_closure.specs.Refusals.{IsRoomier}
 use Rattle.trust_closure.proofs.JoinFacts.{on_ok, refuses_same, share_same, share_known, share_welcome, share_merged, share_wants}
 use Rattle.trust_closure.proofs.merge.merge_into.Goals as goal
 
-pub returns-in_err-share : goal.returns-in_err-share
-returns-in_err-share g c =
+pub returns-in_err-share-clause-merges : goal.returns-in_err-share-clause-merges
+returns-in_err-share-clause-merges g c =
     let p = err_from_is_err_and c.from_residual.result c.from_residual.ensures.1 in
     rw (p.1, p.2) (record {
       cause = refuses_same (meaning_of c.held.result.now) (g.C.Mergeable.state c.args.closure.now).meaning (meaning_of c.held-2.result.now) (g.C.Mergeable.state c.args.other.now).meaning c.in_err-share.field-0.0 c.held.ensures c.held-2.ensures c.in_err-share.ensures;
       unchanged = record { meaning = refl; room = record { receipts = omega arith; offers = omega arith } };
     })
 
-pub returns-then-is_err : goal.returns-then-is_err
-returns-then-is_err g c =
+pub returns-then-is_err-clause-merges : goal.returns-then-is_err-clause-merges
+returns-then-is_err-clause-merges g c =
     let m = (g.C.Mergeable.state c.args.closure.now).meaning in
     let other = (g.C.Mergeable.state c.args.other.now).meaning in
     let share = c.in_ok-share.share in
@@ -44,14 +44,21 @@ take_all-requires g c =
     let is = share_same (meaning_of c.held.result.now) m (meaning_of c.held-2.result.now) other share c.held.ensures c.held-2.ensures c.in_ok-share.ensures in
     let size = c.len-count.ensures ∙ share.copies.ok.0 in
     let roomier = on_ok c.make_room.result (IsRoomier (record { receipts = c.len-count.result; offers = share.offers }) (g.C.Mergeable.state c.make_room.new.self).room) (sym c.is_err.ensures.value ∙ c.if-is_err.false) c.make_room.ensures.ok in
-    share_welcome m other (g.C.Mergeable.state c.make_room.new.self) (g.C.Mergeable.state c.distrust_all.new.closure) share c.distrusts.result is c.make_room.ensures.meaning c.distrust_all.ensures.meaning c.distrust_all.ensures.room
+    share_welcome m other (g.C.Mergeable.state c.make_room.new.self) (g.C.Mergeable.state c.distrust_all.new.self) share c.distrusts.result is c.make_room.ensures.meaning c.distrust_all.ensures.meaning c.distrust_all.ensures.room
     (subst (λ k. IsRoomier (record { receipts = k; offers = share.offers }) (g.C.Mergeable.state c.make_room.new.self).room) size roomier)
 
-pub returns : goal.returns
-returns g c =
+pub returns-clause-merges : goal.returns-clause-merges
+returns-clause-merges g c =
     let m = (g.C.Mergeable.state c.args.closure.now).meaning in
     let other = (g.C.Mergeable.state c.args.other.now).meaning in
     let share = c.in_ok-share.share in
     let is = share_same (meaning_of c.held.result.now) m (meaning_of c.held-2.result.now) other share c.held.ensures c.held-2.ensures c.in_ok-share.ensures in
-    share_merged m other (g.C.Mergeable.state c.make_room.new.self).meaning (g.C.Mergeable.state c.distrust_all.new.closure).meaning (g.C.Mergeable.state c.take_all.new.closure).meaning share c.distrusts.result c.len-count.result is
-    (c.len-count.ensures ∙ share.copies.ok.0) (c.distrusts.ensures ∙ ap (λ (k : Meaning). k.records) c.held-3.ensures) c.make_room.ensures.meaning c.distrust_all.ensures.meaning c.take_all.ensures
+    share_merged m other (g.C.Mergeable.state c.make_room.new.self).meaning (g.C.Mergeable.state c.distrust_all.new.self).meaning (g.C.Mergeable.state c.take_all.new.closure).meaning share c.distrusts.result c.len-count.result is
+    (c.len-count.ensures ∙ share.copies.ok.0) (c.distrusts.ensures ∙ ap (λ (k : Meaning). k.records) c.held-3.ensures) c.make_room.ensures.meaning c.distrust_all.ensures.meaning c.take_all.ensures.meaning
+
+pub returns-clause-work : goal.returns-clause-work
+returns-clause-work g c =
+    elim c.distrust_all.ensures.work [
+      | inl same ↦ inl (c.take_all.ensures.turns ∙ same ∙ c.make_room.ensures.turns)
+      | inr few ↦ inr (omega (arith, c.take_all.ensures.turns, few, c.make_room.ensures.edges))
+    ]

@@ -1,5 +1,5 @@
 -- One more is held.
-use Rattle.std.proofs.Common.{◌≡◌, ◌∷◌, List, length, arith, sym, ap, subst, ◌∙◌}
+use Rattle.std.proofs.Common.{◌≡◌, ◌∷◌, List, length, arith, refl, sym, ap, subst, ◌∙◌}
 use Rattle.std.specs.Vec.Iter.{into_iter_items}
 use Rattle.receipt_core.specs.Receipt.{Receipt, receipt_cmp}
 use Rattle.receipt_core.specs.Rising.{with_items}
@@ -14,6 +14,7 @@ loop-receipt-init g c =
     record {
       joining = IsJoining-start (g.C.Mergeable.state c.args.closure.now) (into_iter_items c.into_iter-receipt-iterator.result)
           (subst (AreWelcome (g.C.Mergeable.state c.args.closure.now)) (sym given.0) c.requires);
+      turns = refl;
       size = given.1 ∙ c.args.receipts.ok.0 ∙ sym (ap length given.0);
     }
 
@@ -23,7 +24,8 @@ loop-receipt-preserved g c =
     record {
       joining = IsJoining-next (g.C.Mergeable.state c.args.closure.now) (g.C.Mergeable.state c.loop-receipt.closure) (g.C.Mergeable.state c.take_one.new.self) (meaning_of c.held.result.now)
           (into_iter_items c.into_iter-receipt-iterator.result) (into_iter_items c.loop-receipt.receipt-iterator) (into_iter_items c.next.new.self) c.in-Some.receipt c.take_one.result
-          c.held.ensures c.config-valid.ensures.valid c.config-valid.ensures.form c.loop-receipt.invariant.joining steps c.take_one.ensures;
+          c.held.ensures c.config-valid.ensures.valid c.config-valid.ensures.form c.loop-receipt.invariant.joining steps c.take_one.ensures.takes;
+      turns = c.take_one.ensures.turns ∙ c.loop-receipt.invariant.turns;
       size = omega (arith, c.in-Some.ensures.steps.1, ap length steps, c.loop-receipt.invariant.size);
     }
 
@@ -33,12 +35,13 @@ loop-receipt-preserved-in-Some g c =
     record {
       joining = IsJoining-next (g.C.Mergeable.state c.args.closure.now) (g.C.Mergeable.state c.loop-receipt.closure) (g.C.Mergeable.state c.take_one.new.self) (meaning_of c.held.result.now)
           (into_iter_items c.into_iter-receipt-iterator.result) (into_iter_items c.loop-receipt.receipt-iterator) (into_iter_items c.next.new.self) c.in-Some.receipt c.take_one.result
-          c.held.ensures c.config-valid.ensures.valid c.config-valid.ensures.form c.loop-receipt.invariant.joining steps c.take_one.ensures;
+          c.held.ensures c.config-valid.ensures.valid c.config-valid.ensures.form c.loop-receipt.invariant.joining steps c.take_one.ensures.takes;
+      turns = c.take_one.ensures.turns ∙ c.loop-receipt.invariant.turns;
       size = omega (arith, c.in-Some.ensures.steps.1, ap length steps, c.loop-receipt.invariant.size);
     }
 
-pub returns : goal.returns
-returns g c =
+pub returns-clause-meaning : goal.returns-clause-meaning
+returns-clause-meaning g c =
     let start = g.C.Mergeable.state c.args.closure.now in
     IsJoining-end start (g.C.Mergeable.state c.loop-receipt.closure) (into_iter_items c.into_iter-receipt-iterator.result) (into_iter_items c.loop-receipt.receipt-iterator) c.loop-receipt.invariant.joining
     (none_left (into_iter_items c.loop-receipt.receipt-iterator) (sym c.loop-receipt.invariant.size ∙ c.in-None.ensures.steps.0))
