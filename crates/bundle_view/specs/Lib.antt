@@ -5,10 +5,5 @@ pub mod Groups
 pub mod Sections
 pub mod Explain
 pub mod Search
-pub mod PollErrors
-pub mod PollLines
-pub mod PollSteps
-pub mod Polling
-pub mod Standings
 pub mod Observe
 pub mod Observing

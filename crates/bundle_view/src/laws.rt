@@ -17,10 +17,8 @@ ghost use Rattle.bundle_view.specs.declared.observation.Verdict.{Verdict};
 ghost use Rattle.bundle_view.specs.declared.observe_error.ObserveError.{ObserveError};
 ghost use Rattle.bundle_view.specs.declared.observe_error.ObserveError.TheVariants.{Take};
 ghost use Rattle.fed_config.specs.Configuration.{Configuration, IsConfiguration};
-ghost use Rattle.bundle_view.specs.Polling.{Standing, polled};
-ghost use Rattle.bundle_view.specs.PollLines.{IsLogOf, RefusesPolls};
-ghost use Rattle.bundle_view.specs.declared.poll_error.PollError.{PollError};
-ghost use Rattle.bundle_view.specs.declared.poll_error.PollError.TheVariants.{NoMemory as NoMemoryToPoll, Io};
+
+pub use poll_log::laws::one_log;
 
 /// The configuration, the receipts and the records of distrust determine the whole report, and each part of it: there is
 /// one report, one list of conflicts, and one current document of a domain.
@@ -53,13 +51,4 @@ pub fn one_observation()
         → RefusesObservation m domain bytes verdict d → RefusesObservation m domain bytes verdict e → (d ≡ Take NoMemory → ⊥) → (e ≡ Take NoMemory → ⊥) → d ≡ e }
     ensures store { (m : Meaning) (domain bytes : List ℕ) (verdict : Verdict) (documents : List Bundle) (r : Receipt) (e : ObserveError) → IsConfiguration m.config → IsAcceptedList m verdict.endpoint.domain documents
         → IsObservation m domain bytes verdict r → RefusesObservation m domain bytes verdict e → (e ≡ Take Full → ⊥) → (e ≡ Take NoMemory → ⊥) → ⊥ }
-{}
-
-/// Poll lines have one log at most under a configuration, and lines that are refused, but for want of memory or a fault of
-/// their source, have none.
-pub fn one_log()
-    ensures one { (c : Configuration) (bytes : List ℕ) (a b : List Standing) → IsConfiguration c → IsLogOf (polled c) bytes a
-        → IsLogOf (polled c) bytes b → a ≡ b }
-    ensures none { (c : Configuration) (bytes : List ℕ) (e : PollError) (log : List Standing) → IsConfiguration c
-        → RefusesPolls (polled c) bytes e → (e ≡ NoMemoryToPoll → ⊥) → (e ≡ Io → ⊥) → IsLogOf (polled c) bytes log → ⊥ }
 {}

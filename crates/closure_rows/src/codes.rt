@@ -1,7 +1,8 @@
 //! Rows about the texts of refusals.
 use crate::fault::RowFault;
 use bundle_doc::DocError;
-use bundle_view::{ObserveError, PollError, ReportError};
+use bundle_view::{ObserveError, ReportError};
+use poll_log::PollError;
 use std::alloc::AllocError;
 use trust_closure::TakeError;
 

@@ -1,7 +1,8 @@
 //! Why a row comes to nothing.
 use bundle_doc::DocError;
-use bundle_view::{PollError, ReportError};
+use bundle_view::ReportError;
 use fed_config::ConfigError;
+use poll_log::PollError;
 use receipt_core::LineError;
 use spiffe_name::NameError;
 use std::alloc::AllocError;

@@ -1,10 +1,10 @@
 //! Rows about polls.
 use crate::fault::RowFault;
 use crate::words::{first_word, hint, moment, number, text_of};
-use bundle_view::{PollError, PollLog, interval, read_polls, read_seconds, wait};
 use byte_lines::{FuseSource, MemSource, Source};
 use fed_config::Config;
 use jiff::Timestamp;
+use poll_log::{PollError, PollLog, interval, read_polls, read_seconds, wait};
 use row_script::{Answers, Row, Script};
 use spiffe_name::TrustDomain;
 use std::alloc::{AllocError, Global};

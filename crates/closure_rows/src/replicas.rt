@@ -1,8 +1,8 @@
 //! The replicas that rows act on.
 use crate::fault::RowFault;
 use crate::words::{first_word, text_of};
-use bundle_view::PollLog;
 use fed_config::Config;
+use poll_log::PollLog;
 use row_script::Script;
 use std::alloc::{AllocError, Global};
 use trust_closure::{Closure, IndexedClosure, PlainClosure};

@@ -4,7 +4,7 @@
 //! A file's name is the name of a text; where no text has the name, the file is not there.
 use crate::devices::{AMPLE_ROOM, Devices};
 use crate::words::split_words;
-use bundle_view::{Verdict, read_seconds};
+use bundle_view::Verdict;
 use byte_lines::{FromRead, MemSink, write_all};
 use fed_config::Config;
 use fedbundle::{
@@ -14,6 +14,7 @@ use fedbundle::{
 };
 use jiff::Timestamp;
 use jwk_set::KeyId;
+use poll_log::read_seconds;
 use replica_sync::{read_snapshot, write_snapshot};
 use row_script::Script;
 use spiffe_name::{SpiffeId, TrustDomain};

@@ -1,9 +1,10 @@
 //! Every refusal: its line and its exit status.
 use bundle_doc::DocError;
-use bundle_view::{ObserveError, PollError};
+use bundle_view::ObserveError;
 use byte_lines::MemSink;
 use fed_config::ConfigError;
 use fedbundle::{CommandError, status, write_fault};
+use poll_log::PollError;
 use replica_gossip::PullFault;
 use replica_sync::SyncError;
 use spiffe_name::NameError;

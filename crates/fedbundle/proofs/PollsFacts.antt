@@ -8,9 +8,9 @@ use Rattle.std.specs.Str.{bytes_eq}
 use Rattle.jiff.specs.Types.{Timestamp}
 use Rattle.fed_config.specs.declared.relationship.Relationship.{Relationship}
 use Rattle.receipt_core.specs.Acceptance.{Meaning}
-use Rattle.bundle_view.specs.Polling.{Standing, IsDue, IsNext, IsNextAfter, domains_of, standing_in}
-use Rattle.bundle_view.specs.declared.poll_error.PollError.{PollError}
-use Rattle.bundle_view.specs.declared.poll_error.PollError.TheVariants.{PastRange}
+use Rattle.poll_log.specs.Polling.{Standing, IsDue, IsNext, IsNextAfter, domains_of, standing_in}
+use Rattle.poll_log.specs.declared.error.PollError.{PollError}
+use Rattle.poll_log.specs.declared.error.PollError.TheVariants.{PastRange}
 use Rattle.bundle_view.proofs.GroupFacts.{taken_more}
 use Rattle.bundle_view.proofs.ListFacts.{contains_none, contains_cases}
 use Rattle.fedbundle.specs.Polls.{AddsNext, AddsPollLine, ArePollLines, IsPollLine, seconds_text}

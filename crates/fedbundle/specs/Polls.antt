@@ -8,10 +8,10 @@ use Rattle.bundle_doc.specs.Bundle.{Bundle}
 use Rattle.receipt_core.specs.Acceptance.{Meaning}
 use Rattle.byte_lines.specs.Device.{AppendsBeginning}
 use Rattle.bundle_view.specs.Current.{IsCurrent}
-use Rattle.bundle_view.specs.Polling.{Standing, IsDue, IsNext, domains_of, polled, standing_in}
-use Rattle.bundle_view.specs.PollLines.{IsLogOf, RefusesPolls}
-use Rattle.bundle_view.specs.declared.poll_error.PollError.{PollError}
-use Rattle.bundle_view.specs.declared.poll_error.PollError.TheVariants.{PastRange, Io as SourceFailed}
+use Rattle.poll_log.specs.Polling.{Standing, IsDue, IsNext, domains_of, polled, standing_in}
+use Rattle.poll_log.specs.PollLines.{IsLogOf, RefusesPolls}
+use Rattle.poll_log.specs.declared.error.PollError.{PollError}
+use Rattle.poll_log.specs.declared.error.PollError.TheVariants.{PastRange, Io as SourceFailed}
 use Rattle.fedbundle.specs.declared.error.CommandError.{CommandError}
 use Rattle.fedbundle.specs.declared.error.CommandError.TheVariants.{Poll}
 

@@ -5,7 +5,7 @@ use Rattle.bundle_doc.specs.declared.error.DocError.TheVariants.{NoMemory as NoM
 use Rattle.fed_config.specs.declared.error.ConfigError.TheVariants.{NoMemory as NoMemoryForConfig}
 use Rattle.trust_closure.specs.declared.error.TakeError.TheVariants.{NoMemory as NoMemoryToTake}
 use Rattle.bundle_view.specs.declared.observe_error.ObserveError.TheVariants.{Take as TakeFailed}
-use Rattle.bundle_view.specs.declared.poll_error.PollError.TheVariants.{NoMemory as NoMemoryToPoll, Io as PollIo}
+use Rattle.poll_log.specs.declared.error.PollError.TheVariants.{NoMemory as NoMemoryToPoll, Io as PollIo}
 use Rattle.replica_sync.specs.declared.error.SyncError.{SyncError}
 use Rattle.replica_sync.specs.declared.error.SyncError.TheVariants.{NoMemory as NoMemoryToSync, Io as SyncIo}
 use Rattle.byte_lines.specs.declared.error.DeviceError.{DeviceError}

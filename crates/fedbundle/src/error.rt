@@ -5,9 +5,10 @@ ghost use Rattle.fedbundle.specs.declared.error.CommandError.TheVariants.{Name, 
 
 use crate::run_error::RunError;
 use bundle_doc::DocError;
-use bundle_view::{ObserveError, PollError};
+use bundle_view::ObserveError;
 use byte_lines::{DeviceError, Fault};
 use fed_config::ConfigError;
+use poll_log::PollError;
 use replica_gossip::PullFault;
 use replica_sync::SyncError;
 use spiffe_name::NameError;

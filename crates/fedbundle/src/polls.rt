@@ -1,15 +1,16 @@
 //! `polls`: when each domain is polled next.
 ghost use Rattle.std.specs.Prelude.{◌≡◌, ◌++◌, true, Contains, IfErr, IfOk, IsErrOf, OnOk};
 ghost use Rattle.std.specs.Io.KnownBytes.{IsAtEnd};
-ghost use Rattle.bundle_view.specs.Polling.{domains_of, polled, standing_in};
+ghost use Rattle.poll_log.specs.Polling.{domains_of, polled, standing_in};
 ghost use Rattle.fedbundle.specs.Polls.{AddsNext, AddsPollLine, CutsPolls, IsHint, IsPollsText, PrintsPolls, RefusesLines, seconds_text};
 ghost use Rattle.fedbundle.specs.declared.error.CommandError.TheVariants.{Io, NoMemory};
 
 use crate::error::CommandError;
-use bundle_view::{PollLog, current, read_polls};
+use bundle_view::current;
 use byte_lines::{Sink, Source, write_all};
 use itoa::Buffer;
 use jiff::Timestamp;
+use poll_log::{PollLog, read_polls};
 use spiffe_name::TrustDomain;
 use std::alloc::{AllocError, Global};
 use trust_closure::Closure;

@@ -1,11 +1,11 @@
 // The texts of options, read.
 use crate::stop::Stop;
-use bundle_view::read_seconds;
 use byte_lines::{FromRead, read_up_to};
 use fed_config::Config;
 use fedbundle::{CommandError, read_sessions};
 use jiff::Timestamp;
 use jwk_set::KeyId;
+use poll_log::read_seconds;
 use spiffe_name::{SpiffeId, TrustDomain};
 use std::alloc::Global;
 use std::fs::Files;

@@ -1,6 +1,6 @@
 use Rattle.std.proofs.Common.{Ok, subst}
 use Rattle.std.proofs.lemmas.Result.{on_ok_weaker}
-use Rattle.bundle_view.specs.Polling.{IsDue, IsNext, standing_in}
+use Rattle.poll_log.specs.Polling.{IsDue, IsNext, standing_in}
 use Rattle.fedbundle.proofs.PollsFacts.{not_due, on_ok_if, told_moment, told_refused}
 use Rattle.fedbundle.proofs.polls.push_next.Goals as goal
 

@@ -1,0 +1,174 @@
+//! What a replica keeps of its polls.
+ghost use Rattle.std.specs.Prelude.{◌≡◌, ◌<◌, ◌↔◌, [], ℕ, List, map, length, Some, IsTrue, MatchResult, slice_get};
+ghost use Rattle.fed_config.specs.Configuration.{IsConfiguration};
+ghost use Rattle.poll_log.specs.Polling.{Adds, IsDue, IsNext, Records, domains_of, log_of, polled, standing_in};
+ghost use Rattle.poll_log.specs.Inside.Standings.{AreNames, IsPlaceOf, after, kept};
+
+use crate::error::PollError;
+use crate::waiting::{MOST_FAILURES, wait};
+use fed_config::{Config, Relationship};
+use jiff::Timestamp;
+use spiffe_name::TrustDomain;
+use std::alloc::{AllocError, Global};
+use std::marker::Model;
+use std::time::Duration;
+
+/// When each trust domain with a relationship was polled last, and how many polls in a row failed since.
+///
+/// No clock is read: moments are handed in, and may go back. The last poll recorded counts.
+#[derive(Debug, Drop)]
+pub struct PollLog {
+    // One for each relationship, rising by domain.
+    standings: Vec<Standing>,
+}
+
+impl Model for PollLog {
+    ghost use Rattle.std.specs.Prelude.{List, map};
+    ghost use Rattle.poll_log.specs.Polling.{Standing as Kept, IsLog};
+    ghost use Rattle.poll_log.specs.Inside.Standings.{kept};
+
+    ghost Value = { List Kept };
+
+    ghost view = { λ log. map kept log.standings.items };
+
+    ghost invariant = { λ log. IsLog (map kept log.standings.items) };
+}
+
+impl PollLog {
+    /// A log of no polls, with room for every relationship of the configuration.
+    ///
+    /// # Errors
+    /// [`PollError::NoMemory`]: memory ran out, which without relationships it never does.
+    pub fn new(alloc: Global, config: &Config) -> Result<PollLog, PollError>
+        ensures log { MatchResult result (λ log. log ≡ log_of (polled config.now) [])
+            (λ e. (e ≡ PollError.NoMemory) × (0 < length config.now.relationships)) }
+        ensures form { IsConfiguration config.now }
+    {
+        // It tells that the relationships rise.
+        let _ = config.domains();
+        Ok(PollLog {
+            standings: never_polled(alloc, config.relationships())?,
+        })
+    }
+
+    /// Records a poll of the domain at that moment, and whether it succeeded. It takes no memory.
+    ///
+    /// # Errors
+    /// [`PollError::NoRelationship`]: there is no relationship with the domain. The log is as it was.
+    pub fn record(
+        &mut self,
+        domain: &TrustDomain,
+        moment: Timestamp,
+        ok: bool,
+    ) -> Result<(), PollError>
+        ensures { Records self.old (record { domain = domain.now; moment = moment.nanosecond; ok = ok }) self.new result }
+    {
+        match self.place_of(domain.as_str().as_bytes()) {
+            Some(place) => {
+                self.add(place, moment, ok);
+                Ok(())
+            }
+            None => Err(PollError::NoRelationship),
+        }
+    }
+
+    /// When the domain is polled next: the moment of its last poll and then the [`wait`]. `None` where it was never polled.
+    /// The hint is the one in the document that is current for the domain. It takes no memory.
+    ///
+    /// # Errors
+    /// - [`PollError::NoRelationship`]: there is no relationship with the domain.
+    /// - [`PollError::PastRange`]: the next poll is later than every moment.
+    pub fn next_poll(
+        &self,
+        domain: &TrustDomain,
+        hint: Option<u64>,
+    ) -> Result<Option<Timestamp>, PollError>
+        ensures { IsNext hint (standing_in self.now domain.now) result }
+    {
+        match self.place_of(domain.as_str().as_bytes()) {
+            Some(place) => self.standings[place].next_poll(hint),
+            None => Err(PollError::NoRelationship),
+        }
+    }
+
+    /// Whether the domain is to be polled now: it was never polled, or its next poll is at this moment or before it. A
+    /// domain without a relationship is never due, nor is one whose next poll is past the range. It takes no memory.
+    pub fn due(&self, domain: &TrustDomain, hint: Option<u64>, now: Timestamp) -> bool
+        ensures { IsTrue result ↔ IsDue hint (standing_in self.now domain.now) now.nanosecond }
+    {
+        match self.next_poll(domain, hint) {
+            Ok(Some(next)) => next <= now,
+            Ok(None) => true,
+            Err(_) => false,
+        }
+    }
+
+    /// Where the log keeps the domain, found by binary search.
+    pub(crate) fn place_of(&self, domain: &[u8]) -> Option<usize>
+        ensures place { IsPlaceOf self.now domain.now result }
+        ensures names { AreNames (domains_of self.now) }
+    {
+        self.standings
+            .binary_search_by(|standing| standing.domain.as_str().as_bytes().cmp(domain))
+            .ok()
+    }
+
+    /// Records a poll of the domain at this place.
+    pub(crate) fn add(&mut self, place: usize, moment: Timestamp, ok: bool)
+        requires { place < length self.old }
+        ensures { (domain : List ℕ) → slice_get (domains_of self.old) place ≡ Some domain
+            → Adds self.old (record { domain = domain; moment = moment.nanosecond; ok = ok }) self.new }
+    {
+        self.standings[place].add(moment, ok);
+    }
+}
+
+/// What is kept of the polls of a domain.
+#[derive(Debug, Drop)]
+struct Standing {
+    domain: TrustDomain,
+    last: Option<Timestamp>,
+    failures: u32,
+}
+
+impl Standing {
+    ghost use Rattle.poll_log.specs.Polling.{IsNextAfter};
+
+    fn add(&mut self, moment: Timestamp, ok: bool)
+        ensures { kept self.new ≡ after (kept self.old) moment.nanosecond ok }
+    {
+        self.last = Some(moment);
+        self.failures = if ok {
+            0
+        } else {
+            self.failures.min(MOST_FAILURES - 1) + 1
+        };
+    }
+
+    fn next_poll(&self, hint: Option<u64>) -> Result<Option<Timestamp>, PollError>
+        ensures { IsNextAfter hint (kept self.now).failures (kept self.now).last result }
+    {
+        let Some(last) = self.last else {
+            return Ok(None);
+        };
+        match last.checked_add(Duration::from_secs(wait(hint, self.failures))) {
+            Ok(next) => Ok(Some(next)),
+            Err(_) => Err(PollError::PastRange),
+        }
+    }
+}
+
+fn never_polled(alloc: Global, relationships: &[Relationship]) -> Result<Vec<Standing>, AllocError>
+    ensures { MatchResult result (λ standings. map kept standings.items ≡ log_of (map (λ r. r.domain) relationships.now) [])
+        (λ _. 0 < length relationships.now) }
+{
+    let mut standings = Vec::with_capacity(alloc, relationships.len())?;
+    for relationship in relationships {
+        standings.push(Standing {
+            domain: relationship.domain.try_clone(alloc)?,
+            last: None,
+            failures: 0,
+        })?;
+    }
+    Ok(standings)
+}
