@@ -154,14 +154,17 @@ module _ (pairs : List Pair) (x : List ℕ) where
       sym (ap (λ o. ordering_then o (document_cmp one.document other.document)) tied) ∙ rise i j d l last
 
 -- the domain's documents whose flags are raised are its accepted ones
-pub accepted-list : (m : Meaning) (pairs : List Pair) (p : Paired) (x : List ℕ) → TellsMembers m pairs p.numbers (flags_of p.counts) → AreRising pairs p.numbers → IsAcceptedList m x (raised_of pairs p x)
+pub accepted-list : (m : Meaning) (pairs : List Pair) (p : Paired) (x : List ℕ)
+    → TellsMembers m pairs p.numbers (flags_of p.counts) → AreRising pairs p.numbers
+    → IsAcceptedList m x (raised_of pairs p x)
 accepted-list m pairs p x t rise =
     let test : ℕ → Bool = λ n. is_equal (domain_cmp (pair_at pairs n).domain x) in
     record {
       rising = sorted pairs (flags_of p.counts) (numbers_of pairs p.numbers x)
           (documents-rise pairs x (numbers_of pairs p.numbers x) (filter_passes test p.numbers) (AllPairs-filter (λ i j. pair_cmp (pair_at pairs i) (pair_at pairs j) ≡ Less) test p.numbers rise));
       sound = λ d c.
-          let f = from-filter_map (raised_document pairs (flags_of p.counts)) (numbers_of pairs p.numbers x) d c in
+          let f = from-filter_map (raised_document pairs (flags_of p.counts))
+          (numbers_of pairs p.numbers x) d c in
           let s = shown pairs (flags_of p.counts) f.0 d f.2 in
           let at : pair_at pairs f.0 ≡ s.0 = get_or_from_slice_get pairs f.0 s.0 no_pair s.2 in
           let domain : s.0.domain ≡ x = sym (ap (λ (q : Pair). q.domain) at) ∙ domain-is pairs x f.0 (filter_test test p.numbers f.0 f.1) in
@@ -170,7 +173,9 @@ accepted-list m pairs p x t rise =
           let f = t.all (document_of x d) member in
           let at : (pair_at pairs f.0).domain ≡ x = ap (λ (q : Pair). q.domain) (get_or_from_slice_get pairs f.0 (document_of x d) no_pair f.2) in
           let tied : is_equal (domain_cmp (pair_at pairs f.0).domain x) ≡ true = ap is_equal (ap (λ a. domain_cmp a x) at ∙ tied_itself nat_list_cmp_total x) in
-          in-filter_map (raised_document pairs (flags_of p.counts)) (numbers_of pairs p.numbers x) f.0 d (filter_gets test p.numbers f.0 (t.listed f.0 f.1) tied) (shows pairs (flags_of p.counts) f.0 (document_of x d) f.1 f.2);
+          in-filter_map (raised_document pairs (flags_of p.counts)) (numbers_of pairs p.numbers x)
+          f.0 d (filter_gets test p.numbers f.0 (t.listed f.0 f.1) tied)
+          (shows pairs (flags_of p.counts) f.0 (document_of x d) f.1 f.2);
     }
   where
     same_pair : (q : Pair) (y : List ℕ) (d : Bundle) → q.domain ≡ y → q.document ≡ d → q ≡ document_of y d

@@ -63,7 +63,8 @@ module _ (h new : Hoard) (p q : Paired) (offers : List Triple) (released others 
         inr (f.0, subst (λ (c : Configuration). node ≡ length c.seeds + f.0) config f.1, (j.settled f.0 r.0 (arrivals f.0 r.0 r.1)).1 (release r.0 ((i.settled f.0 r.0 r.1).0 f.2)))
   ]
 
-  kept-carry : (k : ℕ) → is_raised (flags_of p.counts) k ≡ true → is_raised (flags_of q.counts) k ≡ true
+  kept-carry : (k : ℕ) → is_raised (flags_of p.counts) k ≡ true
+      → is_raised (flags_of q.counts) k ≡ true
   kept-carry k e =
       let f = (i.flags k).0 e in
       let at = firsts f.node k f.first in
@@ -85,16 +86,22 @@ module _ (h new : Hoard) (p q : Paired) (offers : List Triple) (released others 
   pub few-carry : raised_count (flags_of p.counts) ≤ raised_count (flags_of q.counts)
   few-carry = count-fewer (flags_of p.counts) (flags_of q.counts) flag-sizes kept-carry
 
-  pub gain-carry : (n : ℕ) → raised_count (flags_of q.counts) ≡ raised_count (flags_of p.counts) + n → IsGain (meaning_of h) (meaning_of new) n
+  pub gain-carry : (n : ℕ) → raised_count (flags_of q.counts) ≡ raised_count (flags_of p.counts) + n
+      → IsGain (meaning_of h) (meaning_of new) n
   gain-carry n count =
-      gain-from_flags no_pair (meaning_of h) (meaning_of new) (pairs_of h.config.seeds h.arrived) (pairs_of new.config.seeds new.arrived) p.numbers q.numbers (flags_of p.counts) (flags_of q.counts)
-      (plain-tells h p offers released i) (plain-tells new q offers others j) kept-carry (λ k x e f at. pairs-carry k x at) n count flag-sizes
+      gain-from_flags no_pair (meaning_of h) (meaning_of new) (pairs_of h.config.seeds h.arrived)
+      (pairs_of new.config.seeds new.arrived) p.numbers q.numbers (flags_of p.counts)
+      (flags_of q.counts)
+      (plain-tells h p offers released i) (plain-tells new q offers others j) kept-carry
+      (λ k x e f at. pairs-carry k x at) n count flag-sizes
 
 -- ---- flags raised anew
 
 pub settled-from : (h : Hoard) (p q : Paired) (offers : List Triple) (old released : List Bool) → IsSet h p offers old → length released ≡ length old → AreReleased (meaning_of h) h.arrived released
     → q.numbers ≡ p.numbers → q.firsts ≡ p.firsts → length q.counts ≡ length p.counts
-    → ((number : ℕ) → (is_raised (flags_of q.counts) number ≡ true) ↔ IsFirstHad (length h.config.seeds) released p.firsts (length p.firsts) number) → IsSettled h q offers released
+    → ((number : ℕ) → (is_raised (flags_of q.counts) number ≡ true) ↔ IsFirstHad
+    (length h.config.seeds) released p.firsts (length p.firsts) number)
+    → IsSettled h q offers released
 settled-from h p q offers old released s size are numbers firsts flags raised = record {
   set = record {
     valid = s.valid;
@@ -105,13 +112,20 @@ settled-from h p q offers old released s size are numbers firsts flags raised = 
     size = size ∙ s.size;
   };
   settled = are;
-  flags = λ n. subst (λ (fs : List ℕ). (is_raised (flags_of q.counts) n ≡ true) ↔ IsFirstHad (length h.config.seeds) released fs (length fs) n) (sym firsts) (raised n);
+  flags = λ n. subst (λ (fs : List ℕ). (is_raised (flags_of q.counts) n ≡ true) ↔ IsFirstHad
+      (length h.config.seeds) released fs (length fs) n) (sym firsts) (raised n);
 }
 
-pub firsts-within : (h : Hoard) (p : Paired) (offers : List Triple) (released : List Bool) → IsSet h p offers released → All (λ f. f < length p.counts) p.firsts
+pub firsts-within : (h : Hoard) (p : Paired) (offers : List Triple) (released : List Bool)
+    → IsSet h p offers released → All (λ f. f < length p.counts) p.firsts
 firsts-within h p offers released s k d l =
     let f = s.pairing.first k (get_or p.firsts k d) (slice_get-get_or p.firsts k d l) in
-    omega (arith, All-contains (λ n. n < length (pairs_of h.config.seeds h.arrived)) p.numbers (get_or p.firsts k d) s.pairing.within f.0, s.pairing.counted)
+    omega (
+      arith,
+      All-contains (λ n. n < length (pairs_of h.config.seeds h.arrived)) p.numbers
+          (get_or p.firsts k d) s.pairing.within f.0,
+      s.pairing.counted,
+    )
 
 -- ---- one more receipt
 
@@ -145,16 +159,22 @@ sound-push h new p offers released r i form is place s at raised =
 
 -- ---- one more record of distrust
 
-pub set-closed : (old new : Hoard) (xs : List Distrust) (p : Paired) (offers : List Triple) (released lowered : List Bool) → IsSet old p offers released → IsBefore old xs new → IsMeaning (meaning_of new) → length lowered ≡ length released → IsSet new p offers lowered
+pub set-closed : (old new : Hoard) (xs : List Distrust) (p : Paired) (offers : List Triple)
+    (released lowered : List Bool) → IsSet old p offers released → IsBefore old xs new
+    → IsMeaning (meaning_of new) → length lowered ≡ length released → IsSet new p offers lowered
 set-closed old new xs p offers released lowered s before valid size =
     let is = hoard-before old new xs before in
-    let valid' : IsMeaning (meaning_of (with_mistrust old xs new.capacity)) = subst (λ h. IsMeaning (meaning_of h)) is valid in
+    let valid' : IsMeaning (meaning_of (with_mistrust old xs new.capacity)) = subst
+    (λ h. IsMeaning (meaning_of h)) is valid in
     subst (λ h. IsSet h p offers lowered) (sym is) (record { valid = valid'; once = s.once; same = s.same; offers = s.offers; pairing = s.pairing; size = size ∙ s.size })
 
-pub release-fewer : (old new : Hoard) (xs : List Distrust) → IsBefore old xs new → (s : Receipt) → IsReleased (meaning_of new) s → IsReleased (meaning_of old) s
+pub release-fewer : (old new : Hoard) (xs : List Distrust) → IsBefore old xs new → (s : Receipt)
+    → IsReleased (meaning_of new) s → IsReleased (meaning_of old) s
 release-fewer old new xs before s released =
     released-more (meaning_of new) (meaning_of old) before.config (λ t c. subst (λ (ts : List Receipt). Contains ts t) before.held c)
-    (λ y c. subst (λ (ys : List Distrust). Contains ys y) (sym before.records) ((distrust-sets.all_members xs old.records y (always-all xs) (always-all old.records)).1 (inr c))) s released
+    (λ y c. subst (λ (ys : List Distrust). Contains ys y) (sym before.records)
+    ((distrust-sets.all_members xs old.records y (always-all xs) (always-all old.records)).1
+    (inr c))) s released
 
 pub sound-lowered : (m : Meaning) (arrived : List Receipt) (flags : List Bool) → ((n : ℕ) → is_raised flags n ≡ false) → AreSound m arrived flags
 sound-lowered m arrived flags low place r at raised = absurd (both_ways (is_raised flags place) (low place) raised)
@@ -169,20 +189,27 @@ settled-roomier h new p q offers released i is r =
         once = i.set.once;
         same = i.set.same;
         offers = i.set.offers;
-        pairing = pairing-counts (pairs_of h.config.seeds h.arrived) p q i.set.pairing r.numbers r.firsts (ap length r.counts);
+        pairing = pairing-counts (pairs_of h.config.seeds h.arrived) p q i.set.pairing r.numbers
+            r.firsts (ap length r.counts);
         size = i.set.size;
       };
       settled = i.settled;
       flags = λ n.
-          subst (λ fs. (is_raised (flags_of q.counts) n ≡ true) ↔ IsFirstHad (length h.config.seeds) released fs (length fs) n) (sym r.firsts)
-          (subst (λ ks. (is_raised (flags_of ks) n ≡ true) ↔ IsFirstHad (length h.config.seeds) released p.firsts (length p.firsts) n) (sym r.counts) (i.flags n));
+          subst (λ fs. (is_raised (flags_of q.counts) n ≡ true) ↔ IsFirstHad (length h.config.seeds)
+          released fs (length fs) n) (sym r.firsts)
+          (subst (λ ks. (is_raised (flags_of ks) n ≡ true) ↔ IsFirstHad (length h.config.seeds)
+          released p.firsts (length p.firsts) n) (sym r.counts) (i.flags n));
     })
 
 -- ---- what is gained and lost
 
-pub firsts-lowered : (h : Hoard) (p low : Paired) (offers : List Triple) (released : List Bool) → IsSet h p offers released → low.firsts ≡ p.firsts → length low.counts ≡ length p.counts → All (λ f. f < length low.counts) low.firsts
+pub firsts-lowered : (h : Hoard) (p low : Paired) (offers : List Triple) (released : List Bool)
+    → IsSet h p offers released → low.firsts ≡ p.firsts → length low.counts ≡ length p.counts
+    → All (λ f. f < length low.counts) low.firsts
 firsts-lowered h p low offers released s firsts flags =
-    subst (λ (fs : List ℕ). All (λ f. f < length low.counts) fs) (sym firsts) (subst (λ (n : ℕ). All (λ f. f < n) p.firsts) (sym flags) (firsts-within h p offers released s))
+    subst (λ (fs : List ℕ). All (λ f. f < length low.counts) fs) (sym firsts)
+    (subst (λ (n : ℕ). All (λ f. f < n) p.firsts) (sym flags)
+    (firsts-within h p offers released s))
 
 pub raised-as : (flags : List Bool) (a b : ℕ) (rs ss : List Bool) (fs gs : List ℕ) → a ≡ b → rs ≡ ss → fs ≡ gs
     → ((n : ℕ) → (is_raised flags n ≡ true) ↔ IsFirstHad a rs fs (length fs) n) → (n : ℕ) → (is_raised flags n ≡ true) ↔ IsFirstHad b ss gs (length gs) n
@@ -193,7 +220,9 @@ raised-as flags a b rs ss fs gs seeds released firsts raised n =
 
 pub gain-added : (h new : Hoard) (p q : Paired) (offers : List Triple) (released others : List Bool) (r : Receipt) (first : ℕ) → IsSettled h p offers released → IsReceipt r → new ≡ with_arrival h r → IsSettled new q offers others
     → q.firsts ≡ p.firsts ++ first ∷ [] → length q.counts ≡ length p.counts + 1
-    → (raised_count (flags_of p.counts) ≤ raised_count (flags_of q.counts)) × ((n : ℕ) → raised_count (flags_of q.counts) ≡ raised_count (flags_of p.counts) + n → IsGain (meaning_of h) (meaning_of new) n)
+    → (raised_count (flags_of p.counts) ≤ raised_count (flags_of q.counts))
+    × ((n : ℕ) → raised_count (flags_of q.counts) ≡ raised_count (flags_of p.counts) + n
+    → IsGain (meaning_of h) (meaning_of new) n)
 gain-added h new p q offers released others r first i form is j list size =
     let config : h.config ≡ new.config = sym (ap (λ (x : Hoard). x.config) is) in
     let firsts : (node number : ℕ) → slice_get p.firsts node ≡ Some number → slice_get q.firsts node ≡ Some number =
@@ -203,15 +232,21 @@ gain-added h new p q offers released others r first i form is j list size =
       gain-carry h new p q offers released others config (arrivals-more h new r is) (release-more h new r i.set.valid form i.set.same is) i j firsts sizes,
     )
 
-pub loss-fallen : (old new : Hoard) (xs : List Distrust) (p q : Paired) (offers : List Triple) (released others : List Bool) → IsSettled old p offers released → IsBefore old xs new → IsSettled new q offers others
+pub loss-fallen : (old new : Hoard) (xs : List Distrust) (p q : Paired) (offers : List Triple)
+    (released others : List Bool) → IsSettled old p offers released → IsBefore old xs new
+    → IsSettled new q offers others
     → q.firsts ≡ p.firsts → length q.counts ≡ length p.counts
-    → (raised_count (flags_of q.counts) ≤ raised_count (flags_of p.counts)) × ((n : ℕ) → raised_count (flags_of p.counts) ≡ raised_count (flags_of q.counts) + n → IsGain (meaning_of new) (meaning_of old) n)
+    → (raised_count (flags_of q.counts) ≤ raised_count (flags_of p.counts))
+    × ((n : ℕ) → raised_count (flags_of p.counts) ≡ raised_count (flags_of q.counts) + n
+    → IsGain (meaning_of new) (meaning_of old) n)
 loss-fallen old new xs p q offers released others i before j list size =
     let arrivals : (place : ℕ) (r : Receipt) → slice_get new.arrived place ≡ Some r → slice_get old.arrived place ≡ Some r =
     λ place r at. ap (λ rs. slice_get rs place) (sym before.arrived) ∙ at in
     let firsts : (node number : ℕ) → slice_get q.firsts node ≡ Some number → slice_get p.firsts node ≡ Some number =
     λ node number at. ap (λ fs. slice_get fs node) (sym list) ∙ at in
     let sizes : length q.counts ≤ length p.counts = omega (arith, size) in (
-      few-carry new old q p offers others released before.config arrivals (release-fewer old new xs before) j i firsts sizes,
-      gain-carry new old q p offers others released before.config arrivals (release-fewer old new xs before) j i firsts sizes,
+      few-carry new old q p offers others released before.config arrivals
+          (release-fewer old new xs before) j i firsts sizes,
+      gain-carry new old q p offers others released before.config arrivals
+          (release-fewer old new xs before) j i firsts sizes,
     )

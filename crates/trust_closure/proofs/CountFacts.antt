@@ -60,16 +60,27 @@ no_longer {T = T} (x ∷ xs) ys different within =
     omega (arith, length-append cut.front cut.back, length-append cut.front (x ∷ cut.back))
 
 -- things that are among others add up to no more
-pub no_more : {T : Type 0} (f : T → ℕ) (xs ys : List T) → AreDifferent xs → ((x : T) → Contains xs x → Contains ys x) → sum_by f xs ≤ sum_by f ys
+pub no_more : {T : Type 0} (f : T → ℕ) (xs ys : List T) → AreDifferent xs
+    → ((x : T) → Contains xs x → Contains ys x) → sum_by f xs ≤ sum_by f ys
 no_more f [] ys different within = omega arith
 no_more {T = T} f (x ∷ xs) ys different within =
     let cut : IsCutAt ys x = cut_at ys x (within x (contains_first x xs)) in
     let rest : (y : T) → Contains xs y → Contains (cut.front ++ cut.back) y =
-    λ y has. without cut.front cut.back x y (λ same. different.0 (subst (Contains xs) (sym same) has))
+    λ y has. without cut.front cut.back x y
+    (λ same. different.0 (subst (Contains xs) (sym same) has))
     (subst (λ zs. Contains zs y) cut.whole (within y (contains_later x xs y has))) in
-    let fewer : sum_by f xs ≤ sum_by f (cut.front ++ cut.back) = no_more f xs (cut.front ++ cut.back) different.1 rest in
+    let fewer : sum_by f xs ≤ sum_by f (cut.front ++ cut.back) = no_more f xs
+    (cut.front ++ cut.back) different.1 rest in
     let whole : sum_by f ys ≡ sum_by f (cut.front ++ x ∷ cut.back) = ap (sum_by f) cut.whole in
-    omega (arith, whole, fewer, sum_by-cons f x xs, sum_by-append f cut.front cut.back, sum_by-append f cut.front (x ∷ cut.back), sum_by-cons f x cut.back)
+    omega (
+      arith,
+      whole,
+      fewer,
+      sum_by-cons f x xs,
+      sum_by-append f cut.front cut.back,
+      sum_by-append f cut.front (x ∷ cut.back),
+      sum_by-cons f x cut.back,
+    )
 
 pub one_count : {T : Type 0} (P : T → Type 0) (n k : ℕ) → IsCount P n → IsCount P k → n ≡ k
 one_count P n k a b =

@@ -14,12 +14,14 @@ use Rattle.trust_closure.specs.Flags.{raised_count, TellsMembers}
 
 -- the number is that of the first node with the document of one of these nodes
 abbrev pub IsFirstOf : List ℕ → List ℕ → ℕ → Type 0
-IsFirstOf firsts nodes number = (node : ℕ) × Contains nodes node × (slice_get firsts node ≡ Some number)
+IsFirstOf firsts nodes number = (node : ℕ) × Contains nodes node
+    × (slice_get firsts node ≡ Some number)
 
 -- The flags of these nodes' first numbers are raised, and the others are as they were.
 pub record Raises (firsts nodes : List ℕ) (old new : List Bool) : Type 0 where
   pub size : length new ≡ length old
-  pub each : (number : ℕ) → (is_raised new number ≡ true) ↔ ((is_raised old number ≡ true) ⊎ IsFirstOf firsts nodes number)
+  pub each : (number : ℕ) → (is_raised new number ≡ true) ↔
+      ((is_raised old number ≡ true) ⊎ IsFirstOf firsts nodes number)
 
 -- ---- the numbers below a bound that pass a test
 

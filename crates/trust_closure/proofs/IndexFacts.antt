@@ -1,5 +1,5 @@
 -- The flags of an indexed closure tell what is accepted
-use Rattle.std.proofs.Common.{◌≡◌, ℕ, zero, suc, ◌+◌, ◌-◌, ◌^◌, ◌<◌, ◌≤◌, ◌⊎◌, inl, inr, Bool, true, false, List, [], ◌∷◌, ◌++◌, length, get_or, map, Some, None, arith, refl, sym, ap, ◌∙◌, subst}
+use Rattle.std.proofs.Common.{◌≡◌, ℕ, zero, suc, ◌+◌, ◌-◌, ◌*◌, ◌^◌, ◌<◌, ◌≤◌, ◌⊎◌, inl, inr, Bool, true, false, List, [], ◌∷◌, ◌++◌, length, get_or, map, Some, None, arith, refl, sym, ap, ◌∙◌, subst}
 use Rattle.std.specs.Prelude.{Contains, slice_get, ◌↔◌, ◌≢◌, AllPairs}
 use Rattle.std.proofs.lemmas.List.Quantifiers.{all_pairs_push}
 use Rattle.std.specs.List.{All, AllByRecursion}
@@ -10,7 +10,7 @@ use Rattle.std.proofs.lemmas.Option.{slice_get_within, same_Some, slice_get-get_
 use Rattle.fed_config.specs.declared.seed.Seed.{Seed}
 use Rattle.fed_config.specs.Configuration.{Configuration, HasDomain, AreDomains, domain_cmp}
 use Rattle.wait_index.specs.Index.{Index, Last}
-use Rattle.wait_index.specs.Net.{IsReached, root, ListsReached, TellsFallen}
+use Rattle.wait_index.specs.Net.{Net, IsReached, root, ListsReached, TellsFallen, visits_of, ClosesIn, HasReachOf, edges_at}
 use Rattle.std.specs.List.Sorted.{IsStrictlySortedBy}
 use Rattle.std.specs.Prelude.{sum_by}
 use Rattle.std.proofs.Common.{cond}
@@ -36,10 +36,10 @@ use Rattle.trust_closure.specs.Nodes.{pairs_of, is_raised}
 use Rattle.trust_closure.specs.Flags.{raised_count, TellsMembers}
 use Rattle.trust_closure.specs.NodeCounts.{flags_of, count_at, AreCounts, AddsNodes}
 use Rattle.trust_closure.specs.Held.{Hoard, meaning_of, HasAdded}
-use Rattle.trust_closure.specs.NetOf.{spots_of, spot_of_seed, spot_of_receipt, IsShutBy, IsWiringOf, triple_by}
+use Rattle.trust_closure.specs.NetOf.{spots_of, spot_of_seed, spot_of_receipt, IsShutBy, IsNetOf, IsWiringOf, triple_by}
 use Rattle.trust_closure.specs.Pairs.{Paired, IsPairing, HasRaised, no_pair}
-use Rattle.trust_closure.specs.Work.{ClosesAtOnce}
-use Rattle.trust_closure.specs.Indexed.{IsBuilt, IsIndexed, WasCounted, IsDistrusted, IsBefore, HasRoom, IsKept, Reserves, IsIndexOf, indexed_of, IsSeeded}
+use Rattle.trust_closure.specs.Work.{ClosesAtOnce, IsWorkOf, AreOld}
+use Rattle.trust_closure.specs.Indexed.{IsBuilt, IsIndexed, WasCounted, IsDistrusted, IsBefore, HasRoom, IsKept, Reserves, IsIndexOf, Indexed, indexed_of, IsSeeded}
 use Rattle.trust_closure.specs.declared.indexed.Spare.{Spare}
 use Rattle.trust_closure.specs.Changes.{IsGain}
 use Rattle.std.proofs.Common.{eqb}
@@ -78,9 +78,16 @@ module _ (h : Hoard) (p : Paired) (w : Wired) (b : IsBuilt h p w) where
   pub firsts-within : All (λ f. f < length p.counts) p.firsts
   firsts-within k d l =
       let f = b.pairing.first k (get_or p.firsts k d) (slice_get-get_or p.firsts k d l) in
-      omega (arith, All-contains (λ n. n < length (pairs_of h.config.seeds h.arrived)) p.numbers (get_or p.firsts k d) b.pairing.within f.0, b.pairing.counted)
+      omega (
+        arith,
+        All-contains (λ n. n < length (pairs_of h.config.seeds h.arrived)) p.numbers
+            (get_or p.firsts k d) b.pairing.within f.0,
+        b.pairing.counted,
+      )
 
-  tells-flags : ((number : ℕ) → (is_raised (flags_of p.counts) number ≡ true) ↔ IsFirstOf p.firsts w.marked number) → TellsMembers (meaning_of h) (pairs_of h.config.seeds h.arrived) p.numbers (flags_of p.counts)
+  tells-flags : ((number : ℕ) → (is_raised (flags_of p.counts) number ≡ true) ↔ IsFirstOf p.firsts
+      w.marked number) → TellsMembers (meaning_of h) (pairs_of h.config.seeds h.arrived) p.numbers
+      (flags_of p.counts)
   tells-flags flags = record {
     size = length-flags p.counts ∙ b.pairing.counted;
     sound = λ n q e at.
@@ -98,7 +105,9 @@ module _ (h : Hoard) (p : Paired) (w : Wired) (b : IsBuilt h p w) where
     once = λ one other q. pairing-once (pairs_of h.config.seeds h.arrived) p b.pairing one other q;
   }
 
-  pub tells : AreCounts p.firsts w.marked p.counts → TellsMembers (meaning_of h) (pairs_of h.config.seeds h.arrived) p.numbers (flags_of p.counts)
+  pub tells : AreCounts p.firsts w.marked p.counts
+      → TellsMembers (meaning_of h) (pairs_of h.config.seeds h.arrived) p.numbers
+      (flags_of p.counts)
   tells are = tells-flags (flags-counted p.firsts w.marked p.counts marked-within are)
 
 -- a raised flag is membership
@@ -118,13 +127,39 @@ pub spots-push : (seeds : List Seed) (arrived : List Receipt) (r : Receipt) → 
 spots-push seeds arrived r = ap (λ ss. map spot_of_seed seeds ++ ss) (map_push spot_of_receipt arrived r) ∙ sym (append_assoc (map spot_of_seed seeds) (map spot_of_receipt arrived) (spot_of_receipt r ∷ []))
 
 -- other counts, as many
-pub pairing-counts : (pairs : List Pair) (p q : Paired) → IsPairing pairs p → q.numbers ≡ p.numbers → q.firsts ≡ p.firsts → length q.counts ≡ length p.counts → IsPairing pairs q
+pub pairing-counts : (pairs : List Pair) (p q : Paired) → IsPairing pairs p → q.numbers ≡ p.numbers
+    → q.firsts ≡ p.firsts → length q.counts ≡ length p.counts → IsPairing pairs q
 pairing-counts pairs p q h numbers firsts counts =
-    let one : IsPairing pairs (record { numbers = p.numbers; firsts = p.firsts; counts = q.counts; capacity = q.capacity }) =
-    record { sizes = h.sizes; counted = counts ∙ h.counted; forms = h.forms; within = h.within; few = h.few; rising = h.rising; first = h.first }
+    let one : IsPairing pairs (record {
+      numbers = p.numbers;
+      firsts = p.firsts;
+      counts = q.counts;
+      capacity = q.capacity;
+    }) =
+    record {
+      sizes = h.sizes;
+      counted = counts
+          ∙ h.counted;
+      forms = h.forms;
+      within = h.within;
+      few = h.few;
+      rising = h.rising;
+      first =
+          h.first;
+    }
     in
-    subst (λ ns. IsPairing pairs (record { numbers = ns; firsts = q.firsts; counts = q.counts; capacity = q.capacity })) (sym numbers)
-    (subst (λ fs. IsPairing pairs (record { numbers = p.numbers; firsts = fs; counts = q.counts; capacity = q.capacity })) (sym firsts) one)
+    subst (λ ns. IsPairing pairs (record {
+      numbers = ns;
+      firsts = q.firsts;
+      counts = q.counts;
+      capacity = q.capacity;
+    })) (sym numbers)
+    (subst (λ fs. IsPairing pairs (record {
+      numbers = p.numbers;
+      firsts = fs;
+      counts = q.counts;
+      capacity = q.capacity;
+    })) (sym firsts) one)
 
 receipt-sets : AreSets IsReceipt receipt_cmp
 receipt-sets = AreSets-from_total IsReceipt receipt_cmp receipt_total one_receipt
@@ -165,7 +200,8 @@ built-more h new p q w v r b form unheld is valid wired reached pairing =
       pairing = subst (λ ps. IsPairing ps q) (sym (pairs-push h.config.seeds h.arrived r)) pairing;
     })
 
-pub built-counts : (h : Hoard) (p q : Paired) (w : Wired) → IsBuilt h p w → q.numbers ≡ p.numbers → q.firsts ≡ p.firsts → length q.counts ≡ length p.counts → IsBuilt h q w
+pub built-counts : (h : Hoard) (p q : Paired) (w : Wired) → IsBuilt h p w → q.numbers ≡ p.numbers
+    → q.firsts ≡ p.firsts → length q.counts ≡ length p.counts → IsBuilt h q w
 built-counts h p q w b numbers firsts counts = record {
   valid = b.valid;
   same = b.same;
@@ -182,115 +218,173 @@ count-push flags = sum_by_push (λ b. cond b 1 0) flags false ∙ (let e : sum_b
 
 -- what is gained with one more receipt
 pub gain-more : (h new : Hoard) (p q : Paired) (w v : Wired) (r : Receipt) (nodes : List ℕ) (n : ℕ) → IsIndexed h p w → IsIndexed new q v → new ≡ with_arrival h r
-    → AddsNodes q.firsts nodes (p.counts ++ 0 ∷ []) q.counts → raised_count (flags_of q.counts) ≡ raised_count (flags_of (p.counts ++ 0 ∷ [])) + n → IsGain (meaning_of h) (meaning_of new) n
+    → AddsNodes q.firsts nodes (p.counts ++ 0 ∷ []) q.counts
+    → raised_count (flags_of q.counts) ≡ raised_count (flags_of (p.counts ++ 0 ∷ [])) + n
+    → IsGain (meaning_of h) (meaning_of new) n
 gain-more h new p q w v r nodes n i j is adds count =
     let prefix : pairs_of new.config.seeds new.arrived ≡ pairs_of h.config.seeds h.arrived ++ pair_of r ∷ [] = ap (λ (x : Hoard). pairs_of x.config.seeds x.arrived) is ∙ pairs-push h.config.seeds h.arrived r in
-    gain-from_flags no_pair (meaning_of h) (meaning_of new) (pairs_of h.config.seeds h.arrived) (pairs_of new.config.seeds new.arrived) p.numbers q.numbers (flags_of p.counts) (flags_of q.counts)
+    gain-from_flags no_pair (meaning_of h) (meaning_of new) (pairs_of h.config.seeds h.arrived)
+    (pairs_of new.config.seeds new.arrived) p.numbers q.numbers (flags_of p.counts)
+    (flags_of q.counts)
     (tells h p w i.built i.counts) (tells new q v j.built j.counts)
     (flags-kept p.counts q.counts (λ k. omega (arith, adds.each k, count_at-push p.counts k)))
     (λ k x e f at. ap (λ ps. slice_get ps k) prefix ∙ slice_get-left (pairs_of h.config.seeds h.arrived) (pair_of r ∷ []) k x at)
-    n (count ∙ ap (λ m. m + n) (ap raised_count (flags-push p.counts (p.counts ++ 0 ∷ []) refl) ∙ count-push (flags_of p.counts)))
+    n (count ∙ ap (λ m. m + n) (ap raised_count (flags-push p.counts (p.counts ++ 0 ∷ []) refl)
+    ∙ count-push (flags_of p.counts)))
     (omega (arith, adds.size, length_push p.counts 0, length-flags p.counts, length-flags q.counts))
 
 -- ---- more records of distrust
 
 -- Labels are closed by these records exactly where they were before, or are meant.
 abbrev pub Shuts : List (List ℕ) → List Distrust → List Distrust → (Label → Type 0) → Type 0
-Shuts domains old new IsMeant = (label : Label) → label.domain < length domains → IsShutBy new (triple_by domains label) ↔ (IsShutBy old (triple_by domains label) ⊎ IsMeant label)
+Shuts domains old new IsMeant = (label : Label) → label.domain < length domains
+    → IsShutBy new (triple_by domains label) ↔
+    (IsShutBy old (triple_by domains label) ⊎ IsMeant label)
 
-wiring-closed : (domains : List (List ℕ)) (records more : List Distrust) (IsMeant : Label → Type 0) (spots : List (Spot Triple)) (old new : Wired) (turns : ℕ)
-    → IsWiringOf domains records spots old → Shuts domains records more IsMeant → Closes old IsMeant new turns → IsWiringOf domains more spots new
+wiring-closed : (domains : List (List ℕ)) (records more : List Distrust) (IsMeant : Label → Type 0)
+    (spots : List (Spot Triple)) (old new : Wired) (turns : ℕ)
+    → IsWiringOf domains records spots old → Shuts domains records more IsMeant
+    → Closes old IsMeant new turns → IsWiringOf domains more spots new
 wiring-closed domains records more IsMeant spots old new turns h shuts c =
-    let mirrors = Mirrors-shut spots (map (triple_by domains) old.labels) (IsShutBy records) old.net h.mirrors (IsShutBy more) c.net.flags c.net.sizes (λ i t e.
+    let mirrors = Mirrors-shut spots (map (triple_by domains) old.labels) (IsShutBy records) old.net
+    h.mirrors (IsShutBy more) c.net.flags c.net.sizes (λ i t e.
     let f = slice_get-map_cases (triple_by domains) old.labels i t e in
     let l : f.0.domain < length domains = All-contains (λ (a : Label). a.domain < length domains) old.labels f.0 h.within (slice_get-Contains old.labels i f.0 f.1) in
     let before = h.mirrors.closed i t e in
     let is = c.net.closed i f.0 f.1 in
     let both = shuts f.0 l in (
-      λ shut. subst (IsShutBy more) f.2 (both.1 (elim (is.0 shut) [ inl a ↦ inl (subst (IsShutBy records) (sym f.2) (before.0 a)) | inr k ↦ inr k ])),
-      λ has. is.1 (elim (both.0 (subst (IsShutBy more) (sym f.2) has)) [ inl a ↦ inl (before.1 (subst (IsShutBy records) f.2 a)) | inr k ↦ inr k ]),
+      λ shut. subst (IsShutBy more) f.2 (both.1
+          (elim (is.0 shut) [
+            | inl a ↦ inl (subst (IsShutBy records) (sym f.2) (before.0 a))
+            | inr k
+                ↦ inr k
+          ])),
+      λ has. is.1 (elim (both.0 (subst (IsShutBy more) (sym f.2) has))
+          [ inl a ↦ inl (before.1 (subst (IsShutBy records) f.2 a)) | inr k ↦ inr k ]),
     ))
     in
     record {
       within = All-same (λ (a : Label). a.domain < length domains) new.labels old.labels c.labels h.within;
-      mirrors = subst (λ ls. Mirrors spots (map (triple_by domains) ls) (IsShutBy more) new.net) (sym c.labels)
-          (subst (Mirrors spots (map (triple_by domains) old.labels) (IsShutBy more)) (sym c.net.net_is) mirrors);
+      mirrors = subst (λ ls. Mirrors spots (map (triple_by domains) ls) (IsShutBy more) new.net)
+          (sym c.labels)
+          (subst (Mirrors spots (map (triple_by domains) old.labels) (IsShutBy more))
+          (sym c.net.net_is) mirrors);
     }
 
 -- the labels of a key in a domain are those that one record closes
-pub key-shut : (domains : List (List ℕ)) (x : Distrust) (number : ℕ) → IsStrictlySortedBy domain_cmp domains → slice_get domains number ≡ Some x.domain
-    → (label : Label) → label.domain < length domains → IsOfKey number x.key label ↔ IsShutBy (x ∷ []) (triple_by domains label)
+pub key-shut : (domains : List (List ℕ)) (x : Distrust) (number : ℕ)
+    → IsStrictlySortedBy domain_cmp domains → slice_get domains number ≡ Some x.domain
+    → (label : Label) → label.domain < length domains
+    → IsOfKey number x.key label ↔ IsShutBy (x ∷ []) (triple_by domains label)
 key-shut domains x number rising at label l = (
   λ k. subst (Contains (x ∷ []))
       (sym (ap (λ (d : List ℕ). let y : Distrust = record { domain = d; key = label.key } in y)
       (ap (λ j. get_or domains j []) k.0 ∙ get_or_from_slice_get domains number x.domain [] at)
       ∙ ap (λ q. let y : Distrust = record { domain = x.domain; key = q } in y) k.1))
       (contains_first x []),
-  λ has. elim (contains_cases x [] (record { domain = get_or domains label.domain []; key = label.key }) has) [
-    | inl same ↦ (
-      domain-one_number domains rising label.domain number l (slice_get_within domains number x.domain at)
-          (sym (ap (λ (y : Distrust). y.domain) same) ∙ sym (get_or_from_slice_get domains number x.domain [] at)),
-      sym (ap (λ (y : Distrust). y.key) same),
-    )
-    | inr none ↦ absurd (contains_none (record { domain = get_or domains label.domain []; key = label.key }) none)
-  ],
+  λ has. elim (contains_cases x [] (record
+      { domain = get_or domains label.domain []; key = label.key }) has) [
+        | inl same ↦ (
+          domain-one_number domains rising label.domain number l
+              (slice_get_within domains number x.domain at)
+              (sym (ap (λ (y : Distrust). y.domain) same)
+              ∙ sym (get_or_from_slice_get domains number x.domain [] at)),
+          sym (ap (λ (y : Distrust). y.key) same),
+        )
+        | inr none ↦ absurd (contains_none (record
+            { domain = get_or domains label.domain []; key = label.key }) none)
+      ],
 )
 
 -- what more records close is what these close, or those
 pub shuts-more : (domains : List (List ℕ)) (more records : List Distrust) (IsMeant : Label → Type 0)
-    → ((label : Label) → label.domain < length domains → IsMeant label ↔ IsShutBy more (triple_by domains label)) → Shuts domains records (with_items distrust_cmp more records) IsMeant
+    → ((label : Label) → label.domain < length domains
+    → IsMeant label ↔ IsShutBy more (triple_by domains label))
+    → Shuts domains records (with_items distrust_cmp more records) IsMeant
 shuts-more domains more records IsMeant means label l =
     let t = triple_by domains label in
-    let m = distrust-sets.all_members more records (record { domain = t.domain; key = t.key }) (always-all more) (always-all records) in (
+    let m = distrust-sets.all_members more records (record { domain = t.domain; key = t.key })
+    (always-all more) (always-all records) in (
       λ has. elim (m.0 has) [ inl new ↦ inr ((means label l).1 new) | inr a ↦ inl a ],
       λ h. m.1 (elim h [ inl a ↦ inr a | inr k ↦ inl ((means label l).0 k) ]),
     )
 
 -- the labels of distrusted keys are those that the records close
-pub distrusted-shut : (h : Hoard) (domains : List (List ℕ)) → AreDomains h.config domains → (label : Label) → label.domain < length domains → IsDistrusted h label ↔ IsShutBy h.records (triple_by domains label)
+pub distrusted-shut : (h : Hoard) (domains : List (List ℕ)) → AreDomains h.config domains
+    → (label : Label) → label.domain < length domains
+    → IsDistrusted h label ↔ IsShutBy h.records (triple_by domains label)
 distrusted-shut h domains are =
-    subst (λ (ds : List (List ℕ)). (label : Label) → label.domain < length ds → IsDistrusted h label ↔ IsShutBy h.records (triple_by ds label)) (sym (one_domains h.config domains are))
+    subst (λ (ds : List (List ℕ)). (label : Label) → label.domain < length ds
+    → IsDistrusted h label ↔ IsShutBy h.records (triple_by ds label))
+    (sym (one_domains h.config domains are))
     (λ label l. (λ d. d.shut, λ s. record { within = l; shut = s }))
 
 -- what more records close is what the old ones close, or what all do
-pub shuts-all : (domains : List (List ℕ)) (old new more : List Distrust) (IsMeant : Label → Type 0) → new ≡ with_items distrust_cmp more old
-    → ((label : Label) → label.domain < length domains → IsMeant label ↔ IsShutBy new (triple_by domains label)) → Shuts domains old (with_items distrust_cmp more old) IsMeant
+pub shuts-all : (domains : List (List ℕ)) (old new more : List Distrust) (IsMeant : Label → Type 0)
+    → new ≡ with_items distrust_cmp more old
+    → ((label : Label) → label.domain < length domains
+    → IsMeant label ↔ IsShutBy new (triple_by domains label))
+    → Shuts domains old (with_items distrust_cmp more old) IsMeant
 shuts-all domains old new more IsMeant is means label l =
     let t = triple_by domains label in
-    let m = distrust-sets.all_members more old (record { domain = t.domain; key = t.key }) (always-all more) (always-all old) in (
+    let m = distrust-sets.all_members more old (record { domain = t.domain; key = t.key })
+    (always-all more) (always-all old) in (
       λ has. inr ((means label l).1 (subst (λ (xs : List Distrust). IsShutBy xs t) (sym is) has)),
-      λ h. elim h [ inl a ↦ m.1 (inr a) | inr k ↦ subst (λ (xs : List Distrust). IsShutBy xs t) is ((means label l).0 k) ],
+      λ h. elim h [
+        | inl a ↦ m.1 (inr a)
+        | inr k ↦ subst (λ (xs : List Distrust). IsShutBy xs t) is
+            ((means label l).0 k)
+      ],
     )
 
 abbrev pub with_mistrust : Hoard → List Distrust → ℕ → Hoard
-with_mistrust h more capacity = record { config = h.config; arrived = h.arrived; held = h.held; records = with_items distrust_cmp more h.records; capacity = capacity }
+with_mistrust h more capacity = record {
+  config = h.config;
+  arrived = h.arrived;
+  held = h.held;
+  records = with_items distrust_cmp more h.records;
+  capacity = capacity;
+}
 
-pub hoard-before : (old new : Hoard) (more : List Distrust) → IsBefore old more new → new ≡ with_mistrust old more new.capacity
+pub hoard-before : (old new : Hoard) (more : List Distrust) → IsBefore old more new
+    → new ≡ with_mistrust old more new.capacity
 hoard-before old new more b =
     ap (λ c. let h : Hoard = record { config = c; arrived = new.arrived; held = new.held; records = new.records; capacity = new.capacity } in h) b.config
     ∙ ap (λ a. let h : Hoard = record { config = old.config; arrived = a; held = new.held; records = new.records; capacity = new.capacity } in h) b.arrived
     ∙ ap (λ a. let h : Hoard = record { config = old.config; arrived = old.arrived; held = a; records = new.records; capacity = new.capacity } in h) b.held
     ∙ ap (λ a. let h : Hoard = record { config = old.config; arrived = old.arrived; held = old.held; records = a; capacity = new.capacity } in h) b.records
 
-pub built-closed : (old new : Hoard) (more : List Distrust) (p q : Paired) (w v : Wired) (IsMeant : Label → Type 0) (turns : ℕ) → IsBuilt old p w → IsBefore old more new → IsMeaning (meaning_of new)
-    → ((domains : List (List ℕ)) → AreDomains old.config domains → Shuts domains old.records (with_items distrust_cmp more old.records) IsMeant) → Closes w IsMeant v turns → ListsReached v.net v.marked
-    → q.numbers ≡ p.numbers → q.firsts ≡ p.firsts → length q.counts ≡ length p.counts → IsBuilt new q v
-built-closed old new more p q w v IsMeant turns b before valid shuts closes reached numbers firsts counts =
+pub built-closed : (old new : Hoard) (more : List Distrust) (p q : Paired) (w v : Wired)
+    (IsMeant : Label → Type 0) (turns : ℕ) → IsBuilt old p w → IsBefore old more new
+    → IsMeaning (meaning_of new)
+    → ((domains : List (List ℕ)) → AreDomains old.config domains
+    → Shuts domains old.records (with_items distrust_cmp more old.records) IsMeant)
+    → Closes w IsMeant v turns → ListsReached v.net v.marked
+    → q.numbers ≡ p.numbers → q.firsts ≡ p.firsts → length q.counts ≡ length p.counts
+    → IsBuilt new q v
+built-closed old new more p q w v IsMeant turns b before valid shuts closes reached numbers firsts
+    counts =
     let is = hoard-before old new more before in
-    let valid' : IsMeaning (meaning_of (with_mistrust old more new.capacity)) = subst (λ h. IsMeaning (meaning_of h)) is valid in
+    let valid' : IsMeaning (meaning_of (with_mistrust old more new.capacity)) = subst
+    (λ h. IsMeaning (meaning_of h)) is valid in
     subst (λ h. IsBuilt h q v) (sym is) (record {
       valid = valid';
       same = b.same;
       once = b.once;
       domains = b.domains;
       are_domains = b.are_domains;
-      wired = wiring-closed b.domains old.records (with_items distrust_cmp more old.records) IsMeant (spots_of old.config.seeds old.arrived) w v turns b.wired (shuts b.domains b.are_domains) closes;
+      wired = wiring-closed b.domains old.records (with_items distrust_cmp more old.records) IsMeant
+          (spots_of old.config.seeds old.arrived) w v turns b.wired (shuts b.domains b.are_domains)
+          closes;
       reached = reached;
-      pairing = pairing-counts (pairs_of old.config.seeds old.arrived) p q b.pairing numbers firsts counts;
+      pairing = pairing-counts (pairs_of old.config.seeds old.arrived) p q b.pairing numbers firsts
+          counts;
     })
 
 -- the counts are those of before a close
-pub was-counted : (h : Hoard) (p : Paired) (w v : Wired) (i : Index) (IsMeant : Label → Type 0) (turns : ℕ) → IsIndexed h p w → Closes w IsMeant v turns → i.marked ≡ v.marked → i.last ≡ v.last → WasCounted p i
+pub was-counted : (h : Hoard) (p : Paired) (w v : Wired) (i : Index) (IsMeant : Label → Type 0)
+    (turns : ℕ) → IsIndexed h p w → Closes w IsMeant v turns → i.marked ≡ v.marked → i.last ≡ v.last
+    → WasCounted p i
 was-counted h p w v i IsMeant turns is c marked last = record {
   net = w.net;
   marked = w.marked;
@@ -304,26 +398,38 @@ was-counted h p w v i IsMeant turns is c marked last = record {
 }
 
 -- how much work a close was
-pub closes-at_once : (old new : Hoard) (p : Paired) (w v : Wired) (was after : Spare) (before turns : ℕ) (records : List Distrust) (IsMeant : Label → Type 0) → IsBuilt old p w → Closes w IsMeant v turns
-    → ((domains : List (List ℕ)) → AreDomains old.config domains → (label : Label) → label.domain < length domains → IsMeant label ↔ IsShutBy records (triple_by domains label))
+pub closes-at_once : (old new : Hoard) (p : Paired) (w v : Wired) (was after : Spare)
+    (before turns : ℕ) (records : List Distrust) (IsMeant : Label → Type 0) → IsBuilt old p w
+    → Closes w IsMeant v turns
+    → ((domains : List (List ℕ)) → AreDomains old.config domains → (label : Label)
+    → label.domain < length domains → IsMeant label ↔ IsShutBy records
+    (triple_by domains label))
     → ClosesAtOnce (indexed_of old w was before) records (indexed_of new v after turns)
 closes-at_once old new p w v was after before turns records IsMeant b c means = record {
   labels = map (triple_by b.domains) w.labels;
   net = b.wired.mirrors;
   closing = c.numbers;
-  within = subst (λ n. All (λ number. number < n) c.numbers) (sym (length-map w.labels (triple_by b.domains))) c.are.within;
+  within = subst (λ n. All (λ number. number < n) c.numbers)
+      (sym (length-map w.labels (triple_by b.domains))) c.are.within;
   exactly = λ number t at.
       let f = slice_get-map_cases (triple_by b.domains) w.labels number t at in
-      let l : f.0.domain < length b.domains = All-contains (λ (a : Label). a.domain < length b.domains) w.labels f.0 b.wired.within (slice_get-Contains w.labels number f.0 f.1) in
+      let l : f.0.domain < length b.domains = All-contains
+      (λ (a : Label). a.domain < length b.domains) w.labels f.0 b.wired.within
+      (slice_get-Contains w.labels number f.0 f.1) in
       let is = c.are.exactly number f.0 f.1 in
-      let shut = means b.domains b.are_domains f.0 l in
-      (λ has. subst (IsShutBy records) f.2 (shut.0 (is.0 has)), λ s. is.1 (shut.1 (subst (IsShutBy records) (sym f.2) s)));
+      let shut = means b.domains b.are_domains f.0 l in (
+        λ has. subst (IsShutBy records) f.2 (shut.0 (is.0 has)),
+        λ s. is.1
+            (shut.1 (subst (IsShutBy records) (sym f.2) s)),
+      );
   turns = c.turns;
   near = c.near;
 }
 
 -- what is accepted with more records was accepted without them
-pub kept-closed : (old new : Hoard) (xs : List Distrust) (p q : Paired) (w v : Wired) → IsIndexed old p w → IsIndexed new q v → IsBefore old xs new → q.numbers ≡ p.numbers → (k : ℕ) → is_raised (flags_of q.counts) k ≡ true → is_raised (flags_of p.counts) k ≡ true
+pub kept-closed : (old new : Hoard) (xs : List Distrust) (p q : Paired) (w v : Wired)
+    → IsIndexed old p w → IsIndexed new q v → IsBefore old xs new → q.numbers ≡ p.numbers → (k : ℕ)
+    → is_raised (flags_of q.counts) k ≡ true → is_raised (flags_of p.counts) k ≡ true
 kept-closed old new xs p q w v i j before numbers k e =
     let is = hoard-before old new xs before in
     let same : pairs_of new.config.seeds new.arrived ≡ pairs_of old.config.seeds old.arrived = ap (λ (h : Hoard). pairs_of h.config.seeds h.arrived) is in
@@ -333,7 +439,9 @@ kept-closed old new xs p q w v i j before numbers k e =
     let at = slice_get-get_or (pairs_of new.config.seeds new.arrived) k no_pair l in
     let m = fewer.sound k (get_or (pairs_of new.config.seeds new.arrived) k no_pair) e at in
     let less = member_more (meaning_of new) (meaning_of old) before.config (λ r c. subst (λ rs. Contains rs r) before.held c)
-    (λ y c. subst (λ ys. Contains ys y) (sym before.records) ((distrust-sets.all_members xs old.records y (always-all xs) (always-all old.records)).1 (inr c)))
+    (λ y c. subst (λ ys. Contains ys y) (sym before.records)
+    ((distrust-sets.all_members xs old.records y (always-all xs) (always-all old.records)).1
+    (inr c)))
     (get_or (pairs_of new.config.seeds new.arrived) k no_pair) m
     in
     let f = more.all (get_or (pairs_of new.config.seeds new.arrived) k no_pair) less in
@@ -341,15 +449,26 @@ kept-closed old new xs p q w v i j before numbers k e =
     ap (λ a. is_raised (flags_of p.counts) a) here ∙ f.1
   where
     within : k < length (flags_of q.counts)
-    within = elim (cases_lt k (length (flags_of q.counts))) [ inl b ↦ b | inr b ↦ absurd (both_ways (is_raised (flags_of q.counts) k) (get_or_past (flags_of q.counts) k false b) e) ]
+    within = elim (cases_lt k (length (flags_of q.counts))) [
+      | inl b ↦ b
+      | inr b ↦ absurd (both_ways (is_raised (flags_of q.counts) k)
+          (get_or_past (flags_of q.counts) k false b) e)
+    ]
 
 -- what is lost with more records
-pub loss-closed : (old new : Hoard) (xs : List Distrust) (p q : Paired) (w v : Wired) (n : ℕ) → IsIndexed old p w → IsIndexed new q v → IsBefore old xs new
-    → length q.counts ≡ length p.counts → q.numbers ≡ p.numbers → raised_count (flags_of p.counts) ≡ raised_count (flags_of q.counts) + n → IsGain (meaning_of new) (meaning_of old) n
+pub loss-closed : (old new : Hoard) (xs : List Distrust) (p q : Paired) (w v : Wired) (n : ℕ)
+    → IsIndexed old p w → IsIndexed new q v → IsBefore old xs new
+    → length q.counts ≡ length p.counts → q.numbers ≡ p.numbers
+    → raised_count (flags_of p.counts) ≡ raised_count (flags_of q.counts) + n
+    → IsGain (meaning_of new) (meaning_of old) n
 loss-closed old new xs p q w v n i j before size numbers count =
-    let same : pairs_of new.config.seeds new.arrived ≡ pairs_of old.config.seeds old.arrived = ap (λ (h : Hoard). pairs_of h.config.seeds h.arrived) (hoard-before old new xs before) in
-    gain-from_flags no_pair (meaning_of new) (meaning_of old) (pairs_of new.config.seeds new.arrived) (pairs_of old.config.seeds old.arrived) q.numbers p.numbers (flags_of q.counts) (flags_of p.counts)
-    (tells new q v j.built j.counts) (tells old p w i.built i.counts) (kept-closed old new xs p q w v i j before numbers)
+    let same : pairs_of new.config.seeds new.arrived ≡ pairs_of old.config.seeds old.arrived = ap
+    (λ (h : Hoard). pairs_of h.config.seeds h.arrived) (hoard-before old new xs before) in
+    gain-from_flags no_pair (meaning_of new) (meaning_of old)
+    (pairs_of new.config.seeds new.arrived) (pairs_of old.config.seeds old.arrived) q.numbers
+    p.numbers (flags_of q.counts) (flags_of p.counts)
+    (tells new q v j.built j.counts) (tells old p w i.built i.counts)
+    (kept-closed old new xs p q w v i j before numbers)
     (λ k y e f at. ap (λ ps. slice_get ps k) (sym same) ∙ at)
     n count (omega (arith, size, length-flags p.counts, length-flags q.counts))
 
@@ -360,7 +479,8 @@ hoard-same old new meaning arrived capacity =
     ∙ ap (λ a. let h : Hoard = record { config = old.config; arrived = a; held = old.held; records = old.records; capacity = new.capacity } in h) arrived
     ∙ ap (λ n. let h : Hoard = record { config = old.config; arrived = old.arrived; held = old.held; records = old.records; capacity = n } in h) capacity
 
-pub before-added : (old new : Hoard) (x : Distrust) → HasAdded (meaning_of old) x (meaning_of new) → new.arrived ≡ old.arrived → IsBefore old (x ∷ []) new
+pub before-added : (old new : Hoard) (x : Distrust) → HasAdded (meaning_of old) x (meaning_of new)
+    → new.arrived ≡ old.arrived → IsBefore old (x ∷ []) new
 before-added old new x a arrived = record {
   config = ap (λ (m : Meaning). m.config) a.meaning;
   arrived = arrived;
@@ -368,7 +488,10 @@ before-added old new x a arrived = record {
   records = ap (λ (m : Meaning). m.records) a.meaning;
 }
 
-pub before-all : (old new : Hoard) (more : List Distrust) → meaning_of new ≡ record (meaning_of old) { records = with_items distrust_cmp more old.records } → new.arrived ≡ old.arrived → IsBefore old more new
+pub before-all : (old new : Hoard) (more : List Distrust)
+    → meaning_of new ≡ record (meaning_of old)
+    { records = with_items distrust_cmp more old.records } → new.arrived ≡ old.arrived
+    → IsBefore old more new
 before-all old new more meaning arrived = record {
   config = ap (λ (m : Meaning). m.config) meaning;
   arrived = arrived;
@@ -379,9 +502,18 @@ before-all old new more meaning arrived = record {
 -- ---- more room
 
 same-wiring : (w : Wired) → IsRoomierWired w w
-same-wiring w = record { labels = refl; net = refl; marked = refl; last = refl; nodes = omega arith; edges = omega arith }
+same-wiring w = record {
+  labels = refl;
+  net = refl;
+  marked = refl;
+  last = refl;
+  nodes = omega arith;
+  edges = omega arith;
+}
 
-indexed-roomier : (h new : Hoard) (p q : Paired) (w v : Wired) → IsIndexed h p w → new ≡ record h { capacity = new.capacity } → q.numbers ≡ p.numbers → q.firsts ≡ p.firsts → q.counts ≡ p.counts → IsRoomierWired w v → IsIndexed new q v
+indexed-roomier : (h new : Hoard) (p q : Paired) (w v : Wired) → IsIndexed h p w
+    → new ≡ record h { capacity = new.capacity } → q.numbers ≡ p.numbers → q.firsts ≡ p.firsts
+    → q.counts ≡ p.counts → IsRoomierWired w v → IsIndexed new q v
 indexed-roomier h new p q w v i is numbers firsts counts r =
     let b = i.built in
     let other : Hoard = record h { capacity = new.capacity } in
@@ -398,10 +530,12 @@ indexed-roomier h new p q w v i is numbers firsts counts r =
               (subst (Mirrors (spots_of h.config.seeds h.arrived) (map (triple_by b.domains) w.labels) (IsShutBy h.records)) (sym r.net) b.wired.mirrors);
         };
         reached = subst (λ ns. ListsReached v.net ns) (sym r.marked) (subst (λ net. ListsReached net w.marked) (sym r.net) b.reached);
-        pairing = pairing-counts (pairs_of h.config.seeds h.arrived) p q b.pairing numbers firsts (ap length counts);
+        pairing = pairing-counts (pairs_of h.config.seeds h.arrived) p q b.pairing numbers firsts
+            (ap length counts);
       };
       counts = subst (λ ms. AreCounts q.firsts ms q.counts) (sym r.marked)
-          (subst (λ fs. AreCounts fs w.marked q.counts) (sym firsts) (subst (AreCounts p.firsts w.marked) (sym counts) i.counts));
+          (subst (λ fs. AreCounts fs w.marked q.counts) (sym firsts)
+          (subst (AreCounts p.firsts w.marked) (sym counts) i.counts));
     })
 
 pub room-kept : (h new : Hoard) (p q : Paired) (w v : Wired) (spare : Spare) → HasRoom h p w spare → new ≡ record h { capacity = new.capacity } → h.capacity ≤ new.capacity → q.firsts ≡ p.firsts → p.capacity ≤ q.capacity → IsRoomierWired w v → HasRoom new q v spare
@@ -413,26 +547,42 @@ room-kept h new p q w v spare r is held firsts pairs wired = record {
   few = omega (arith, r.few, ap length firsts);
 }
 
-pub reserves-from : (h new : Hoard) (p q : Paired) (w v : Wired) (spare more : Spare) → IsKept h p w spare → new ≡ record h { capacity = new.capacity } → q.numbers ≡ p.numbers → q.firsts ≡ p.firsts → q.counts ≡ p.counts → IsRoomierWired w v → HasRoom new q v more → spare.receipts ≤ more.receipts → spare.offers ≤ more.offers → Reserves h new p q w v spare more
+pub reserves-from : (h new : Hoard) (p q : Paired) (w v : Wired) (spare more : Spare)
+    → IsKept h p w spare → new ≡ record h { capacity = new.capacity } → q.numbers ≡ p.numbers
+    → q.firsts ≡ p.firsts → q.counts ≡ p.counts → IsRoomierWired w v → HasRoom new q v more
+    → spare.receipts ≤ more.receipts → spare.offers ≤ more.offers
+    → Reserves h new p q w v spare more
 reserves-from h new p q w v spare more k is numbers firsts counts r room receipts offers = record {
   meaning = ap meaning_of is;
   arrived = ap (λ (x : Hoard). x.arrived) is;
   marked = r.marked;
   net = r.net;
-  kept = record { indexed = indexed-roomier h new p q w v k.indexed is numbers firsts counts r; room = room };
+  marked = r.marked;
+  kept = record {
+    indexed = indexed-roomier h new p q w v k.indexed is numbers firsts counts r;
+    room = room;
+  };
   roomier = record { receipts = receipts; offers = offers };
 }
 
 -- a refusal leaves the room
-pub reserves-kept : (h new : Hoard) (p q : Paired) (w v : Wired) (spare : Spare) → IsKept h p w spare → new ≡ record h { capacity = new.capacity } → h.capacity ≤ new.capacity → q.numbers ≡ p.numbers → q.firsts ≡ p.firsts → q.counts ≡ p.counts → p.capacity ≤ q.capacity → IsRoomierWired w v → Reserves h new p q w v spare spare
+pub reserves-kept : (h new : Hoard) (p q : Paired) (w v : Wired) (spare : Spare)
+    → IsKept h p w spare → new ≡ record h { capacity = new.capacity } → h.capacity ≤ new.capacity
+    → q.numbers ≡ p.numbers → q.firsts ≡ p.firsts → q.counts ≡ p.counts → p.capacity ≤ q.capacity
+    → IsRoomierWired w v → Reserves h new p q w v spare spare
 reserves-kept h new p q w v spare k is held numbers firsts counts pairs r =
-    reserves-from h new p q w v spare spare k is numbers firsts counts r (room-kept h new p q w v spare k.room is held firsts pairs r) (omega arith) (omega arith)
+    reserves-from h new p q w v spare spare k is numbers firsts counts r
+    (room-kept h new p q w v spare k.room is held firsts pairs r) (omega arith) (omega arith)
 
 pub reserves-held : (h new : Hoard) (p : Paired) (w : Wired) (spare : Spare) → IsKept h p w spare → new ≡ record h { capacity = new.capacity } → h.capacity ≤ new.capacity → Reserves h new p p w w spare spare
 reserves-held h new p w spare k is held = reserves-kept h new p p w w spare k is held refl refl refl (omega arith) (same-wiring w)
 
-pub reserves-pairs : (h new : Hoard) (p q : Paired) (w : Wired) (spare : Spare) → IsKept h p w spare → new ≡ record h { capacity = new.capacity } → h.capacity ≤ new.capacity → q.numbers ≡ p.numbers → q.firsts ≡ p.firsts → q.counts ≡ p.counts → p.capacity ≤ q.capacity → Reserves h new p q w w spare spare
-reserves-pairs h new p q w spare k is held numbers firsts counts pairs = reserves-kept h new p q w w spare k is held numbers firsts counts pairs (same-wiring w)
+pub reserves-pairs : (h new : Hoard) (p q : Paired) (w : Wired) (spare : Spare) → IsKept h p w spare
+    → new ≡ record h { capacity = new.capacity } → h.capacity ≤ new.capacity → q.numbers ≡ p.numbers
+    → q.firsts ≡ p.firsts → q.counts ≡ p.counts → p.capacity ≤ q.capacity
+    → Reserves h new p q w w spare spare
+reserves-pairs h new p q w spare k is held numbers firsts counts pairs = reserves-kept h new p q w w
+    spare k is held numbers firsts counts pairs (same-wiring w)
 
 -- ---- what the index is
 
@@ -457,11 +607,76 @@ index-parts h p w b =
     get_or_seed (s ∷ seeds) zero l = (s, refl)
     get_or_seed (s ∷ seeds) (suc n) l = get_or_seed seeds n (omega (arith, l))
 
-pub index-of_kept : (h : Hoard) (p : Paired) (w : Wired) (spare : Spare) (turns : ℕ) → IsKept h p w spare → length h.arrived ≡ length h.held → IsIndexOf (indexed_of h w spare turns)
-index-of_kept h p w spare turns k once =
-    let b = k.indexed.built in
+pub index-of_built : (h : Hoard) (p : Paired) (w : Wired) (spare : Spare) (turns : ℕ)
+    → IsBuilt h p w → length h.arrived ≡ length h.held → IsIndexOf (indexed_of h w spare turns)
+index-of_built h p w spare turns b once =
     let parts = index-parts h p w b in
     record { labels = map (triple_by b.domains) w.labels; net = b.wired.mirrors; held = b.same; once = once; seeds = parts.0; receipts = parts.1 }
+
+pub index-of_kept : (h : Hoard) (p : Paired) (w : Wired) (spare : Spare) (turns : ℕ)
+    → IsKept h p w spare → length h.arrived ≡ length h.held → IsIndexOf (indexed_of h w spare turns)
+index-of_kept h p w spare turns k once = index-of_built h p w spare turns k.indexed.built once
+
+-- the work of records that are held besides
+pub work-of : (old new : Hoard) (more : List Distrust) (p q : Paired) (w v : Wired) (spare : Spare)
+    (before turns : ℕ) → IsBefore old more new → IsBuilt old p w → IsBuilt new q v
+    → length new.arrived ≡ length new.held → Closes w (IsDistrusted new) v turns
+    → IsWorkOf (indexed_of old w spare before) more turns
+work-of old new more p q w v spare before turns was b built once c = record {
+  after = indexed_of new v spare turns;
+  is = index-of_built new q v spare turns built once;
+  meaning = ap meaning_of (hoard-before old new more was);
+  arrived = was.arrived;
+  closes = closes-at_once old new p w v spare spare before turns new.records (IsDistrusted new) b c
+      (λ domains d. distrusted-shut new domains
+      (subst (λ (k : Configuration). AreDomains k domains) (sym was.config) d));
+  turns = refl;
+}
+
+-- all records were held, where nothing has changed
+pub all-old : (old new : Meaning) (records : List Distrust)
+    → new ≡ record old { records = with_items distrust_cmp records old.records } → new ≡ old
+    → AreOld old records
+all-old old new records e same x has =
+    subst (λ (xs : List Distrust). Contains xs x) (ap (λ (m : Meaning). m.records) (sym e ∙ same))
+    ((distrust-sets.all_members records old.records x (always-all records)
+    (always-all old.records)).1 (inl has))
+
+-- more room is no other work
+pub same-work : (old new : Indexed) → new.state.meaning ≡ old.state.meaning
+    → new.arrived ≡ old.arrived → new.wired.net ≡ old.wired.net
+    → new.wired.marked ≡ old.wired.marked
+    → (records : List Distrust) (count : ℕ) → IsWorkOf new records count
+    → IsWorkOf old records count
+same-work old new meaning arrived net marked records count is =
+    let c = is.closes in
+    record {
+      after = is.after;
+      is = is.is;
+      meaning = is.meaning ∙ ap (λ (m : Meaning). record m
+          { records = with_items distrust_cmp records m.records }) meaning;
+      arrived = is.arrived ∙ arrived;
+      closes = record {
+        labels = c.labels;
+        net = subst (λ (m : Meaning). IsNetOf m.config.seeds old.arrived m.records c.labels
+            old.wired.net) meaning
+            (subst (λ (rs : List Receipt). IsNetOf new.state.meaning.config.seeds rs
+            new.state.meaning.records c.labels old.wired.net) arrived
+            (subst (IsNetOf new.state.meaning.config.seeds new.arrived new.state.meaning.records
+            c.labels) net c.net));
+        closing = c.closing;
+        within = c.within;
+        exactly = c.exactly;
+        turns = subst (λ (ns : List ℕ). ClosesIn old.wired.net c.closing
+            (visits_of old.wired.net ns) (visits_of is.after.wired.net is.after.wired.marked)
+            is.after.turns) marked
+            (subst (λ (n : Net). ClosesIn n c.closing (visits_of n new.wired.marked)
+            (visits_of is.after.wired.net is.after.wired.marked) is.after.turns) net c.turns);
+        near = subst (λ (n : Net). (reach : ℕ → Bool) → HasReachOf n c.closing reach
+            → is.after.turns ≤ 2 * edges_at n reach) net c.near;
+      };
+      turns = is.turns;
+    }
 
 -- ---- configured documents
 
@@ -488,9 +703,12 @@ wired-seed h seeds s w a b c d node triples wired room has rooted is offers doma
     (subst (λ (ts : List Triple). IsWiringOf domains h.records (spots ++ record { rooted = true; offers = ts; awaits = None } ∷ []) d) is third)
 
 pub seeded-more : (h : Hoard) (seeds : List Seed) (s : Seed) (p a q : Paired) (w d : Wired) (first : ℕ) → h.arrived ≡ [] → IsSeeded h seeds p w
-    → IsPairing (pairs_of seeds h.arrived ++ pair_of_seed s ∷ []) q → a.counts ≡ p.counts → a.firsts ≡ p.firsts → q.counts ≡ a.counts ++ 0 ∷ [] → q.firsts ≡ a.firsts ++ first ∷ [] → length a.firsts + 1 ≤ a.capacity → q.capacity ≡ a.capacity
+    → IsPairing (pairs_of seeds h.arrived ++ pair_of_seed s ∷ []) q → a.counts ≡ p.counts
+    → a.firsts ≡ p.firsts → q.counts ≡ a.counts ++ 0 ∷ [] → q.firsts ≡ a.firsts ++ first ∷ []
+    → length a.firsts + 1 ≤ a.capacity → q.capacity ≡ a.capacity
     → ((domains : List (List ℕ)) → AreDomains h.config domains → IsWiringOf domains h.records (map spot_of_seed (seeds ++ s ∷ [])) d) → ListsReached d.net d.marked → IsSeeded h (seeds ++ s ∷ []) q d
-seeded-more h seeds s p a q w d first none g pairing f1 f2 counts firsts room capacity wired reached =
+seeded-more h seeds s p a q w d first none g pairing f1 f2 counts firsts room capacity wired
+    reached =
     let pairs : pairs_of seeds h.arrived ++ pair_of_seed s ∷ [] ≡ pairs_of (seeds ++ s ∷ []) h.arrived =
     ap (λ rs. (map pair_of_seed seeds ++ map pair_of rs) ++ pair_of_seed s ∷ []) none
     ∙ ap (λ ps. ps ++ pair_of_seed s ∷ []) (append-nil (map pair_of_seed seeds))
@@ -500,7 +718,8 @@ seeded-more h seeds s p a q w d first none g pairing f1 f2 counts firsts room ca
     in
     record {
       pairing = subst (λ ps. IsPairing ps q) pairs pairing;
-      lowered = λ n. ap (λ ks. count_at ks n) (counts ∙ ap (λ ks. ks ++ 0 ∷ []) f1) ∙ count_at-push p.counts n ∙ g.lowered n;
+      lowered = λ n. ap (λ ks. count_at ks n) (counts ∙ ap (λ ks. ks ++ 0 ∷ []) f1)
+          ∙ count_at-push p.counts n ∙ g.lowered n;
       room = omega (arith, ap length firsts, length_push a.firsts first, room, capacity);
       firsts = omega (arith, ap length firsts, length_push a.firsts first, ap length f2, g.firsts, length_push seeds s);
       wired = wired;
@@ -528,9 +747,13 @@ built-seeded h domains p w seeds valid held arrived are is g =
     }
 
 pub kept-seeded : (h : Hoard) (p q : Paired) (w : Wired) (nodes : List ℕ) (seeds : List Seed) → IsBuilt h p w → IsSeeded h seeds p w → h.arrived ≡ [] → length seeds ≤ 4096
-    → q.numbers ≡ p.numbers → q.firsts ≡ p.firsts → q.capacity ≡ p.capacity → nodes ≡ w.marked → AddsNodes p.firsts nodes p.counts q.counts → IsKept h q w (record { receipts = 0; offers = 0 })
+    → q.numbers ≡ p.numbers → q.firsts ≡ p.firsts → q.capacity ≡ p.capacity → nodes ≡ w.marked
+    → AddsNodes p.firsts nodes p.counts q.counts
+    → IsKept h q w (record { receipts = 0; offers = 0 })
 kept-seeded h p q w nodes seeds b g none few numbers firsts capacity is adds =
-    let right : AddsNodes q.firsts w.marked p.counts q.counts = subst (λ fs. AddsNodes fs w.marked p.counts q.counts) (sym firsts) (subst (λ ns. AddsNodes p.firsts ns p.counts q.counts) is adds) in
+    let right : AddsNodes q.firsts w.marked p.counts q.counts = subst
+    (λ fs. AddsNodes fs w.marked p.counts q.counts) (sym firsts)
+    (subst (λ ns. AddsNodes p.firsts ns p.counts q.counts) is adds) in
     record {
       indexed = record {
         built = built-counts h p q w b numbers firsts adds.size;
@@ -546,9 +769,20 @@ kept-seeded h p q w nodes seeds b g none few numbers firsts capacity is adds =
     }
 
 -- there are few nodes
-pub pairs-few : (h : Hoard) (p : Paired) → IsPairing (pairs_of h.config.seeds h.arrived) p → length h.config.seeds ≤ 4096 → length h.arrived ≤ 65536 → length p.firsts < 2 ^ 32
+pub pairs-few : (h : Hoard) (p : Paired) → IsPairing (pairs_of h.config.seeds h.arrived) p
+    → length h.config.seeds ≤ 4096 → length h.arrived ≤ 65536 → length p.firsts < 2 ^ 32
 pairs-few h p pairing seeds arrived =
-    omega (arith, pairing.sizes, length-append (map pair_of_seed h.config.seeds) (map pair_of h.arrived), length-map h.config.seeds pair_of_seed, length-map h.arrived pair_of, seeds, arrived)
+    omega (
+      arith,
+      pairing.sizes,
+      length-append (map pair_of_seed h.config.seeds)
+          (map pair_of h.arrived),
+      length-map h.config.seeds pair_of_seed,
+      length-map h.arrived
+          pair_of,
+      seeds,
+      arrived,
+    )
 
 -- ---- pending receipts
 
@@ -573,7 +807,8 @@ among-to nodes n t =
 abbrev pub unmarked : List ℕ → ℕ → List ℕ
 unmarked marked count = passing (only_wide (λ k. is_among marked k) (λ k. true) (λ k e. refl)) count
 
-pub length-unmarked : (marked : List ℕ) (count : ℕ) → AllPairs ◌≢◌ marked → All (λ n. n < count) marked → length (unmarked marked count) + length marked ≡ count
+pub length-unmarked : (marked : List ℕ) (count : ℕ) → AllPairs ◌≢◌ marked
+    → All (λ n. n < count) marked → length (unmarked marked count) + length marked ≡ count
 length-unmarked marked count once within =
     let among = λ (k : ℕ). is_among marked k in
     let less : length (passing among count) ≤ length marked = no_longer (passing among count) marked (passing-differ among count) (λ k c. among-to marked k (passing-to among count k c).1) in

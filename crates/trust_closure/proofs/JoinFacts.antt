@@ -165,10 +165,14 @@ pub record IsDistrusting (start now : Meaning) (all rest : List Distrust) : Type
   pub records : with_items distrust_cmp rest now.records ≡ with_items distrust_cmp all start.records
   pub known : AreKnown now rest
 
-pub IsDistrusting-start : (start : Meaning) (all : List Distrust) → AreKnown start all → IsDistrusting start start all all
-IsDistrusting-start start all known = record { config = refl; held = refl; records = refl; known = known }
+pub IsDistrusting-start : (start : Meaning) (all : List Distrust) → AreKnown start all
+    → IsDistrusting start start all all
+IsDistrusting-start start all known = record
+    { config = refl; held = refl; records = refl; known = known }
 
-distrusted : (start now new : Meaning) (all later : List Distrust) (x : Distrust) → IsMeaning now → IsDistrusting start now all (x ∷ later) → (done : Addition) → Adds now x new done → IsDistrusting start new all later
+distrusted : (start now new : Meaning) (all later : List Distrust) (x : Distrust) → IsMeaning now
+    → IsDistrusting start now all (x ∷ later) → (done : Addition) → Adds now x new done
+    → IsDistrusting start new all later
 distrusted start now new all later x is joining Added h = record {
   config = ap (λ (m : Meaning). m.config) h.meaning ∙ joining.config;
   held = ap (λ (m : Meaning). m.held) h.meaning ∙ joining.held;
@@ -176,18 +180,26 @@ distrusted start now new all later x is joining Added h = record {
   known = subst (λ (m : Meaning). AreKnown m later) (sym h.meaning) (record { domains = λ y has. joining.known.domains y (contains_later x later y has); few = joining.known.few });
 }
 distrusted start now new all later x is joining There h =
-    let same : with_item distrust_cmp x now.records ≡ now.records = record_sets.present x now.records is.records_rising h.0 in
+    let same : with_item distrust_cmp x now.records ≡ now.records = record_sets.present x
+    now.records is.records_rising h.0 in
     let few = joining.known.few in
     let size = ap (λ xs. length (with_items distrust_cmp later xs)) same in
     record {
       config = ap (λ (m : Meaning). m.config) h.1 ∙ joining.config;
       held = ap (λ (m : Meaning). m.held) h.1 ∙ joining.held;
-      records = ap (λ (m : Meaning). with_items distrust_cmp later m.records) h.1 ∙ ap (with_items distrust_cmp later) (sym same) ∙ joining.records;
-      known = subst (λ (m : Meaning). AreKnown m later) (sym h.1) (record { domains = λ y has. joining.known.domains y (contains_later x later y has); few = omega arith });
+      records = ap (λ (m : Meaning). with_items distrust_cmp later m.records) h.1
+          ∙ ap (with_items distrust_cmp later) (sym same) ∙ joining.records;
+      known = subst (λ (m : Meaning). AreKnown m later) (sym h.1)
+          (record {
+            domains = λ y has. joining.known.domains y (contains_later x later y has);
+            few =
+                omega arith;
+          });
     }
 distrusted start now new all later x is joining NoPlace h = absurd h
 
-never_distrusts : (start now : Meaning) (all later : List Distrust) (x : Distrust) → IsDistrusting start now all (x ∷ later) → (why : TakeError) → RefusesDistrust now x why → ⊥
+never_distrusts : (start now : Meaning) (all later : List Distrust) (x : Distrust)
+    → IsDistrusting start now all (x ∷ later) → (why : TakeError) → RefusesDistrust now x why → ⊥
 never_distrusts start now all later x joining UnknownDomain h = h (joining.known.domains x (contains_first x later))
 never_distrusts start now all later x joining WrongEndpoint h = h
 never_distrusts start now all later x joining Full h =
@@ -199,17 +211,27 @@ never_distrusts start now all later x joining Full h =
 never_distrusts start now all later x joining NoMemory h = h
 never_distrusts start now all later x joining ConfigDiffers h = h
 
-distrusts_next : (start now new : Meaning) (all later : List Distrust) (x : Distrust) → IsMeaning now → IsDistrusting start now all (x ∷ later) → (result : Result Addition TakeError) → AddsOrRefuses now x new result → IsDistrusting start new all later
-distrusts_next start now new all later x is joining (Ok done) h = distrusted start now new all later x is joining done h
-distrusts_next start now new all later x is joining (Err why) h = absurd (never_distrusts start now all later x joining why h.0)
+distrusts_next : (start now new : Meaning) (all later : List Distrust) (x : Distrust)
+    → IsMeaning now → IsDistrusting start now all (x ∷ later) → (result : Result Addition TakeError)
+    → AddsOrRefuses now x new result → IsDistrusting start new all later
+distrusts_next start now new all later x is joining (Ok done) h = distrusted start now new all later
+    x is joining done h
+distrusts_next start now new all later x is joining (Err why) h = absurd
+    (never_distrusts start now all later x joining why h.0)
 
-pub IsDistrusting-next : (start now new : Meaning) (all rest later : List Distrust) (x : Distrust) (result : Result Addition TakeError) → IsMeaning now → IsDistrusting start now all rest → rest ≡ x ∷ later → AddsOrRefuses now x new result → IsDistrusting start new all later
+pub IsDistrusting-next : (start now new : Meaning) (all rest later : List Distrust) (x : Distrust)
+    (result : Result Addition TakeError) → IsMeaning now → IsDistrusting start now all rest
+    → rest ≡ x ∷ later → AddsOrRefuses now x new result → IsDistrusting start new all later
 IsDistrusting-next start now new all rest later x result is joining e h =
-    distrusts_next start now new all later x is (subst (IsDistrusting start now all) e joining) result h
+    distrusts_next start now new all later x is (subst (IsDistrusting start now all) e joining)
+    result h
 
-pub IsDistrusting-end : (start now : Meaning) (all rest : List Distrust) → IsDistrusting start now all rest → rest ≡ [] → now ≡ record start { records = with_items distrust_cmp all start.records }
+pub IsDistrusting-end : (start now : Meaning) (all rest : List Distrust)
+    → IsDistrusting start now all rest → rest ≡ []
+    → now ≡ record start { records = with_items distrust_cmp all start.records }
 IsDistrusting-end start now all rest joining e =
-    let records : now.records ≡ with_items distrust_cmp all start.records = sym (ap (λ xs. with_items distrust_cmp xs now.records) e) ∙ joining.records in
+    let records : now.records ≡ with_items distrust_cmp all start.records = sym
+    (ap (λ xs. with_items distrust_cmp xs now.records) e) ∙ joining.records in
     let config = joining.config in
     let held = joining.held in
     λ i. record { config = config i; held = held i; records = records i }
@@ -218,9 +240,11 @@ IsDistrusting-end start now all rest joining e =
 abbrev pub HasGrown : Meaning → Meaning → Type 0
 HasGrown start now = (length start.records < length now.records) ⊎ (now ≡ start)
 
-grows_to : (start now new : Meaning) → length now.records < length new.records → HasGrown start now → HasGrown start new
+grows_to : (start now new : Meaning) → length now.records < length new.records → HasGrown start now
+    → HasGrown start new
 grows_to start now new longer (inl more) = inl (omega (arith, more, longer))
-grows_to start now new longer (inr same) = inl (omega (arith, longer, ap (λ (m : Meaning). length m.records) same))
+grows_to start now new longer (inr same) = inl
+    (omega (arith, longer, ap (λ (m : Meaning). length m.records) same))
 
 stays_as : (start now new : Meaning) → new ≡ now → HasGrown start now → HasGrown start new
 stays_as start now new same grown = subst (HasGrown start) (sym same) grown

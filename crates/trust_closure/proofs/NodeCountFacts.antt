@@ -21,10 +21,12 @@ is_counted count = not (count == 0)
 pub length-flags : (counts : List ℕ) → length (flags_of counts) ≡ length counts
 length-flags counts = length-map counts is_counted
 
-pub flag-counted : (counts : List ℕ) (n : ℕ) → is_raised (flags_of counts) n ≡ is_counted (count_at counts n)
+pub flag-counted : (counts : List ℕ) (n : ℕ)
+    → is_raised (flags_of counts) n ≡ is_counted (count_at counts n)
 flag-counted counts n = elim (cases_lt n (length counts)) [
   | inl l ↦ get_or-map is_counted counts n 0 false l
-  | inr l ↦ get_or_past (flags_of counts) n false (omega (arith, l, length-flags counts)) ∙ ap is_counted (sym (get_or_past counts n 0 l))
+  | inr l ↦ get_or_past (flags_of counts) n false (omega (arith, l, length-flags counts))
+      ∙ ap is_counted (sym (get_or_past counts n 0 l))
 ]
 
 counted-positive : (k : ℕ) → is_counted k ≡ true → 0 < k
@@ -38,92 +40,158 @@ positive-counted k l = decide (eqb k 0) refl
     decide true e = absurd (omega (arith, l, eqb-true k 0 e))
     decide false e = not_from_false (eqb k 0) e
 
-pub raised-positive : (counts : List ℕ) (n : ℕ) → is_raised (flags_of counts) n ≡ true → 0 < count_at counts n
+pub raised-positive : (counts : List ℕ) (n : ℕ) → is_raised (flags_of counts) n ≡ true
+    → 0 < count_at counts n
 raised-positive counts n e = counted-positive (count_at counts n) (sym (flag-counted counts n) ∙ e)
 
-pub positive-raised : (counts : List ℕ) (n : ℕ) → 0 < count_at counts n → is_raised (flags_of counts) n ≡ true
+pub positive-raised : (counts : List ℕ) (n : ℕ) → 0 < count_at counts n
+    → is_raised (flags_of counts) n ≡ true
 positive-raised counts n l = flag-counted counts n ∙ positive-counted (count_at counts n) l
 
-pub zero-lowered : (counts : List ℕ) (n : ℕ) → count_at counts n ≡ 0 → is_raised (flags_of counts) n ≡ false
+pub zero-lowered : (counts : List ℕ) (n : ℕ) → count_at counts n ≡ 0
+    → is_raised (flags_of counts) n ≡ false
 zero-lowered counts n e = flag-counted counts n ∙ ap is_counted e
 
-pub flags-push : (old new : List ℕ) → new ≡ old ++ 0 ∷ [] → flags_of new ≡ flags_of old ++ false ∷ []
+pub flags-push : (old new : List ℕ) → new ≡ old ++ 0 ∷ []
+    → flags_of new ≡ flags_of old ++ false ∷ []
 flags-push old new e = ap flags_of e ∙ map_push is_counted old 0
 
 pub count_at-push : (counts : List ℕ) (n : ℕ) → count_at (counts ++ 0 ∷ []) n ≡ count_at counts n
 count_at-push counts n = elim (cases_lt n (length counts)) [
   | inl l ↦ get_or_append_left counts (0 ∷ []) 0 n l
   | inr l ↦ elim (cases_lt n (length (counts ++ 0 ∷ []))) [
-    | inl b ↦ get_or_push counts 0 0 n (omega (arith, l, b, length_push counts 0)) ∙ sym (get_or_past counts n 0 l)
+    | inl b ↦ get_or_push counts 0 0 n (omega (arith, l, b, length_push counts 0))
+        ∙ sym (get_or_past counts n 0 l)
     | inr b ↦ get_or_past (counts ++ 0 ∷ []) n 0 b ∙ sym (get_or_past counts n 0 l)
   ]
 ]
 
 -- ---- how many nodes have a document
 
-pub nodes_with-append : (firsts xs ys : List ℕ) (n : ℕ) → nodes_with firsts (xs ++ ys) n ≡ nodes_with firsts xs n + nodes_with firsts ys n
-nodes_with-append firsts xs ys n = sum_by-append (λ node. cond (first_of_node firsts node == n) 1 0) xs ys
+pub nodes_with-append : (firsts xs ys : List ℕ) (n : ℕ)
+    → nodes_with firsts (xs ++ ys) n ≡ nodes_with firsts xs n + nodes_with firsts ys n
+nodes_with-append firsts xs ys n = sum_by-append (λ node. cond (first_of_node firsts node == n) 1 0)
+    xs ys
 
 pub nodes_with-few : (firsts nodes : List ℕ) (n : ℕ) → nodes_with firsts nodes n ≤ length nodes
 nodes_with-few firsts nodes n = count_by-le-length (λ node. first_of_node firsts node == n) nodes
 
-pub nodes_with-taken : (firsts nodes : List ℕ) (k n : ℕ) → nodes_with firsts (take k nodes) n ≤ nodes_with firsts nodes n
-nodes_with-taken firsts nodes k n = sum_by-take-le (λ node. cond (first_of_node firsts node == n) 1 0) nodes k
+pub nodes_with-taken : (firsts nodes : List ℕ) (k n : ℕ)
+    → nodes_with firsts (take k nodes) n ≤ nodes_with firsts nodes n
+nodes_with-taken firsts nodes k n = sum_by-take-le
+    (λ node. cond (first_of_node firsts node == n) 1 0) nodes k
 
 pub nodes_with-short : (firsts nodes : List ℕ) (k n : ℕ) → nodes_with firsts (take k nodes) n ≤ k
-nodes_with-short firsts nodes k n = omega (arith, nodes_with-few firsts (take k nodes) n, length-take k nodes)
+nodes_with-short firsts nodes k n = omega
+    (arith, nodes_with-few firsts (take k nodes) n, length-take k nodes)
 
-module _ (firsts nodes : List ℕ) (k number : ℕ) (l : k < length nodes) (at : first_of_node firsts (get_or nodes k 0) ≡ number) where
-  pub nodes_with-same : nodes_with firsts (take (k + 1) nodes) number ≡ nodes_with firsts (take k nodes) number + 1
-  nodes_with-same = count_by_more_yes (λ node. first_of_node firsts node == number) nodes k 0 l (eq-eqb (first_of_node firsts (get_or nodes k 0)) number at)
+module _ (firsts nodes : List ℕ) (k number : ℕ) (l : k < length nodes)
+    (at : first_of_node firsts (get_or nodes k 0) ≡ number) where
+  pub nodes_with-same : nodes_with firsts (take (k + 1) nodes) number ≡ nodes_with firsts
+      (take k nodes) number + 1
+  nodes_with-same = count_by_more_yes (λ node. first_of_node firsts node == number) nodes k 0 l
+      (eq-eqb (first_of_node firsts (get_or nodes k 0)) number at)
 
-  pub nodes_with-other : (n : ℕ) → (n ≡ number → ⊥) → nodes_with firsts (take (k + 1) nodes) n ≡ nodes_with firsts (take k nodes) n
+  pub nodes_with-other : (n : ℕ) → (n ≡ number → ⊥)
+      → nodes_with firsts (take (k + 1) nodes) n ≡ nodes_with firsts (take k nodes) n
   nodes_with-other n other =
-      count_by_more_no (λ node. first_of_node firsts node == n) nodes k 0 l (differ (eqb (first_of_node firsts (get_or nodes k 0)) n) refl)
+      count_by_more_no (λ node. first_of_node firsts node == n) nodes k 0 l
+      (differ (eqb (first_of_node firsts (get_or nodes k 0)) n) refl)
     where
-      differ : (b : Bool) → eqb (first_of_node firsts (get_or nodes k 0)) n ≡ b → eqb (first_of_node firsts (get_or nodes k 0)) n ≡ false
-      differ true e = absurd (other (sym (eqb-true (first_of_node firsts (get_or nodes k 0)) n e) ∙ at))
+      differ : (b : Bool) → eqb (first_of_node firsts (get_or nodes k 0)) n ≡ b
+          → eqb (first_of_node firsts (get_or nodes k 0)) n ≡ false
+      differ true e = absurd (other (sym (eqb-true (first_of_node firsts (get_or nodes k 0)) n e)
+          ∙ at))
       differ false e = e
 
 -- ---- one after another
 
 pub AddsNodes-none : (firsts counts : List ℕ) → AddsNodes firsts [] counts counts
-AddsNodes-none firsts counts = record { size = refl; each = λ n. (let e : count_at counts n ≡ count_at counts n + 0 = omega arith in e) }
+AddsNodes-none firsts counts = record {
+  size = refl;
+  each = λ n.
+      (let e : count_at counts n ≡ count_at counts n + 0 = omega arith in e);
+}
 
-pub AddsNodes-more : (firsts nodes old mid : List ℕ) (k number : ℕ) → k < length nodes → first_of_node firsts (get_or nodes k 0) ≡ number → number < length mid
-    → AddsNodes firsts (take k nodes) old mid → AddsNodes firsts (take (k + 1) nodes) old (set mid number (count_at mid number + 1))
+pub AddsNodes-more : (firsts nodes old mid : List ℕ) (k number : ℕ) → k < length nodes
+    → first_of_node firsts (get_or nodes k 0) ≡ number → number < length mid
+    → AddsNodes firsts (take k nodes) old mid
+    → AddsNodes firsts (take (k + 1) nodes) old (set mid number (count_at mid number + 1))
 AddsNodes-more firsts nodes old mid k number l at within h = record {
   size = length-set mid number (count_at mid number + 1) ∙ h.size;
   each = λ n. elim (cases_eq n number) [
-    | inl e ↦ subst (λ i. count_at (set mid number (count_at mid number + 1)) i ≡ count_at old i + nodes_with firsts (take (k + 1) nodes) i) (sym e)
-        (omega (arith, get_or-set_same mid number (count_at mid number + 1) 0 within, h.each number, nodes_with-same firsts nodes k number l at))
-    | inr d ↦ omega (arith, get_or-set_other mid number n (count_at mid number + 1) 0 d, h.each n, nodes_with-other firsts nodes k number l at n d)
+    | inl e ↦ subst (λ i. count_at (set mid number (count_at mid number + 1)) i ≡ count_at old i
+        + nodes_with firsts (take (k + 1) nodes) i) (sym e)
+        (omega (
+          arith,
+          get_or-set_same mid number (count_at mid number + 1) 0 within,
+          h.each number,
+          nodes_with-same firsts nodes k number l at,
+        ))
+    | inr d ↦ omega (
+      arith,
+      get_or-set_other mid number n (count_at mid number + 1) 0 d,
+      h.each n,
+      nodes_with-other firsts nodes k number l at n d,
+    )
   ];
 }
 
-pub AddsNodes-fewer : (firsts nodes old mid : List ℕ) (k number : ℕ) → k < length nodes → first_of_node firsts (get_or nodes k 0) ≡ number → number < length mid → 0 < count_at mid number
-    → AddsNodes firsts (take k nodes) mid old → AddsNodes firsts (take (k + 1) nodes) (set mid number (count_at mid number - 1)) old
+pub AddsNodes-fewer : (firsts nodes old mid : List ℕ) (k number : ℕ) → k < length nodes
+    → first_of_node firsts (get_or nodes k 0) ≡ number → number < length mid
+    → 0 < count_at mid number
+    → AddsNodes firsts (take k nodes) mid old
+    → AddsNodes firsts (take (k + 1) nodes) (set mid number (count_at mid number - 1)) old
 AddsNodes-fewer firsts nodes old mid k number l at within some h = record {
   size = h.size ∙ sym (length-set mid number (count_at mid number - 1));
   each = λ n. elim (cases_eq n number) [
-    | inl e ↦ subst (λ i. count_at old i ≡ count_at (set mid number (count_at mid number - 1)) i + nodes_with firsts (take (k + 1) nodes) i) (sym e)
-        (omega (arith, get_or-set_same mid number (count_at mid number - 1) 0 within, h.each number, nodes_with-same firsts nodes k number l at, some))
-    | inr d ↦ omega (arith, get_or-set_other mid number n (count_at mid number - 1) 0 d, h.each n, nodes_with-other firsts nodes k number l at n d)
+    | inl e ↦ subst (λ i. count_at old i ≡ count_at (set mid number (count_at mid number - 1)) i
+        + nodes_with firsts (take (k + 1) nodes) i) (sym e)
+        (omega (
+          arith,
+          get_or-set_same mid number (count_at mid number - 1) 0 within,
+          h.each number,
+          nodes_with-same firsts nodes k number l at,
+          some,
+        ))
+    | inr d ↦ omega (
+      arith,
+      get_or-set_other mid number n (count_at mid number - 1) 0 d,
+      h.each n,
+      nodes_with-other firsts nodes k number l at n d,
+    )
   ];
 }
 
 -- the count of the next one is not 0
-pub next-counted : (firsts nodes old mid : List ℕ) (k number : ℕ) → k < length nodes → first_of_node firsts (get_or nodes k 0) ≡ number → nodes_with firsts nodes number ≤ count_at old number
+pub next-counted : (firsts nodes old mid : List ℕ) (k number : ℕ) → k < length nodes
+    → first_of_node firsts (get_or nodes k 0) ≡ number
+    → nodes_with firsts nodes number ≤ count_at old number
     → AddsNodes firsts (take k nodes) mid old → 0 < count_at mid number
 next-counted firsts nodes old mid k number l at counted h =
-    omega (arith, nodes_with-same firsts nodes k number l at, nodes_with-taken firsts nodes (k + 1) number, counted, h.each number)
+    omega (
+      arith,
+      nodes_with-same firsts nodes k number l at,
+      nodes_with-taken firsts nodes (k + 1)
+          number,
+      counted,
+      h.each number,
+    )
 
 -- how many counts are not 0, where one is another
 pub counted-set : (counts : List ℕ) (number value : ℕ) → number < length counts
-    → raised_count (flags_of (set counts number value)) + cond (is_counted (count_at counts number)) 1 0 ≡ raised_count (flags_of counts) + cond (is_counted value) 1 0
+    → raised_count (flags_of (set counts number value)) + cond (is_counted (count_at counts number))
+    1 0 ≡ raised_count (flags_of counts) + cond (is_counted value) 1 0
 counted-set counts number value l =
-    let whole = sum_by-set (λ b. cond b 1 0) (flags_of counts) number (is_counted value) false (omega (arith, l, length-flags counts)) in
-    omega (arith, whole, ap raised_count (map-set is_counted counts number value), ap {B = ℕ} (λ b. cond b 1 0) (flag-counted counts number))
+    let whole = sum_by-set (λ b. cond b 1 0) (flags_of counts) number (is_counted value) false
+    (omega (arith, l, length-flags counts)) in
+    omega (
+      arith,
+      whole,
+      ap raised_count (map-set is_counted counts number value),
+      ap {B = ℕ}
+          (λ b. cond b 1 0) (flag-counted counts number),
+    )
 
 -- ---- a count is not 0 where one of the nodes has the document
 
@@ -131,47 +199,65 @@ module _ (firsts : List ℕ) (n : ℕ) where
   abbrev one_at : ℕ → ℕ
   one_at node = cond (first_of_node firsts node == n) 1 0
 
-  with-cons : (node : ℕ) (nodes : List ℕ) → nodes_with firsts (node ∷ nodes) n ≡ one_at node + nodes_with firsts nodes n
+  with-cons : (node : ℕ) (nodes : List ℕ)
+      → nodes_with firsts (node ∷ nodes) n ≡ one_at node + nodes_with firsts nodes n
   with-cons node nodes = sum_by-cons one_at node nodes
 
   has-one : (node : ℕ) → first_of_node firsts node ≡ n → one_at node ≡ 1
   has-one node e = ap (λ b. cond b 1 0) (eq-eqb (first_of_node firsts node) n e)
 
-  one-has : (node : ℕ) → (b : Bool) → eqb (first_of_node firsts node) n ≡ b → (first_of_node firsts node ≡ n) ⊎ (one_at node ≡ 0)
+  one-has : (node : ℕ) → (b : Bool) → eqb (first_of_node firsts node) n ≡ b
+      → (first_of_node firsts node ≡ n) ⊎ (one_at node ≡ 0)
   one-has node true e = inl (eqb-true (first_of_node firsts node) n e)
   one-has node false e = inr (ap (λ b. cond b 1 0) e)
 
   pub first-nodes : (nodes : List ℕ) → IsFirstOf firsts nodes n → 0 < nodes_with firsts nodes n
   first-nodes [] f = absurd (contains_none f.0 f.1)
   first-nodes (x ∷ xs) f = elim (contains_cases x xs f.0 f.1) [
-    | inl same ↦ omega (arith, with-cons x xs, has-one x (ap (first_of_node firsts) same ∙ get_or_from_slice_get firsts f.0 n 0 f.2))
+    | inl same ↦ omega (
+      arith,
+      with-cons x xs,
+      has-one x
+          (ap (first_of_node firsts) same ∙ get_or_from_slice_get firsts f.0 n 0 f.2),
+    )
     | inr later ↦ omega (arith, with-cons x xs, first-nodes xs (f.0, later, f.2))
   ]
 
-  pub nodes-first : (nodes : List ℕ) → All (λ k. k < length firsts) nodes → 0 < nodes_with firsts nodes n → IsFirstOf firsts nodes n
+  pub nodes-first : (nodes : List ℕ) → All (λ k. k < length firsts) nodes
+      → 0 < nodes_with firsts nodes n → IsFirstOf firsts nodes n
   nodes-first [] small l = absurd (omega (arith, l))
   nodes-first (x ∷ xs) small l = elim (one-has x (eqb (first_of_node firsts x) n) refl) [
-    | inl same ↦ (x, contains_first x xs, slice_get-get_or firsts x 0 (small 0 0 (omega arith)) ∙ ap (λ (k : ℕ). Some k) same)
+    | inl same ↦ (
+      x,
+      contains_first x xs,
+      slice_get-get_or firsts x 0 (small 0 0 (omega arith))
+          ∙ ap (λ (k : ℕ). Some k) same,
+    )
     | inr none ↦
-        let f = nodes-first xs (All-tail (λ k. k < length firsts) x xs small) (omega (arith, l, with-cons x xs, none)) in
+        let f = nodes-first xs (All-tail (λ k. k < length firsts) x xs small)
+        (omega (arith, l, with-cons x xs, none)) in
         (f.0, contains_later x xs f.0 f.1, f.2)
   ]
 
 -- the flags of counts are those of the nodes' documents
-pub flags-counted : (firsts nodes counts : List ℕ) → All (λ k. k < length firsts) nodes → AreCounts firsts nodes counts → (n : ℕ) → (is_raised (flags_of counts) n ≡ true) ↔ IsFirstOf firsts nodes n
+pub flags-counted : (firsts nodes counts : List ℕ) → All (λ k. k < length firsts) nodes
+    → AreCounts firsts nodes counts → (n : ℕ)
+    → (is_raised (flags_of counts) n ≡ true) ↔ IsFirstOf firsts nodes n
 flags-counted firsts nodes counts small are n = (
   λ e. nodes-first firsts n nodes small (omega (arith, raised-positive counts n e, are n)),
   λ f. positive-raised counts n (omega (arith, first-nodes firsts n nodes f, are n)),
 )
 
 -- counts that have risen raise flags
-pub flags-raised : (firsts nodes old new : List ℕ) → All (λ k. k < length firsts) nodes → AddsNodes firsts nodes old new → Raises firsts nodes (flags_of old) (flags_of new)
+pub flags-raised : (firsts nodes old new : List ℕ) → All (λ k. k < length firsts) nodes
+    → AddsNodes firsts nodes old new → Raises firsts nodes (flags_of old) (flags_of new)
 flags-raised firsts nodes old new small adds = record {
   size = length-flags new ∙ adds.size ∙ sym (length-flags old);
   each = λ n. (
     λ e. elim (cases_lt 0 (count_at old n)) [
       | inl l ↦ inl (positive-raised old n l)
-      | inr l ↦ inr (nodes-first firsts n nodes small (omega (arith, l, raised-positive new n e, adds.each n)))
+      | inr l ↦ inr (nodes-first firsts n nodes small
+          (omega (arith, l, raised-positive new n e, adds.each n)))
     ],
     λ h. elim h [
       | inl e ↦ positive-raised new n (omega (arith, raised-positive old n e, adds.each n))
@@ -181,36 +267,59 @@ flags-raised firsts nodes old new small adds = record {
 }
 
 -- greater counts have the flags of lesser ones
-pub flags-kept : (lesser greater : List ℕ) → ((n : ℕ) → count_at lesser n ≤ count_at greater n) → (n : ℕ) → is_raised (flags_of lesser) n ≡ true → is_raised (flags_of greater) n ≡ true
-flags-kept lesser greater fewer n e = positive-raised greater n (omega (arith, raised-positive lesser n e, fewer n))
+pub flags-kept : (lesser greater : List ℕ) → ((n : ℕ) → count_at lesser n ≤ count_at greater n)
+    → (n : ℕ) → is_raised (flags_of lesser) n ≡ true → is_raised (flags_of greater) n ≡ true
+flags-kept lesser greater fewer n e = positive-raised greater n
+    (omega (arith, raised-positive lesser n e, fewer n))
 
 -- ---- more nodes are marked
 
 -- the counts of marked nodes stand, and those of the nodes that are marked now are added
-pub counts-more : (old_firsts firsts marked more old_counts counts : List ℕ) (first count : ℕ) → firsts ≡ old_firsts ++ first ∷ [] → take count more ≡ marked → All (λ n. n < length old_firsts) marked
-    → AreCounts old_firsts marked old_counts → AddsNodes firsts (drop count more) (old_counts ++ 0 ∷ []) counts → AreCounts firsts more counts
-counts-more old_firsts firsts marked more old_counts counts first count list front small before adds n =
+pub counts-more : (old_firsts firsts marked more old_counts counts : List ℕ) (first count : ℕ)
+    → firsts ≡ old_firsts ++ first ∷ [] → take count more ≡ marked
+    → All (λ n. n < length old_firsts) marked
+    → AreCounts old_firsts marked old_counts
+    → AddsNodes firsts (drop count more) (old_counts ++ 0 ∷ []) counts
+    → AreCounts firsts more counts
+counts-more old_firsts firsts marked more old_counts counts first count list front small before adds
+    n =
     let whole = nodes_with-append firsts (take count more) (drop count more) n in
-    let parts : nodes_with firsts (take count more ++ drop count more) n ≡ nodes_with firsts more n = ap (λ ns. nodes_with firsts ns n) (take-append-drop count more) in
-    let old : nodes_with firsts (take count more) n ≡ nodes_with old_firsts marked n = ap (λ ns. nodes_with firsts ns n) front ∙ still marked small in
+    let parts : nodes_with firsts (take count more ++ drop count more) n ≡ nodes_with firsts more
+    n = ap (λ ns. nodes_with firsts ns n) (take-append-drop count more) in
+    let old : nodes_with firsts (take count more) n ≡ nodes_with old_firsts marked n = ap
+    (λ ns. nodes_with firsts ns n) front ∙ still marked small in
     omega (arith, adds.each n, count_at-push old_counts n, before n, whole, parts, old)
   where
-    still : (nodes : List ℕ) → All (λ k. k < length old_firsts) nodes → nodes_with firsts nodes n ≡ nodes_with old_firsts nodes n
+    still : (nodes : List ℕ) → All (λ k. k < length old_firsts) nodes
+        → nodes_with firsts nodes n ≡ nodes_with old_firsts nodes n
     still [] within = refl
     still (x ∷ xs) within =
-        let here : first_of_node firsts x ≡ first_of_node old_firsts x = ap (λ fs. first_of_node fs x) list ∙ get_or_append_left old_firsts (first ∷ []) 0 x (within 0 0 (omega arith)) in
-        let one : one_at firsts n x ≡ one_at old_firsts n x = ap (λ (f : ℕ). cond (f == n) 1 0) here in
-        omega (arith, with-cons firsts n x xs, with-cons old_firsts n x xs, one, still xs (All-tail (λ k. k < length old_firsts) x xs within))
+        let here : first_of_node firsts x ≡ first_of_node old_firsts x = ap
+        (λ fs. first_of_node fs x) list ∙ get_or_append_left old_firsts (first ∷ []) 0 x
+        (within 0 0 (omega arith)) in
+        let one : one_at firsts n x ≡ one_at old_firsts n x = ap (λ (f : ℕ). cond (f == n) 1 0)
+        here in
+        omega (
+          arith,
+          with-cons firsts n x xs,
+          with-cons old_firsts n x xs,
+          one,
+          still xs
+              (All-tail (λ k. k < length old_firsts) x xs within),
+        )
 
 -- after all counts were 0, they are those of the marked nodes
-pub counts-from_zero : (firsts nodes zeros counts : List ℕ) → ((n : ℕ) → count_at zeros n ≡ 0) → AddsNodes firsts nodes zeros counts → AreCounts firsts nodes counts
+pub counts-from_zero : (firsts nodes zeros counts : List ℕ) → ((n : ℕ) → count_at zeros n ≡ 0)
+    → AddsNodes firsts nodes zeros counts → AreCounts firsts nodes counts
 counts-from_zero firsts nodes zeros counts none adds n = omega (arith, none n, adds.each n)
 
--- one count is another: as many are not 0 where both are or are not, one more where 0 has risen, one less where it has
+-- one count is another: as many are not 0 where both are or are not, one more where 0 has risen,
+-- one less where it has
 -- fallen to 0
 module _ (counts : List ℕ) (number value : ℕ) (l : number < length counts) where
   one_more : (b c : Bool) → is_counted (count_at counts number) ≡ b → is_counted value ≡ c
-      → raised_count (flags_of (set counts number value)) + cond b 1 0 ≡ raised_count (flags_of counts) + cond c 1 0
+      → raised_count (flags_of (set counts number value)) + cond b 1 0 ≡ raised_count
+      (flags_of counts) + cond c 1 0
   one_more b c e f = omega (
     arith,
     counted-set counts number value l,
@@ -218,11 +327,26 @@ module _ (counts : List ℕ) (number value : ℕ) (l : number < length counts) w
     ap {B = ℕ} (λ b. cond b 1 0) f,
   )
 
-  pub count-stays : 0 < count_at counts number → 0 < value → raised_count (flags_of (set counts number value)) ≡ raised_count (flags_of counts)
-  count-stays some still = omega (arith, one_more true true (positive-counted (count_at counts number) some) (positive-counted value still))
+  pub count-stays : 0 < count_at counts number → 0 < value
+      → raised_count (flags_of (set counts number value)) ≡ raised_count (flags_of counts)
+  count-stays some still = omega (
+    arith,
+    one_more true true
+        (positive-counted (count_at counts number) some) (positive-counted value still),
+  )
 
-  pub count-rises : count_at counts number ≡ 0 → 0 < value → raised_count (flags_of (set counts number value)) ≡ raised_count (flags_of counts) + 1
-  count-rises none now = omega (arith, one_more false true (ap is_counted none) (positive-counted value now))
+  pub count-rises : count_at counts number ≡ 0 → 0 < value
+      → raised_count (flags_of (set counts number value)) ≡ raised_count (flags_of counts) + 1
+  count-rises none now = omega (
+    arith,
+    one_more false true (ap is_counted none)
+        (positive-counted value now),
+  )
 
-  pub count-falls : 0 < count_at counts number → value ≡ 0 → raised_count (flags_of counts) ≡ raised_count (flags_of (set counts number value)) + 1
-  count-falls some none = omega (arith, one_more true false (positive-counted (count_at counts number) some) (ap is_counted none))
+  pub count-falls : 0 < count_at counts number → value ≡ 0
+      → raised_count (flags_of counts) ≡ raised_count (flags_of (set counts number value)) + 1
+  count-falls some none = omega (
+    arith,
+    one_more true false
+        (positive-counted (count_at counts number) some) (ap is_counted none),
+  )

@@ -157,12 +157,16 @@ module _ (pairs : List Pair) (p : Paired) (h : IsPairing pairs p) where
       let form : IsBundle (pair_at pairs n).document = h.forms n no_pair l in
       pair-from_at pairs n q l (pair-exact (pair_at pairs n) q form f e)
 
-  pub raised-found : (place number : ℕ) (q : Pair) (flag : Bool) → IsBundle q.document → IsFound (λ n. pair_cmp (pair_at pairs n) q) p.numbers place → number ≡ get_or p.numbers place 0 → flag ≡ is_raised (flags_of p.counts) number → (flag ≡ true) ↔ HasRaised pairs p q
+  pub raised-found : (place number : ℕ) (q : Pair) (flag : Bool) → IsBundle q.document
+      → IsFound (λ n. pair_cmp (pair_at pairs n) q) p.numbers place
+      → number ≡ get_or p.numbers place 0 → flag ≡ is_raised (flags_of p.counts) number
+      → (flag ≡ true) ↔ HasRaised pairs p q
   raised-found place number q flag f found is says =
       let has : Contains p.numbers number = (place, found.within, get_or_default p.numbers place number 0 found.within ∙ sym is) in
       let at = pair-at_equal number q has f (subst (λ n. pair_cmp (pair_at pairs n) q ≡ Equal) (sym is) (found.here 0)) in (
         λ e. record { number = number; has = has; at = at; raised = sym says ∙ e },
-        λ r. says ∙ ap (λ n. is_raised (flags_of p.counts) n) (pairing-once number r.number q has r.has at r.at) ∙ r.raised,
+        λ r. says ∙ ap (λ n. is_raised (flags_of p.counts) n)
+            (pairing-once number r.number q has r.has at r.at) ∙ r.raised,
       )
 
   pub raised-missing : (place : ℕ) (q : Pair) → IsMissing (λ n. pair_cmp (pair_at pairs n) q) p.numbers place → HasRaised pairs p q → ⊥
@@ -263,12 +267,21 @@ module _ (pairs : List Pair) (q : Pair) where
               }
         ]
 
-pub pairing-more : (pairs : List Pair) (old new : Paired) (q : Pair) (number first : ℕ) → IsPairing pairs old → IsBundle q.document → number ≡ length old.firsts → PutsFirst pairs q number old.numbers new.numbers first → new.firsts ≡ old.firsts ++ first ∷ [] → new.counts ≡ old.counts ++ 0 ∷ [] → IsPairing (pairs ++ q ∷ []) new
+pub pairing-more : (pairs : List Pair) (old new : Paired) (q : Pair) (number first : ℕ)
+    → IsPairing pairs old → IsBundle q.document → number ≡ length old.firsts
+    → PutsFirst pairs q number old.numbers new.numbers first → new.firsts ≡ old.firsts ++ first ∷ []
+    → new.counts ≡ old.counts ++ 0 ∷ [] → IsPairing (pairs ++ q ∷ []) new
 pairing-more pairs old new q number first h form e puts firsts counts =
     let m = has-more pairs q old h form number first new.numbers (e ∙ h.sizes) puts in
     record {
       sizes = omega (arith, ap length firsts, length_push old.firsts first, length_push pairs q, h.sizes);
-      counted = omega (arith, ap length counts, length_push old.counts 0, length_push pairs q, h.counted);
+      counted = omega (
+        arith,
+        ap length counts,
+        length_push old.counts 0,
+        length_push pairs q,
+        h.counted,
+      );
       forms = All-push (λ (x : Pair). IsBundle x.document) pairs q h.forms form;
       within = m.within;
       few = m.few;

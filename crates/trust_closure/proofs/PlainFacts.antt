@@ -213,7 +213,8 @@ module _ (h : Hoard) (p : Paired) (seed_offers : List Triple) (released : List B
         }
   ]
 
-  pub plain-tells : TellsMembers (meaning_of h) (pairs_of h.config.seeds h.arrived) p.numbers (flags_of p.counts)
+  pub plain-tells : TellsMembers (meaning_of h) (pairs_of h.config.seeds h.arrived) p.numbers
+      (flags_of p.counts)
   plain-tells = record {
     size = length-flags p.counts ∙ i.set.pairing.counted;
     sound = λ n q e at. let f = (i.flags n).0 e in had-member f.node q f.had (sym (i.set.pairing.first f.node n f.first).1 ∙ at);

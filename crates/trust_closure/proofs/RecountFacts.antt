@@ -14,29 +14,37 @@ use Rattle.trust_closure.proofs.NodeCountFacts.{nodes_with-append}
 use Rattle.trust_closure.proofs.IndexFacts.{among-from, among-to, different-from_pairs, length-unmarked}
 
 -- what is taken back was open, and what falls was reached
-taken-open : (net : Net) (closing : List ℕ) (label : ℕ) → IsTakenBack net closing label → IsOpen net label
+taken-open : (net : Net) (closing : List ℕ) (label : ℕ) → IsTakenBack net closing label
+    → IsOpen net label
 taken-open net closing label (itself c o) = o
 taken-open net closing label (beyond {here = here} {node = node} {i = i} {j = j} b w r e c) =
     let o = taken-open net closing here b in
     record { not_closed = c; offered = (j, node, e, step o.offered.3 o.offered.2 o.not_closed w) }
 
-fallen-reached : (net : Net) (closing : List ℕ) (node : ℕ) → IsFallen net closing node → IsReached net node
+fallen-reached : (net : Net) (closing : List ℕ) (node : ℕ) → IsFallen net closing node
+    → IsReached net node
 fallen-reached net closing node f =
     let o = taken-open net closing f.awaits.1 f.awaits.3 in
     step o.offered.3 o.offered.2 o.not_closed f.awaits.2
 
 -- ---- different items
 
-different-both : {T : Type 0} (xs ys : List T) → AreDifferent xs → AreDifferent ys → ((x : T) → Contains xs x → Contains ys x → ⊥) → AreDifferent (xs ++ ys)
+different-both : {T : Type 0} (xs ys : List T) → AreDifferent xs → AreDifferent ys
+    → ((x : T) → Contains xs x → Contains ys x → ⊥) → AreDifferent (xs ++ ys)
 different-both [] ys d e apart = e
 different-both (x ∷ xs) ys d e apart = (
-  λ c. elim (Contains-append_cases xs ys x c) [ inl a ↦ d.0 a | inr a ↦ apart x (contains_first x xs) a ],
+  λ c. elim (Contains-append_cases xs ys x c)
+      [ inl a ↦ d.0 a | inr a ↦ apart x (contains_first x xs) a ],
   different-both xs ys d.1 e (λ y a b. apart y (contains_later x xs y a) b),
 )
 
 different-front : {T : Type 0} (xs ys : List T) → AreDifferent (xs ++ ys) → AreDifferent xs
 different-front [] ys d = tt
-different-front (x ∷ xs) ys d = (λ c. d.0 (Contains-append_left xs ys x c), different-front xs ys d.1)
+different-front (x ∷ xs) ys d = (
+  λ c. d.0 (Contains-append_left xs ys x c),
+  different-front xs ys
+      d.1,
+)
 
 different-back : {T : Type 0} (xs ys : List T) → AreDifferent (xs ++ ys) → AreDifferent ys
 different-back [] ys d = d
@@ -44,12 +52,17 @@ different-back (x ∷ xs) ys d = different-back xs ys d.1
 
 -- ---- the nodes that were marked are those that stay marked and those that fell
 
-module _ (net : Net) (old closing fallen : List ℕ) (kept : ℕ) (marked : List ℕ) (r : ListsReached net old) (t : TellsFallen net closing fallen kept marked) (once : AllPairs ◌≢◌ marked) where
+module _ (net : Net) (old closing fallen : List ℕ) (kept : ℕ) (marked : List ℕ)
+    (r : ListsReached net old) (t : TellsFallen net closing fallen kept marked)
+    (once : AllPairs ◌≢◌ marked) where
   different : AreDifferent (take kept marked ++ drop kept marked)
-  different = subst AreDifferent (sym (take-append-drop kept marked)) (different-from_pairs marked once)
+  different = subst AreDifferent (sym (take-append-drop kept marked))
+      (different-from_pairs marked once)
 
   whole : AreDifferent (take kept marked ++ fallen)
-  whole = different-both (take kept marked) fallen (different-front (take kept marked) (drop kept marked) different) (different-from_pairs fallen t.once) (λ n a b. ((t.front n).0 a).1 ((t.fell n).0 b))
+  whole = different-both (take kept marked) fallen
+      (different-front (take kept marked) (drop kept marked) different)
+      (different-from_pairs fallen t.once) (λ n a b. ((t.front n).0 a).1 ((t.fell n).0 b))
 
   was : (n : ℕ) → Contains (take kept marked ++ fallen) n → Contains old n
   was n c = elim (Contains-append_cases (take kept marked) fallen n c) [
@@ -60,14 +73,21 @@ module _ (net : Net) (old closing fallen : List ℕ) (kept : ℕ) (marked : List
   stands : (n : ℕ) → Contains old n → Contains (take kept marked ++ fallen) n
   stands n c = elim (cases_Bool (is_among fallen n)) [
     | inl a ↦ Contains-append_right (take kept marked) fallen n (among-to fallen n a)
-    | inr a ↦ Contains-append_left (take kept marked) fallen n ((t.front n).1 (r.reached n c, λ f. both_ways (is_among fallen n) a (among-from fallen n ((t.fell n).1 f))))
+    | inr a ↦ Contains-append_left (take kept marked) fallen n
+        ((t.front n).1 (
+          r.reached n c,
+          λ f. both_ways (is_among fallen n) a
+              (among-from fallen n ((t.fell n).1 f)),
+        ))
   ]
 
   again : (n : ℕ) → Contains (drop kept marked) n → Contains fallen n
   again n c = (t.fell n).1 ((t.again n).0 c).0
 
   -- each document had as many of the ones as of the others
-  pub nodes-before : (firsts : List ℕ) (n : ℕ) → nodes_with firsts old n ≡ nodes_with firsts (take kept marked) n + nodes_with firsts fallen n
+  pub nodes-before : (firsts : List ℕ) (n : ℕ)
+      → nodes_with firsts old n ≡ nodes_with firsts (take kept marked) n + nodes_with firsts fallen
+      n
   nodes-before firsts n =
       let f : ℕ → ℕ = λ node. cond (first_of_node firsts node == n) 1 0 in
       omega (
@@ -77,12 +97,18 @@ module _ (net : Net) (old closing fallen : List ℕ) (kept : ℕ) (marked : List
         sum_by-append f (take kept marked) fallen,
       )
 
-  pub nodes-now : (firsts : List ℕ) (n : ℕ) → nodes_with firsts marked n ≡ nodes_with firsts (take kept marked) n + nodes_with firsts (drop kept marked) n
-  nodes-now firsts n = ap (λ ns. nodes_with firsts ns n) (sym (take-append-drop kept marked)) ∙ nodes_with-append firsts (take kept marked) (drop kept marked) n
+  pub nodes-now : (firsts : List ℕ) (n : ℕ)
+      → nodes_with firsts marked n ≡ nodes_with firsts (take kept marked) n + nodes_with firsts
+      (drop kept marked) n
+  nodes-now firsts n = ap (λ ns. nodes_with firsts ns n) (sym (take-append-drop kept marked))
+      ∙ nodes_with-append firsts (take kept marked) (drop kept marked) n
 
   -- no more are marked again than fell
-  pub nodes-again : (firsts : List ℕ) (n : ℕ) → nodes_with firsts (drop kept marked) n ≤ nodes_with firsts fallen n
-  nodes-again firsts n = no_more (λ node. cond (first_of_node firsts node == n) 1 0) (drop kept marked) fallen (different-back (take kept marked) (drop kept marked) different) again
+  pub nodes-again : (firsts : List ℕ) (n : ℕ)
+      → nodes_with firsts (drop kept marked) n ≤ nodes_with firsts fallen n
+  nodes-again firsts n = no_more (λ node. cond (first_of_node firsts node == n) 1 0)
+      (drop kept marked) fallen (different-back (take kept marked) (drop kept marked) different)
+      again
 
   lengths : length old ≡ length (take kept marked) + length fallen
   lengths = omega (
@@ -96,16 +122,21 @@ module _ (net : Net) (old closing fallen : List ℕ) (kept : ℕ) (marked : List
   kept-within many = omega (arith, many, lengths, length-take kept marked)
 
   pub fallen-within : (P : ℕ → Type 0) → All P old → All P fallen
-  fallen-within P h k d l = All-contains P old (get_or fallen k d) h (was (get_or fallen k d) (Contains-append_right (take kept marked) fallen (get_or fallen k d) (Contains-get_or fallen k d l)))
+  fallen-within P h k d l = All-contains P old (get_or fallen k d) h
+      (was (get_or fallen k d) (Contains-append_right (take kept marked) fallen (get_or fallen k d)
+      (Contains-get_or fallen k d l)))
 
   pub again-within : (P : ℕ → Type 0) → All P old → All P (drop kept marked)
-  again-within P h k d l = All-contains P fallen (get_or (drop kept marked) k d) (fallen-within P h) (again (get_or (drop kept marked) k d) (Contains-get_or (drop kept marked) k d l))
+  again-within P h k d l = All-contains P fallen (get_or (drop kept marked) k d) (fallen-within P h)
+      (again (get_or (drop kept marked) k d) (Contains-get_or (drop kept marked) k d l))
 
   -- there are no more marked nodes than there are nodes
-  pub marked-few : (count : ℕ) → All (λ n. n < count) old → length (take kept marked) + length (drop kept marked) ≤ count
+  pub marked-few : (count : ℕ) → All (λ n. n < count) old
+      → length (take kept marked) + length (drop kept marked) ≤ count
   marked-few count within = omega (
     arith,
     lengths,
-    no_longer (drop kept marked) fallen (different-back (take kept marked) (drop kept marked) different) again,
+    no_longer (drop kept marked) fallen (different-back (take kept marked) (drop kept marked)
+        different) again,
     length-unmarked old count r.once within,
   )

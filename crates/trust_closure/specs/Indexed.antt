@@ -42,7 +42,7 @@ pub record IsIndexed (h : Hoard) (p : Paired) (w : Wired) : Type 0 where
   pub built : IsBuilt h p w
   pub counts : AreCounts p.firsts w.marked p.counts
 
--- The counts are still those of the nodes that were marked before the last close, which told what fell.
+-- The counts are still those of the nodes that were marked before the last close. It told what fell.
 pub record WasCounted (p : Paired) (i : Index) : Type 0 where
   pub net : Net
   pub marked : List ℕ
@@ -96,11 +96,12 @@ pub record Reserves (h new : Hoard) (p q : Paired) (w v : Wired) (room more : Sp
   pub arrived : new.arrived ≡ h.arrived
   pub marked : v.marked ≡ w.marked
   pub net : v.net ≡ w.net
+  pub marked : v.marked ≡ w.marked
   pub kept : IsKept new q v more
   pub roomier : IsRoomier (room_of room) (room_of more)
 
--- What a caller sees: the meaning and the room, the receipts in order of arrival, the index, and how many edges the last
--- close looked at.
+-- What a caller sees: the meaning and the room, the receipts in order of arrival, the index, and
+-- how many edges the last close looked at.
 pub record Indexed : Type 0 where
   pub state : State
   pub arrived : List Receipt
@@ -108,7 +109,12 @@ pub record Indexed : Type 0 where
   pub turns : ℕ
 
 abbrev pub indexed_of : Hoard → Wired → Spare → ℕ → Indexed
-indexed_of h w s turns = record { state = state_of h s; arrived = h.arrived; wired = w; turns = turns }
+indexed_of h w s turns = record {
+  state = state_of h s;
+  arrived = h.arrived;
+  wired = w;
+  turns = turns;
+}
 
 -- The index has one node for each configured document, which is marked, and one for each receipt, in order of arrival,
 -- for each receipt one wait edge, for each node as many offer edges as it has offers, and no other, one label for each

@@ -19,9 +19,11 @@ nodes_with firsts nodes number = count_by (λ node. first_of_node firsts node ==
 
 -- The count of each document is how many of these nodes have it.
 abbrev pub AreCounts : List ℕ → List ℕ → List ℕ → Type 0
-AreCounts firsts nodes counts = (number : ℕ) → count_at counts number ≡ nodes_with firsts nodes number
+AreCounts firsts nodes counts = (number : ℕ)
+    → count_at counts number ≡ nodes_with firsts nodes number
 
 -- Each of the nodes adds one to the count of its document.
 pub record AddsNodes (firsts nodes old new : List ℕ) : Type 0 where
   pub size : length new ≡ length old
-  pub each : (number : ℕ) → count_at new number ≡ count_at old number + nodes_with firsts nodes number
+  pub each : (number : ℕ)
+      → count_at new number ≡ count_at old number + nodes_with firsts nodes number

@@ -23,8 +23,8 @@ no_pair = record { domain = []; document = record { authorities = []; rank = Non
 abbrev pub pair_at : List Pair → ℕ → Pair
 pair_at pairs number = slice_index_or pairs number no_pair
 
--- the numbers in order, each node's first number, how many marked nodes have each number's document, and how many nodes
--- there is room for in all
+-- the numbers in order, each node's first number, how many marked nodes have each number's
+-- document, and how many nodes there is room for in all
 pub record Paired : Type 0 where
   pub numbers : List ℕ
   pub firsts : List ℕ
@@ -63,4 +63,5 @@ numbers_of pairs numbers domain = filter (λ n. is_equal (domain_cmp (pair_at pa
 
 -- the domain's documents whose flags are raised, in order
 abbrev pub raised_of : List Pair → Paired → List ℕ → List Bundle
-raised_of pairs p domain = raised_documents pairs (flags_of p.counts) (numbers_of pairs p.numbers domain)
+raised_of pairs p domain = raised_documents pairs (flags_of p.counts)
+    (numbers_of pairs p.numbers domain)

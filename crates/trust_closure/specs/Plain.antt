@@ -70,7 +70,8 @@ pub record IsSet (h : Hoard) (p : Paired) (seed_offers : List Triple) (released 
 pub record IsSettled (h : Hoard) (p : Paired) (seed_offers : List Triple) (released : List Bool) : Type 0 where
   pub set : IsSet h p seed_offers released
   pub settled : AreReleased (meaning_of h) h.arrived released
-  pub flags : (number : ℕ) → (is_raised (flags_of p.counts) number ≡ true) ↔ IsFirstHad (length h.config.seeds) released p.firsts (length p.firsts) number
+  pub flags : (number : ℕ) → (is_raised (flags_of p.counts) number ≡ true)
+      ↔ IsFirstHad (length h.config.seeds) released p.firsts (length p.firsts) number
 
 -- The flags are still those of what was held before these records were.
 pub record WasSettled (new : Hoard) (p : Paired) (seed_offers : List Triple) (released : List Bool) : Type 0 where

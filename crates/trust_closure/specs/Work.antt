@@ -1,10 +1,13 @@
 -- How much work it is to distrust keys
-use Rattle.std.specs.Prelude.{◌≡◌, ◌↔◌, ◌⊎◌, ◌+◌, ◌*◌, ◌<◌, ◌≤◌, ℕ, [], ◌∷◌, Bool, List, Contains, Result, MatchResult, length, slice_get, Some}
+use Rattle.std.specs.Prelude.{◌≡◌, ◌↔◌, ◌⊎◌, ◌*◌, ◌<◌, ◌≤◌, ℕ, [], ◌∷◌, Bool, List, Contains, Result, MatchResult, length, slice_get, Some}
 use Rattle.std.specs.List.{All}
 use Rattle.receipt_core.specs.declared.distrust.Distrust.{Distrust}
 use Rattle.receipt_core.specs.declared.triple.Triple.{Triple}
 use Rattle.wait_index.specs.Net.{visits_of, ClosesIn, HasReachOf, edges_at}
-use Rattle.trust_closure.specs.Indexed.{Indexed}
+use Rattle.receipt_core.specs.Acceptance.{Meaning}
+use Rattle.receipt_core.specs.Receipt.{distrust_cmp}
+use Rattle.receipt_core.specs.Rising.{with_items}
+use Rattle.trust_closure.specs.Indexed.{Indexed, IsIndexOf}
 use Rattle.trust_closure.specs.NetOf.{IsNetOf, IsShutBy}
 use Rattle.trust_closure.specs.declared.error.TakeError.{TakeError}
 use Rattle.trust_closure.specs.declared.outcome.Distrusted.{Distrusted}
@@ -15,7 +18,8 @@ use Rattle.trust_closure.specs.declared.outcome.Distrusted.TheVariants.{New, Alr
 -- it.
 pub record ClosesAtOnce (old : Indexed) (records : List Distrust) (new : Indexed) : Type 0 where
   pub labels : List Triple
-  pub net : IsNetOf old.state.meaning.config.seeds old.arrived old.state.meaning.records labels old.wired.net
+  pub net : IsNetOf old.state.meaning.config.seeds old.arrived old.state.meaning.records labels
+      old.wired.net
   pub closing : List ℕ
   pub within : All (λ number. number < length labels) closing
   pub exactly : (number : ℕ) (label : Triple) → slice_get labels number ≡ Some label
@@ -33,11 +37,27 @@ Worked old x new Already = new.turns ≡ old.turns
 abbrev pub Works : Indexed → Distrust → Indexed → Result Distrusted TakeError → Type 0
 Works old x new result = MatchResult result (Worked old x new) (λ why. new.turns ≡ old.turns)
 
--- how many edges the index has
-abbrev pub edge_count : Indexed → ℕ
-edge_count i = length i.wired.net.offers + length i.wired.net.waits
+-- Where these records are held besides, all labels of distrusted keys are closed at once, and that
+-- takes so many turns.
+pub record IsWorkOf (old : Indexed) (records : List Distrust) (count : ℕ) : Type 0 where
+  pub after : Indexed
+  pub is : IsIndexOf after
+  pub meaning : after.state.meaning ≡ record old.state.meaning {
+    records = with_items distrust_cmp records old.state.meaning.records;
+  }
+  pub arrived : after.arrived ≡ old.arrived
+  pub closes : ClosesAtOnce old after.state.meaning.records after
+  pub turns : after.turns ≡ count
 
--- No labels were closed, or all at once, whatever the number of their keys: so each of the edges was looked at at most
--- twice.
-abbrev pub WorksOnce : ℕ → ℕ → ℕ → Type 0
-WorksOnce edges before after = (after ≡ before) ⊎ (after ≤ 2 * edges)
+-- All these records were held before.
+abbrev pub AreOld : Meaning → List Distrust → Type 0
+AreOld m records = (x : Distrust) → Contains records x → Contains m.records x
+
+-- Where no record is new nothing is closed, and else all labels are, at once.
+abbrev pub WorksOnce : Indexed → List Distrust → Indexed → Type 0
+WorksOnce old records new = (AreOld old.state.meaning records × (new.turns ≡ old.turns))
+    ⊎ IsWorkOf old records new.turns
+
+abbrev pub MergesOnce : Indexed → Meaning → Indexed → Result ℕ TakeError → Type 0
+MergesOnce old other new result =
+    MatchResult result (λ taken. WorksOnce old other.records new) (λ why. new.turns ≡ old.turns)

@@ -12,7 +12,8 @@ pub(crate) fn raise_all(counts: &mut [u32], firsts: &[u32], nodes: &[NodeNo]) ->
     requires firsts { All (λ f. f < length counts.old) firsts.now }
     requires few { (number : ℕ) → count_at counts.old number + length nodes.now < 2 ^ 32 }
     ensures adds { AddsNodes firsts.now nodes.now counts.old counts.new }
-    ensures count { raised_count (flags_of counts.new) ≡ raised_count (flags_of counts.old) + result }
+    ensures count { raised_count (flags_of counts.new) ≡ raised_count (flags_of counts.old)
+        + result }
 {
     let mut count = 0;
     for node in nodes {
@@ -26,7 +27,8 @@ fn raise(counts: &mut [u32], number: usize) -> usize
     requires number { number < length counts.old }
     requires few { count_at counts.old number + 1 < 2 ^ 32 }
     ensures counts { counts.new ≡ slice_set counts.old number (count_at counts.old number + 1) }
-    ensures count { raised_count (flags_of counts.new) ≡ raised_count (flags_of counts.old) + result }
+    ensures count { raised_count (flags_of counts.new) ≡ raised_count (flags_of counts.old)
+        + result }
     ensures few { result ≤ 1 }
 {
     counts[number] += 1;
@@ -41,9 +43,11 @@ fn raise(counts: &mut [u32], number: usize) -> usize
 pub(crate) fn lower_all(counts: &mut [u32], firsts: &[u32], nodes: &[NodeNo]) -> usize
     requires nodes { All (λ n. n < length firsts.now) nodes.now }
     requires firsts { All (λ f. f < length counts.old) firsts.now }
-    requires counted { (number : ℕ) → nodes_with firsts.now nodes.now number ≤ count_at counts.old number }
+    requires counted { (number : ℕ)
+        → nodes_with firsts.now nodes.now number ≤ count_at counts.old number }
     ensures takes { AddsNodes firsts.now nodes.now counts.new counts.old }
-    ensures count { raised_count (flags_of counts.old) ≡ raised_count (flags_of counts.new) + result }
+    ensures count { raised_count (flags_of counts.old) ≡ raised_count (flags_of counts.new)
+        + result }
 {
     let mut count = 0;
     for node in nodes {
@@ -57,7 +61,8 @@ fn lower(counts: &mut [u32], number: usize) -> usize
     requires number { number < length counts.old }
     requires counted { 0 < count_at counts.old number }
     ensures counts { counts.new ≡ slice_set counts.old number (count_at counts.old number - 1) }
-    ensures count { raised_count (flags_of counts.old) ≡ raised_count (flags_of counts.new) + result }
+    ensures count { raised_count (flags_of counts.old) ≡ raised_count (flags_of counts.new)
+        + result }
     ensures few { result ≤ 1 }
 {
     counts[number] -= 1;

@@ -1,5 +1,5 @@
 //! What is held, its different documents and its index change together.
-ghost use Rattle.std.specs.Prelude.{◌≡◌, ℕ, ◌+◌, ◌*◌, ◌^◌, ◌<◌, ◌≤◌, ◌∷◌, ◌++◌, [], List, length, take};
+ghost use Rattle.std.specs.Prelude.{◌≡◌, ℕ, ◌+◌, ◌^◌, ◌<◌, ◌≤◌, ◌∷◌, ◌++◌, [], List, length, take};
 ghost use Rattle.fed_config.specs.Configuration.{HasDomain};
 ghost use Rattle.receipt_core.specs.declared.distrust.Distrust.{Distrust};
 ghost use Rattle.receipt_core.specs.Receipt.{distrust_cmp, pair_of, offers_of, with_receipt};
@@ -8,7 +8,7 @@ ghost use Rattle.trust_closure.specs.Changes.{IsGain, TakesDistrust};
 ghost use Rattle.trust_closure.specs.Held.{Hoard, meaning_of, IsAbsent};
 ghost use Rattle.trust_closure.specs.Indexed.{IsBuilt, IsIndexed, IsBefore, WasIndexed, indexed_of};
 ghost use Rattle.trust_closure.specs.Merge.{AreKnown};
-ghost use Rattle.trust_closure.specs.Work.{ClosesAtOnce, Works, WorksOnce};
+ghost use Rattle.trust_closure.specs.Work.{ClosesAtOnce, Works, IsWorkOf, WorksOnce};
 ghost use Rattle.trust_closure.specs.declared.indexed.Spare.{Spare};
 
 use crate::error::TakeError;
@@ -96,8 +96,9 @@ struct Fall {
     turns: usize,
 }
 
-/// Distrusts a key in a domain, and notes the turns where the record is new. It takes no memory: the labels of the key
-/// are closed at once, and of the counts only those of documents whose nodes fell are looked at.
+/// Distrusts a key in a domain, and notes the turns where the record is new. It takes no memory:
+/// the labels of the key are closed at once, and of the counts only those of documents whose nodes
+/// fell are looked at.
 ///
 /// # Errors
 /// The domain is none of the configuration, or there are as many records as there may be.
@@ -112,7 +113,8 @@ pub(crate) fn lose(
     requires indexed { IsIndexed held.old pairs.old wiring.old }
     ensures indexed { IsIndexed held.new pairs.new wiring.new }
     ensures meaning { TakesDistrust (meaning_of held.old) (record { domain = domain.now; key = key }) (meaning_of held.new) result }
-    ensures work { (spare : Spare) → Works (indexed_of held.old wiring.old spare turns.old) (record { domain = domain.now; key = key })
+    ensures work { (spare : Spare) → Works (indexed_of held.old wiring.old spare turns.old)
+        (record { domain = domain.now; key = key })
         (indexed_of held.new wiring.new spare turns.new) result }
     ensures arrived { held.new.arrived ≡ held.old.arrived }
     ensures capacity { held.new.capacity ≡ held.old.capacity }
@@ -141,13 +143,19 @@ fn close(
     key: KeyId,
 ) -> Fall
     requires domain { HasDomain held.now.config domain.now }
-    requires before { WasIndexed held.now (record { domain = domain.now; key = key } ∷ []) pairs.old wiring.old }
+    requires before { WasIndexed held.now (record { domain = domain.now; key = key } ∷ []) pairs.old
+        wiring.old }
     ensures indexed { IsIndexed held.now pairs.new wiring.new }
-    ensures loss { (old : Hoard) → IsBefore old (record { domain = domain.now; key = key } ∷ []) held.now
-        → IsIndexed old pairs.old wiring.old → IsGain (meaning_of held.now) (meaning_of old) result.lost }
-    ensures work { (old : Hoard) (spare : Spare) (turns : ℕ) → IsBefore old (record { domain = domain.now; key = key } ∷ []) held.now
+    ensures loss { (old : Hoard)
+        → IsBefore old (record { domain = domain.now; key = key } ∷ []) held.now
         → IsIndexed old pairs.old wiring.old
-        → ClosesAtOnce (indexed_of old wiring.old spare turns) (record { domain = domain.now; key = key } ∷ []) (indexed_of held.now wiring.new spare result.turns) }
+        → IsGain (meaning_of held.now) (meaning_of old) result.lost }
+    ensures work { (old : Hoard) (spare : Spare) (turns : ℕ)
+        → IsBefore old (record { domain = domain.now; key = key } ∷ []) held.now
+        → IsIndexed old pairs.old wiring.old
+        → ClosesAtOnce (indexed_of old wiring.old spare turns)
+        (record { domain = domain.now; key = key } ∷ [])
+        (indexed_of held.now wiring.new spare result.turns) }
     ensures firsts { pairs.new.firsts ≡ pairs.old.firsts }
     ensures pairs_room { pairs.new.capacity ≡ pairs.old.capacity }
     ensures nodes { wiring.new.nodes ≡ wiring.old.nodes }
@@ -159,8 +167,8 @@ fn close(
     Fall { lost, turns }
 }
 
-/// Distrusts keys in domains of the configuration, as many as there may be. It takes no memory. Where one of the records
-/// is new, all their labels are closed at once, and the turns are noted.
+/// Distrusts keys in domains of the configuration, as many as there may be. It takes no memory.
+/// Where one of the records is new, all their labels are closed at once, and the turns are noted.
 pub(crate) fn lose_all(
     held: &mut Held,
     pairs: &mut Pairs,
@@ -171,8 +179,10 @@ pub(crate) fn lose_all(
     requires indexed { IsIndexed held.old pairs.old wiring.old }
     requires known { AreKnown (meaning_of held.old) records }
     ensures indexed { IsIndexed held.new pairs.new wiring.new }
-    ensures meaning { meaning_of held.new ≡ record (meaning_of held.old) { records = with_items distrust_cmp records.entry (meaning_of held.old).records } }
-    ensures work { WorksOnce (length wiring.old.net.offers + length wiring.old.net.waits) turns.old turns.new }
+    ensures meaning { meaning_of held.new ≡ record (meaning_of held.old)
+        { records = with_items distrust_cmp records.entry (meaning_of held.old).records } }
+    ensures work { (spare : Spare) → WorksOnce (indexed_of held.old wiring.old spare turns.old)
+        records.entry (indexed_of held.new wiring.new spare turns.new) }
     ensures arrived { held.new.arrived ≡ held.old.arrived }
     ensures capacity { held.new.capacity ≡ held.old.capacity }
     ensures firsts { pairs.new.firsts ≡ pairs.old.firsts }
@@ -189,7 +199,10 @@ pub(crate) fn lose_all(
 fn close_all(held: &Held, pairs: &mut Pairs, wiring: &mut Wiring) -> usize
     requires before { (more : List Distrust) × WasIndexed held.now more pairs.old wiring.old }
     ensures indexed { IsIndexed held.now pairs.new wiring.new }
-    ensures few { result ≤ 2 * (length wiring.old.net.offers + length wiring.old.net.waits) }
+    ensures work { (old : Hoard) (more : List Distrust) (spare : Spare) (turns : ℕ)
+        → IsBefore old more held.now
+        → IsIndexed old pairs.old wiring.old
+        → IsWorkOf (indexed_of old wiring.old spare turns) more result }
     ensures firsts { pairs.new.firsts ≡ pairs.old.firsts }
     ensures pairs_room { pairs.new.capacity ≡ pairs.old.capacity }
     ensures nodes { wiring.new.nodes ≡ wiring.old.nodes }

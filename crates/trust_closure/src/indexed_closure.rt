@@ -5,7 +5,7 @@ ghost use Rattle.wait_index.specs.Net.{ListsReached};
 ghost use Rattle.trust_closure.specs.Views.{IsAcceptedList, IsPendingCount, document_of, receipts_in};
 ghost use Rattle.trust_closure.specs.Changes.{empty_of, Takes, TakesDistrust, Merges};
 ghost use Rattle.trust_closure.specs.Refusals.{IsRoomier};
-ghost use Rattle.trust_closure.specs.Work.{Works, WorksOnce, edge_count};
+ghost use Rattle.trust_closure.specs.Work.{Works, MergesOnce};
 
 use crate::closure::NoMemory;
 use crate::error::TakeError;
@@ -113,13 +113,14 @@ impl IndexedClosure {
         ensures merges { Merges self.old.state other.now.state.meaning self.new.state result }
 
         // However many the records are, their labels are closed at once.
-        ensures work { WorksOnce (edge_count self.old) self.old.turns self.new.turns }
+        ensures work { MergesOnce self.old other.now.state.meaning self.new result }
     {
         merge_into(self, other)
     }
 
-    /// Distrusts a key in a domain: it vouches for nothing there any more. It takes no memory. All labels of the key are
-    /// closed at once, and [`turns`](IndexedClosure::turns) tells how many edges that looked at.
+    /// Distrusts a key in a domain: it vouches for nothing there any more. It takes no memory. All
+    /// labels of the key are closed at once, and [`turns`](IndexedClosure::turns) tells how many
+    /// edges that looked at.
     pub fn distrust(&mut self, domain: &TrustDomain, key: KeyId) -> Result<Distrusted, TakeError>
         ensures meaning { TakesDistrust self.old.state.meaning (record { domain = domain.now; key = key }) self.new.state.meaning result }
         ensures work { Works self.old (record { domain = domain.now; key = key }) self.new result }
@@ -198,7 +199,9 @@ impl IndexedClosure {
         ensures room { IsRoomier self.old.state.room self.new.state.room }
         ensures ok { OnOk result (IsRoomier (record { receipts = receipts; offers = offers }) self.new.state.room) }
         ensures within { IsRoomier (record { receipts = receipts; offers = offers }) self.old.state.room → IsOk result }
+        ensures arrived { self.new.arrived ≡ self.old.arrived }
         ensures net { self.new.wired.net ≡ self.old.wired.net }
+        ensures marked { self.new.wired.marked ≡ self.old.wired.marked }
         ensures turns { self.new.turns ≡ self.old.turns }
     {
         reserve(
@@ -219,8 +222,9 @@ impl IndexedClosure {
         (self.spare.receipts, self.spare.offers)
     }
 
-    /// How many edges the last `distrust` or `merge` that held a new record of distrust looked at. There was none yet
-    /// where it is 0, or no label of the distrusted keys was open. An edge that was looked at twice counts twice.
+    /// How many edges the last `distrust` or `merge` that held a new record of distrust looked at.
+    /// It is 0 where there was none yet, or no label of the distrusted keys was open. An edge that
+    /// was looked at twice counts twice.
     pub fn turns(&self) -> usize
         ensures { result ≡ self.now.turns }
     {
@@ -239,13 +243,13 @@ impl IndexedClosure {
 }
 
 impl Mergeable for IndexedClosure {
-    ghost use Rattle.trust_closure.specs.Work.{edge_count};
+    ghost use Rattle.trust_closure.specs.Work.{IsWorkOf};
 
     ghost state = { λ c. c.state };
 
-    ghost edges = { edge_count };
-
     ghost turns = { λ c. c.turns };
+
+    ghost IsWork = { IsWorkOf };
 
     fn held(&self) -> &Held {
         &self.held

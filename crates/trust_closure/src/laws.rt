@@ -7,7 +7,7 @@ ghost use Rattle.receipt_core.specs.Receipt.{Receipt, Pair, receipt_cmp, distrus
 ghost use Rattle.receipt_core.specs.Acceptance.{Meaning, IsMember, IsClosed};
 ghost use Rattle.trust_closure.specs.Changes.{IsGain};
 ghost use Rattle.trust_closure.specs.Indexed.{Indexed};
-ghost use Rattle.trust_closure.specs.Work.{ClosesAtOnce};
+ghost use Rattle.trust_closure.specs.Work.{ClosesAtOnce, IsWorkOf};
 ghost use Rattle.trust_closure.specs.Views.{IsAcceptedList, IsPendingCount};
 
 /// What is accepted is the least set that has the configured documents and, with a document, that of each held receipt
@@ -29,10 +29,14 @@ pub fn larger_and_smaller()
         → (p : Pair) → (IsMember one p ↔ IsMember other p) }
 {}
 
-/// Whatever the keys that are distrusted and however many their labels are, a close looks at each edge at most twice.
+/// Whatever the keys that are distrusted and however many their labels are, a close looks at each
+/// edge at most twice.
 pub fn each_edge_twice()
-    ensures { (old new : Indexed) (records : List Distrust) → ClosesAtOnce old records new
+    ensures distrust { (old new : Indexed) (records : List Distrust) → ClosesAtOnce old records new
         → new.turns ≤ 2 * (length old.wired.net.offers + length old.wired.net.waits) }
+    ensures merge { (old : Indexed) (records : List Distrust) (turns : ℕ)
+        → IsWorkOf old records turns
+        → turns ≤ 2 * (length old.wired.net.offers + length old.wired.net.waits) }
 {}
 
 /// A number that a clause calls a count is the only one.

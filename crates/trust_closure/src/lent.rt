@@ -55,9 +55,11 @@ impl<'a> Model for Accepted<'a> {
 
     ghost Value = { List Bundle };
 
-    ghost view = { λ a. raised_documents (pairs_of a.seeds.now a.receipts.now) (flags_of a.counts.now) a.numbers };
+    ghost view = { λ a. raised_documents (pairs_of a.seeds.now a.receipts.now)
+        (flags_of a.counts.now) a.numbers };
 
-    ghost invariant = { λ a. AreNumbers (pairs_of a.seeds.now a.receipts.now) (flags_of a.counts.now) a.numbers };
+    ghost invariant = { λ a. AreNumbers (pairs_of a.seeds.now a.receipts.now)
+        (flags_of a.counts.now) a.numbers };
 }
 
 impl<'a> Model for Distrusts<'a> {
@@ -89,7 +91,8 @@ impl<'a> Accepted<'a> {
         receipts: &'a [Receipt],
     ) -> Self
         requires { AreNumbers (pairs_of seeds.now receipts.now) (flags_of counts.now) numbers }
-        ensures { result ≡ raised_documents (pairs_of seeds.now receipts.now) (flags_of counts.now) numbers.entry }
+        ensures { result ≡ raised_documents (pairs_of seeds.now receipts.now) (flags_of counts.now)
+            numbers.entry }
     {
         Accepted {
             numbers,

@@ -1,11 +1,12 @@
 //! All that another closure holds is taken in, or nothing.
-ghost use Rattle.std.specs.Prelude.{◌≡◌, ◌⊎◌, ℕ, IsTrue, IsOk, OnOk};
+ghost use Rattle.std.specs.Prelude.{◌≡◌, ◌⊎◌, ℕ, List, IsTrue, IsOk, OnOk, MatchResult};
+ghost use Rattle.receipt_core.specs.declared.distrust.Distrust.{Distrust};
 ghost use Rattle.receipt_core.specs.Receipt.{receipt_cmp, distrust_cmp};
 ghost use Rattle.receipt_core.specs.Rising.{with_items};
 ghost use Rattle.trust_closure.specs.Changes.{Merges};
 ghost use Rattle.trust_closure.specs.Held.{meaning_of};
 ghost use Rattle.trust_closure.specs.Merge.{AreWelcome, AreKnown};
-ghost use Rattle.trust_closure.specs.Work.{WorksOnce};
+ghost use Rattle.trust_closure.specs.Work.{AreOld};
 
 use crate::closure::NoMemory;
 use crate::copies::share_of;
@@ -21,14 +22,15 @@ pub(crate) trait Mergeable {
     ghost use Rattle.trust_closure.specs.Refusals.{IsRoomier};
     ghost use Rattle.trust_closure.specs.Merge.{AreKnown};
     ghost use Rattle.trust_closure.specs.Changes.{State, Takes};
-    ghost use Rattle.trust_closure.specs.Work.{WorksOnce};
+    ghost use Rattle.trust_closure.specs.Work.{AreOld};
 
     ghost state: { Self → State };
 
-    // How many edges there are to look at, and how many the last close looked at.
-    ghost edges: { Self → ℕ };
-
+    // How many edges the last close looked at, and that it would be so many if these records were
+    // held besides.
     ghost turns: { Self → ℕ };
+
+    ghost IsWork: { Self → List Distrust → ℕ → Type 0 };
 
     /// What it holds.
     fn held(&self) -> &Held
@@ -42,17 +44,21 @@ pub(crate) trait Mergeable {
     /// Distrusts keys in domains of the configuration, as many as there may be.
     fn distrust_all(&mut self, records: Distrusts<'_>)
         requires { AreKnown (state self.old).meaning records }
-        ensures meaning { (state self.new).meaning ≡ record (state self.old).meaning { records = with_items distrust_cmp records.entry (state self.old).meaning.records } }
+        ensures meaning { (state self.new).meaning ≡ record (state self.old).meaning
+            { records = with_items distrust_cmp records.entry (state self.old).meaning.records } }
         ensures room { (state self.new).room ≡ (state self.old).room }
-        ensures work { WorksOnce (edges self.old) (turns self.old) (turns self.new) };
+        ensures work { (AreOld (state self.old).meaning records.entry
+            × (turns self.new ≡ turns self.old)) ⊎ IsWork self.old records.entry (turns self.new) };
 
     /// As [`crate::Closure::try_reserve`].
     fn make_room(&mut self, receipts: usize, offers: usize) -> Result<(), NoMemory>
         ensures meaning { (state self.new).meaning ≡ (state self.old).meaning }
         ensures room { IsRoomier (state self.old).room (state self.new).room }
         ensures ok { OnOk result (IsRoomier (record { receipts = receipts; offers = offers }) (state self.new).room) }
-        ensures within { IsRoomier (record { receipts = receipts; offers = offers }) (state self.old).room → IsOk result }
-        ensures edges { edges self.new ≡ edges self.old }
+        ensures within { IsRoomier (record { receipts = receipts; offers = offers })
+            (state self.old).room → IsOk result }
+        ensures work { (records : List Distrust) (count : ℕ) → IsWork self.new records count
+            → IsWork self.old records count }
         ensures turns { turns self.new ≡ turns self.old };
 }
 
@@ -62,8 +68,13 @@ pub(crate) trait Mergeable {
 /// # Errors
 /// As [`crate::Closure::merge`] tells.
 pub(crate) fn merge_into<C: Mergeable>(closure: &mut C, other: &C) -> Result<usize, TakeError>
-    ensures merges { Merges (C.state closure.old) (C.state other.now).meaning (C.state closure.new) result }
-    ensures work { WorksOnce (C.edges closure.old) (C.turns closure.old) (C.turns closure.new) }
+    ensures merges { Merges (C.state closure.old) (C.state other.now).meaning (C.state closure.new)
+        result }
+    ensures work { MatchResult result
+        (λ count. (AreOld (C.state closure.old).meaning (C.state other.now).meaning.records
+        × (C.turns closure.new ≡ C.turns closure.old))
+        ⊎ C.IsWork closure.old (C.state other.now).meaning.records (C.turns closure.new))
+        (λ why. C.turns closure.new ≡ C.turns closure.old) }
 {
     let share = share_of(closure.held(), other.held())?;
     let count = share.copies.len();
@@ -75,10 +86,12 @@ pub(crate) fn merge_into<C: Mergeable>(closure: &mut C, other: &C) -> Result<usi
     Ok(count)
 }
 
-/// Holds records of distrust in domains of the configuration, as many as there may be, and answers whether one is new.
+/// Holds records of distrust in domains of the configuration, as many as there may be, and answers
+/// whether one is new.
 pub(crate) fn hold_all(held: &mut Held, records: Distrusts<'_>) -> bool
     requires { AreKnown (meaning_of held.old) records }
-    ensures meaning { meaning_of held.new ≡ record (meaning_of held.old) { records = with_items distrust_cmp records.entry (meaning_of held.old).records } }
+    ensures meaning { meaning_of held.new ≡ record (meaning_of held.old)
+        { records = with_items distrust_cmp records.entry (meaning_of held.old).records } }
     ensures arrived { held.new.arrived ≡ held.old.arrived }
     ensures capacity { held.new.capacity ≡ held.old.capacity }
     ensures none { IsTrue result ⊎ (meaning_of held.new ≡ meaning_of held.old) }
@@ -95,7 +108,8 @@ pub(crate) fn hold_all(held: &mut Held, records: Distrusts<'_>) -> bool
 /// Takes receipts that fit, and for which there is room.
 fn take_all<C: Mergeable>(closure: &mut C, receipts: Vec<Receipt>)
     requires { AreWelcome (C.state closure.old) receipts.items }
-    ensures meaning { (C.state closure.new).meaning ≡ record (C.state closure.old).meaning { held = with_items receipt_cmp receipts.items (C.state closure.old).meaning.held } }
+    ensures meaning { (C.state closure.new).meaning ≡ record (C.state closure.old).meaning
+        { held = with_items receipt_cmp receipts.items (C.state closure.old).meaning.held } }
     ensures turns { C.turns closure.new ≡ C.turns closure.old }
 {
     for receipt in receipts {

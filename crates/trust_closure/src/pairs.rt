@@ -21,8 +21,8 @@ use std::marker::Model;
 use wait_index::NodeNo;
 
 /// The documents of domains that the nodes have, each different one once in their order, by the number of its first node;
-/// that number for each node; and for each node a count, which says of a first one how many marked nodes have its
-/// document. A document is accepted where its count is not 0.
+/// that number for each node; and for each node a count, which says of a first one how many marked
+/// nodes have its document. A document is accepted where its count is not 0.
 #[derive(Drop)]
 pub(crate) struct Pairs {
     order: Order,
@@ -144,7 +144,8 @@ impl Pairs {
         Ok(())
     }
 
-    /// Adds the next node, with its document, to those of these nodes. There is room for it. Its count is 0.
+    /// Adds the next node, with its document, to those of these nodes. There is room for it. Its
+    /// count is 0.
     pub(crate) fn add(
         &mut self,
         seeds: &[Seed],
@@ -173,8 +174,8 @@ impl Pairs {
         self.counts.push_reserved(0);
     }
 
-    /// Adds one for each of these nodes to the count of its document, and answers how many documents are accepted now
-    /// and were not before.
+    /// Adds one for each of these nodes to the count of its document, and answers how many
+    /// documents are accepted now and were not before.
     pub(crate) fn raise(&mut self, nodes: &[NodeNo]) -> usize
         requires nodes { All (λ n. n < length self.old.firsts) nodes.now }
         requires firsts { All (λ f. f < length self.old.counts) self.old.firsts }
@@ -182,22 +183,25 @@ impl Pairs {
         ensures numbers { self.new.numbers ≡ self.old.numbers }
         ensures firsts { self.new.firsts ≡ self.old.firsts }
         ensures adds { AddsNodes self.old.firsts nodes.now self.old.counts self.new.counts }
-        ensures count { raised_count (flags_of self.new.counts) ≡ raised_count (flags_of self.old.counts) + result }
+        ensures count { raised_count (flags_of self.new.counts)
+            ≡ raised_count (flags_of self.old.counts) + result }
         ensures capacity { self.new.capacity ≡ self.old.capacity }
     {
         raise_all(&mut self.counts, &self.firsts, nodes)
     }
 
-    /// Takes one for each of these nodes off the count of its document, and answers how many documents were accepted
-    /// and are not now.
+    /// Takes one for each of these nodes off the count of its document, and answers how many
+    /// documents were accepted and are not now.
     pub(crate) fn lower(&mut self, nodes: &[NodeNo]) -> usize
         requires nodes { All (λ n. n < length self.old.firsts) nodes.now }
         requires firsts { All (λ f. f < length self.old.counts) self.old.firsts }
-        requires counted { (number : ℕ) → nodes_with self.old.firsts nodes.now number ≤ count_at self.old.counts number }
+        requires counted { (number : ℕ)
+            → nodes_with self.old.firsts nodes.now number ≤ count_at self.old.counts number }
         ensures numbers { self.new.numbers ≡ self.old.numbers }
         ensures firsts { self.new.firsts ≡ self.old.firsts }
         ensures takes { AddsNodes self.old.firsts nodes.now self.new.counts self.old.counts }
-        ensures count { raised_count (flags_of self.old.counts) ≡ raised_count (flags_of self.new.counts) + result }
+        ensures count { raised_count (flags_of self.old.counts)
+            ≡ raised_count (flags_of self.new.counts) + result }
         ensures capacity { self.new.capacity ≡ self.old.capacity }
     {
         lower_all(&mut self.counts, &self.firsts, nodes)

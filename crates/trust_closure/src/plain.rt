@@ -173,8 +173,8 @@ pub(crate) fn lose(
     }
 }
 
-/// Distrusts keys in domains of the configuration, as many as there may be: the flags are lowered once, and rounds raise
-/// anew those that stand.
+/// Distrusts keys in domains of the configuration, as many as there may be: the flags are lowered
+/// once, and rounds raise anew those that stand.
 pub(crate) fn lose_all(
     held: &mut Held,
     pairs: &mut Pairs,
@@ -185,7 +185,8 @@ pub(crate) fn lose_all(
     requires settled { IsSettled held.old pairs.old seed_offers.now released.old.items }
     requires known { AreKnown (meaning_of held.old) records }
     ensures settled { IsSettled held.new pairs.new seed_offers.now released.new.items }
-    ensures meaning { meaning_of held.new ≡ record (meaning_of held.old) { records = with_items distrust_cmp records.entry (meaning_of held.old).records } }
+    ensures meaning { meaning_of held.new ≡ record (meaning_of held.old)
+        { records = with_items distrust_cmp records.entry (meaning_of held.old).records } }
     ensures arrived { held.new.arrived ≡ held.old.arrived }
     ensures held_capacity { held.new.capacity ≡ held.old.capacity }
     ensures firsts { pairs.new.firsts ≡ pairs.old.firsts }
@@ -197,12 +198,13 @@ pub(crate) fn lose_all(
     fall(held, pairs, seed_offers, released);
 }
 
-/// Lowers all flags, raises anew those that stand without records that are new, and answers how many documents of
-/// domains were accepted and are not now.
+/// Lowers all flags, raises anew those that stand without records that are new, and answers how
+/// many documents of domains were accepted and are not now.
 fn fall(held: &Held, pairs: &mut Pairs, seed_offers: &[Triple], released: &mut Vec<bool>) -> usize
     requires before { WasSettled held.now pairs.old seed_offers.now released.old.items }
     ensures settled { IsSettled held.now pairs.new seed_offers.now released.new.items }
-    ensures loss { (old : Hoard) (more : List Distrust) → IsBefore old more held.now → IsSettled old pairs.old seed_offers.now released.old.items
+    ensures loss { (old : Hoard) (more : List Distrust) → IsBefore old more held.now
+        → IsSettled old pairs.old seed_offers.now released.old.items
         → IsGain (meaning_of held.now) (meaning_of old) result }
     ensures firsts { pairs.new.firsts ≡ pairs.old.firsts }
     ensures capacity { pairs.new.capacity ≡ pairs.old.capacity }

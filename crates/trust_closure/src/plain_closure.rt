@@ -215,12 +215,14 @@ impl PlainClosure {
 }
 
 impl Mergeable for PlainClosure {
+    ghost use Rattle.std.specs.Prelude.{◌≡◌};
+
     ghost state = { λ c. c };
 
-    // It has no edges, and no turns.
-    ghost edges = { λ c. 0 };
-
+    // It has no edges, so no close looks at one.
     ghost turns = { λ c. 0 };
+
+    ghost IsWork = { λ c records count. count ≡ 0 };
 
     fn held(&self) -> &Held {
         &self.held

@@ -8,8 +8,8 @@ ghost use Rattle.trust_closure.specs.NodeCounts.{flags_of, AreCounts};
 use crate::pairs::Pairs;
 use wait_index::{NodeNo, Reach};
 
-/// Takes the nodes that the last close unmarked off the counts, adds those that it marked again, and
-/// answers how many documents were accepted and are not now. It looks at no other node.
+/// Takes the nodes that the last close unmarked off the counts, adds those that it marked again,
+/// and answers how many documents were accepted and are not now. It looks at no other node.
 pub(crate) fn recount(pairs: &mut Pairs, reach: &Reach) -> usize
     requires before { WasCounted pairs.old reach.now }
     requires firsts { All (λ f. f < length pairs.old.counts) pairs.old.firsts }
@@ -18,7 +18,8 @@ pub(crate) fn recount(pairs: &mut Pairs, reach: &Reach) -> usize
     ensures firsts { pairs.new.firsts ≡ pairs.old.firsts }
     ensures size { length pairs.new.counts ≡ length pairs.old.counts }
     ensures counts { AreCounts pairs.new.firsts reach.now.marked pairs.new.counts }
-    ensures count { raised_count (flags_of pairs.old.counts) ≡ raised_count (flags_of pairs.new.counts) + result }
+    ensures count { raised_count (flags_of pairs.old.counts)
+        ≡ raised_count (flags_of pairs.new.counts) + result }
     ensures capacity { pairs.new.capacity ≡ pairs.old.capacity }
 {
     let marked = reach.marked();

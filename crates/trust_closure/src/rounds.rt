@@ -99,7 +99,8 @@ fn has_triple(triples: &[Triple], sought: &Triple) -> bool
     triples.contains(sought)
 }
 
-/// Adds one for each document that is had to its count, and answers how many different ones those are. All counts were 0.
+/// Adds one for each document that is had to its count, and answers how many different ones those
+/// are. All counts were 0.
 pub(crate) fn raise_had(pairs: &mut Pairs, seeds: usize, released: &[bool]) -> usize
     requires size { length pairs.old.firsts ≡ seeds + length released.now }
     requires counted { length pairs.old.counts ≡ length pairs.old.firsts }
@@ -109,7 +110,8 @@ pub(crate) fn raise_had(pairs: &mut Pairs, seeds: usize, released: &[bool]) -> u
     ensures numbers { pairs.new.numbers ≡ pairs.old.numbers }
     ensures firsts { pairs.new.firsts ≡ pairs.old.firsts }
     ensures size { length pairs.new.counts ≡ length pairs.old.counts }
-    ensures raised { (number : ℕ) → (is_raised (flags_of pairs.new.counts) number ≡ true) ↔ IsFirstHad seeds released.now pairs.old.firsts (length pairs.old.firsts) number }
+    ensures raised { (number : ℕ) → (is_raised (flags_of pairs.new.counts) number ≡ true)
+        ↔ IsFirstHad seeds released.now pairs.old.firsts (length pairs.old.firsts) number }
     ensures count { raised_count (flags_of pairs.new.counts) ≡ result }
     ensures capacity { pairs.new.capacity ≡ pairs.old.capacity }
 {

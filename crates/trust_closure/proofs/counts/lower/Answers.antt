@@ -10,13 +10,20 @@ returns-then-counts-number-gt0-clause-count c =
     let counts : List ℕ = c.args.counts.now in
     let number : ℕ = c.args.number in
     let value : ℕ = count_at counts number - 1 in
-    let at : get_or (set counts number value) number 0 ≡ value = get_or-set_same counts number value 0 c.requires.number in
-    omega (arith, count-stays counts number value c.requires.number c.requires.counted (omega (arith, at, c.if-counts-number-gt0.true)))
+    let at : get_or (set counts number value) number 0 ≡ value = get_or-set_same counts number value
+    0 c.requires.number in
+    omega (
+      arith,
+      count-stays counts number value c.requires.number c.requires.counted
+          (omega (arith, at, c.if-counts-number-gt0.true)),
+    )
 
 pub returns-clause-count : goal.returns-clause-count
 returns-clause-count c =
     let counts : List ℕ = c.args.counts.now in
     let number : ℕ = c.args.number in
     let value : ℕ = count_at counts number - 1 in
-    let at : get_or (set counts number value) number 0 ≡ value = get_or-set_same counts number value 0 c.requires.number in
-    count-falls counts number value c.requires.number c.requires.counted (omega (arith, at, c.if-counts-number-gt0.false))
+    let at : get_or (set counts number value) number 0 ≡ value = get_or-set_same counts number value
+    0 c.requires.number in
+    count-falls counts number value c.requires.number c.requires.counted
+    (omega (arith, at, c.if-counts-number-gt0.false))

@@ -10,13 +10,20 @@ returns-then-counts-number-gt1-clause-count c =
     let counts : List ℕ = c.args.counts.now in
     let number : ℕ = c.args.number in
     let value : ℕ = count_at counts number + 1 in
-    let at : get_or (set counts number value) number 0 ≡ value = get_or-set_same counts number value 0 c.requires.number in
-    omega (arith, count-stays counts number value c.requires.number (omega (arith, at, c.if-counts-number-gt1.true)) (omega arith))
+    let at : get_or (set counts number value) number 0 ≡ value = get_or-set_same counts number value
+    0 c.requires.number in
+    omega (
+      arith,
+      count-stays counts number value c.requires.number
+          (omega (arith, at, c.if-counts-number-gt1.true)) (omega arith),
+    )
 
 pub returns-clause-count : goal.returns-clause-count
 returns-clause-count c =
     let counts : List ℕ = c.args.counts.now in
     let number : ℕ = c.args.number in
     let value : ℕ = count_at counts number + 1 in
-    let at : get_or (set counts number value) number 0 ≡ value = get_or-set_same counts number value 0 c.requires.number in
-    count-rises counts number value c.requires.number (omega (arith, at, c.if-counts-number-gt1.false)) (omega arith)
+    let at : get_or (set counts number value) number 0 ≡ value = get_or-set_same counts number value
+    0 c.requires.number in
+    count-rises counts number value c.requires.number
+    (omega (arith, at, c.if-counts-number-gt1.false)) (omega arith)

@@ -32,7 +32,8 @@ raise-requires-clause-few c n =
     let before = c.args.wiring.now in
     let count = length c.marked-count.result.now in
     let nodes = c.marked.result.now in
-    let at : count_at c.place_receipt.new.pairs.counts n ≡ count_at p.counts n = ap (λ ks. count_at ks n) c.place_receipt.ensures.counts ∙ count_at-push p.counts n in
+    let at : count_at c.place_receipt.new.pairs.counts n ≡ count_at p.counts n = ap
+    (λ ks. count_at ks n) c.place_receipt.ensures.counts ∙ count_at-push p.counts n in
     omega (
       arith,
       at,
@@ -60,14 +61,19 @@ returns-clause-indexed c =
     let marked : nodes ≡ w.marked = c.marked.ensures.nodes ∙ c.reach-2.ensures.marked in
     let size : count ≡ length c.args.wiring.now.marked = ap length (c.marked-count.ensures.nodes ∙ c.reach.ensures.marked) in
     let rest : take (length nodes - count) (drop count nodes) ≡ drop count w.marked = take_rest nodes count ∙ ap (drop count) marked in
-    let adds : AddsNodes q.firsts (drop count w.marked) (c.args.pairs.now.counts ++ 0 ∷ []) q.counts =
-    subst (λ (ks : List ℕ). AddsNodes q.firsts (drop count w.marked) ks q.counts) c.place_receipt.ensures.counts
-    (subst (λ (fs : List ℕ). AddsNodes fs (drop count w.marked) p.counts q.counts) (sym c.raise.ensures.firsts)
+    let adds : AddsNodes q.firsts (drop count w.marked) (c.args.pairs.now.counts ++ 0 ∷ [])
+    q.counts =
+    subst (λ (ks : List ℕ). AddsNodes q.firsts (drop count w.marked) ks q.counts)
+    c.place_receipt.ensures.counts
+    (subst (λ (fs : List ℕ). AddsNodes fs (drop count w.marked) p.counts q.counts)
+    (sym c.raise.ensures.firsts)
     (subst (λ (ns : List ℕ). AddsNodes p.firsts ns p.counts q.counts) rest c.raise.ensures.adds))
     in
     let indexed : IsIndexed h q w = record {
-      built = built-counts h p q w c.place_receipt.ensures.built c.raise.ensures.numbers c.raise.ensures.firsts c.raise.ensures.adds.size;
-      counts = counts-more c.args.pairs.now.firsts q.firsts c.args.wiring.now.marked w.marked c.args.pairs.now.counts q.counts c.place_receipt.ensures.firsts.0 count
+      built = built-counts h p q w c.place_receipt.ensures.built c.raise.ensures.numbers
+          c.raise.ensures.firsts c.raise.ensures.adds.size;
+      counts = counts-more c.args.pairs.now.firsts q.firsts c.args.wiring.now.marked w.marked
+          c.args.pairs.now.counts q.counts c.place_receipt.ensures.firsts.0 count
           (c.raise.ensures.firsts ∙ c.place_receipt.ensures.firsts.1)
           (ap (λ n. take n w.marked) size ∙ c.place_receipt.ensures.front)
           (marked-within c.args.held.now c.args.pairs.now c.args.wiring.now c.requires.indexed.built)
@@ -86,18 +92,25 @@ returns-clause-gain c =
     let marked : nodes ≡ w.marked = c.marked.ensures.nodes ∙ c.reach-2.ensures.marked in
     let size : count ≡ length c.args.wiring.now.marked = ap length (c.marked-count.ensures.nodes ∙ c.reach.ensures.marked) in
     let rest : take (length nodes - count) (drop count nodes) ≡ drop count w.marked = take_rest nodes count ∙ ap (drop count) marked in
-    let adds : AddsNodes q.firsts (drop count w.marked) (c.args.pairs.now.counts ++ 0 ∷ []) q.counts =
-    subst (λ (ks : List ℕ). AddsNodes q.firsts (drop count w.marked) ks q.counts) c.place_receipt.ensures.counts
-    (subst (λ (fs : List ℕ). AddsNodes fs (drop count w.marked) p.counts q.counts) (sym c.raise.ensures.firsts)
+    let adds : AddsNodes q.firsts (drop count w.marked) (c.args.pairs.now.counts ++ 0 ∷ [])
+    q.counts =
+    subst (λ (ks : List ℕ). AddsNodes q.firsts (drop count w.marked) ks q.counts)
+    c.place_receipt.ensures.counts
+    (subst (λ (fs : List ℕ). AddsNodes fs (drop count w.marked) p.counts q.counts)
+    (sym c.raise.ensures.firsts)
     (subst (λ (ns : List ℕ). AddsNodes p.firsts ns p.counts q.counts) rest c.raise.ensures.adds))
     in
     let indexed : IsIndexed h q w = record {
-      built = built-counts h p q w c.place_receipt.ensures.built c.raise.ensures.numbers c.raise.ensures.firsts c.raise.ensures.adds.size;
-      counts = counts-more c.args.pairs.now.firsts q.firsts c.args.wiring.now.marked w.marked c.args.pairs.now.counts q.counts c.place_receipt.ensures.firsts.0 count
+      built = built-counts h p q w c.place_receipt.ensures.built c.raise.ensures.numbers
+          c.raise.ensures.firsts c.raise.ensures.adds.size;
+      counts = counts-more c.args.pairs.now.firsts q.firsts c.args.wiring.now.marked w.marked
+          c.args.pairs.now.counts q.counts c.place_receipt.ensures.firsts.0 count
           (c.raise.ensures.firsts ∙ c.place_receipt.ensures.firsts.1)
           (ap (λ n. take n w.marked) size ∙ c.place_receipt.ensures.front)
           (marked-within c.args.held.now c.args.pairs.now c.args.wiring.now c.requires.indexed.built)
           c.requires.indexed.counts adds;
     } in
-    gain-more c.args.held.now h c.args.pairs.now q c.args.wiring.now w c.args.receipt (drop count w.marked) c.raise.result c.requires.indexed indexed
-    c.place_receipt.ensures.held adds (c.raise.ensures.count ∙ ap (λ ks. raised_count (flags_of ks) + c.raise.result) c.place_receipt.ensures.counts)
+    gain-more c.args.held.now h c.args.pairs.now q c.args.wiring.now w c.args.receipt
+    (drop count w.marked) c.raise.result c.requires.indexed indexed
+    c.place_receipt.ensures.held adds (c.raise.ensures.count
+    ∙ ap (λ ks. raised_count (flags_of ks) + c.raise.result) c.place_receipt.ensures.counts)

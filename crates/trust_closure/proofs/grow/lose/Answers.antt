@@ -27,7 +27,13 @@ returns-in-Added-clause-meaning c =
     let x : Distrust = record { domain = c.args.domain.now; key = c.args.key } in
     let added : HasAdded (meaning_of c.args.held.now) x (meaning_of c.add_record.new.self) = subst (λ (a : Addition). Adds (meaning_of c.args.held.now) x (meaning_of c.add_record.new.self) a) c.in-Added.is c.in_ok-add_record.ensures.meaning in
     let before = before-added c.args.held.now c.add_record.new.self x added c.in_ok-add_record.ensures.arrived in
-    record { domain = added.domain; unheld = added.unheld; few = added.few; meaning = added.meaning; loss = c.close-fall.ensures.loss c.args.held.now before c.requires.indexed }
+    record {
+      domain = added.domain;
+      unheld = added.unheld;
+      few = added.few;
+      meaning = added.meaning;
+      loss = c.close-fall.ensures.loss c.args.held.now before c.requires.indexed;
+    }
 
 pub returns-in-There-clause-indexed : goal.returns-in-There-clause-indexed
 returns-in-There-clause-indexed c =
@@ -63,6 +69,9 @@ returns-in_err-add_record-clause-meaning c =
 pub returns-in-Added-clause-work : goal.returns-in-Added-clause-work
 returns-in-Added-clause-work c spare =
     let x : Distrust = record { domain = c.args.domain.now; key = c.args.key } in
-    let added : HasAdded (meaning_of c.args.held.now) x (meaning_of c.add_record.new.self) = subst (λ (a : Addition). Adds (meaning_of c.args.held.now) x (meaning_of c.add_record.new.self) a) c.in-Added.is c.in_ok-add_record.ensures.meaning in
-    let before = before-added c.args.held.now c.add_record.new.self x added c.in_ok-add_record.ensures.arrived in
+    let added : HasAdded (meaning_of c.args.held.now) x (meaning_of c.add_record.new.self) = subst
+    (λ (a : Addition). Adds (meaning_of c.args.held.now) x (meaning_of c.add_record.new.self) a)
+    c.in-Added.is c.in_ok-add_record.ensures.meaning in
+    let before = before-added c.args.held.now c.add_record.new.self x added
+    c.in_ok-add_record.ensures.arrived in
     c.close-fall.ensures.work c.args.held.now spare c.args.turns.now before c.requires.indexed

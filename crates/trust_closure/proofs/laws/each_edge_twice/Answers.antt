@@ -1,11 +1,15 @@
 -- All labels together are a set that goes on along edges.
-use Rattle.std.proofs.Common.{ℕ, Bool, true, refl, arith}
+use Rattle.std.proofs.Common.{◌+◌, ◌*◌, ◌≤◌, ℕ, Bool, true, List, length, refl, arith}
 use Rattle.std.proofs.lemmas.List.Sums.{count_by-le-length}
+use Rattle.receipt_core.specs.declared.distrust.Distrust.{Distrust}
 use Rattle.wait_index.specs.declared.edges.Edge.{Edge}
+use Rattle.trust_closure.specs.Indexed.{Indexed}
+use Rattle.trust_closure.specs.Work.{ClosesAtOnce}
 use Rattle.trust_closure.proofs.laws.each_edge_twice.Goals as goal
 
-pub returns : goal.returns
-returns c old new records is =
+twice : (old new : Indexed) (records : List Distrust) → ClosesAtOnce old records new
+    → new.turns ≤ 2 * (length old.wired.net.offers + length old.wired.net.waits)
+twice old new records is =
     let all : ℕ → Bool = λ label. true in
     omega (
       arith,
@@ -13,3 +17,10 @@ returns c old new records is =
       count_by-le-length (λ (e : Edge). true) old.wired.net.offers,
       count_by-le-length (λ (e : Edge). true) old.wired.net.waits,
     )
+
+pub returns-clause-distrust : goal.returns-clause-distrust
+returns-clause-distrust c = twice
+
+pub returns-clause-merge : goal.returns-clause-merge
+returns-clause-merge c old records turns is =
+    omega (arith, twice old is.after is.after.state.meaning.records is.closes, is.turns)

@@ -1,5 +1,5 @@
 -- One more is held.
-use Rattle.std.proofs.Common.{◌≡◌, List, inl, inr, refl, sym, ap, subst, ◌∙◌}
+use Rattle.std.proofs.Common.{List, inr, refl, sym, ap, subst, ◌∙◌}
 use Rattle.receipt_core.specs.declared.distrust.Distrust.{Distrust}
 use Rattle.receipt_core.specs.Receipt.{distrust_cmp}
 use Rattle.receipt_core.specs.Rising.{with_items}
@@ -11,7 +11,8 @@ use Rattle.trust_closure.proofs.merge.hold_all.Goals as goal
 pub loop-domain-init : goal.loop-domain-init
 loop-domain-init c = record {
   holding = IsDistrusting-start (meaning_of c.args.held.now) c.into_iter-domain-iterator.result
-      (subst (AreKnown (meaning_of c.args.held.now)) (sym c.into_iter-domain-iterator.ensures.into_iter_gives) c.requires);
+      (subst (AreKnown (meaning_of c.args.held.now))
+      (sym c.into_iter-domain-iterator.ensures.into_iter_gives) c.requires);
   arrived = refl;
   capacity = refl;
   grown = inr refl;
@@ -27,7 +28,8 @@ loop-domain-preserved c =
     record {
       holding = IsDistrusting-next start now new c.into_iter-domain-iterator.result
           c.loop-domain.domain-iterator c.next.new.self x c.add_record.result
-          c.config-valid.ensures.valid i.holding c.in-Some.ensures.steps c.add_record.ensures.meaning;
+          c.config-valid.ensures.valid i.holding c.in-Some.ensures.steps
+          c.add_record.ensures.meaning;
       arrived = c.add_record.ensures.arrived ∙ i.arrived;
       capacity = c.add_record.ensures.capacity ∙ i.capacity;
       grown = grown_next start now new x c.add_record.result c.add_record.ensures.meaning i.grown;
@@ -36,5 +38,8 @@ loop-domain-preserved c =
 pub returns-clause-meaning : goal.returns-clause-meaning
 returns-clause-meaning c =
     let start = meaning_of c.args.held.now in
-    IsDistrusting-end start (meaning_of c.loop-domain.held) c.into_iter-domain-iterator.result c.loop-domain.domain-iterator c.loop-domain.invariant.holding c.in-None.ensures.steps.0
-    ∙ ap (λ (xs : List Distrust). record start { records = with_items distrust_cmp xs start.records }) c.into_iter-domain-iterator.ensures.into_iter_gives
+    IsDistrusting-end start (meaning_of c.loop-domain.held) c.into_iter-domain-iterator.result
+    c.loop-domain.domain-iterator c.loop-domain.invariant.holding c.in-None.ensures.steps.0
+    ∙ ap (λ (xs : List Distrust). record start
+    { records = with_items distrust_cmp xs start.records })
+    c.into_iter-domain-iterator.ensures.into_iter_gives

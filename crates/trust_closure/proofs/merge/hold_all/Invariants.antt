@@ -6,7 +6,8 @@ use Rattle.trust_closure.proofs.merge.hold_all.Given as goal
 
 abbrev pub invariant-loop-domain : goal.invariant-loop-domain
 invariant-loop-domain l = record {
-  holding : IsDistrusting (meaning_of l.initial.held) (meaning_of l.held) l.initial.domain-iterator l.domain-iterator;
+  holding : IsDistrusting (meaning_of l.initial.held) (meaning_of l.held) l.initial.domain-iterator
+      l.domain-iterator;
   arrived : l.held.arrived ≡ l.initial.held.arrived;
   capacity : l.held.capacity ≡ l.initial.held.capacity;
   grown : HasGrown (meaning_of l.initial.held) (meaning_of l.held);

@@ -24,7 +24,8 @@ loop-receipt-preserved g c =
     record {
       joining = IsJoining-next (g.C.Mergeable.state c.args.closure.now) (g.C.Mergeable.state c.loop-receipt.closure) (g.C.Mergeable.state c.take_one.new.self) (meaning_of c.held.result.now)
           (into_iter_items c.into_iter-receipt-iterator.result) (into_iter_items c.loop-receipt.receipt-iterator) (into_iter_items c.next.new.self) c.in-Some.receipt c.take_one.result
-          c.held.ensures c.config-valid.ensures.valid c.config-valid.ensures.form c.loop-receipt.invariant.joining steps c.take_one.ensures.takes;
+          c.held.ensures c.config-valid.ensures.valid c.config-valid.ensures.form
+          c.loop-receipt.invariant.joining steps c.take_one.ensures.takes;
       turns = c.take_one.ensures.turns ∙ c.loop-receipt.invariant.turns;
       size = omega (arith, c.in-Some.ensures.steps.1, ap length steps, c.loop-receipt.invariant.size);
     }
@@ -35,7 +36,8 @@ loop-receipt-preserved-in-Some g c =
     record {
       joining = IsJoining-next (g.C.Mergeable.state c.args.closure.now) (g.C.Mergeable.state c.loop-receipt.closure) (g.C.Mergeable.state c.take_one.new.self) (meaning_of c.held.result.now)
           (into_iter_items c.into_iter-receipt-iterator.result) (into_iter_items c.loop-receipt.receipt-iterator) (into_iter_items c.next.new.self) c.in-Some.receipt c.take_one.result
-          c.held.ensures c.config-valid.ensures.valid c.config-valid.ensures.form c.loop-receipt.invariant.joining steps c.take_one.ensures.takes;
+          c.held.ensures c.config-valid.ensures.valid c.config-valid.ensures.form
+          c.loop-receipt.invariant.joining steps c.take_one.ensures.takes;
       turns = c.take_one.ensures.turns ∙ c.loop-receipt.invariant.turns;
       size = omega (arith, c.in-Some.ensures.steps.1, ap length steps, c.loop-receipt.invariant.size);
     }

@@ -12,14 +12,29 @@ pub fall-requires : goal.fall-requires
 fall-requires c =
     let x : Distrust = record { domain = c.args.domain.now; key = c.args.key } in
     let added : HasAdded (meaning_of c.args.held.now) x (meaning_of c.add_record.new.self) = subst (λ (a : Addition). Adds (meaning_of c.args.held.now) x (meaning_of c.add_record.new.self) a) c.in-Added.is c.in_ok-add_record.ensures.meaning in
-    record { before = record { old = c.args.held.now; more = x ∷ []; before = before-added c.args.held.now c.add_record.new.self x added c.in_ok-add_record.ensures.arrived; settled = c.requires.settled } }
+    record {
+      before = record {
+        old = c.args.held.now;
+        more = x ∷ [];
+        before = before-added
+            c.args.held.now c.add_record.new.self x added c.in_ok-add_record.ensures.arrived;
+        settled =
+            c.requires.settled;
+      };
+    }
 
 pub returns-in-Added-clause-meaning : goal.returns-in-Added-clause-meaning
 returns-in-Added-clause-meaning c =
     let x : Distrust = record { domain = c.args.domain.now; key = c.args.key } in
     let added : HasAdded (meaning_of c.args.held.now) x (meaning_of c.add_record.new.self) = subst (λ (a : Addition). Adds (meaning_of c.args.held.now) x (meaning_of c.add_record.new.self) a) c.in-Added.is c.in_ok-add_record.ensures.meaning in
     let before = before-added c.args.held.now c.add_record.new.self x added c.in_ok-add_record.ensures.arrived in
-    record { domain = added.domain; unheld = added.unheld; few = added.few; meaning = added.meaning; loss = c.fall.ensures.loss c.args.held.now (x ∷ []) before c.requires.settled }
+    record {
+      domain = added.domain;
+      unheld = added.unheld;
+      few = added.few;
+      meaning = added.meaning;
+      loss = c.fall.ensures.loss c.args.held.now (x ∷ []) before c.requires.settled;
+    }
 
 pub returns-in-There-clause-settled : goal.returns-in-There-clause-settled
 returns-in-There-clause-settled c =

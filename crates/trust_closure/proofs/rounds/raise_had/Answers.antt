@@ -22,7 +22,12 @@ loop-node-init c =
       firsts = refl;
       size = refl;
       few = λ n. omega (arith, c.requires.lowered n);
-      raised = λ n. (λ e. absurd (both_ways (is_raised (flags_of c.args.pairs.now.counts) n) (low n) e), λ f. absurd (first-none c.args.seeds c.args.released.now c.args.pairs.now.firsts n f));
+      raised = λ n. (
+        λ e. absurd (both_ways (is_raised (flags_of c.args.pairs.now.counts) n) (low n)
+            e),
+        λ f. absurd (first-none c.args.seeds c.args.released.now c.args.pairs.now.firsts n
+            f),
+      );
       count = count-lowered (flags_of c.args.pairs.now.counts) low;
       capacity = refl;
     }
@@ -54,17 +59,32 @@ loop-node-preserved c =
       | then-is_had w ↦
           let q = w.raise-count.new.self in
           let adds : AddsNodes firsts (k ∷ []) c.loop-node.pairs.counts q.counts =
-          subst (λ (fs : List ℕ). AddsNodes fs (k ∷ []) c.loop-node.pairs.counts q.counts) i.firsts (subst (λ (n : ℕ). AddsNodes c.loop-node.pairs.firsts (n ∷ []) c.loop-node.pairs.counts q.counts) w.new.ensures w.raise-count.ensures.adds) in
+          subst (λ (fs : List ℕ). AddsNodes fs (k ∷ []) c.loop-node.pairs.counts q.counts) i.firsts
+          (subst (λ (n : ℕ). AddsNodes c.loop-node.pairs.firsts (n ∷ [])
+          c.loop-node.pairs.counts q.counts) w.new.ensures w.raise-count.ensures.adds) in
           record {
             numbers = ap (λ p. p.numbers) w.pairs-is ∙ w.raise-count.ensures.numbers ∙ i.numbers;
             firsts = ap (λ p. p.firsts) w.pairs-is ∙ w.raise-count.ensures.firsts ∙ i.firsts;
             size = ap (λ p. length p.counts) w.pairs-is ∙ w.raise-count.ensures.adds.size ∙ i.size;
-            few = λ n. subst (λ p. count_at p.counts n ≤ k + 1) (sym w.pairs-is) (omega (arith, adds.each n, i.few n, nodes_with-few firsts (k ∷ []) n));
-            raised = λ n. subst (λ p. (is_raised (flags_of p.counts) n ≡ true) ↔ IsFirstHad seeds released firsts (k + 1) n) (sym w.pairs-is)
-                (first-more seeds released firsts k (k ∷ []) refl (c.is_had.ensures.0 w.if-is_had.true) (flags_of c.loop-node.pairs.counts) (flags_of q.counts)
-                (flags-raised firsts (k ∷ []) c.loop-node.pairs.counts q.counts (All-cons (λ n. n < length firsts) k [] (omega (arith, c.loop-node-test.true, c.len-node-end.ensures)) (λ j d l. absurd (omega (arith, l)))) adds)
+            few = λ n. subst (λ p. count_at p.counts n ≤ k + 1) (sym w.pairs-is)
+                (omega (arith, adds.each n, i.few n, nodes_with-few firsts (k ∷ []) n));
+            raised = λ n. subst (λ p. (is_raised (flags_of p.counts) n ≡ true) ↔ IsFirstHad seeds
+                released firsts (k + 1) n) (sym w.pairs-is)
+                (first-more seeds released firsts k (k ∷ []) refl
+                (c.is_had.ensures.0 w.if-is_had.true) (flags_of c.loop-node.pairs.counts)
+                (flags_of q.counts)
+                (flags-raised firsts (k ∷ []) c.loop-node.pairs.counts q.counts
+                (All-cons (λ n. n < length firsts) k []
+                (omega (arith, c.loop-node-test.true, c.len-node-end.ensures))
+                (λ j d l. absurd (omega (arith, l)))) adds)
                 i.raised n);
-            count = omega (arith, ap (λ p. raised_count (flags_of p.counts)) w.pairs-is, w.raise-count.ensures.count, i.count, w.count-is);
+            count = omega (
+              arith,
+              ap (λ p. raised_count (flags_of p.counts)) w.pairs-is,
+              w.raise-count.ensures.count,
+              i.count,
+              w.count-is,
+            );
             capacity = ap (λ p. p.capacity) w.pairs-is ∙ w.raise-count.ensures.capacity ∙ i.capacity;
           }
       | else-is_had w ↦
@@ -72,12 +92,19 @@ loop-node-preserved c =
             numbers = ap (λ p. p.numbers) w.pairs-is ∙ i.numbers;
             firsts = ap (λ p. p.firsts) w.pairs-is ∙ i.firsts;
             size = ap (λ p. length p.counts) w.pairs-is ∙ i.size;
-            few = λ n. subst (λ p. count_at p.counts n ≤ k + 1) (sym w.pairs-is) (omega (arith, i.few n));
-            raised = λ n. subst (λ p. (is_raised (flags_of p.counts) n ≡ true) ↔ IsFirstHad seeds released firsts (k + 1) n) (sym w.pairs-is) (
-              λ e. first-later seeds released firsts k n ((i.raised n).0 e),
-              λ f. (i.raised n).1 (first-skip seeds released firsts k (λ had. both_ways c.is_had.result w.if-is_had.false (c.is_had.ensures.1 had)) n f),
+            few = λ n. subst (λ p. count_at p.counts n ≤ k + 1) (sym w.pairs-is)
+                (omega (arith, i.few n));
+            raised = λ n. subst (λ p. (is_raised (flags_of p.counts) n ≡ true) ↔ IsFirstHad seeds
+                released firsts (k + 1) n) (sym w.pairs-is) (
+                  λ e. first-later seeds released firsts k n ((i.raised n).0 e),
+                  λ f. (i.raised n).1 (first-skip seeds released firsts k (λ had. both_ways c.is_had.result w.if-is_had.false (c.is_had.ensures.1 had)) n f),
+                );
+            count = omega (
+              arith,
+              ap (λ p. raised_count (flags_of p.counts)) w.pairs-is,
+              i.count,
+              w.count-is,
             );
-            count = omega (arith, ap (λ p. raised_count (flags_of p.counts)) w.pairs-is, i.count, w.count-is);
             capacity = ap (λ p. p.capacity) w.pairs-is ∙ i.capacity;
           }
     ]

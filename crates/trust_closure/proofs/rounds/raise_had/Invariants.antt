@@ -13,7 +13,8 @@ invariant-loop-node l = record {
   firsts : l.pairs.firsts ≡ l.initial.pairs.firsts;
   size : length l.pairs.counts ≡ length l.initial.pairs.counts;
   few : (number : ℕ) → count_at l.pairs.counts number ≤ l.node;
-  raised : (number : ℕ) → (is_raised (flags_of l.pairs.counts) number ≡ true) ↔ IsFirstHad l.seeds l.released l.initial.pairs.firsts l.node number;
+  raised : (number : ℕ) → (is_raised (flags_of l.pairs.counts) number ≡ true) ↔ IsFirstHad l.seeds
+      l.released l.initial.pairs.firsts l.node number;
   count : raised_count (flags_of l.pairs.counts) ≡ l.count;
   capacity : l.pairs.capacity ≡ l.initial.pairs.capacity;
 }

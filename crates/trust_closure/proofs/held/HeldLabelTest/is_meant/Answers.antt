@@ -19,7 +19,8 @@ returns c =
     subst (λ (h : Hoard). IsTrue c.holds.result ↔ IsDistrusted h label) c.self.view_is (
       λ t.
           let l : label.domain < length (domains_of config) =
-          each_has (λ (r : Record). r.domain < length (domains_of config)) records x c.self.invariant.within (c.holds.ensures.0 t) in
+          each_has (λ (r : Record). r.domain < length (domains_of config)) records x
+          c.self.invariant.within (c.holds.ensures.0 t) in
           record { within = l; shut = (held l).0 t },
       λ d. (held d.within).1 d.shut,
     )

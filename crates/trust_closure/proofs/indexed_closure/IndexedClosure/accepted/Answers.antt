@@ -19,4 +19,5 @@ returns c =
     ∙ ap (λ rs. raised_of (pairs_of h.config.seeds rs) p c.args.domain.now) c.arrived.ensures in
     subst (λ v. IsAcceptedList v.state.meaning c.args.domain.now c.accepted.result) c.self.view_is
     (subst (IsAcceptedList (meaning_of h) c.args.domain.now) (sym list)
-    (accepted-list (meaning_of h) (pairs_of h.config.seeds h.arrived) p c.args.domain.now (tells h p c.self.inside.wiring i.built i.counts) i.built.pairing.rising))
+    (accepted-list (meaning_of h) (pairs_of h.config.seeds h.arrived) p c.args.domain.now
+    (tells h p c.self.inside.wiring i.built i.counts) i.built.pairing.rising))

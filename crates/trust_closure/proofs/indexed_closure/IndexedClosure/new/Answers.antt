@@ -35,9 +35,14 @@ raise-requires-clause-few c n =
     let h = c.in_ok-held.held in
     let p = c.add_seeds.new.pairs in
     let w = c.add_seeds.new.wiring in
-    let seeds : c.seeds.result.now ≡ h.config.seeds = c.seeds.ensures ∙ ap (λ (a : Configuration). a.seeds) c.config-2.ensures.config in
+    let seeds : c.seeds.result.now ≡ h.config.seeds = c.seeds.ensures
+    ∙ ap (λ (a : Configuration). a.seeds) c.config-2.ensures.config in
     let marked : c.marked.result.now ≡ w.marked = c.marked.ensures.nodes ∙ c.reach.ensures.marked in
-    let built = built-seeded h c.domains-domains.result.now p w c.seeds.result.now c.config.ensures.valid (ap (λ (m : Meaning). m.held) c.in_ok-held.ensures.0) c.in_ok-held.ensures.1 (subst (λ (k : Configuration). AreDomains k c.domains-domains.result.now) c.config.ensures.config c.domains-domains.ensures.all) seeds c.in_ok-add_seeds.ensures in
+    let built = built-seeded h c.domains-domains.result.now p w c.seeds.result.now
+    c.config.ensures.valid (ap (λ (m : Meaning). m.held) c.in_ok-held.ensures.0)
+    c.in_ok-held.ensures.1 (subst (λ (k : Configuration). AreDomains k
+    c.domains-domains.result.now) c.config.ensures.config c.domains-domains.ensures.all) seeds
+    c.in_ok-add_seeds.ensures in
     omega (
       arith,
       c.in_ok-add_seeds.ensures.lowered n,
@@ -57,4 +62,5 @@ invariant_of-result c =
     let built = built-seeded h c.domains-domains.result.now p w c.seeds.result.now c.config.ensures.valid (ap (λ (m : Meaning). m.held) c.in_ok-held.ensures.0) c.in_ok-held.ensures.1 (subst (λ (k : Configuration). AreDomains k c.domains-domains.result.now) c.config.ensures.config c.domains-domains.ensures.all) seeds c.in_ok-add_seeds.ensures in
     kept-seeded h p c.raise.new.self w c.marked.result.now c.seeds.result.now built c.in_ok-add_seeds.ensures c.in_ok-held.ensures.1
     (omega (arith, c.domains-domains.ensures.form.few_seeds, ap length c.seeds.ensures, ap (λ (a : Configuration). length a.seeds) c.config-2.ensures.config, ap (λ (a : Configuration). length a.seeds) c.config.ensures.config))
-    c.raise.ensures.numbers c.raise.ensures.firsts c.raise.ensures.capacity marked c.raise.ensures.adds
+    c.raise.ensures.numbers c.raise.ensures.firsts c.raise.ensures.capacity marked
+    c.raise.ensures.adds

@@ -25,7 +25,9 @@ invariant_of-result c =
     let seeds : c.seeds-seeds.result.now ≡ h.config.seeds = c.seeds-seeds.ensures ∙ ap (λ (a : Configuration). a.seeds) c.config-2.ensures.config in
     let arrived = c.in_ok-held.ensures.1 in
     let set = sown-set h p offers c.seeds-seeds.result.now seeds c.config.ensures.valid (ap (λ (m : Meaning). m.held) c.in_ok-held.ensures.0) arrived c.in_ok-sow_all.ensures in
-    let raised = raised-as (flags_of q.counts) (length c.seeds-seeds.result.now) (length h.config.seeds) c.deref.result.now [] p.firsts p.firsts (ap length seeds) (c.deref.ensures.value ∙ c.new-released.ensures.items) refl c.raise_had.ensures.raised in
+    let raised = raised-as (flags_of q.counts) (length c.seeds-seeds.result.now)
+    (length h.config.seeds) c.deref.result.now [] p.firsts p.firsts (ap length seeds)
+    (c.deref.ensures.value ∙ c.new-released.ensures.items) refl c.raise_had.ensures.raised in
     record {
       settled = subst (λ (fs : List Bool). IsSettled h q offers fs) (sym c.new-released.ensures.items)
           (settled-from h p q offers [] [] set refl (none-released h [] arrived) c.raise_had.ensures.numbers c.raise_had.ensures.firsts c.raise_had.ensures.size raised);
