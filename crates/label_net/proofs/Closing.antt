@@ -18,7 +18,7 @@ use Rattle.sorted_order.specs.Stock.{Stock, Arranges, compared_if, compared_at}
 use Rattle.wait_index.specs.Net.{Net, with_all_closed}
 use Rattle.wait_index.proofs.Least.{closed-all, length-all_set}
 use Rattle.label_net.specs.declared.label.Label.{Label}
-use Rattle.label_net.specs.Labels.{label_cmp, key_cmp, IsInOrder, AreNumbersOf, IsOfKey, HasClosed}
+use Rattle.label_net.specs.Labels.{label_cmp, cmp_to_key, IsInOrder, AreNumbersOf, IsOfKey, HasClosed}
 use Rattle.label_net.proofs.Arrows.{Contains-later, Contains-cons_cases}
 use Rattle.label_net.proofs.InOrder.{then-first}
 
@@ -65,12 +65,12 @@ rises-by_key a b x l =
     ]
 
 pub key-rises : (labels : List Label) (domain : ℕ) (key : KeyId) → IsInOrder labels
-    → IsRising (key_cmp domain key) labels
+    → IsRising (cmp_to_key domain key) labels
 key-rises labels domain key h = record {
   rising = λ i j d l within.
       let first : Label = get_or labels i d in
       let second : Label = get_or labels j d in
-      let stands : Label → ℕ = λ label. ordering_index (key_cmp domain key label) in
+      let stands : Label → ℕ = λ label. ordering_index (cmp_to_key domain key label) in
       let x : Label = record { domain = domain; document = d.document; key = key } in
       elim (cases_order i j) [
         | inl e ↦
@@ -85,10 +85,10 @@ key-rises labels domain key h = record {
 }
 
 pub of_key-compared : (domain : ℕ) (key : KeyId) (label : Label)
-    → (key_cmp domain key label ≡ Equal) ↔ IsOfKey domain key label
+    → (cmp_to_key domain key label ≡ Equal) ↔ IsOfKey domain key label
 of_key-compared domain key label = (from, to)
   where
-    from : key_cmp domain key label ≡ Equal → IsOfKey domain key label
+    from : cmp_to_key domain key label ≡ Equal → IsOfKey domain key label
     from e =
         let keys = slice_cmp nat_cmp label.key.0 key.0 in
         let both = then-first (nat_cmp label.domain domain) keys e in (
@@ -97,7 +97,7 @@ of_key-compared domain key label = (from, to)
               (exact_bytes label.key.0 key.0 both.1),
         )
 
-    to : IsOfKey domain key label → key_cmp domain key label ≡ Equal
+    to : IsOfKey domain key label → cmp_to_key domain key label ≡ Equal
     to is =
         let keys : KeyId → Ordering = λ k. slice_cmp nat_cmp k.0 key.0 in
         ap (λ n. ordering_then (nat_cmp n domain) (keys label.key)) is.0
@@ -149,7 +149,7 @@ equal-from Greater e = absurd (cc)
 
 module _ (stock : Stock Label) (domain : ℕ) (key : KeyId) where
   abbrev stands : ℕ → Ordering
-  stands number = compared_at (key_cmp domain key) stock.items number
+  stands number = compared_at (cmp_to_key domain key) stock.items number
 
   abbrev test : ℕ → Bool
   test number = is_equal (stands number)
@@ -163,8 +163,8 @@ module _ (stock : Stock Label) (domain : ℕ) (key : KeyId) where
   key-numbers h = record {
     within = All-filter test (λ number. number < length stock.items) stock.order h.within;
     exactly = λ number label at.
-        let same : stands number ≡ key_cmp domain key label =
-        ap (compared_if (key_cmp domain key)) at
+        let same : stands number ≡ cmp_to_key domain key label =
+        ap (compared_if (cmp_to_key domain key)) at
         in
         let has : Contains stock.order number =
         h.each number (slice_get_within stock.items number label at)

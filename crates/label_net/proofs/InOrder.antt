@@ -22,7 +22,8 @@ use Rattle.label_net.proofs.Arrows.{Contains-head, Contains-later, Contains-cons
 pub label-total : IsTotalOrder label_cmp
 label-total =
     then_total (on_total (λ (l : Label). l.domain) nat_cmp_total)
-    (then_total (on_total (λ (l : Label). l.key.0) nat_list_cmp_total) (on_total (λ (l : Label). l.document.0) nat_list_cmp_total))
+    (then_total (on_total (λ (l : Label). l.key.0) nat_list_cmp_total)
+    (on_total (λ (l : Label). l.document.0) nat_list_cmp_total))
 
 pub then-first : (a b : Ordering) → ordering_then a b ≡ Equal → (a ≡ Equal) × (b ≡ Equal)
 then-first Less b e = absurd (cc)
@@ -31,8 +32,10 @@ then-first Greater b e = absurd (cc)
 
 pub label-exact : (a b : Label) → label_cmp a b ≡ Equal → a ≡ b
 label-exact a b e =
-    let first = then-first (nat_cmp a.domain b.domain) (ordering_then (slice_cmp nat_cmp a.key.0 b.key.0) (slice_cmp nat_cmp a.document.0 b.document.0)) e in
-    let second = then-first (slice_cmp nat_cmp a.key.0 b.key.0) (slice_cmp nat_cmp a.document.0 b.document.0) first.1 in
+    let keys : Ordering = slice_cmp nat_cmp a.key.0 b.key.0 in
+    let documents : Ordering = slice_cmp nat_cmp a.document.0 b.document.0 in
+    let first = then-first (nat_cmp a.domain b.domain) (ordering_then keys documents) e in
+    let second = then-first keys documents first.1 in
     let domain : a.domain ≡ b.domain = exact_unsigned a.domain b.domain first.0 in
     let document : a.document.0 ≡ b.document.0 = exact_bytes a.document.0 b.document.0 second.1 in
     let key : a.key.0 ≡ b.key.0 = exact_bytes a.key.0 b.key.0 second.0 in

@@ -96,7 +96,8 @@ IsUsed-other {A = A} spots spot other label offers awaits h =
           let uses : Contains spot.offers label ⊎ (spot.awaits ≡ Some label) =
           subst (λ (s : Spot A). Contains s.offers label ⊎ (s.awaits ≡ Some label)) (sym e) h.uses
           in
-          IsUsed-last spots other label (elim uses [ inl a ↦ inl (offers a) | inr a ↦ inr (awaits a) ])
+          IsUsed-last spots other label
+          (elim uses [ inl a ↦ inl (offers a) | inr a ↦ inr (awaits a) ])
     ]
 
 -- The net mirrors the spots, but none needs to use a label that is new.
@@ -169,7 +170,15 @@ module _ {A : Type 0} (spots : List (Spot A)) (labels : List A) (IsShut : A → 
 
   -- other words for what is shut, and other flags that say so
   pub Mirrors-shut : (IsShut' : A → Type 0) (flags : List Bool) → length flags ≡ length net.closed → ((number : ℕ) (label : A) → slice_get labels number ≡ Some label → (get_or flags number false ≡ true) ↔ IsShut' label) → Mirrors spots labels IsShut' (record net { closed = flags })
-  Mirrors-shut IsShut' flags size when = record { roots = h.roots; sizes = size ∙ h.sizes; closed = when; offers = h.offers; waits = h.waits; once = h.once; used = h.used }
+  Mirrors-shut IsShut' flags size when = record {
+    roots = h.roots;
+    sizes = size ∙ h.sizes;
+    closed = when;
+    offers = h.offers;
+    waits = h.waits;
+    once = h.once;
+    used = h.used;
+  }
 
 -- The last spot changes.
 
@@ -198,14 +207,17 @@ module _ {A : Type 0} (spots : List (Spot A)) (spot : Spot A) (labels : List A) 
   }
 
 -- It offers or awaits a label that may be new.
-module _ {A : Type 0} (spots : List (Spot A)) (spot : Spot A) (labels : List A) (IsShut : A → Type 0) (net : Net)
-    (label : A) (h : MirrorsBut (λ other. label ≡ other) (spots ++ spot ∷ []) labels IsShut net) where
+module _ {A : Type 0} (spots : List (Spot A)) (spot : Spot A) (labels : List A)
+    (IsShut : A → Type 0) (net : Net) (label : A)
+    (h : MirrorsBut (λ other. label ≡ other) (spots ++ spot ∷ []) labels IsShut net) where
   same-roots : (other : Spot A) → spot.rooted ≡ other.rooted → net.roots ≡ map (λ (s : Spot A). s.rooted) (spots ++ other ∷ [])
   same-roots other e =
       h.roots ∙ map_push (λ (s : Spot A). s.rooted) spots spot ∙ ap (λ b. map (λ (s : Spot A). s.rooted) spots ++ b ∷ []) e
       ∙ sym (map_push (λ (s : Spot A). s.rooted) spots other)
 
-  pub Mirrors-offer : (number : ℕ) → slice_get labels number ≡ Some label → Mirrors (spots ++ offering_spot spot label ∷ []) labels IsShut (with_offer net (length spots) number)
+  pub Mirrors-offer : (number : ℕ) → slice_get labels number ≡ Some label
+      → Mirrors (spots ++ offering_spot spot label ∷ []) labels IsShut
+      (with_offer net (length spots) number)
   Mirrors-offer number at =
       let edge : Edge = record { from = length spots; to = number } in
       let here : offer_arrow labels edge ≡ arrow_at (0 + length spots) label =
@@ -231,11 +243,14 @@ module _ {A : Type 0} (spots : List (Spot A)) (spot : Spot A) (labels : List A) 
                   (Contains-append_left spot.offers (label ∷ []) other) (λ a. a) u
               | inr e ↦
                   IsUsed-last spots (offering_spot spot label) other
-                  (inl (subst (Contains (spot.offers ++ label ∷ [])) e (Contains-push spot.offers label)))
+                  (inl (subst (Contains (spot.offers ++ label ∷ [])) e
+                  (Contains-push spot.offers label)))
             ];
       }
 
-  pub Mirrors-wait : (number : ℕ) → spot.awaits ≡ None → slice_get labels number ≡ Some label → Mirrors (spots ++ awaiting_spot spot label ∷ []) labels IsShut (with_wait net number (length spots))
+  pub Mirrors-wait : (number : ℕ) → spot.awaits ≡ None → slice_get labels number ≡ Some label
+      → Mirrors (spots ++ awaiting_spot spot label ∷ []) labels IsShut
+      (with_wait net number (length spots))
   Mirrors-wait number none at =
       let edge : Edge = record { from = number; to = length spots } in
       let here : wait_arrow labels edge ≡ arrow_at (0 + length spots) label =

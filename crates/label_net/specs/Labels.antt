@@ -18,8 +18,8 @@ label_cmp a b =
     (slice_cmp nat_cmp a.document.0 b.document.0))
 
 -- how a label stands to those of a key in a domain
-abbrev pub key_cmp : ℕ → KeyId → Label → Ordering
-key_cmp domain key label =
+abbrev pub cmp_to_key : ℕ → KeyId → Label → Ordering
+cmp_to_key domain key label =
     ordering_then (nat_cmp label.domain domain) (slice_cmp nat_cmp label.key.0 key.0)
 
 -- each stands before those after it

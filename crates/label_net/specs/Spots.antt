@@ -42,9 +42,9 @@ pub record IsUsed {A : Type 0} (spots : List (Spot A)) (label : A) : Type 0 wher
   pub stands : Contains spots spot
   pub uses : Contains spot.offers label ⊎ (spot.awaits ≡ Some label)
 
--- The net has one node for each spot, for each spot as many offer edges as it has offers and a wait edge where it
--- awaits, one label for each that is offered or awaited, and no other of these. The labels are different, and closed
--- exactly where they are shut.
+-- The net has one node for each spot, for each spot as many offer edges as it has offers and a wait
+-- edge where it awaits, one label for each that is offered or awaited, and no other of these. The
+-- labels are different, and closed exactly where they are shut.
 pub record Mirrors {A : Type 0} (spots : List (Spot A)) (labels : List A) (IsShut : A → Type 0) (net : Net) : Type 0 where
   pub roots : net.roots ≡ map (λ spot. spot.rooted) spots
   pub sizes : length net.closed ≡ length labels

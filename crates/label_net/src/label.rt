@@ -50,7 +50,8 @@ impl ItemProbe<Label> for SoughtLabel {
 
 // Labels of one domain are ordered by the key, and by the document only where that is the same.
 fn compare_ids(a: &Label, b: &Label) -> Ordering
-    ensures { result ≡ ordering_then (slice_cmp nat_cmp a.now.key.0 b.now.key.0) (slice_cmp nat_cmp a.now.document.0 b.now.document.0) }
+    ensures { result ≡ ordering_then (slice_cmp nat_cmp a.now.key.0 b.now.key.0)
+        (slice_cmp nat_cmp a.now.document.0 b.now.document.0) }
 {
     match a.key.cmp(&b.key) {
         Ordering::Equal => a.document.cmp(&b.document),
@@ -66,9 +67,9 @@ pub(crate) struct SoughtKey {
 }
 
 impl ItemProbe<Label> for SoughtKey {
-    ghost use Rattle.label_net.specs.Labels.{key_cmp};
+    ghost use Rattle.label_net.specs.Labels.{cmp_to_key};
 
-    ghost compared = { λ sought item. key_cmp sought.domain sought.key item };
+    ghost compared = { λ sought item. cmp_to_key sought.domain sought.key item };
 
     fn compare(&self, item: &Label) -> Ordering {
         match item.domain.cmp(&self.domain) {

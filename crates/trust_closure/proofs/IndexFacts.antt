@@ -555,7 +555,6 @@ pub reserves-from : (h new : Hoard) (p q : Paired) (w v : Wired) (spare more : S
 reserves-from h new p q w v spare more k is numbers firsts counts r room receipts offers = record {
   meaning = ap meaning_of is;
   arrived = ap (λ (x : Hoard). x.arrived) is;
-  marked = r.marked;
   net = r.net;
   marked = r.marked;
   kept = record {

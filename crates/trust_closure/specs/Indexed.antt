@@ -94,7 +94,6 @@ state_of h s = record { meaning = meaning_of h; room = room_of s }
 pub record Reserves (h new : Hoard) (p q : Paired) (w v : Wired) (room more : Spare) : Type 0 where
   pub meaning : meaning_of new ≡ meaning_of h
   pub arrived : new.arrived ≡ h.arrived
-  pub marked : v.marked ≡ w.marked
   pub net : v.net ≡ w.net
   pub marked : v.marked ≡ w.marked
   pub kept : IsKept new q v more
@@ -116,10 +115,11 @@ indexed_of h w s turns = record {
   turns = turns;
 }
 
--- The index has one node for each configured document, which is marked, and one for each receipt, in order of arrival,
--- for each receipt one wait edge, for each node as many offer edges as it has offers, and no other, one label for each
--- triple that is offered or awaited, and no other label; the labels of distrusted keys are closed. A receipt's node is
--- marked exactly where an accepted document vouches for it.
+-- The index has one node for each configured document, which is marked, and one for each receipt, in
+-- order of arrival, for each receipt one wait edge, for each node as many offer edges as it has
+-- offers, and no other, one label for each triple that is offered or awaited, and no other label; the
+-- labels of distrusted keys are closed. A receipt's node is marked exactly where an accepted document
+-- vouches for it.
 pub record IsIndexOf (i : Indexed) : Type 0 where
   pub labels : List Triple
   pub net : IsNetOf i.state.meaning.config.seeds i.arrived i.state.meaning.records labels i.wired.net
@@ -149,7 +149,7 @@ ArrivesLast old r new result =
     MatchResult result (λ taken. new ≡ arrived_with old r taken) (λ refused. new ≡ old)
 
 -- A receipt that was not held arrives last. Each node that was marked stays marked, in its place.
-pub record GrowsAtItsEnd (old : Indexed) (r : Receipt) (new : Indexed) (result : Result Taken Refused)
-    : Type 0 where
+pub record GrowsAtItsEnd (old : Indexed) (r : Receipt) (new : Indexed)
+    (result : Result Taken Refused) : Type 0 where
   pub arrived : ArrivesLast old.arrived r new.arrived result
   pub marked : take (length old.wired.marked) new.wired.marked ≡ old.wired.marked

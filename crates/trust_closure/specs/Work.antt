@@ -29,7 +29,7 @@ pub record ClosesAtOnce (old : Indexed) (records : List Distrust) (new : Indexed
   pub near : (reach : ℕ → Bool) → HasReachOf old.wired.net closing reach
       → new.turns ≤ 2 * edges_at old.wired.net reach
 
--- A record that is new has its labels closed, and no other record is any work.
+-- A record that is new has the labels of its key closed, and no other record is any work.
 abbrev pub Worked : Indexed → Distrust → Indexed → Distrusted → Type 0
 Worked old x new (New lost) = ClosesAtOnce old (x ∷ []) new
 Worked old x new Already = new.turns ≡ old.turns
@@ -53,7 +53,7 @@ pub record IsWorkOf (old : Indexed) (records : List Distrust) (count : ℕ) : Ty
 abbrev pub AreOld : Meaning → List Distrust → Type 0
 AreOld m records = (x : Distrust) → Contains records x → Contains m.records x
 
--- Where no record is new nothing is closed, and else all labels are, at once.
+-- No record was new and nothing was closed, or all labels of distrusted keys were, at once.
 abbrev pub WorksOnce : Indexed → List Distrust → Indexed → Type 0
 WorksOnce old records new = (AreOld old.state.meaning records × (new.turns ≡ old.turns))
     ⊎ IsWorkOf old records new.turns

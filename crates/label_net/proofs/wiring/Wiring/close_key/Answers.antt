@@ -54,8 +54,8 @@ returns-clause-closes c =
     (key-numbers labels c.args.domain c.args.key m.arranged)
     in
     let closed =
-    closed-at-once labels.items (IsOfKey c.args.domain c.args.key) numbers c.self.inside.reach.net are
-    c.self.invariant.sizes
+    closed-at-once labels.items (IsOfKey c.args.domain c.args.key) numbers c.self.inside.reach.net
+    are c.self.invariant.sizes
     in
     rw (← c.self.view_is)
     (record {

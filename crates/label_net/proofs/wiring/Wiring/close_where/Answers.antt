@@ -11,7 +11,8 @@ pub invariant_of-self : goal.invariant_of-self
 invariant_of-self g c = record {
   rising = c.self.invariant.rising;
   sizes = ap (λ (net : Net). length net.closed) c.close_labels.ensures.net
-      ∙ length-all_set c.as_slice-meant.result.now c.self.inside.reach.net.closed ∙ c.self.invariant.sizes;
+      ∙ length-all_set c.as_slice-meant.result.now c.self.inside.reach.net.closed
+      ∙ c.self.invariant.sizes;
   reached = c.close_labels.ensures.marked;
   closing = omega (arith, c.self.invariant.closing, c.list_meant.ensures.room);
 }
