@@ -5,7 +5,7 @@ use Rattle.std.specs.List.Sorted.{IsStrictlySortedBy}
 use Rattle.serde_json.specs.Data.{Data}
 use Rattle.jwk_set.specs.Element.{IsAuthority}
 use Rattle.jwk_set.specs.declared.authority.Authority.{Authority}
-use Rattle.bundle_doc.specs.Bundle.{Bundle, Has, Says, HasNumber, Means, IsBundle, IsDocument, IsKept, Fits, text_cmp, canonical_text, document_limit}
+use Rattle.bundle_doc.specs.Bundle.{Bundle, Has, Says, HasNumberMember, Means, IsBundle, IsDocument, IsStoredDocument, Fits, text_cmp, canonical_text, document_limit}
 use Rattle.bundle_doc.specs.Refusal.{IsBuildFault, RefusesTree, RefusesBytes}
 use Rattle.bundle_doc.specs.declared.error.DocError.{DocError}
 use Rattle.bundle_doc.specs.declared.error.DocError.TheVariants.{TooLong, NotJson, NotObject, NoKeys, BadSequence, BadRefreshHint, CanonicalTooLong, NoMemory}
@@ -44,7 +44,7 @@ module _ (es : List Entry) (rank hint : Option ℕ) (authorities : List Authorit
   pub fits-built : (n : ℕ) → n ≡ length out → n ≤ document_limit → Fits (bundle_of authorities rank hint)
   fits-built n len short = subst (λ t. length t ≤ document_limit) text-built (subst (λ k. k ≤ document_limit) len short)
 
-  pub IsKept-built : (n : ℕ) → n ≡ length out → n ≤ document_limit → IsKept (bundle_of authorities rank hint) out
+  pub IsKept-built : (n : ℕ) → n ≡ length out → n ≤ document_limit → IsStoredDocument (bundle_of authorities rank hint) out
   IsKept-built n len short = record { is = IsBundle-built; text = text-built; fits = fits-built n len short }
 
   pub too_long-built : (n : ℕ) → n ≡ length out → document_limit < n → IsBuildFault es rank hint CanonicalTooLong
@@ -58,8 +58,8 @@ module _ (tree : Data) (es : List Entry) (rank hint : Option ℕ) (contents : Is
     keys = contents.keys;
     has_keys = contents.has_keys;
     authorities = λ a. subst (λ l. (Has l a → Says contents.keys a) × (Says contents.keys a → Has l a)) (sym is.authorities) (contents.gathered.authorities a);
-    rank = subst (HasNumber tree (codes "spiffe_sequence")) (sym is.same_rank) contents.has_rank;
-    hint = subst (HasNumber tree (codes "spiffe_refresh_hint")) (sym is.same_hint) contents.has_hint;
+    rank = subst (HasNumberMember tree (codes "spiffe_sequence")) (sym is.same_rank) contents.has_rank;
+    hint = subst (HasNumberMember tree (codes "spiffe_refresh_hint")) (sym is.same_hint) contents.has_hint;
     is = is.is;
   }
 

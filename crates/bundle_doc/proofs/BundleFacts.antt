@@ -14,7 +14,7 @@ use Rattle.jwk_set.proofs.TreeFacts.{IsElement-tree_of}
 use Rattle.jwk_set.proofs.PlainFacts.{IsJson-compact_text, read-compact_text}
 use Rattle.std.specs.Str.{IsUtf8}
 use Rattle.json.proofs.Printed.Utf8.{are_ascii, IsUtf8-are_ascii}
-use Rattle.bundle_doc.specs.Bundle.{Bundle, Has, authority_text, text_cmp, IsBundle, Says, HasNumber, HasKeys, Means, trees, with_number, document_tree, canonical_text, Fits, IsDocument}
+use Rattle.bundle_doc.specs.Bundle.{Bundle, Has, authority_text, text_cmp, IsBundle, Says, HasNumberMember, HasKeys, Means, trees, with_number, document_tree, canonical_text, Fits, IsDocument}
 
 -- ---- a set has one rising list
 
@@ -63,7 +63,7 @@ rising_same (x ∷ xs) (y ∷ ys) p q there back =
 
 -- ---- an object means one bundle
 
-one_number : (tree : Data) (name : List ℕ) (m n : Option ℕ) → HasNumber tree name m → HasNumber tree name n → m ≡ n
+one_number : (tree : Data) (name : List ℕ) (m n : Option ℕ) → HasNumberMember tree name m → HasNumberMember tree name n → m ≡ n
 one_number tree name None None p q = refl
 one_number tree name None (Some n) (inl p) q = absurd (cc)
 one_number tree name None (Some n) (inr p) q = absurd (cc)
@@ -101,13 +101,13 @@ says_trees (x ∷ xs) h a =
       λ says. elim says [ inl is ↦ inl (one_authority (tree_of x) a x is (IsElement-tree_of x h.0)) | inr later ↦ inr (rest.1 later) ],
     )
 
-rank_there : (rank hint : Option ℕ) (items : Items) → HasNumber (object (member (codes "keys") (array items) (with_number (codes "spiffe_refresh_hint") hint (with_number (codes "spiffe_sequence") rank no_members)))) (codes "spiffe_sequence") rank
+rank_there : (rank hint : Option ℕ) (items : Items) → HasNumberMember (object (member (codes "keys") (array items) (with_number (codes "spiffe_refresh_hint") hint (with_number (codes "spiffe_sequence") rank no_members)))) (codes "spiffe_sequence") rank
 rank_there None None items = inl refl
 rank_there None (Some h) items = inl refl
 rank_there (Some r) None items = refl
 rank_there (Some r) (Some h) items = refl
 
-hint_there : (rank hint : Option ℕ) (items : Items) → HasNumber (object (member (codes "keys") (array items) (with_number (codes "spiffe_refresh_hint") hint (with_number (codes "spiffe_sequence") rank no_members)))) (codes "spiffe_refresh_hint") hint
+hint_there : (rank hint : Option ℕ) (items : Items) → HasNumberMember (object (member (codes "keys") (array items) (with_number (codes "spiffe_refresh_hint") hint (with_number (codes "spiffe_sequence") rank no_members)))) (codes "spiffe_refresh_hint") hint
 hint_there None None items = inl refl
 hint_there (Some r) None items = inl refl
 hint_there None (Some h) items = refl

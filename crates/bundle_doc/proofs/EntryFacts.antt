@@ -19,7 +19,7 @@ use Rattle.jwk_set.specs.Element.{IsElement, IsAuthority}
 use Rattle.jwk_set.specs.declared.authority.Authority.{Authority}
 use Rattle.jwk_set.proofs.ElementFacts.{one_authority}
 use Rattle.bundle_doc.specs.Bundle.{Bundle, Has, Says, authority_text, text_cmp, trees, with_number, canonical_text}
-use Rattle.bundle_doc.specs.Entries.{Entry, IsEntry, AreEntries, authorities_of, AddsElement, keys_text, number_part, numbers_text}
+use Rattle.bundle_doc.specs.Entries.{Entry, IsAuthorityEntry, AreEntries, authorities_of, AddsElement, keys_text, number_part, numbers_text}
 use Rattle.bundle_doc.proofs.BundleFacts.{one_authority_text}
 
 -- ---- one more authority
@@ -27,17 +27,17 @@ use Rattle.bundle_doc.proofs.BundleFacts.{one_authority_text}
 same_key : (k l : String Global) → string_cmp k l ≡ Equal → string_bytes k ≡ string_bytes l
 same_key k l e = (bytes_eq-Decides (string_bytes k) (string_bytes l)).0 (sym (is_eq-slice_cmp (string_bytes k) (string_bytes l)) ∙ ap is_eq e)
 
-entries_at : (o : Ordering) (k : String Global) (v : Authority) (e : Entry) (es more : List Entry) → string_cmp k e.0 ≡ o → IsEntry (k, v) → AreEntries (e ∷ es) → AreEntries more
+entries_at : (o : Ordering) (k : String Global) (v : Authority) (e : Entry) (es more : List Entry) → string_cmp k e.0 ≡ o → IsAuthorityEntry (k, v) → AreEntries (e ∷ es) → AreEntries more
     → AreEntries (match_ordering o ((k, v) ∷ e ∷ es) ((e.0, v) ∷ es) (e ∷ more))
 entries_at Less k v e es more is new old rest = (new, old)
 entries_at Equal k v e es more is new old rest = ((sym (same_key k e.0 is) ∙ new.0, new.1), old.1)
 entries_at Greater k v e es more is new old rest = (old.0, rest)
 
-pub AreEntries-insert_entry : (es : List Entry) (k : String Global) (v : Authority) → IsEntry (k, v) → AreEntries es → AreEntries (insert_entry string_cmp es k v)
+pub AreEntries-insert_entry : (es : List Entry) (k : String Global) (v : Authority) → IsAuthorityEntry (k, v) → AreEntries es → AreEntries (insert_entry string_cmp es k v)
 AreEntries-insert_entry [] k v new old = (new, tt)
 AreEntries-insert_entry (e ∷ es) k v new old = entries_at (string_cmp k e.0) k v e es _ refl new old (AreEntries-insert_entry es k v new old.1)
 
-has_at : (o : Ordering) (k : String Global) (v : Authority) (e : Entry) (es more : List Entry) (a : Authority) → string_cmp k e.0 ≡ o → IsEntry (k, v) → AreEntries (e ∷ es)
+has_at : (o : Ordering) (k : String Global) (v : Authority) (e : Entry) (es more : List Entry) (a : Authority) → string_cmp k e.0 ≡ o → IsAuthorityEntry (k, v) → AreEntries (e ∷ es)
     → Has (authorities_of more) a ↔ ((a ≡ v) ⊎ Has (authorities_of es) a)
     → Has (authorities_of (match_ordering o ((k, v) ∷ e ∷ es) ((e.0, v) ∷ es) (e ∷ more))) a ↔ ((a ≡ v) ⊎ Has (authorities_of (e ∷ es)) a)
 has_at Less k v e es more a is new old rest = (λ h. h, λ h. h)
@@ -51,11 +51,11 @@ has_at Greater k v e es more a is new old rest = (
   λ h. elim h [ inl x ↦ inr (rest.1 (inl x)) | inr y ↦ elim y [ inl z ↦ inl z | inr z ↦ inr (rest.1 (inr z)) ] ],
 )
 
-pub Has-insert_entry : (es : List Entry) (k : String Global) (v : Authority) (a : Authority) → IsEntry (k, v) → AreEntries es → Has (authorities_of (insert_entry string_cmp es k v)) a ↔ ((a ≡ v) ⊎ Has (authorities_of es) a)
+pub Has-insert_entry : (es : List Entry) (k : String Global) (v : Authority) (a : Authority) → IsAuthorityEntry (k, v) → AreEntries es → Has (authorities_of (insert_entry string_cmp es k v)) a ↔ ((a ≡ v) ⊎ Has (authorities_of es) a)
 Has-insert_entry [] k v a new old = (λ h. h, λ h. h)
 Has-insert_entry (e ∷ es) k v a new old = has_at (string_cmp k e.0) k v e es _ a refl new old (Has-insert_entry es k v a new old.1)
 
-pub AddsElement-insert_entry : (es : List Entry) (k : String Global) (v : Authority) (element : Data) → IsEntry (k, v) → IsElement element v → AddsElement es (insert_entry string_cmp es k v) element
+pub AddsElement-insert_entry : (es : List Entry) (k : String Global) (v : Authority) (element : Data) → IsAuthorityEntry (k, v) → IsElement element v → AddsElement es (insert_entry string_cmp es k v) element
 AddsElement-insert_entry es k v element new is = record {
   entries = AreEntries-insert_entry es k v new;
   authorities = λ old a. (
@@ -85,7 +85,7 @@ Gathers-next old new vs i v all within is entries adds had =
 
 -- ---- in order
 
-texts_below : (e : Entry) (es : List Entry) → IsEntry e → AreEntries es → AllByRecursion (λ k. string_cmp e.0 k ≡ Less) (keys_of es) → AllByRecursion (λ b. text_cmp e.1 b ≡ Less) (authorities_of es)
+texts_below : (e : Entry) (es : List Entry) → IsAuthorityEntry e → AreEntries es → AllByRecursion (λ k. string_cmp e.0 k ≡ Less) (keys_of es) → AllByRecursion (λ b. text_cmp e.1 b ≡ Less) (authorities_of es)
 texts_below e [] is are below = tt
 texts_below e (f ∷ es) is are below = (ap₂ (slice_cmp nat_cmp) (sym is.0) (sym are.0.0) ∙ below.0, texts_below e es is are.1 below.1)
 

@@ -6,11 +6,11 @@ use Rattle.std.proofs.lemmas.List.Elements.{All-nil, All-cons, All-get_or, All-w
 use Rattle.std.proofs.lemmas.Str.{IsUtf8-from_ascii}
 use Rattle.std.proofs.lemmas.Str.Ascii.{IsAscii-from_all}
 use Rattle.hex.specs.Hex.{IsBytes, encode_with, encode_lower, lower_digits}
-use Rattle.spiffe_name.specs.Bytes.{is_printable, is_unescaped, IsPlainText}
+use Rattle.spiffe_name.specs.Bytes.{is_printable, is_quotable, IsPlainText}
 
 -- what each digit is
 abbrev IsPlainByte : ℕ → Type 0
-IsPlainByte b = (is_printable b ≡ true) × (is_unescaped b ≡ true)
+IsPlainByte b = (is_printable b ≡ true) × (is_quotable b ≡ true)
 
 small : (b : ℕ) → IsPlainByte b → b < 128
 small b h = let printable = h.0 in grind (arith, nat_tests)
@@ -37,6 +37,6 @@ IsPlainText-hex bytes h =
     let plain = plain_hex bytes h in
     record {
       printable = All-weaker IsPlainByte (λ b. is_printable b ≡ true) (λ b p. p.0) (encode_lower bytes) plain;
-      unescaped = All-weaker IsPlainByte (λ b. is_unescaped b ≡ true) (λ b p. p.1) (encode_lower bytes) plain;
+      unescaped = All-weaker IsPlainByte (λ b. is_quotable b ≡ true) (λ b p. p.1) (encode_lower bytes) plain;
       utf8 = IsUtf8-from_ascii (encode_lower bytes) (IsAscii-from_all (encode_lower bytes) (All-weaker IsPlainByte (λ b. b < 128) small (encode_lower bytes) plain));
     }

@@ -9,7 +9,7 @@ use Rattle.jwk_set.specs.Element.{IsElement}
 use Rattle.jwk_set.specs.declared.authority.PublicKey.TheVariants.{Rsa}
 use Rattle.jwk_set.specs.declared.authority.Authority.{Authority}
 use Rattle.jwk_set.specs.declared.authority.Authority.TheVariants.{X509, Jwt}
-use Rattle.bundle_doc.specs.Bundle.{Bundle, HasNumber, Means, canonical_text, document_limit}
+use Rattle.bundle_doc.specs.Bundle.{Bundle, HasNumberMember, Means, canonical_text, document_limit}
 use Rattle.bundle_doc.specs.Refusal.{HasSomeNumber, RefusesTree}
 use Rattle.bundle_doc.specs.declared.error.DocError.TheVariants.{NotObject, NoKeys, BadSequence}
 
@@ -59,7 +59,7 @@ means_nothing = record {
   is = record { rising = tt; forms = tt; rank = tt; hint = tt };
 }
 
-pub sequence : HasNumber (document (array no_items) seven) (codes "spiffe_sequence") (Some 7)
+pub sequence : HasNumberMember (document (array no_items) seven) (codes "spiffe_sequence") (Some 7)
 sequence = refl
 
 -- ---- refusals

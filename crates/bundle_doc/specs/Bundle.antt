@@ -48,9 +48,9 @@ Says no_items a = ⊥
 Says (item element others) a = IsElement element a ⊎ Says others a
 
 -- the member is a whole number, or it is absent, as `null` is
-abbrev pub HasNumber : Data → List ℕ → Option ℕ → Type 0
-HasNumber tree name None = (get name tree ≡ None) ⊎ (get name tree ≡ Some null)
-HasNumber tree name (Some n) = get name tree ≡ Some (number (unsigned n))
+abbrev pub HasNumberMember : Data → List ℕ → Option ℕ → Type 0
+HasNumberMember tree name None = (get name tree ≡ None) ⊎ (get name tree ≡ Some null)
+HasNumberMember tree name (Some n) = get name tree ≡ Some (number (unsigned n))
 
 abbrev pub HasKeys : Data → Items → Type 0
 HasKeys tree keys = get (codes "keys") tree ≡ Some (array keys)
@@ -61,8 +61,8 @@ pub record Means (tree : Data) (b : Bundle) : Type 0 where
   pub keys : Items
   pub has_keys : HasKeys tree keys
   pub authorities : (a : Authority) → Has b.authorities a ↔ Says keys a
-  pub rank : HasNumber tree (codes "spiffe_sequence") b.rank
-  pub hint : HasNumber tree (codes "spiffe_refresh_hint") b.hint
+  pub rank : HasNumberMember tree (codes "spiffe_sequence") b.rank
+  pub hint : HasNumberMember tree (codes "spiffe_refresh_hint") b.hint
   pub is : IsBundle b
 
 -- an X.509 authority has the key id
@@ -106,7 +106,7 @@ pub record IsDocument (bytes : List ℕ) (b : Bundle) : Type 0 where
   pub fits : Fits b
 
 -- a document in memory: a bundle beside its canonical text
-pub record IsKept (b : Bundle) (canonical : List ℕ) : Type 0 where
+pub record IsStoredDocument (b : Bundle) (canonical : List ℕ) : Type 0 where
   pub is : IsBundle b
   pub text : canonical ≡ canonical_text b
   pub fits : Fits b

@@ -7,17 +7,17 @@ use Rattle.serde_json.specs.Written.{items_text}
 use Rattle.jwk_set.specs.Json.{IsJson}
 use Rattle.jwk_set.specs.Element.{IsElement, IsAuthority}
 use Rattle.jwk_set.specs.declared.authority.Authority.{Authority}
-use Rattle.bundle_doc.specs.Bundle.{Bundle, Has, HasKeys, HasNumber, Says, IsBundle, authority_text, document_limit, trees}
+use Rattle.bundle_doc.specs.Bundle.{Bundle, Has, HasKeys, HasNumberMember, Says, IsBundle, authority_text, document_limit, trees}
 
 abbrev pub Entry : Type 0
 Entry = String Global × Authority
 
 -- an authority under its text
-abbrev pub IsEntry : Entry → Type 0
-IsEntry e = (string_bytes e.0 ≡ authority_text e.1) × IsAuthority e.1
+abbrev pub IsAuthorityEntry : Entry → Type 0
+IsAuthorityEntry e = (string_bytes e.0 ≡ authority_text e.1) × IsAuthority e.1
 
 abbrev pub AreEntries : List Entry → Type 0
-AreEntries = AllByRecursion IsEntry
+AreEntries = AllByRecursion IsAuthorityEntry
 
 abbrev pub authorities_of : List Entry → List Authority
 authorities_of es = map (λ e. e.1) es
@@ -41,8 +41,8 @@ pub record IsContents (tree : Data) (es : List Entry) (rank hint : Option ℕ) :
   pub keys : Items
   pub has_keys : HasKeys tree keys
   pub gathered : IsGathered keys es
-  pub has_rank : HasNumber tree (codes "spiffe_sequence") rank
-  pub has_hint : HasNumber tree (codes "spiffe_refresh_hint") hint
+  pub has_rank : HasNumberMember tree (codes "spiffe_sequence") rank
+  pub has_hint : HasNumberMember tree (codes "spiffe_refresh_hint") hint
   pub rank_fits : FitsWord rank
   pub hint_fits : FitsWord hint
 

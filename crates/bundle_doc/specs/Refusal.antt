@@ -3,7 +3,7 @@ use Rattle.std.specs.Prelude.{◌≡◌, ℕ, ◌<◌, ◌≤◌, List, length, 
 use Rattle.serde_json.specs.Data.{Data, Items}
 use Rattle.serde_json.specs.Find.{as_object}
 use Rattle.jwk_set.specs.Json.{IsJson}
-use Rattle.bundle_doc.specs.Bundle.{Bundle, HasNumber, HasKeys, Means, canonical_text, document_limit}
+use Rattle.bundle_doc.specs.Bundle.{Bundle, HasNumberMember, HasKeys, Means, canonical_text, document_limit}
 use Rattle.bundle_doc.specs.Entries.{Entry, IsBundleOf}
 use Rattle.bundle_doc.specs.declared.error.DocError.{DocError}
 use Rattle.bundle_doc.specs.declared.error.DocError.TheVariants.{TooLong, NotJson, NotObject, NoKeys, BadSequence, BadRefreshHint, CanonicalTooLong, NoMemory}
@@ -12,7 +12,7 @@ abbrev pub HasSomeKeys : Data → Type 0
 HasSomeKeys tree = (keys : Items) × HasKeys tree keys
 
 abbrev pub HasSomeNumber : Data → List ℕ → Type 0
-HasSomeNumber tree name = (n : Option ℕ) × HasNumber tree name n
+HasSomeNumber tree name = (n : Option ℕ) × HasNumberMember tree name n
 
 -- Each refusal with its cause, and with what the refusals before it lacked. Memory is wanted only for the authorities
 -- and the canonical text, so once the members are in their forms.

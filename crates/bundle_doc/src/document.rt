@@ -1,7 +1,7 @@
 //! A bundle document: its authorities, rank and hint, and the one text that stands for them.
 ghost use Rattle.std.specs.Prelude.{◌≡◌, ◌↔◌, IsTrue, IfOk, IfSome, MatchResult};
 ghost use Rattle.serde_json.specs.View.{view};
-ghost use Rattle.bundle_doc.specs.Bundle.{Fits, HasKeyId, IsBundle, IsDocument, IsKept, Means, canonical_text, doc_id_of, document_tree};
+ghost use Rattle.bundle_doc.specs.Bundle.{Fits, HasKeyId, IsBundle, IsDocument, IsStoredDocument, Means, canonical_text, doc_id_of, document_tree};
 ghost use Rattle.bundle_doc.specs.Entries.{AreEntries, FitsWord, IsBundleOf};
 ghost use Rattle.bundle_doc.specs.Refusal.{IsBuildFault, RefusesBytes, RefusesTree};
 
@@ -56,14 +56,14 @@ pub struct Document {
 }
 
 impl Model for Document {
-    ghost use Rattle.bundle_doc.specs.Bundle.{Bundle, IsKept};
+    ghost use Rattle.bundle_doc.specs.Bundle.{Bundle, IsStoredDocument};
     ghost use Rattle.std.specs.Prelude.{string_bytes};
 
     ghost Value = { Bundle };
 
     ghost view = { λ a. record { authorities = a.authorities.items; rank = a.rank; hint = a.hint } };
 
-    ghost invariant = { λ a. IsKept (record { authorities = a.authorities.items; rank = a.rank; hint = a.hint }) (string_bytes a.canonical) };
+    ghost invariant = { λ a. IsStoredDocument (record { authorities = a.authorities.items; rank = a.rank; hint = a.hint }) (string_bytes a.canonical) };
 }
 
 impl Document {
@@ -98,7 +98,7 @@ impl Document {
     /// # Errors
     /// Memory ran out.
     pub fn read_canonical(alloc: Global, bytes: &[u8]) -> Result<Option<Document>, AllocError>
-        ensures { IfOk result (λ o. IfSome o (λ d. IsKept d bytes.now)) }
+        ensures { IfOk result (λ o. IfSome o (λ d. IsStoredDocument d bytes.now)) }
     {
         let text = match str::from_utf8(bytes) {
             Ok(text) if text.len() <= MAX_DOCUMENT_BYTES => text,

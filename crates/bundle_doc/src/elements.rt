@@ -4,7 +4,7 @@ ghost use Rattle.std.specs.Prelude.{◌≡◌, ◌++◌, IfOk, OnOk, not, option
 ghost use Rattle.std.specs.List.Sorted.{IsStrictlySortedBy};
 ghost use Rattle.serde_json.specs.View.{view, items_view};
 ghost use Rattle.serde_json.specs.Written.{comma_if};
-ghost use Rattle.jwk_set.specs.Forms.{Finds};
+ghost use Rattle.jwk_set.specs.Forms.{FindsMember};
 ghost use Rattle.bundle_doc.specs.Bundle.{HasKeys, text_cmp};
 ghost use Rattle.bundle_doc.specs.Entries.{AddsElement, AreEntries, IsGathered, authorities_of, keys_text};
 
@@ -18,7 +18,7 @@ const FIXED_BYTES: usize = 100;
 
 /// The elements of `keys`, where it is an array.
 pub(crate) fn elements_of(value: &Value) -> Option<&Vec<Value>>
-    ensures { Finds (option_map (λ v. items_view v.now.items) result) (HasKeys (view value.now)) }
+    ensures { FindsMember (option_map (λ v. items_view v.now.items) result) (HasKeys (view value.now)) }
 {
     value.get("keys")?.as_array()
 }

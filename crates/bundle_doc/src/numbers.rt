@@ -1,7 +1,7 @@
 //! The two numbers of a document: its rank and its refresh hint.
 ghost use Rattle.std.specs.Prelude.{◌≡◌, ◌++◌, IfOk, MatchResult, OnOk, string_bytes};
 ghost use Rattle.serde_json.specs.View.{view, members_view};
-ghost use Rattle.bundle_doc.specs.Bundle.{HasNumber};
+ghost use Rattle.bundle_doc.specs.Bundle.{HasNumberMember};
 ghost use Rattle.bundle_doc.specs.Entries.{FitsWord, number_part, numbers_text, put_some};
 ghost use Rattle.bundle_doc.specs.Refusal.{HasSomeNumber};
 
@@ -15,7 +15,7 @@ use std::fmt::Write;
 /// # Errors
 /// `bad`, where the member is neither a whole number nor absent.
 pub(crate) fn read_number(value: &Value, name: &str, bad: DocError) -> Result<Option<u64>, DocError>
-    ensures number { MatchResult result (HasNumber (view value.now) name.now)
+    ensures number { MatchResult result (HasNumberMember (view value.now) name.now)
         (λ e. (e ≡ bad) × (HasSomeNumber (view value.now) name.now → ⊥)) }
     ensures fits { IfOk result FitsWord }
 {

@@ -16,7 +16,7 @@ use Rattle.trust_closure.specs.Views.{document_cmp, document_of}
 use Rattle.trust_closure.specs.Order.{document_total}
 use Rattle.bundle_view.specs.declared.conflict.ConflictKind.{ConflictKind}
 use Rattle.bundle_view.specs.declared.conflict.ConflictKind.TheVariants.{Keys, HintOnly}
-use Rattle.bundle_view.specs.Conflicts.{Clash, IsClash, AreClashes, AreConflicts, IsOfKind, clash_cmp, OfDomain, tell_all, AreAllConflicts, Told}
+use Rattle.bundle_view.specs.Conflicts.{Clash, IsClash, AreClashes, AreConflicts, IsOfKind, clash_cmp, OfDomain, tell_all, AreAllConflicts, ReportedConflict}
 use Rattle.bundle_view.proofs.ListFacts.{contains_first, contains_later, contains_none, contains_cases, same_list, rising_none, rising_one, rising_append, rising_across, rising_first, rising_rest, two_in_one, first_of}
 
 -- ---- ranks
@@ -249,7 +249,7 @@ same_parts m (x ∷ xs) (y ∷ ys) names p q =
     let rest : xs ≡ ys = same_parts m xs ys (ap (λ l. drop 1 l) names) (λ z h. p z (contains_later x xs z h)) (λ z h. q z (contains_later y ys z h)) in
     λ i. record { domain = name i; clashes = clashes i } ∷ rest i
 
-pub one_told : (m : Meaning) (cs ds : List Told) → AreAllConflicts m cs → AreAllConflicts m ds → cs ≡ ds
+pub one_told : (m : Meaning) (cs ds : List ReportedConflict) → AreAllConflicts m cs → AreAllConflicts m ds → cs ≡ ds
 one_told m cs ds p q =
     let parts : p.parts ≡ q.parts = same_parts m p.parts q.parts (one_domains m.config _ _ p.domains q.domains) p.each q.each in
     p.are ∙ ap tell_all parts ∙ sym q.are

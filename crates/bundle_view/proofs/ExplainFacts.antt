@@ -14,7 +14,7 @@ use Rattle.receipt_core.specs.Chain.{LeadsOn, IsChain}
 use Rattle.receipt_core.proofs.RisingFacts.{each_has, Has-from_contains}
 use Rattle.receipt_core.proofs.VouchingFacts.{Vouches-by_offers}
 use Rattle.bundle_view.specs.Explain.{LeadsTo, IsShortest}
-use Rattle.bundle_view.specs.Search.{Stride, IsStride, AreStrides, AreTrusted, AreFollowed, IsSearched, Finds, HasSearched, IsBackFrom}
+use Rattle.bundle_view.specs.Search.{Stride, IsStride, AreStrides, AreTrusted, AreFollowed, IsSearched, SearchFinds, HasSearched, IsBackFrom}
 
 -- ---- no chain is shorter
 
@@ -108,7 +108,7 @@ module _ (m : Meaning) (waiting : List Receipt) (trusted : AreTrusted m waiting)
       let way : LeadsTo m p a.chain = record { seed = a.seed; configured = a.configured; held = a.held; leads = a.leads } in
       not_shorter m waiting trusted strides p (length strides) is (length a.chain + 1) (λ i s at l. slice_get_within strides i s at) a.chain way (some_receipt m p unconfigured a.chain way) (omega arith)
 
-  pub shortest_found : IsMeaning m → (place : ℕ) (chain : List Receipt) → Finds m.config.seeds waiting strides p place → IsBackFrom strides (Some place) (reverse chain) → IsShortest m p chain
+  pub shortest_found : IsMeaning m → (place : ℕ) (chain : List Receipt) → SearchFinds m.config.seeds waiting strides p place → IsBackFrom strides (Some place) (reverse chain) → IsShortest m p chain
   shortest_found valid place chain found back =
       let all = way_back m waiting valid trusted strides found.searched.stand p (Some place) (reverse chain) [] back (λ s at. (tt, ap (λ (x : Stride). pair_of x.receipt) (same_Some s found.stride (sym at ∙ found.at)) ∙ found.is)) in
       let same : reverse (reverse chain) ++ [] ≡ chain = append-nil (reverse (reverse chain)) ∙ reverse-reverse chain in
@@ -121,7 +121,7 @@ module _ (m : Meaning) (waiting : List Receipt) (trusted : AreTrusted m waiting)
         ];
       }
     where
-      soon : (found : Finds m.config.seeds waiting strides p place) (i : ℕ) (s : Stride) → slice_get strides i ≡ Some s → s.length < found.stride.length → i < place
+      soon : (found : SearchFinds m.config.seeds waiting strides p place) (i : ℕ) (s : Stride) → slice_get strides i ≡ Some s → s.length < found.stride.length → i < place
       soon found i s at l = elim (cases_lt i place) [
         | inl before ↦ before
         | inr after ↦ let rise = found.searched.rising place i found.stride s after found.at at in absurd (omega (arith, rise, l))

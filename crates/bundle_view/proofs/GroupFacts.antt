@@ -9,7 +9,7 @@ use Rattle.bundle_doc.specs.Bundle.{Bundle}
 use Rattle.fed_config.specs.Configuration.{AreDomains}
 use Rattle.receipt_core.specs.Acceptance.{Meaning, IsMember}
 use Rattle.trust_closure.specs.Views.{document_cmp, document_of, IsAcceptedList}
-use Rattle.bundle_view.specs.Conflicts.{Clash, AreClashes, AreConflicts, OfDomain, AreAllConflicts, Told, told}
+use Rattle.bundle_view.specs.Conflicts.{Clash, AreClashes, AreConflicts, OfDomain, AreAllConflicts, ReportedConflict, reported_conflict}
 use Rattle.bundle_view.specs.Groups.{IsGroup, IsGroupLength, AddsClashes, SoFar, AreFoundOf}
 use Rattle.bundle_view.proofs.ListFacts.{rising_left, rising_right}
 use Rattle.bundle_view.proofs.ClashFacts.{group_below, clashes_append, clashes_iff, single}
@@ -42,10 +42,10 @@ group_first rest len cs ds rising is p q =
     (λ d h. subst (λ (z : List Bundle). Contains z d) (take-append-drop len rest) (Contains-append_right (take len rest) (drop len rest) d h))
     (group_below (take len rest) (drop len rest) (cut_at rest len rising) is.ended) cs ds p q
 
-pub so_far_init : (domain : List ℕ) (documents : List Bundle) (old : List Told) → SoFar domain documents 0 old old
+pub so_far_init : (domain : List ℕ) (documents : List Bundle) (old : List ReportedConflict) → SoFar domain documents 0 old old
 so_far_init domain documents old = record { within = omega arith; clashes = []; now = sym (append-nil old); all = λ others are. are }
 
-pub so_far_step : (domain : List ℕ) (documents : List Bundle) (start len : ℕ) (rest : List Bundle) (old new more : List Told) → IsStrictlySortedBy document_cmp documents → rest ≡ drop start documents
+pub so_far_step : (domain : List ℕ) (documents : List Bundle) (start len : ℕ) (rest : List Bundle) (old new more : List ReportedConflict) → IsStrictlySortedBy document_cmp documents → rest ≡ drop start documents
     → SoFar domain documents start old new → IsGroupLength rest len → AddsClashes domain (take len rest) new more → SoFar domain documents (start + len) old more
 so_far_step domain documents start len rest old new more rising e s is a =
     let rising_rest : IsStrictlySortedBy document_cmp rest = rising_parts documents start rest rising e in
@@ -54,15 +54,15 @@ so_far_step domain documents start len rest old new more rising e s is a =
     record {
       within = let low = s.within in let high = is.within in omega arith;
       clashes = s.clashes ++ a.clashes;
-      now = a.now ∙ ap (λ z. z ++ map (told domain) a.clashes) s.now ∙ append_assoc old (map (told domain) s.clashes) (map (told domain) a.clashes)
-          ∙ ap (λ z. old ++ z) (sym (map-append (told domain) s.clashes a.clashes));
+      now = a.now ∙ ap (λ z. z ++ map (reported_conflict domain) a.clashes) s.now ∙ append_assoc old (map (reported_conflict domain) s.clashes) (map (reported_conflict domain) a.clashes)
+          ∙ ap (λ z. old ++ z) (sym (map-append (reported_conflict domain) s.clashes a.clashes));
       all = λ others are.
           let here : AreClashes (Contains rest) (a.clashes ++ others) = group_first rest len a.clashes others rising_rest is a.are (subst (λ (z : List Bundle). AreClashes (Contains z) others) (sym behind) are) in
           subst (AreClashes (Contains documents)) (sym (append_assoc s.clashes a.clashes others))
           (s.all (a.clashes ++ others) (subst (λ (z : List Bundle). AreClashes (Contains z) (a.clashes ++ others)) e here));
     }
 
-pub so_far_end : (domain : List ℕ) (documents : List Bundle) (start : ℕ) (old new : List Told) → SoFar domain documents start old new → length documents ≤ start → AddsClashes domain documents old new
+pub so_far_end : (domain : List ℕ) (documents : List Bundle) (start : ℕ) (old new : List ReportedConflict) → SoFar domain documents start old new → length documents ≤ start → AddsClashes domain documents old new
 so_far_end domain documents start old new s past =
     let size : length (drop start documents) ≡ length documents - start = length-drop start documents in
     record {
@@ -82,7 +82,7 @@ taken_more xs k x low is = ap (λ n. take n xs) (add-one k) ∙ take-suc xs k x 
 pub found_none : (m : Meaning) → AreFoundOf m [] []
 found_none m = record { parts = []; domains_are = refl; each = λ p h. absurd (omega (arith, h.1)); now = refl }
 
-pub found_more : (m : Meaning) (domains : List (List ℕ)) (domain : List ℕ) (documents : List Bundle) (old new : List Told) → AreFoundOf m domains old → IsAcceptedList m domain documents
+pub found_more : (m : Meaning) (domains : List (List ℕ)) (domain : List ℕ) (documents : List Bundle) (old new : List ReportedConflict) → AreFoundOf m domains old → IsAcceptedList m domain documents
     → AddsClashes domain documents old new → AreFoundOf m (domains ++ domain ∷ []) new
 found_more m domains domain documents old new f list a =
     let part : OfDomain = record { domain = domain; clashes = a.clashes } in
@@ -93,8 +93,8 @@ found_more m domains domain documents old new f list a =
         | inl old ↦ f.each p old
         | inr e ↦ subst (λ (z : OfDomain). AreConflicts m z.domain z.clashes) e (conflicts_of m domain documents a.clashes list a.are)
       ];
-      now = a.now ∙ ap (λ z. z ++ map (told domain) a.clashes) f.now ∙ flat_map_more (λ (p : OfDomain). map (told p.domain) p.clashes) [] f.parts part;
+      now = a.now ∙ ap (λ z. z ++ map (reported_conflict domain) a.clashes) f.now ∙ flat_map_more (λ (p : OfDomain). map (reported_conflict p.domain) p.clashes) [] f.parts part;
     }
 
-pub found_all : (m : Meaning) (domains : List (List ℕ)) (found : List Told) → AreDomains m.config domains → AreFoundOf m domains found → AreAllConflicts m found
+pub found_all : (m : Meaning) (domains : List (List ℕ)) (found : List ReportedConflict) → AreDomains m.config domains → AreFoundOf m domains found → AreAllConflicts m found
 found_all m domains found are f = record { parts = f.parts; domains = subst (AreDomains m.config) (sym f.domains_are) are; each = f.each; are = f.now }

@@ -3,7 +3,7 @@ use Rattle.std.proofs.Common.{◌≡◌, ℕ, inl, inr, List, Some, None, refl, 
 use Rattle.bundle_doc.specs.Bundle.{Bundle, HasKeyId}
 use Rattle.bundle_doc.proofs.BundleFacts.{one_document}
 use Rattle.bundle_doc.proofs.RefusalFacts.{one_cause as one_cause_of_bytes, refused_none}
-use Rattle.fed_config.specs.Configuration.{IsConfiguration, IsFound}
+use Rattle.fed_config.specs.Configuration.{IsConfiguration, IsRelationshipOf}
 use Rattle.fed_config.specs.declared.relationship.Relationship.{Relationship}
 use Rattle.receipt_core.specs.Receipt.{Receipt}
 use Rattle.receipt_core.specs.Acceptance.{Meaning}
@@ -24,7 +24,7 @@ module _ (m : Meaning) (domain bytes : List ℕ) (verdict : Verdict) (documents 
 
   -- ---- each cause has what those before it lacked
 
-  found : (e : ObserveError) → (e ≡ NoRelationship → ⊥) → Refuses e → (x : Relationship) × IsFound m.config domain (Some x)
+  found : (e : ObserveError) → (e ≡ NoRelationship → ⊥) → Refuses e → (x : Relationship) × IsRelationshipOf m.config domain (Some x)
   found NoRelationship n h = absurd (n refl)
   found WrongEndpoint n h = (h.relationship, h.found)
   found NoVoucherBundle n h = (h.0.relationship, h.0.found)
@@ -66,7 +66,7 @@ module _ (m : Meaning) (domain bytes : List ℕ) (verdict : Verdict) (documents 
 
   -- ---- so no two stand together
 
-  no_relationship : IsFound m.config domain None → (x : Relationship) → IsFound m.config domain (Some x) → ⊥
+  no_relationship : IsRelationshipOf m.config domain None → (x : Relationship) → IsRelationshipOf m.config domain (Some x) → ⊥
   no_relationship none x is = none x is.0 is.1
 
   two_endpoints : HasOtherEndpoint m.config domain verdict.endpoint → IsEndpointOf m.config domain verdict.endpoint → ⊥
@@ -95,8 +95,8 @@ module _ (m : Meaning) (domain bytes : List ℕ) (verdict : Verdict) (documents 
 
   pub one_cause : (e f : ObserveError) → Refuses e → Refuses f → (e ≡ Take NoMemory → ⊥) → (f ≡ Take NoMemory → ⊥) → e ≡ f
   one_cause NoRelationship NoRelationship p q l k = refl
-  one_cause NoRelationship f p q l k = let is : (x : Relationship) × IsFound m.config domain (Some x) = found f (λ h. cc) q in absurd (no_relationship p is.0 is.1)
-  one_cause e NoRelationship p q l k = let is : (x : Relationship) × IsFound m.config domain (Some x) = found e (λ h. cc) p in absurd (no_relationship q is.0 is.1)
+  one_cause NoRelationship f p q l k = let is : (x : Relationship) × IsRelationshipOf m.config domain (Some x) = found f (λ h. cc) q in absurd (no_relationship p is.0 is.1)
+  one_cause e NoRelationship p q l k = let is : (x : Relationship) × IsRelationshipOf m.config domain (Some x) = found e (λ h. cc) p in absurd (no_relationship q is.0 is.1)
   one_cause WrongEndpoint WrongEndpoint p q l k = refl
   one_cause WrongEndpoint f p q l k = absurd (two_endpoints p (served f (λ h. cc) (λ h. cc) q))
   one_cause e WrongEndpoint p q l k = absurd (two_endpoints q (served e (λ h. cc) (λ h. cc) p))

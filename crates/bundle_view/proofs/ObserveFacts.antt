@@ -22,7 +22,7 @@ use Rattle.trust_closure.specs.declared.error.TakeError.TheVariants.{UnknownDoma
 use Rattle.trust_closure.specs.declared.outcome.Taken.{Taken}
 use Rattle.trust_closure.specs.declared.outcome.Taken.TheVariants.{New as TakenNew, Already as TakenAlready}
 use Rattle.trust_closure.specs.Refusals.{Room, RefusesReceipt, IsOfWrongEndpoint}
-use Rattle.trust_closure.specs.Changes.{State, Took, IsUnchanged}
+use Rattle.trust_closure.specs.Changes.{HeldAndRoom, Took, IsUnchanged}
 use Rattle.trust_closure.specs.Views.{document_of}
 use Rattle.trust_closure.proofs.Vouching.{Leads-push}
 use Rattle.bundle_view.specs.Current.{IsCurrent}
@@ -112,13 +112,13 @@ accepted_of m domain bytes verdict id document valid form is =
     record { endpoint = refl; voucher = ap (λ (i : DocId). i.0) (sym is.is); key = is.authentic.key; trusted = is.authentic.trusted }
 
 -- whether it was held before or not
-meaning_of_took : (old new : State) (r : Receipt) (taken : Taken) → IsMeaning old.meaning → Took old r new taken → new.meaning ≡ holding old.meaning r
+meaning_of_took : (old new : HeldAndRoom) (r : Receipt) (taken : Taken) → IsMeaning old.meaning → Took old r new taken → new.meaning ≡ holding old.meaning r
 meaning_of_took old new r (TakenNew n) valid took = took.meaning
 meaning_of_took old new r TakenAlready valid took =
-    ap (λ (s : State). s.meaning) took.same
+    ap (λ (s : HeldAndRoom). s.meaning) took.same
     ∙ ap (λ (rs : List Receipt). record old.meaning { held = rs }) (sym (sets.present r old.meaning.held valid.rising took.held))
 
-pub observed : (old new : State) (domain bytes : List ℕ) (verdict : Verdict) (id : DocId) (document : Bundle) (copy : Receipt) → IsMeaning old.meaning → IsReceipt (observed_of domain verdict id document)
+pub observed : (old new : HeldAndRoom) (domain bytes : List ℕ) (verdict : Verdict) (id : DocId) (document : Bundle) (copy : Receipt) → IsMeaning old.meaning → IsReceipt (observed_of domain verdict id document)
     → IsVoucher old.meaning domain verdict id → IsDocument bytes document → HasKept old (observed_of domain verdict id document) new copy → HasObserved old.meaning domain bytes verdict new.meaning copy
 observed old new domain bytes verdict id document copy valid form is read kept =
     let r : Receipt = observed_of domain verdict id document in
@@ -167,7 +167,7 @@ untaken m room domain bytes verdict id document Full form is read (inr refuses) 
 untaken m room domain bytes verdict id document NoMemory form is read (inr refuses) = wants_memory m domain bytes verdict id document is read
 untaken m room domain bytes verdict id document ConfigDiffers form is read (inr refuses) = refuses
 
-pub not_kept : (old new : State) (domain bytes : List ℕ) (verdict : Verdict) (id : DocId) (document : Bundle) (why : ObserveError) → IsConfiguration old.meaning.config → IsVoucher old.meaning domain verdict id
+pub not_kept : (old new : HeldAndRoom) (domain bytes : List ℕ) (verdict : Verdict) (id : DocId) (document : Bundle) (why : ObserveError) → IsConfiguration old.meaning.config → IsVoucher old.meaning domain verdict id
     → IsDocument bytes document → HasNotKept old (observed_of domain verdict id document) new why → HasNotObserved old domain bytes verdict new why
 not_kept old new domain bytes verdict id document why form is read kept = record {
   cause = subst (RefusesObservation old.meaning domain bytes verdict) (sym kept.is) (untaken old.meaning old.room domain bytes verdict id document kept.error form is read kept.cause);
@@ -180,7 +180,7 @@ refuses_endpoint m domain verdict WrongEndpoint h = h
 refuses_endpoint m domain verdict e h = absurd h
 
 -- nothing was done yet
-pub unchanged_then : (s : State) → IsUnchanged s s
+pub unchanged_then : (s : HeldAndRoom) → IsUnchanged s s
 unchanged_then s = record { meaning = refl; room = record { receipts = omega arith; offers = omega arith } }
 
 -- ---- no document of the endpoint's trust domain is accepted
@@ -200,14 +200,14 @@ copied domain d verdict e id document r is same_domain same_endpoint =
     is ∙ ap (λ (n : List ℕ). record { domain = n; endpoint = e; document = document; voucher = id; key = verdict.key }) same_domain
     ∙ ap (λ (i : Id). record { domain = domain; endpoint = i; document = document; voucher = id; key = verdict.key }) same_endpoint
 
-concluded : (old new : State) (domain bytes : List ℕ) (verdict : Verdict) (id : DocId) (document : Bundle) (result : Result Receipt ObserveError) → IsMeaning old.meaning → IsConfiguration old.meaning.config
+concluded : (old new : HeldAndRoom) (domain bytes : List ℕ) (verdict : Verdict) (id : DocId) (document : Bundle) (result : Result Receipt ObserveError) → IsMeaning old.meaning → IsConfiguration old.meaning.config
     → IsReceipt (observed_of domain verdict id document) → IsVoucher old.meaning domain verdict id → IsDocument bytes document
     → MatchResult result (HasKept old (observed_of domain verdict id document) new) (HasNotKept old (observed_of domain verdict id document) new)
     → MatchResult result (HasObserved old.meaning domain bytes verdict new.meaning) (HasNotObserved old domain bytes verdict new)
 concluded old new domain bytes verdict id document (Ok copy) valid config form is read kept = observed old new domain bytes verdict id document copy valid form is read kept
 concluded old new domain bytes verdict id document (Err why) valid config form is read kept = not_kept old new domain bytes verdict id document why config is read kept
 
-pub ended : (old new : State) (domain bytes : List ℕ) (verdict : Verdict) (id : DocId) (document : Bundle) (r : Receipt) (result : Result Receipt ObserveError) → r ≡ observed_of domain verdict id document
+pub ended : (old new : HeldAndRoom) (domain bytes : List ℕ) (verdict : Verdict) (id : DocId) (document : Bundle) (r : Receipt) (result : Result Receipt ObserveError) → r ≡ observed_of domain verdict id document
     → IsMeaning old.meaning → IsConfiguration old.meaning.config → IsReceipt r → IsVoucher old.meaning domain verdict id → IsDocument bytes document
     → MatchResult result (HasKept old r new) (HasNotKept old r new)
     → MatchResult result (HasObserved old.meaning domain bytes verdict new.meaning) (HasNotObserved old domain bytes verdict new)

@@ -11,9 +11,9 @@ use Rattle.receipt_core.specs.Acceptance.{Meaning, IsMember}
 use Rattle.trust_closure.specs.Views.{document_cmp, document_of, IsAcceptedList, IsPendingCount}
 use Rattle.trust_closure.specs.Order.{document_total}
 use Rattle.bundle_view.specs.Current.{IsCurrent}
-use Rattle.bundle_view.specs.Conflicts.{AreConflicts, Told, told}
+use Rattle.bundle_view.specs.Conflicts.{AreConflicts, ReportedConflict, reported_conflict}
 use Rattle.bundle_view.specs.Groups.{AddsClashes}
-use Rattle.bundle_view.specs.Sections.{HasHead, AddsSection, HasSections}
+use Rattle.bundle_view.specs.Sections.{HasReportHead, AddsSection, HasSections}
 use Rattle.bundle_view.specs.Report.{Section, IsSection, IsReport, report_text, head_text, section_text, current_line, accepted_line, conflict_line, distrust_line, records_of, document_text, sequence_text}
 use Rattle.bundle_view.proofs.ListFacts.{contains_first, contains_later, same_list, joined}
 use Rattle.bundle_view.proofs.CurrentFacts.{one_current}
@@ -93,20 +93,20 @@ told_more v f xs k x low is o n e =
 -- ---- sections
 
 section_made : (records : List Distrust) (s : Section) (o x y z u v : List ℕ) → x ≡ o ++ (codes "domain " ++ (s.domain ++ codes "\n")) → y ≡ x ++ current_line s.domain s.current
-    → z ≡ y ++ flat_map (accepted_line s.domain) s.accepted → u ≡ z ++ flat_map conflict_line (map (told s.domain) s.conflicts) → v ≡ u ++ flat_map distrust_line (records_of s.domain records)
+    → z ≡ y ++ flat_map (accepted_line s.domain) s.accepted → u ≡ z ++ flat_map conflict_line (map (reported_conflict s.domain) s.conflicts) → v ≡ u ++ flat_map distrust_line (records_of s.domain records)
     → v ≡ o ++ section_text records s
 section_made records s o x y z u v p q r a b =
     joined o (codes "domain " ++ (s.domain ++ codes "\n")) _ x v p (joined x (current_line s.domain s.current) _ y v q (joined y (flat_map (accepted_line s.domain) s.accepted) _ z v r
-    (joined z (flat_map conflict_line (map (told s.domain) s.conflicts)) (flat_map distrust_line (records_of s.domain records)) u v a b)))
+    (joined z (flat_map conflict_line (map (reported_conflict s.domain) s.conflicts)) (flat_map distrust_line (records_of s.domain records)) u v a b)))
     ∙ ap (λ t. o ++ t) (append_assoc (codes "domain ") (s.domain ++ codes "\n") _ ∙ ap (λ t. codes "domain " ++ t) (append_assoc s.domain (codes "\n") _))
 
-pub section_added : (m : Meaning) (domain : List ℕ) (documents : List Bundle) (current : Option Bundle) (none found : List Told) (o x y z u v : List ℕ)
+pub section_added : (m : Meaning) (domain : List ℕ) (documents : List Bundle) (current : Option Bundle) (none found : List ReportedConflict) (o x y z u v : List ℕ)
     → IsAcceptedList m domain documents → IsCurrent m domain current → none ≡ [] → AddsClashes domain documents none found
     → x ≡ o ++ (codes "domain " ++ (domain ++ codes "\n")) → y ≡ x ++ current_line domain current → z ≡ y ++ flat_map (accepted_line domain) documents
     → u ≡ z ++ flat_map conflict_line found → v ≡ u ++ flat_map distrust_line (records_of domain m.records) → AddsSection m domain o v
 section_added m domain documents current none found o x y z u v list is_current empty adds p q r a b =
     let s : Section = record { domain = domain; current = current; accepted = documents; conflicts = adds.clashes } in
-    let told_all : found ≡ map (told domain) adds.clashes = adds.now ∙ ap (λ t. t ++ map (told domain) adds.clashes) empty in
+    let told_all : found ≡ map (reported_conflict domain) adds.clashes = adds.now ∙ ap (λ t. t ++ map (reported_conflict domain) adds.clashes) empty in
     record {
       section = s;
       domain_is = refl;
@@ -114,7 +114,7 @@ section_added m domain documents current none found o x y z u v list is_current 
       now = section_made m.records s o x y z u v p q r (a ∙ ap (λ t. z ++ flat_map conflict_line t) told_all) b;
     }
 
-pub sections_none : (m : Meaning) (old new : List ℕ) → old ≡ [] → HasHead m old new → HasSections m [] new
+pub sections_none : (m : Meaning) (old new : List ℕ) → old ≡ [] → HasReportHead m old new → HasSections m [] new
 sections_none m old new empty head = record {
   pending = head.pending;
   is_pending = head.is_pending;

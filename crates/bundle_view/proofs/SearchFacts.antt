@@ -20,7 +20,7 @@ use Rattle.receipt_core.specs.Order.{triple_total}
 use Rattle.receipt_core.proofs.LineFacts.{one_triple}
 use Rattle.trust_closure.specs.Nodes.{is_raised}
 use Rattle.trust_closure.specs.Flags.{raised_count}
-use Rattle.bundle_view.specs.Search.{Stride, HasStride, AreFollowed, AreMarked, AreVisited, IsAdded, Adds, Follows, IsDue}
+use Rattle.bundle_view.specs.Search.{Stride, HasStride, AreFollowed, AreMarked, AreVisited, IsAddedStep, AppendsSteps, FollowsOffers, IsEdgeDue}
 use Rattle.bundle_view.proofs.ListFacts.{contains_first, contains_none, contains_cases}
 
 -- ---- places
@@ -75,7 +75,7 @@ wider waiting visited strides n k l v = record {
   together = v.together;
 }
 
-pub old_at : (waiting : List Receipt) (offers : List Triple) (before : Option ℕ) (most : ℕ) (old new : List Stride) → Adds waiting offers before most old new → (i : ℕ) (s : Stride) → i < length old → slice_get new i ≡ Some s → slice_get old i ≡ Some s
+pub old_at : (waiting : List Receipt) (offers : List Triple) (before : Option ℕ) (most : ℕ) (old new : List Stride) → AppendsSteps waiting offers before most old new → (i : ℕ) (s : Stride) → i < length old → slice_get new i ≡ Some s → slice_get old i ≡ Some s
 old_at waiting offers before most old new adds i s l at =
     let x = item_at old i l in
     x.1 ∙ ap Some (same_Some x.0 s (sym (adds.kept i x.0 x.1) ∙ at))
@@ -120,21 +120,21 @@ module _ (waiting : List Receipt) (visited : List Bool) (strides : List Stride) 
     ];
   }
 
-pub adds_none : (waiting : List Receipt) (offers : List Triple) (before : Option ℕ) (most : ℕ) (strides : List Stride) → Adds waiting offers before most strides strides
+pub adds_none : (waiting : List Receipt) (offers : List Triple) (before : Option ℕ) (most : ℕ) (strides : List Stride) → AppendsSteps waiting offers before most strides strides
 adds_none waiting offers before most strides = record { longer = omega arith; kept = λ i s h. h; each = λ i s h. inl h }
 
-pub adds_more : (waiting : List Receipt) (offers : List Triple) (before : Option ℕ) (most : ℕ) (old new : List Stride) (s : Stride) → Adds waiting offers before most old new → IsAdded waiting offers before most s → Adds waiting offers before most old (new ++ s ∷ [])
+pub adds_more : (waiting : List Receipt) (offers : List Triple) (before : Option ℕ) (most : ℕ) (old new : List Stride) (s : Stride) → AppendsSteps waiting offers before most old new → IsAddedStep waiting offers before most s → AppendsSteps waiting offers before most old (new ++ s ∷ [])
 adds_more waiting offers before most old new s adds is = record {
   longer = omega (arith, adds.longer, length-append new (s ∷ []));
   kept = λ i t h. at_left new (s ∷ []) i t (adds.kept i t h);
   each = λ i t h. elim (at_push new s i t h) [
     | inl there ↦ adds.each i t there
-    | inr end ↦ inr (subst (IsAdded waiting offers before most) end.1 is)
+    | inr end ↦ inr (subst (IsAddedStep waiting offers before most) end.1 is)
   ];
 }
 
 pub adds_both : (waiting : List Receipt) (some others all : List Triple) (before : Option ℕ) (most : ℕ) (old mid new : List Stride) → ((t : Triple) → Contains some t → Contains all t) → ((t : Triple) → Contains others t → Contains all t)
-    → Adds waiting some before most old mid → Adds waiting others before most mid new → Adds waiting all before most old new
+    → AppendsSteps waiting some before most old mid → AppendsSteps waiting others before most mid new → AppendsSteps waiting all before most old new
 adds_both waiting some others all before most old mid new left right a b = record {
   longer = omega (arith, a.longer, b.longer);
   kept = λ i s h. b.kept i s (a.kept i s h);
@@ -198,7 +198,7 @@ visited_none waiting flags strides is none = record {
 -- So far the receipts from the start up to the place need it, and were come to; no other flag is changed.
 pub record Gathers (waiting : List Receipt) (offer : Triple) (before : Option ℕ) (most : ℕ) (flags : List Bool) (old : List Stride) (start place : ℕ) (visited : List Bool) (new : List Stride) : Type 0 where
   pub marks : AreMarked waiting visited new most
-  pub adds : Adds waiting (offer ∷ []) before most old new
+  pub adds : AppendsSteps waiting (offer ∷ []) before most old new
   pub from : start ≤ place
   pub within : place ≤ length waiting
   pub fresh : (k : ℕ) (r : Receipt) → start ≤ k → k < place → slice_get waiting k ≡ Some r → (is_raised visited k ≡ true) × (need_of r ≡ offer)
@@ -217,7 +217,7 @@ gathers_none waiting offer before most flags old start l v = record {
 
 module _ (waiting : List Receipt) (offer : Triple) (before : Option ℕ) (most : ℕ) (flags : List Bool) (old : List Stride) (start place : ℕ) (visited : List Bool) (new : List Stride)
     (g : Gathers waiting offer before most flags old start place visited new) where
-  pub gathers_more : most ≤ length old + 1 → IsDue waiting visited offer place → (r : Receipt) → slice_get waiting place ≡ Some r → (more : List Bool) → more ≡ set visited place true → raised_count more ≡ raised_count visited + 1
+  pub gathers_more : most ≤ length old + 1 → IsEdgeDue waiting visited offer place → (r : Receipt) → slice_get waiting place ≡ Some r → (more : List Bool) → more ≡ set visited place true → raised_count more ≡ raised_count visited + 1
       → Gathers waiting offer before most flags old start (place + 1) more (new ++ record { receipt = r; before = before; length = most } ∷ [])
   gathers_more early due r at more is count =
       let s : Stride = record { receipt = r; before = before; length = most } in
@@ -241,7 +241,7 @@ module _ (waiting : List Receipt) (offer : Triple) (before : Option ℕ) (most :
       }
 
   module _ (sorted : IsSortedByKey need_of triple_cmp waiting) (point : IsPartitionPoint (λ r. is_lt (triple_cmp (need_of r) offer) ≡ true) (λ r. is_lt (triple_cmp (need_of r) offer) ≡ false) waiting start)
-      (v : AreVisited waiting flags old most) (done : IsDue waiting visited offer place → ⊥) where
+      (v : AreVisited waiting flags old most) (done : IsEdgeDue waiting visited offer place → ⊥) where
     -- each receipt that needs it was come to
     needing : (k : ℕ) (r : Receipt) → slice_get waiting k ≡ Some r → need_of r ≡ offer → is_raised visited k ≡ true
     needing k r at needs = elim (cases_lt k start) [
@@ -287,7 +287,7 @@ module _ (waiting : List Receipt) (offer : Triple) (before : Option ℕ) (most :
       ]
     ]
 
-    pub gathers_all : Follows waiting (offer ∷ []) before most old visited new
+    pub gathers_all : FollowsOffers waiting (offer ∷ []) before most old visited new
     gathers_all = record {
       visits = record { marks = g.marks; together = together };
       adds = g.adds;
@@ -299,11 +299,11 @@ module _ (waiting : List Receipt) (offer : Triple) (before : Option ℕ) (most :
 
 -- ---- many offers
 
-pub follows_none : (waiting : List Receipt) (before : Option ℕ) (most : ℕ) (visited : List Bool) (strides : List Stride) → AreVisited waiting visited strides most → Follows waiting [] before most strides visited strides
+pub follows_none : (waiting : List Receipt) (before : Option ℕ) (most : ℕ) (visited : List Bool) (strides : List Stride) → AreVisited waiting visited strides most → FollowsOffers waiting [] before most strides visited strides
 follows_none waiting before most visited strides v = record { visits = v; adds = adds_none waiting [] before most strides; reached = λ r waits has. absurd (contains_none (need_of r) has) }
 
 pub follows_more : (waiting : List Receipt) (some : List Triple) (offer : Triple) (before : Option ℕ) (most : ℕ) (old mid : List Stride) (flags visited : List Bool) (new : List Stride)
-    → Follows waiting some before most old flags mid → Follows waiting (offer ∷ []) before most mid visited new → Follows waiting (some ++ offer ∷ []) before most old visited new
+    → FollowsOffers waiting some before most old flags mid → FollowsOffers waiting (offer ∷ []) before most mid visited new → FollowsOffers waiting (some ++ offer ∷ []) before most old visited new
 follows_more waiting some offer before most old mid flags visited new a b = record {
   visits = b.visits;
   adds = adds_both waiting some (offer ∷ []) (some ++ offer ∷ []) before most old mid new (λ t h. Contains-append_left some (offer ∷ []) t h) (λ t h. Contains-append_right some (offer ∷ []) t h) a.adds b.adds;

@@ -9,7 +9,7 @@ use Rattle.fed_config.specs.declared.seed.Seed.{Seed}
 use Rattle.receipt_core.specs.declared.triple.Triple.{Triple}
 use Rattle.receipt_core.specs.Receipt.{Receipt, Pair, pair_of, offers_of}
 use Rattle.receipt_core.specs.Acceptance.{pair_of_seed}
-use Rattle.bundle_view.specs.Search.{Stride, IsStride, AreStrides, AreFollowed, AreVisited, IsAdded, Adds, Follows, IsBegun, IsSearched, IsBackFrom, IsShorter, AreLinked}
+use Rattle.bundle_view.specs.Search.{Stride, IsStride, AreStrides, AreFollowed, AreVisited, IsAddedStep, AppendsSteps, FollowsOffers, IsSearchBegun, IsSearched, IsBackFrom, IsShorter, AreLinkedSteps}
 use Rattle.bundle_view.proofs.ListFacts.{contains_first, contains_none}
 use Rattle.bundle_view.proofs.SearchFacts.{more-AreFollowed, wider, old_at}
 
@@ -23,8 +23,8 @@ more_seeds : (seeds : List Seed) (x : Seed) (strides : List Stride) (s : Stride)
 more_seeds seeds x strides s None h = record { seed = h.seed; configured = Contains-append_left seeds (x ∷ []) h.seed h.configured; offers = h.offers; first = h.first }
 more_seeds seeds x strides s (Some place) h = h
 
-more_strides : (seeds : List Seed) (waiting : List Receipt) (offers : List Triple) (before : Option ℕ) (most : ℕ) (old new : List Stride) → AreStrides seeds waiting old → Adds waiting offers before most old new
-    → ((s : Stride) → IsAdded waiting offers before most s → IsStride seeds new s before) → AreStrides seeds waiting new
+more_strides : (seeds : List Seed) (waiting : List Receipt) (offers : List Triple) (before : Option ℕ) (most : ℕ) (old new : List Stride) → AreStrides seeds waiting old → AppendsSteps waiting offers before most old new
+    → ((s : Stride) → IsAddedStep waiting offers before most s → IsStride seeds new s before) → AreStrides seeds waiting new
 more_strides seeds waiting offers before most old new are adds led = record {
   waits = λ i s at. elim (adds.each i s at) [ inl there ↦ are.waits i s there | inr is ↦ is.waits ];
   stands = λ i s at. elim (adds.each i s at) [
@@ -35,7 +35,7 @@ more_strides seeds waiting offers before most old new are adds led = record {
 
 -- ---- from the configured documents
 
-pub begun_none : (waiting : List Receipt) (visited : List Bool) (strides : List Stride) → strides ≡ [] → AreVisited waiting visited strides 1 → IsBegun [] waiting visited strides
+pub begun_none : (waiting : List Receipt) (visited : List Bool) (strides : List Stride) → strides ≡ [] → AreVisited waiting visited strides 1 → IsSearchBegun [] waiting visited strides
 begun_none waiting visited strides e v = record {
   visits = v;
   stand = record { waits = λ i s at. absurd (none i s at); stands = λ i s at. absurd (none i s at) };
@@ -45,8 +45,8 @@ begun_none waiting visited strides e v = record {
     none : (i : ℕ) (s : Stride) → slice_get strides i ≡ Some s → ⊥
     none i s at = let l = slice_get_within strides i s at in omega (arith, l, ap length e)
 
-pub begun_more : (seeds : List Seed) (x : Seed) (waiting : List Receipt) (flags visited : List Bool) (old new : List Stride) → IsBegun seeds waiting flags old → Follows waiting (offers_of (pair_of_seed x)) None 1 old visited new
-    → IsBegun (seeds ++ x ∷ []) waiting visited new
+pub begun_more : (seeds : List Seed) (x : Seed) (waiting : List Receipt) (flags visited : List Bool) (old new : List Stride) → IsSearchBegun seeds waiting flags old → FollowsOffers waiting (offers_of (pair_of_seed x)) None 1 old visited new
+    → IsSearchBegun (seeds ++ x ∷ []) waiting visited new
 begun_more seeds x waiting flags visited old new b f = record {
   visits = f.visits;
   stand = more_strides (seeds ++ x ∷ []) waiting (offers_of (pair_of_seed x)) None 1 old new
@@ -71,7 +71,7 @@ pub record IsAt (seeds : List Seed) (waiting : List Receipt) (p : Pair) (visited
 few_strides : (waiting : List Receipt) (visited : List Bool) (strides : List Stride) (most : ℕ) → AreVisited waiting visited strides most → length strides ≤ length waiting
 few_strides waiting visited strides most v = omega (arith, v.marks.count, v.marks.size, count_by-le-length (λ flag. flag) visited)
 
-pub at_start : (seeds : List Seed) (waiting : List Receipt) (p : Pair) (visited : List Bool) (strides : List Stride) → IsBegun seeds waiting visited strides → IsAt seeds waiting p visited strides 0
+pub at_start : (seeds : List Seed) (waiting : List Receipt) (p : Pair) (visited : List Bool) (strides : List Stride) → IsSearchBegun seeds waiting visited strides → IsAt seeds waiting p visited strides 0
 at_start seeds waiting p visited strides b = record {
   searched = record {
     stand = b.stand;
@@ -86,7 +86,7 @@ at_start seeds waiting p visited strides b = record {
 }
 
 pub at_next : (seeds : List Seed) (waiting : List Receipt) (p : Pair) (flags visited : List Bool) (old new : List Stride) (place : ℕ) (s : Stride) → IsAt seeds waiting p flags old place → slice_get old place ≡ Some s → (pair_of s.receipt ≡ p → ⊥)
-    → Follows waiting (offers_of (pair_of s.receipt)) (Some place) (s.length + 1) old visited new → IsAt seeds waiting p visited new (place + 1)
+    → FollowsOffers waiting (offers_of (pair_of s.receipt)) (Some place) (s.length + 1) old visited new → IsAt seeds waiting p visited new (place + 1)
 at_next seeds waiting p flags visited old new place s a at other f =
     let here : slice_get new place ≡ Some s = f.adds.kept place s at in
     record {
@@ -138,7 +138,7 @@ length_at [] place s at = absurd (let l = slice_get_within [] place s at in omeg
 length_at (t ∷ strides) zero s at = ap (λ (x : Stride). x.length) (same_Some t s at)
 length_at (t ∷ strides) (suc place) s at = length_at strides place s at
 
-pub linked : (seeds : List Seed) (waiting : List Receipt) (strides : List Stride) → AreStrides seeds waiting strides → AreLinked strides
+pub linked : (seeds : List Seed) (waiting : List Receipt) (strides : List Stride) → AreStrides seeds waiting strides → AreLinkedSteps strides
 linked seeds waiting strides are place s at = by_before s.before (are.stands place s at)
   where
     by_before : (before : Option ℕ) → IsStride seeds strides s before → IsShorter strides s before
@@ -153,7 +153,7 @@ fewer_left : (strides : List Stride) (s : Stride) (before : Option ℕ) → IsSh
 fewer_left strides s None h = omega arith
 fewer_left strides s (Some place) h = omega (arith, h.2, length_at strides place h.0 h.1)
 
-pub falls_back : (strides : List Stride) (place : ℕ) (s : Stride) → AreLinked strides → slice_get strides place ≡ Some s → left_from strides s.before < left_from strides (Some place)
+pub falls_back : (strides : List Stride) (place : ℕ) (s : Stride) → AreLinkedSteps strides → slice_get strides place ≡ Some s → left_from strides s.before < left_from strides (Some place)
 falls_back strides place s are at = omega (arith, fewer_left strides s s.before (are place s at), length_at strides place s at)
 
 pub back_more : (strides : List Stride) (at : Option ℕ) (place : ℕ) (s : Stride) (r : Receipt) (rest : List Receipt) → at ≡ Some place → slice_get strides place ≡ Some s → s.receipt ≡ r → IsBackFrom strides s.before rest → IsBackFrom strides at (r ∷ rest)

@@ -57,7 +57,7 @@ AreConflicts m domain clashes = AreClashes (λ d. IsMember m (document_of domain
 -- ---- as they are told
 
 -- a conflict by the ids of its documents
-pub record Told : Type 0 where
+pub record ReportedConflict : Type 0 where
   pub domain : List ℕ
   pub sequence : ℕ
   pub kind : ConflictKind
@@ -66,22 +66,22 @@ pub record Told : Type 0 where
 abbrev pub id_in : List ℕ → Bundle → DocId
 id_in domain d = record { 0 = doc_id_of domain d }
 
-abbrev pub told : List ℕ → Clash → Told
-told domain c = record { domain = domain; sequence = c.sequence; kind = c.kind; documents = map (id_in domain) c.documents }
+abbrev pub reported_conflict : List ℕ → Clash → ReportedConflict
+reported_conflict domain c = record { domain = domain; sequence = c.sequence; kind = c.kind; documents = map (id_in domain) c.documents }
 
-abbrev pub told_by : Conflict → Told
-told_by c = record { domain = c.domain; sequence = c.sequence; kind = c.kind; documents = c.documents.items }
+abbrev pub reported_by : Conflict → ReportedConflict
+reported_by c = record { domain = c.domain; sequence = c.sequence; kind = c.kind; documents = c.documents.items }
 
 -- the conflicts of one domain
 pub record OfDomain : Type 0 where
   pub domain : List ℕ
   pub clashes : List Clash
 
-abbrev pub tell_all : List OfDomain → List Told
-tell_all parts = flat_map (λ part. map (told part.domain) part.clashes) parts
+abbrev pub tell_all : List OfDomain → List ReportedConflict
+tell_all parts = flat_map (λ part. map (reported_conflict part.domain) part.clashes) parts
 
 -- the conflicts of all domains of the configuration, rising by domain and then by sequence number
-pub record AreAllConflicts (m : Meaning) (conflicts : List Told) : Type 0 where
+pub record AreAllConflicts (m : Meaning) (conflicts : List ReportedConflict) : Type 0 where
   pub parts : List OfDomain
   pub domains : AreDomains m.config (map (λ part. part.domain) parts)
   pub each : (part : OfDomain) → Contains parts part → AreConflicts m part.domain part.clashes

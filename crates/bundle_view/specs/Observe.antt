@@ -6,7 +6,7 @@ use Rattle.bundle_doc.specs.Bundle.{Bundle, IsDocument, HasKeyId, document_limit
 use Rattle.bundle_doc.specs.Refusal.{RefusesBytes}
 use Rattle.bundle_doc.specs.declared.error.DocError.{DocError}
 use Rattle.bundle_doc.specs.declared.error.DocError.TheVariants.{NoMemory as NoMemoryToRead}
-use Rattle.fed_config.specs.Configuration.{Configuration, IsFound}
+use Rattle.fed_config.specs.Configuration.{Configuration, IsRelationshipOf}
 use Rattle.fed_config.specs.declared.relationship.Relationship.{Relationship}
 use Rattle.receipt_core.specs.declared.distrust.Distrust.{Distrust}
 use Rattle.receipt_core.specs.Receipt.{Receipt, pair_of, with_receipt}
@@ -14,7 +14,7 @@ use Rattle.receipt_core.specs.Acceptance.{Meaning, IsMember}
 use Rattle.trust_closure.specs.declared.error.TakeError.{TakeError}
 use Rattle.trust_closure.specs.declared.error.TakeError.TheVariants.{Full, NoMemory}
 use Rattle.trust_closure.specs.Refusals.{IsOneTooMany}
-use Rattle.trust_closure.specs.Changes.{State, IsUnchanged}
+use Rattle.trust_closure.specs.Changes.{HeldAndRoom, IsUnchanged}
 use Rattle.bundle_view.specs.Conflicts.{id_in}
 use Rattle.bundle_view.specs.Current.{IsCurrent}
 use Rattle.bundle_view.specs.declared.observation.Verdict.{Verdict}
@@ -26,13 +26,13 @@ use Rattle.bundle_view.specs.declared.observe_error.ObserveError.TheVariants.{No
 -- The configuration has a relationship with the domain, and this is its endpoint.
 pub record IsEndpointOf (c : Configuration) (domain : List ℕ) (endpoint : Id) : Type 0 where
   pub relationship : Relationship
-  pub found : IsFound c domain (Some relationship)
+  pub found : IsRelationshipOf c domain (Some relationship)
   pub endpoint_is : relationship.endpoint ≡ endpoint
 
 -- It has one, whose endpoint is another.
 pub record HasOtherEndpoint (c : Configuration) (domain : List ℕ) (endpoint : Id) : Type 0 where
   pub relationship : Relationship
-  pub found : IsFound c domain (Some relationship)
+  pub found : IsRelationshipOf c domain (Some relationship)
   pub other : relationship.endpoint ≡ endpoint → ⊥
 
 -- the key that was shown, distrusted where the endpoint is at home
@@ -85,7 +85,7 @@ pub record HasObserved (old : Meaning) (domain bytes : List ℕ) (verdict : Verd
 
 -- Of the domain and its endpoint alone: no relationship, or one with another endpoint.
 abbrev pub RefusesEndpoint : Configuration → List ℕ → Id → ObserveError → Type 0
-RefusesEndpoint c domain endpoint NoRelationship = IsFound c domain None
+RefusesEndpoint c domain endpoint NoRelationship = IsRelationshipOf c domain None
 RefusesEndpoint c domain endpoint WrongEndpoint = HasOtherEndpoint c domain endpoint
 RefusesEndpoint c domain endpoint e = ⊥
 
@@ -112,6 +112,6 @@ RefusesObservation m domain bytes verdict (Take e) = RefusesTaking m domain byte
 RefusesObservation m domain bytes verdict e = RefusesVerdict m domain verdict e
 
 -- Nothing is observed, and nothing lost.
-pub record HasNotObserved (old : State) (domain bytes : List ℕ) (verdict : Verdict) (new : State) (why : ObserveError) : Type 0 where
+pub record HasNotObserved (old : HeldAndRoom) (domain bytes : List ℕ) (verdict : Verdict) (new : HeldAndRoom) (why : ObserveError) : Type 0 where
   pub cause : RefusesObservation old.meaning domain bytes verdict why
   pub unchanged : IsUnchanged old new

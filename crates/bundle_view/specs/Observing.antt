@@ -10,7 +10,7 @@ use Rattle.trust_closure.specs.declared.error.TakeError.{TakeError}
 use Rattle.trust_closure.specs.declared.error.TakeError.TheVariants.{NoMemory}
 use Rattle.trust_closure.specs.declared.outcome.Taken.{Taken}
 use Rattle.trust_closure.specs.Refusals.{RefusesReceipt}
-use Rattle.trust_closure.specs.Changes.{State, Took, IsUnchanged}
+use Rattle.trust_closure.specs.Changes.{HeldAndRoom, Took, IsUnchanged}
 use Rattle.bundle_view.specs.Conflicts.{id_in}
 use Rattle.bundle_view.specs.Observe.{IsAuthentic}
 use Rattle.bundle_view.specs.declared.observation.Verdict.{Verdict}
@@ -28,13 +28,13 @@ pub record IsVoucher (m : Meaning) (domain : List ℕ) (verdict : Verdict) (id :
   pub is : id ≡ id_in verdict.endpoint.domain voucher
 
 -- The receipt was taken, and comes back.
-pub record HasKept (old : State) (r : Receipt) (new : State) (copy : Receipt) : Type 0 where
+pub record HasKept (old : HeldAndRoom) (r : Receipt) (new : HeldAndRoom) (copy : Receipt) : Type 0 where
   pub same : copy ≡ r
   pub taken : Taken
   pub took : Took old r new taken
 
 -- It was not, or there was no memory to copy it.
-pub record HasNotKept (old : State) (r : Receipt) (new : State) (why : ObserveError) : Type 0 where
+pub record HasNotKept (old : HeldAndRoom) (r : Receipt) (new : HeldAndRoom) (why : ObserveError) : Type 0 where
   pub error : TakeError
   pub is : why ≡ Take error
   pub cause : (error ≡ NoMemory) ⊎ RefusesReceipt old.meaning old.room r error

@@ -11,7 +11,7 @@ use Rattle.byte_lines.specs.Device.{AppendsBeginning}
 use Rattle.receipt_core.specs.declared.distrust.Distrust.{Distrust}
 use Rattle.trust_closure.specs.Views.{IsAcceptedList, IsPendingCount}
 use Rattle.bundle_view.specs.Current.{IsCurrent}
-use Rattle.bundle_view.specs.Conflicts.{Clash, AreConflicts, Told, told}
+use Rattle.bundle_view.specs.Conflicts.{Clash, AreConflicts, ReportedConflict, reported_conflict}
 use Rattle.bundle_view.specs.declared.conflict.ConflictKind.{ConflictKind}
 use Rattle.bundle_view.specs.declared.conflict.ConflictKind.TheVariants.{Keys, HintOnly}
 
@@ -40,7 +40,7 @@ kind_text HintOnly = codes " hint"
 abbrev pub id_text : DocId → List ℕ
 id_text id = codes " " ++ encode_lower id.0
 
-abbrev pub conflict_line : Told → List ℕ
+abbrev pub conflict_line : ReportedConflict → List ℕ
 conflict_line c = codes "  conflict " ++ (decimal c.sequence ++ (kind_text c.kind ++ (flat_map id_text c.documents ++ codes "\n")))
 
 abbrev pub distrust_line : Distrust → List ℕ
@@ -64,7 +64,7 @@ records_of domain records = filter (is_of domain) records
 abbrev pub section_text : List Distrust → Section → List ℕ
 section_text records s =
     codes "domain " ++ (s.domain ++ (codes "\n" ++ (current_line s.domain s.current ++ (flat_map (accepted_line s.domain) s.accepted
-    ++ (flat_map conflict_line (map (told s.domain) s.conflicts) ++ flat_map distrust_line (records_of s.domain records))))))
+    ++ (flat_map conflict_line (map (reported_conflict s.domain) s.conflicts) ++ flat_map distrust_line (records_of s.domain records))))))
 
 -- What it says of a domain is so.
 pub record IsSection (m : Meaning) (s : Section) : Type 0 where

@@ -80,26 +80,26 @@ pub record AreVisited (waiting : List Receipt) (visited : List Bool) (strides : 
 
 -- ---- steps that are added
 
-pub record IsAdded (waiting : List Receipt) (offers : List Triple) (before : Option ℕ) (most : ℕ) (s : Stride) : Type 0 where
+pub record IsAddedStep (waiting : List Receipt) (offers : List Triple) (before : Option ℕ) (most : ℕ) (s : Stride) : Type 0 where
   pub waits : Contains waiting s.receipt
   pub offered : Contains offers (need_of s.receipt)
   pub led : s.before ≡ before
   pub long : s.length ≡ most
 
 -- The steps there were are still there, and each other one is of a receipt that needs one of these.
-pub record Adds (waiting : List Receipt) (offers : List Triple) (before : Option ℕ) (most : ℕ) (old new : List Stride) : Type 0 where
+pub record AppendsSteps (waiting : List Receipt) (offers : List Triple) (before : Option ℕ) (most : ℕ) (old new : List Stride) : Type 0 where
   pub longer : length old ≤ length new
   pub kept : (i : ℕ) (s : Stride) → slice_get old i ≡ Some s → slice_get new i ≡ Some s
-  pub each : (i : ℕ) (s : Stride) → slice_get new i ≡ Some s → (slice_get old i ≡ Some s) ⊎ IsAdded waiting offers before most s
+  pub each : (i : ℕ) (s : Stride) → slice_get new i ≡ Some s → (slice_get old i ≡ Some s) ⊎ IsAddedStep waiting offers before most s
 
 -- What is offered was followed: each receipt that needs it was come to.
-pub record Follows (waiting : List Receipt) (offers : List Triple) (before : Option ℕ) (most : ℕ) (old : List Stride) (visited : List Bool) (new : List Stride) : Type 0 where
+pub record FollowsOffers (waiting : List Receipt) (offers : List Triple) (before : Option ℕ) (most : ℕ) (old : List Stride) (visited : List Bool) (new : List Stride) : Type 0 where
   pub visits : AreVisited waiting visited new most
-  pub adds : Adds waiting offers before most old new
+  pub adds : AppendsSteps waiting offers before most old new
   pub reached : AreFollowed waiting new offers most
 
 -- The receipt at the place needs this, and was not come to before.
-pub record IsDue (waiting : List Receipt) (visited : List Bool) (offer : Triple) (place : ℕ) : Type 0 where
+pub record IsEdgeDue (waiting : List Receipt) (visited : List Bool) (offer : Triple) (place : ℕ) : Type 0 where
   pub receipt : Receipt
   pub at : slice_get waiting place ≡ Some receipt
   pub new : is_raised visited place ≡ false
@@ -108,7 +108,7 @@ pub record IsDue (waiting : List Receipt) (visited : List Bool) (offer : Triple)
 -- ---- how far the search is
 
 -- What these configured documents offer was followed, and nothing else.
-pub record IsBegun (seeds : List Seed) (waiting : List Receipt) (visited : List Bool) (strides : List Stride) : Type 0 where
+pub record IsSearchBegun (seeds : List Seed) (waiting : List Receipt) (visited : List Bool) (strides : List Stride) : Type 0 where
   pub visits : AreVisited waiting visited strides 1
   pub stand : AreStrides seeds waiting strides
   pub started : (s : Seed) → Contains seeds s → AreFollowed waiting strides (offers_of (pair_of_seed s)) 1
@@ -122,14 +122,14 @@ pub record IsSearched (seeds : List Seed) (waiting : List Receipt) (strides : Li
   pub passed : (i : ℕ) (s : Stride) → i < place → slice_get strides i ≡ Some s → pair_of s.receipt ≡ p → ⊥
 
 -- The search has found the document: the step at this place is the first of it.
-pub record Finds (seeds : List Seed) (waiting : List Receipt) (strides : List Stride) (p : Pair) (place : ℕ) : Type 0 where
+pub record SearchFinds (seeds : List Seed) (waiting : List Receipt) (strides : List Stride) (p : Pair) (place : ℕ) : Type 0 where
   pub searched : IsSearched seeds waiting strides p place
   pub stride : Stride
   pub at : slice_get strides place ≡ Some stride
   pub is : pair_of stride.receipt ≡ p
 
 abbrev pub HasSearched : List Seed → List Receipt → List Stride → Pair → Option ℕ → Type 0
-HasSearched seeds waiting strides p found = MatchOption found (IsSearched seeds waiting strides p (length strides)) (Finds seeds waiting strides p)
+HasSearched seeds waiting strides p found = MatchOption found (IsSearched seeds waiting strides p (length strides)) (SearchFinds seeds waiting strides p)
 
 -- ---- back along the steps
 
@@ -145,5 +145,5 @@ abbrev pub IsShorter : List Stride → Stride → Option ℕ → Type 0
 IsShorter strides s None = Unit {0}
 IsShorter strides s (Some place) = (previous : Stride) × (slice_get strides place ≡ Some previous) × (s.length ≡ previous.length + 1)
 
-abbrev pub AreLinked : List Stride → Type 0
-AreLinked strides = (place : ℕ) (s : Stride) → slice_get strides place ≡ Some s → IsShorter strides s s.before
+abbrev pub AreLinkedSteps : List Stride → Type 0
+AreLinkedSteps strides = (place : ℕ) (s : Stride) → slice_get strides place ≡ Some s → IsShorter strides s s.before

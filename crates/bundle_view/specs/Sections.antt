@@ -5,7 +5,7 @@ use Rattle.trust_closure.specs.Views.{IsPendingCount}
 use Rattle.bundle_view.specs.Report.{Section, IsSection, head_text, section_text, report_text}
 
 -- the head was added
-pub record HasHead (m : Meaning) (old new : List ℕ) : Type 0 where
+pub record HasReportHead (m : Meaning) (old new : List ℕ) : Type 0 where
   pub pending : ℕ
   pub is_pending : IsPendingCount m pending
   pub now : new ≡ old ++ head_text m pending

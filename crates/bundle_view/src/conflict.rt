@@ -2,7 +2,7 @@
 ghost use Rattle.std.specs.Prelude.{◌≡◌, ◌<◌, ◌≤◌, ◌++◌, ◌↔◌, List, map, length, IsTrue, IfOk, OnOk, Contains};
 ghost use Rattle.std.specs.List.Sorted.{IsStrictlySortedBy};
 ghost use Rattle.trust_closure.specs.Views.{document_cmp};
-ghost use Rattle.bundle_view.specs.Conflicts.{AreAllConflicts, IsOfKind, id_in, told_by};
+ghost use Rattle.bundle_view.specs.Conflicts.{AreAllConflicts, IsOfKind, id_in, reported_by};
 ghost use Rattle.bundle_view.specs.Groups.{AddsClashes, IsGroup, IsGroupLength};
 
 use crate::listed::{Listed, list_accepted};
@@ -42,7 +42,7 @@ pub struct Conflict {
 /// # Errors
 /// Memory ran out.
 pub fn conflicts<C: Closure>(alloc: Global, closure: &C) -> Result<Vec<Conflict>, NoMemory>
-    ensures { IfOk result (λ found. AreAllConflicts (C.state closure.now).meaning (map told_by found.items)) }
+    ensures { IfOk result (λ found. AreAllConflicts (C.state closure.now).meaning (map reported_by found.items)) }
 {
     let mut found = Vec::new(alloc);
     for domain in closure.config().domains() {
@@ -60,7 +60,7 @@ pub(crate) fn add_conflicts(
     found: &mut Vec<Conflict>,
 ) -> Result<(), AllocError>
     requires { IsStrictlySortedBy document_cmp documents.now }
-    ensures { OnOk result (AddsClashes domain.now documents.now (map told_by found.old.items) (map told_by found.new.items)) }
+    ensures { OnOk result (AddsClashes domain.now documents.now (map reported_by found.old.items) (map reported_by found.new.items)) }
 {
     let mut start = 0;
     'groups: while start < documents.len() {
@@ -93,7 +93,7 @@ fn add_conflict(
     found: &mut Vec<Conflict>,
 ) -> Result<(), AllocError>
     requires { IsGroup group.now }
-    ensures { OnOk result (AddsClashes domain.now group.now (map told_by found.old.items) (map told_by found.new.items)) }
+    ensures { OnOk result (AddsClashes domain.now group.now (map reported_by found.old.items) (map reported_by found.new.items)) }
 {
     let Some(sequence) = group[0].document().rank() else {
         return Ok(());

@@ -9,7 +9,7 @@ ghost use Rattle.bundle_doc.specs.Bundle.{Bundle};
 ghost use Rattle.receipt_core.specs.Acceptance.{Meaning, IsMember, pair_of_seed};
 ghost use Rattle.trust_closure.specs.Views.{IsAcceptedList};
 ghost use Rattle.bundle_view.specs.Current.{IsCurrent};
-ghost use Rattle.bundle_view.specs.Conflicts.{Clash, AreConflicts, Told, AreAllConflicts};
+ghost use Rattle.bundle_view.specs.Conflicts.{Clash, AreConflicts, ReportedConflict, AreAllConflicts};
 ghost use Rattle.bundle_view.specs.Report.{IsReport};
 ghost use Rattle.trust_closure.specs.declared.error.TakeError.TheVariants.{Full, NoMemory};
 ghost use Rattle.bundle_view.specs.Observe.{IsObservation, RefusesObservation};
@@ -24,7 +24,7 @@ pub use poll_log::laws::one_log;
 /// one report, one list of conflicts, and one current document of a domain.
 pub fn one_view()
     ensures report { (m : Meaning) (s t : List ℕ) → IsReport m s → IsReport m t → s ≡ t }
-    ensures conflicts { (m : Meaning) (cs ds : List Told) → AreAllConflicts m cs → AreAllConflicts m ds → cs ≡ ds }
+    ensures conflicts { (m : Meaning) (cs ds : List ReportedConflict) → AreAllConflicts m cs → AreAllConflicts m ds → cs ≡ ds }
     ensures current { (m : Meaning) (domain : List ℕ) (documents : List Bundle) (a b : Option Bundle) → IsAcceptedList m domain documents
         → IsCurrent m domain a → IsCurrent m domain b → a ≡ b }
 {

@@ -1,8 +1,8 @@
 //! The report: what a replica accepts, as a text.
 ghost use Rattle.std.specs.Prelude.{◌≡◌, ◌++◌, true, List, map, length, IfOk, OnOk, Err, codes, flat_map, option_copied};
-ghost use Rattle.bundle_view.specs.Conflicts.{told_by};
+ghost use Rattle.bundle_view.specs.Conflicts.{reported_by};
 ghost use Rattle.bundle_view.specs.Report.{IsReport, WritesReport, BeginsReport, accepted_line, conflict_line, current_line, distrust_line, document_text, head_text, id_text, kind_text, records_of, sequence_text};
-ghost use Rattle.bundle_view.specs.Sections.{AddsSection, HasHead};
+ghost use Rattle.bundle_view.specs.Sections.{AddsSection, HasReportHead};
 ghost use Rattle.bundle_view.specs.declared.error.ReportError.TheVariants.{Io, NoMemory};
 
 use crate::conflict::{Conflict, ConflictKind, add_conflicts};
@@ -51,7 +51,7 @@ fn render<C: Closure>(alloc: Global, closure: &C) -> Result<Vec<u8>, AllocError>
 }
 
 fn push_head<C: Closure>(out: &mut Vec<u8>, closure: &C) -> Result<(), AllocError>
-    ensures { OnOk result (HasHead (C.state closure.now).meaning out.old.items out.new.items) }
+    ensures { OnOk result (HasReportHead (C.state closure.now).meaning out.old.items out.new.items) }
 {
     out.extend_from_slice(b"config ")?;
     push_digits(out, &closure.config().digest().0)?;
@@ -152,7 +152,7 @@ fn push_document(
 }
 
 fn push_conflicts(out: &mut Vec<u8>, conflicts: &[Conflict]) -> Result<(), AllocError>
-    ensures { OnOk result (out.new.items ≡ out.old.items ++ flat_map conflict_line (map told_by conflicts.now)) }
+    ensures { OnOk result (out.new.items ≡ out.old.items ++ flat_map conflict_line (map reported_by conflicts.now)) }
 {
     for conflict in conflicts {
         push_conflict(out, conflict)?;
@@ -161,7 +161,7 @@ fn push_conflicts(out: &mut Vec<u8>, conflicts: &[Conflict]) -> Result<(), Alloc
 }
 
 fn push_conflict(out: &mut Vec<u8>, conflict: &Conflict) -> Result<(), AllocError>
-    ensures { OnOk result (out.new.items ≡ out.old.items ++ conflict_line (told_by conflict.now)) }
+    ensures { OnOk result (out.new.items ≡ out.old.items ++ conflict_line (reported_by conflict.now)) }
 {
     out.extend_from_slice(b"  conflict ")?;
     push_number(out, conflict.sequence)?;

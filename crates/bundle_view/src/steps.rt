@@ -5,7 +5,7 @@ ghost use Rattle.receipt_core.specs.Receipt.{need_of, pair_of, offers_of, triple
 ghost use Rattle.trust_closure.specs.Nodes.{is_raised};
 ghost use Rattle.trust_closure.specs.Flags.{raised_count};
 ghost use Rattle.trust_closure.specs.Views.{document_of};
-ghost use Rattle.bundle_view.specs.Search.{AreFollowed, AreLinked, AreStrides, AreVisited, Follows, HasSearched, IsBackFrom, IsBegun, IsDue, Stride};
+ghost use Rattle.bundle_view.specs.Search.{AreFollowed, AreLinkedSteps, AreStrides, AreVisited, FollowsOffers, HasSearched, IsBackFrom, IsSearchBegun, IsEdgeDue, Stride};
 
 use crate::waiting::Waiting;
 use bundle_doc::Document;
@@ -72,7 +72,7 @@ pub(crate) fn chain_to(
     steps: &[Step],
     last: usize,
 ) -> Result<Vec<Receipt>, AllocError>
-    requires linked { AreLinked steps.now }
+    requires linked { AreLinkedSteps steps.now }
     requires within { last < length steps.now }
     ensures { IfOk result (λ chain. IsBackFrom steps.now (Some last) (reverse chain.items)) }
 {
@@ -135,7 +135,7 @@ fn follow_seeds<'a>(
     requires sorted { IsSortedByKey need_of triple_cmp waiting.now }
     requires visits { AreVisited waiting.now visited.old steps.old.items 1 }
     requires empty { steps.old.items ≡ [] }
-    ensures { OnOk result (IsBegun seeds.now waiting.now visited.new steps.new.items) }
+    ensures { OnOk result (IsSearchBegun seeds.now waiting.now visited.new steps.new.items) }
 {
     for seed in seeds {
         let offers = offers_of(alloc, &seed.domain, &seed.document)?;
@@ -156,7 +156,7 @@ fn follow_step<'a>(
     requires within { place < length steps.old.items }
     requires visits { (s : Stride) → slice_get steps.old.items place ≡ Some s → AreVisited waiting.now visited.old steps.old.items (s.length + 1) }
     ensures { (s : Stride) → slice_get steps.old.items place ≡ Some s
-        → OnOk result (Follows waiting.now (offers_of (pair_of s.receipt)) (Some place) (s.length + 1) steps.old.items visited.new steps.new.items) }
+        → OnOk result (FollowsOffers waiting.now (offers_of (pair_of s.receipt)) (Some place) (s.length + 1) steps.old.items visited.new steps.new.items) }
 {
     let step = &steps[place];
     let (receipt, chain_len) = (step.receipt, step.length + 1);
@@ -182,7 +182,7 @@ fn follow<'a>(
     requires sorted { IsSortedByKey need_of triple_cmp waiting.now }
     requires early { chain_len ≤ length steps.old.items + 1 }
     requires visits { AreVisited waiting.now visited.old steps.old.items chain_len }
-    ensures { OnOk result (Follows waiting.now offers.now before chain_len steps.old.items visited.new steps.new.items) }
+    ensures { OnOk result (FollowsOffers waiting.now offers.now before chain_len steps.old.items visited.new steps.new.items) }
 {
     for offer in offers {
         follow_offer(waiting, visited, steps, offer, before, chain_len)?;
@@ -203,7 +203,7 @@ fn follow_offer<'a>(
     requires sorted { IsSortedByKey need_of triple_cmp waiting.now }
     requires early { chain_len ≤ length steps.old.items + 1 }
     requires visits { AreVisited waiting.now visited.old steps.old.items chain_len }
-    ensures { OnOk result (Follows waiting.now (offer.now ∷ []) before chain_len steps.old.items visited.new steps.new.items) }
+    ensures { OnOk result (FollowsOffers waiting.now (offer.now ∷ []) before chain_len steps.old.items visited.new steps.new.items) }
 {
     let mut place = waiting.partition_point(|receipt| receipt.is_before(offer));
     'receipts: while is_due(waiting, visited, offer, place) {
@@ -221,7 +221,7 @@ fn follow_offer<'a>(
 /// Whether a receipt stands at the place that needs this and was not come to before.
 fn is_due(waiting: &[Waiting], visited: &[bool], offer: &Triple, place: usize) -> bool
     requires { length visited.now ≡ length waiting.now }
-    ensures { IsTrue result ↔ IsDue waiting.now visited.now offer.now place }
+    ensures { IsTrue result ↔ IsEdgeDue waiting.now visited.now offer.now place }
 {
     place < waiting.len() && !visited[place] && waiting[place].needs(offer)
 }

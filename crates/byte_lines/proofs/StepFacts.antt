@@ -5,7 +5,7 @@ use Rattle.std.specs.Io.KnownBytes.{Keeps, Consumes, IsAtEnd, prepend_known}
 use Rattle.byte_lines.specs.Lines.{HasNoFeed, HasLine, HasNoLine, HasMore}
 use Rattle.byte_lines.specs.Inside.Ahead.{AtFeed}
 use Rattle.byte_lines.specs.Streams.{stream_of, left_of}
-use Rattle.byte_lines.specs.Inside.Steps.{TakesFound, Passes}
+use Rattle.byte_lines.specs.Inside.Steps.{TakesFound, SkipsText}
 use Rattle.byte_lines.specs.declared.line_buf.LineBuf.{LineBuf}
 use Rattle.byte_lines.specs.declared.line_buf.Found.{Found}
 use Rattle.byte_lines.specs.declared.error.DeviceError.{DeviceError}
@@ -18,7 +18,7 @@ front_plain ahead None count none is = (All-take (λ (x : ℕ). x ≢ 10) count 
 front_plain ahead (Some k) count feed is = (subst (λ n. HasNoFeed (take n ahead)) (sym is) feed.plain, omega (arith, feed.inside))
 
 pub too_much : (given : Bool) (line ahead left : List ℕ) (place : Option ℕ) (count : ℕ) → given ≡ false → HasNoFeed line → AtFeed ahead place
-    → count ≡ unwrap_or place (length ahead) → 8388608 - length line < count → left ≡ drop count ahead → Passes ((if given then [] else line) ++ ahead) left
+    → count ≡ unwrap_or place (length ahead) → 8388608 - length line < count → left ≡ drop count ahead → SkipsText ((if given then [] else line) ++ ahead) left
 too_much true line ahead left place count waiting plain feed is over rest = cc
 too_much false line ahead left place count waiting plain feed is over rest =
     let front = front_plain ahead place count feed is in
@@ -59,16 +59,16 @@ pub kept_none : (given : Bool) (line ahead : List ℕ) → line ≡ [] → (if g
 kept_none true line ahead none = refl
 kept_none false line ahead none = ap (λ l. l ++ ahead) none
 
-passed : (s : Option (List ℕ)) (bytes ahead : List ℕ) (a : Option (List ℕ)) → Keeps s (prepend_known bytes a) → (p : Passes bytes ahead) → Consumes s (prepend_known ahead a) p.text
+passed : (s : Option (List ℕ)) (bytes ahead : List ℕ) (a : Option (List ℕ)) → Keeps s (prepend_known bytes a) → (p : SkipsText bytes ahead) → Consumes s (prepend_known ahead a) p.text
 passed s bytes ahead a keeps p = Consumes-from_kept s (prepend_known bytes a) (prepend_known ahead a) p.text keeps (Consumes-front bytes p.text ahead a p.parts)
 
-pub long_line : (s : Option (List ℕ)) (bytes ahead rest left : List ℕ) (a b : Option (List ℕ)) → Keeps s (prepend_known bytes a) → Passes bytes ahead → left ≡ rest
+pub long_line : (s : Option (List ℕ)) (bytes ahead rest left : List ℕ) (a b : Option (List ℕ)) → Keeps s (prepend_known bytes a) → SkipsText bytes ahead → left ≡ rest
     → ((text : List ℕ) × HasLine (prepend_known ahead a) (prepend_known rest b) text) → (text : List ℕ) × HasLine s (prepend_known left b) text × (8388608 < length text)
 long_line s bytes ahead rest left a b keeps p same (text, line) =
     let whole = HasLine-after s (prepend_known ahead a) (prepend_known rest b) p.text text p.plain (passed s bytes ahead a keeps p) line in
     (p.text ++ text, subst (λ l. HasLine s (prepend_known l b) (p.text ++ text)) (sym same) whole, omega (arith, length-append p.text text, p.long))
 
-pub long_cut : (s : Option (List ℕ)) (bytes ahead rest left : List ℕ) (a b : Option (List ℕ)) → Keeps s (prepend_known bytes a) → Passes bytes ahead → left ≡ rest
+pub long_cut : (s : Option (List ℕ)) (bytes ahead rest left : List ℕ) (a b : Option (List ℕ)) → Keeps s (prepend_known bytes a) → SkipsText bytes ahead → left ≡ rest
     → HasNoLine (prepend_known ahead a) → IsAtEnd (prepend_known rest b) → HasNoLine s × HasMore s × IsAtEnd (prepend_known left b)
 long_cut s bytes ahead rest left a b keeps p same none end =
     let came = passed s bytes ahead a keeps p in (
@@ -77,7 +77,7 @@ long_cut s bytes ahead rest left a b keeps p same none end =
       subst (λ l. IsAtEnd (prepend_known l b)) (sym same) end,
     )
 
-pub length_passed : (bytes ahead : List ℕ) → Passes bytes ahead → length ahead < length bytes
+pub length_passed : (bytes ahead : List ℕ) → SkipsText bytes ahead → length ahead < length bytes
 length_passed bytes ahead p = omega (arith, ap length p.parts, length-append p.text ahead, p.long)
 
 -- all that is kept is a rest

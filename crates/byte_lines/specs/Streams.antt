@@ -22,16 +22,16 @@ abbrev pub left_of : {S : Type 0} → (S → ℕ) → LineBuf → S → ℕ
 left_of budget lines source = length (kept lines) + budget source
 
 -- of the stream `old` this is the first line, or its rest, and `new` is what follows
-abbrev pub Finds : Option (List ℕ) → Option (List ℕ) → Line → Type 0
-Finds old new (Text text) = HasLine old new text.now × (length text.now ≤ 8388608)
-Finds old new TooLong = ((text : List ℕ) × HasLine old new text × (8388608 < length text))
-Finds old new Cut = HasNoLine old × HasMore old × IsAtEnd new
-Finds old new End = IsAtEnd old × IsAtEnd new
+abbrev pub FindsLine : Option (List ℕ) → Option (List ℕ) → Line → Type 0
+FindsLine old new (Text text) = HasLine old new text.now × (length text.now ≤ 8388608)
+FindsLine old new TooLong = ((text : List ℕ) × HasLine old new text × (8388608 < length text))
+FindsLine old new Cut = HasNoLine old × HasMore old × IsAtEnd new
+FindsLine old new End = IsAtEnd old × IsAtEnd new
 
 -- what a call of `next_line` does to a buffer and its source
 pub record TakesLine {S : Type 0} (remaining : S → Option (List ℕ)) (budget : S → ℕ) (old : LineBuf) (before : S) (new : LineBuf) (after : S) (result : Result Line DeviceError) : Type 0 where
   -- the line is the first of the stream, and the stream loses it
-  pub finds : IfOk result (Finds (stream_of remaining old before) (stream_of remaining new after))
+  pub finds : IfOk result (FindsLine (stream_of remaining old before) (stream_of remaining new after))
   -- want of memory loses no byte
   pub keeps : IsErrOf result NoMemory → Keeps (stream_of remaining old before) (stream_of remaining new after)
   -- the stream never grows

@@ -44,7 +44,7 @@ impl LineBuf {
     ghost use Rattle.byte_lines.specs.contracts.line_buf.LineBuf.{the_row};
     ghost use Rattle.byte_lines.specs.Inside.Ahead.{ahead_of, chunk_room};
     ghost use Rattle.byte_lines.specs.Streams.{kept, stream_of, left_of, TakesLine};
-    ghost use Rattle.byte_lines.specs.Inside.Steps.{TakesFound, Gathers};
+    ghost use Rattle.byte_lines.specs.Inside.Steps.{TakesFound, GathersLine};
 
     /// A buffer that keeps nothing yet. No memory is taken before the first line is asked for.
     pub fn new(alloc: Global) -> LineBuf
@@ -117,7 +117,7 @@ impl LineBuf {
     // nothing is kept.
     fn gather(&mut self) -> Result<Gathered, AllocError>
         requires open { self.old.is_given ≡ false }
-        ensures gathers { Gathers self.old self.new result }
+        ensures gathers { GathersLine self.old self.new result }
         ensures room { chunk_room self.new.ahead ≡ chunk_room self.old.ahead }
     {
         let place = self.ahead.line_feed();

@@ -3,7 +3,7 @@ use Rattle.std.proofs.Common.{◌≡◌, ℕ, ◌⊎◌, inl, inr, List, Some, r
 use Rattle.serde_json.specs.Data.{Data}
 use Rattle.jwk_set.specs.Json.{IsJson}
 use Rattle.fed_config.specs.Written.{Written, SaysWritten}
-use Rattle.fed_config.specs.Reading.{RefusesBytes, RefusesText, RefusesWritten}
+use Rattle.fed_config.specs.Reading.{RefusesConfigBytes, RefusesConfigText, RefusesWritten}
 use Rattle.fed_config.specs.declared.error.ConfigError.{ConfigError}
 use Rattle.fed_config.specs.declared.error.ConfigError.TheVariants.{NotJson, Shape, BadName, BadUrl, BadProfile, DoubleRelationship, BadSeed, TooMany, NoMemory}
 use Rattle.fed_config.proofs.MeaningFacts.{same_written}
@@ -57,9 +57,9 @@ one_written_cause w TooMany TooMany p q = refl
 abbrev Cause : List ℕ → ConfigError → Type 0
 Cause bytes e =
     ((e ≡ NotJson) × ((tree : Data) → IsJson bytes tree → ⊥))
-    ⊎ (((e ≡ Shape) × ((tree : Data) × IsJson bytes tree × ((w : Written) → SaysWritten tree w → ⊥))) ⊎ RefusesText bytes e)
+    ⊎ (((e ≡ Shape) × ((tree : Data) × IsJson bytes tree × ((w : Written) → SaysWritten tree w → ⊥))) ⊎ RefusesConfigText bytes e)
 
-cause_of : (bytes : List ℕ) (e : ConfigError) → RefusesBytes bytes e → (e ≡ NoMemory → ⊥) → Cause bytes e
+cause_of : (bytes : List ℕ) (e : ConfigError) → RefusesConfigBytes bytes e → (e ≡ NoMemory → ⊥) → Cause bytes e
 cause_of bytes NotJson h other = inl (refl, h)
 cause_of bytes Shape h other = inr (inl (refl, h))
 cause_of bytes BadName h other = inr (inr h)
@@ -74,7 +74,7 @@ one_tree : (bytes : List ℕ) (s t : Data) → IsJson bytes s → IsJson bytes t
 one_tree bytes s t p q = let same : Some s ≡ Some t = sym p.1 ∙ q.1 in cc
 
 -- what has no shape says nothing
-shapeless : (bytes : List ℕ) (tree : Data) (e : ConfigError) → IsJson bytes tree → ((w : Written) → SaysWritten tree w → ⊥) → RefusesText bytes e → ⊥
+shapeless : (bytes : List ℕ) (tree : Data) (e : ConfigError) → IsJson bytes tree → ((w : Written) → SaysWritten tree w → ⊥) → RefusesConfigText bytes e → ⊥
 shapeless bytes tree e json none h = none h.0 (subst (λ t. SaysWritten t h.0) (one_tree bytes h.1.tree tree h.1.json json) h.1.says)
 
 one_at : (bytes : List ℕ) (d e : ConfigError) → Cause bytes d → Cause bytes e → d ≡ e
@@ -89,5 +89,5 @@ one_at bytes d e (inr (inr p)) (inr (inl q)) = absurd (shapeless bytes q.1.0 d q
 one_at bytes d e (inr (inr p)) (inr (inr q)) =
     one_written_cause q.0 d e (subst (λ w. RefusesWritten w d) (same_written bytes p.0 q.0 p.1 q.1) p.2) q.2
 
-pub one_cause : (bytes : List ℕ) (d e : ConfigError) → RefusesBytes bytes d → RefusesBytes bytes e → (d ≡ NoMemory → ⊥) → (e ≡ NoMemory → ⊥) → d ≡ e
+pub one_cause : (bytes : List ℕ) (d e : ConfigError) → RefusesConfigBytes bytes d → RefusesConfigBytes bytes e → (d ≡ NoMemory → ⊥) → (e ≡ NoMemory → ⊥) → d ≡ e
 one_cause bytes d e p q m n = one_at bytes d e (cause_of bytes d p m) (cause_of bytes e q n)

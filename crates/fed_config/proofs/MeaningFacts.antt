@@ -12,7 +12,7 @@ use Rattle.bundle_doc.specs.Bundle.{Bundle, Means, Fits}
 use Rattle.fed_config.specs.EndpointUrl.{IsParsed, KeepsUrl}
 use Rattle.fed_config.specs.Written.{RelationshipText, SeedText, Written, SaysRelationshipText, SaysSeedText, SaysWritten, IsText}
 use Rattle.fed_config.specs.Configuration.{Configuration, AreDomains}
-use Rattle.fed_config.specs.Reading.{HasName, IsConfig, IsMeant, IsProfile, IsSetOf, Passes, RefusesBytes, RefusesWritten, SaysRelationship, SaysSeed}
+use Rattle.fed_config.specs.Reading.{HasName, IsConfig, IsMeant, IsProfile, IsSetOf, Passes, RefusesConfigBytes, RefusesWritten, SaysRelationship, SaysSeed}
 use Rattle.fed_config.specs.Seeds.{seed_cmp_total}
 use Rattle.fed_config.specs.declared.error.ConfigError.{ConfigError}
 use Rattle.fed_config.specs.declared.error.ConfigError.TheVariants.{NotJson, Shape, BadName, BadUrl, BadProfile, DoubleRelationship, BadSeed, TooMany, NoMemory}
@@ -150,7 +150,7 @@ module _ (one_id : (one other : Id) → IsId one → IsId other → one.text ≡
   no_cause : (bytes : List ℕ) (e : ConfigError) (c : Configuration) (w : Written) → IsText bytes w → RefusesWritten w e → IsConfig bytes c → ⊥
   no_cause bytes e c w text refuses p = refuses.failed (subst (λ v. Passes v e) (same_written bytes p.written w p.text text) (passes bytes c p e))
 
-  pub refused_none : (bytes : List ℕ) (e : ConfigError) (c : Configuration) → RefusesBytes bytes e → (e ≡ NoMemory → ⊥) → IsConfig bytes c → ⊥
+  pub refused_none : (bytes : List ℕ) (e : ConfigError) (c : Configuration) → RefusesConfigBytes bytes e → (e ≡ NoMemory → ⊥) → IsConfig bytes c → ⊥
   refused_none bytes NotJson c h other p = h p.text.tree p.text.json
   refused_none bytes Shape c h other p =
       let both : Some p.text.tree ≡ Some h.0 = sym p.text.json.1 ∙ h.1.1 in

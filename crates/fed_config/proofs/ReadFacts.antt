@@ -16,7 +16,7 @@ use Rattle.bundle_doc.specs.Bundle.{Bundle, Means, Fits}
 use Rattle.fed_config.specs.EndpointUrl.{IsParsed}
 use Rattle.fed_config.specs.Written.{RelationshipText, SeedText, Written}
 use Rattle.fed_config.specs.Configuration.{Configuration, IsConfiguration, IsRelationship, IsSeed, relationship_cmp, seed_cmp}
-use Rattle.fed_config.specs.Reading.{Fails, HasName, HasNames, HasUrls, HasProfiles, HasSingle, HasDocuments, HasFew, HasFewDomains, IsMeant, IsProfile, IsRead, IsSetOf, RefusesRead, RefusesWritten, AreSets, SaysNames, SaysDomain, SaysUrl, SaysDocument, SaysRelationship, SaysSeed, joined_relationship, joined_seed}
+use Rattle.fed_config.specs.Reading.{Fails, HasName, HasNames, HasUrls, HasProfiles, HasSingle, HasDocuments, HasFew, HasFewDomains, IsMeant, IsProfile, IsRead, IsSetOf, RefusesRead, RefusesWritten, HasRisingLists, SaysNames, SaysDomain, SaysUrl, SaysSeedDocument, SaysRelationship, SaysSeed, joined_relationship, joined_seed}
 use Rattle.fed_config.specs.Entries.{seed_text}
 use Rattle.fed_config.specs.declared.error.ConfigError.{ConfigError}
 use Rattle.fed_config.specs.declared.error.ConfigError.TheVariants.{BadUrl, BadProfile, DoubleRelationship, BadSeed, TooMany}
@@ -55,8 +55,8 @@ domains_in es ds zip = each_unmap (λ t. IsDomainText t.domain) seed_text es (ea
 pub urls_in : (ts : List RelationshipText) (us : List (List ℕ)) → AllZip SaysUrl ts us → AllByRecursion (λ t. (parts : Parts) × IsParsed t.url parts) ts
 urls_in ts us = each_left SaysUrl (λ t. (parts : Parts) × IsParsed t.url parts) (λ t u h. (h.parts, h.parsed)) ts us
 
-pub documents_in : (es : List SeedEntry) (bs : List Bundle) → AllZip (λ e b. SaysDocument (seed_text e) b) es bs → AllByRecursion (λ t. (b : Bundle) × Means t.bundle b × Fits b) (map seed_text es)
-documents_in es bs zip = each_unmap (λ t. (b : Bundle) × Means t.bundle b × Fits b) seed_text es (each_left (λ e b. SaysDocument (seed_text e) b) (λ e. (b : Bundle) × Means (seed_text e).bundle b × Fits b) (λ e b h. (b, h.means, h.fits)) es bs zip)
+pub documents_in : (es : List SeedEntry) (bs : List Bundle) → AllZip (λ e b. SaysSeedDocument (seed_text e) b) es bs → AllByRecursion (λ t. (b : Bundle) × Means t.bundle b × Fits b) (map seed_text es)
+documents_in es bs zip = each_unmap (λ t. (b : Bundle) × Means t.bundle b × Fits b) seed_text es (each_left (λ e b. SaysSeedDocument (seed_text e) b) (λ e. (b : Bundle) × Means (seed_text e).bundle b × Fits b) (λ e b h. (b, h.means, h.fits)) es bs zip)
 
 -- ---- joined
 
@@ -70,7 +70,7 @@ join_said (t ∷ ts) (n ∷ ns) (u ∷ us) names urls profiles = (
   join_said ts ns us names.1 urls.1 profiles.1,
 )
 
-pub join_seeds_said : (es : List SeedEntry) (ds : List (List ℕ)) (bs : List Bundle) → AllZip (λ e d. SaysDomain (seed_text e) d) es ds → AllZip (λ e b. SaysDocument (seed_text e) b) es bs → AllZip (λ e s. SaysSeed (seed_text e) s) es (map joined_seed (zip ds bs))
+pub join_seeds_said : (es : List SeedEntry) (ds : List (List ℕ)) (bs : List Bundle) → AllZip (λ e d. SaysDomain (seed_text e) d) es ds → AllZip (λ e b. SaysSeedDocument (seed_text e) b) es bs → AllZip (λ e s. SaysSeed (seed_text e) s) es (map joined_seed (zip ds bs))
 join_seeds_said [] [] bs domains documents = tt
 join_seeds_said [] (d ∷ ds) bs domains documents = absurd domains
 join_seeds_said (e ∷ es) [] bs domains documents = absurd domains
@@ -215,7 +215,7 @@ module _ (ts : List RelationshipText) (es : List SeedEntry) (ns : List Names) (d
           pub bad_seed : (HasDocuments (written ts es) → ⊥) → RefusesWritten (written ts es) BadSeed
           bad_seed none = record { passed = (has_names, (urls_in ts us urls, (profiles, (single, tt)))); failed = none }
 
-          module _ (bs : List Bundle) (documents : AllZip (λ e b. SaysDocument (seed_text e) b) es bs) where
+          module _ (bs : List Bundle) (documents : AllZip (λ e b. SaysSeedDocument (seed_text e) b) es bs) where
             pub too_many : (HasFew (written ts es) → ⊥) → RefusesWritten (written ts es) TooMany
             too_many none = record { passed = (has_names, (urls_in ts us urls, (profiles, (single, (documents_in es bs documents, tt))))); failed = none }
 
@@ -233,7 +233,7 @@ module _ (ts : List RelationshipText) (es : List SeedEntry) (ns : List Names) (d
                 relationship_set : IsSetOf relationship_cmp rs ys
                 relationship_set = set_of_sorted rs ys moved rising
 
-                pub are_sets : AreSets of
+                pub are_sets : HasRisingLists of
                 are_sets = record {
                   rising_relationships = rising;
                   rising_seeds = set.rising;

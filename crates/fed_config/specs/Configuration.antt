@@ -70,9 +70,9 @@ IsPlace c domain None = HasDomain c domain → ⊥
 IsPlace c domain (Some place) = (domains : List (List ℕ)) → AreDomains c domains → slice_get domains place ≡ Some domain
 
 -- the relationship with the domain, if there is one
-abbrev pub IsFound : Configuration → List ℕ → Option Relationship → Type 0
-IsFound c domain None = (r : Relationship) → Contains c.relationships r → r.domain ≡ domain → ⊥
-IsFound c domain (Some r) = Contains c.relationships r × (r.domain ≡ domain)
+abbrev pub IsRelationshipOf : Configuration → List ℕ → Option Relationship → Type 0
+IsRelationshipOf c domain None = (r : Relationship) → Contains c.relationships r → r.domain ≡ domain → ⊥
+IsRelationshipOf c domain (Some r) = Contains c.relationships r × (r.domain ≡ domain)
 
 -- ---- the canonical text
 
@@ -99,7 +99,7 @@ abbrev pub HasShortUrls : Configuration → Type 0
 HasShortUrls c = AllByRecursion (λ r. length r.url ≤ 2048) c.relationships
 
 -- a configuration in memory: beside its domains and its id
-pub record IsKept (c : Configuration) (domains : List (List ℕ)) (id : List ℕ) : Type 0 where
+pub record IsStoredConfiguration (c : Configuration) (domains : List (List ℕ)) (id : List ℕ) : Type 0 where
   pub is : IsConfiguration c
   pub are_domains : AreDomains c domains
   pub digest : id ≡ config_id_of c

@@ -120,15 +120,15 @@ pub record RefusesWritten (w : Written) (e : ConfigError) : Type 0 where
   pub failed : Passes w e → ⊥
 
 -- the text has its shape, and what is written is refused
-abbrev pub RefusesText : List ℕ → ConfigError → Type 0
-RefusesText bytes e = (w : Written) × IsText bytes w × RefusesWritten w e
+abbrev pub RefusesConfigText : List ℕ → ConfigError → Type 0
+RefusesConfigText bytes e = (w : Written) × IsText bytes w × RefusesWritten w e
 
 -- Memory is first wanted for the value of a text that is not empty: that the bytes are UTF-8 is known before.
-abbrev pub RefusesBytes : List ℕ → ConfigError → Type 0
-RefusesBytes bytes NotJson = (tree : Data) → IsJson bytes tree → ⊥
-RefusesBytes bytes Shape = (tree : Data) × IsJson bytes tree × ((w : Written) → SaysWritten tree w → ⊥)
-RefusesBytes bytes NoMemory = IsUtf8 bytes × (0 < length bytes)
-RefusesBytes bytes e = RefusesText bytes e
+abbrev pub RefusesConfigBytes : List ℕ → ConfigError → Type 0
+RefusesConfigBytes bytes NotJson = (tree : Data) → IsJson bytes tree → ⊥
+RefusesConfigBytes bytes Shape = (tree : Data) × IsJson bytes tree × ((w : Written) → SaysWritten tree w → ⊥)
+RefusesConfigBytes bytes NoMemory = IsUtf8 bytes × (0 < length bytes)
+RefusesConfigBytes bytes e = RefusesConfigText bytes e
 
 -- ---- single steps
 
@@ -150,7 +150,7 @@ pub record SaysDomain (t : SeedText) (domain : List ℕ) : Type 0 where
 abbrev pub SaysUrl : RelationshipText → List ℕ → Type 0
 SaysUrl t url = KeepsUrl t.url url
 
-pub record SaysDocument (t : SeedText) (b : Bundle) : Type 0 where
+pub record SaysSeedDocument (t : SeedText) (b : Bundle) : Type 0 where
   pub means : Means t.bundle b
   pub fits : Fits b
 
@@ -169,7 +169,7 @@ abbrev pub HasFewDomains : Configuration → Type 0
 HasFewDomains c = (domains : List (List ℕ)) → AreDomains c domains → length domains ≤ 1024
 
 -- a configuration, but for the number of its domains
-pub record AreSets (c : Configuration) : Type 0 where
+pub record HasRisingLists (c : Configuration) : Type 0 where
   pub rising_relationships : IsStrictlySortedBy relationship_cmp c.relationships
   pub rising_seeds : IsStrictlySortedBy seed_cmp c.seeds
   pub each_relationship : AllByRecursion IsRelationship c.relationships

@@ -1,6 +1,6 @@
 //! Configurations, and what they are asked.
 ghost use Rattle.std.specs.Prelude.{◌≡◌, IfOk, option_copied};
-ghost use Rattle.fed_config.specs.Configuration.{AreDomains, IsConfiguration, IsFound, IsPlace, config_id_of};
+ghost use Rattle.fed_config.specs.Configuration.{AreDomains, IsConfiguration, IsRelationshipOf, IsPlace, config_id_of};
 
 use crate::id::ConfigId;
 use crate::relationship::Relationship;
@@ -24,13 +24,13 @@ pub struct Config {
 }
 
 impl Model for Config {
-    ghost use Rattle.fed_config.specs.Configuration.{Configuration, IsKept};
+    ghost use Rattle.fed_config.specs.Configuration.{Configuration, IsStoredConfiguration};
 
     ghost Value = { Configuration };
 
     ghost view = { λ a. record { relationships = a.relationships.items; seeds = a.seeds.items } };
 
-    ghost invariant = { λ a. IsKept (record { relationships = a.relationships.items; seeds = a.seeds.items }) a.domains.items a.id.0 };
+    ghost invariant = { λ a. IsStoredConfiguration (record { relationships = a.relationships.items; seeds = a.seeds.items }) a.domains.items a.id.0 };
 }
 
 impl Config {
@@ -52,7 +52,7 @@ impl Config {
 
     /// The relationship with a trust domain, found by binary search.
     pub fn relationship(&self, domain: &TrustDomain) -> Option<&Relationship>
-        ensures { IsFound self.now domain.now (option_copied result) }
+        ensures { IsRelationshipOf self.now domain.now (option_copied result) }
     {
         match self
             .relationships

@@ -1,7 +1,7 @@
 //! What follows from the definitions alone, for the crates above. No call does any work.
 ghost use Rattle.std.specs.Prelude.{◌≡◌, ◌↔◌, ℕ, List};
 ghost use Rattle.fed_config.specs.Configuration.{Configuration, IsConfiguration, AreDomains, HasShortUrls, config_text};
-ghost use Rattle.fed_config.specs.Reading.{IsConfig, RefusesBytes};
+ghost use Rattle.fed_config.specs.Reading.{IsConfig, RefusesConfigBytes};
 ghost use Rattle.fed_config.specs.declared.error.ConfigError.{ConfigError};
 ghost use Rattle.fed_config.specs.declared.error.ConfigError.TheVariants.{NoMemory};
 
@@ -9,8 +9,8 @@ ghost use Rattle.fed_config.specs.declared.error.ConfigError.TheVariants.{NoMemo
 /// refused for one cause. A configuration's domains have one rising list.
 pub fn configurations()
     ensures one { (bytes : List ℕ) (b c : Configuration) → IsConfig bytes b → IsConfig bytes c → b ≡ c }
-    ensures none { (bytes : List ℕ) (e : ConfigError) (c : Configuration) → RefusesBytes bytes e → (e ≡ NoMemory → ⊥) → IsConfig bytes c → ⊥ }
-    ensures one_cause { (bytes : List ℕ) (d e : ConfigError) → RefusesBytes bytes d → RefusesBytes bytes e → (d ≡ NoMemory → ⊥) → (e ≡ NoMemory → ⊥) → d ≡ e }
+    ensures none { (bytes : List ℕ) (e : ConfigError) (c : Configuration) → RefusesConfigBytes bytes e → (e ≡ NoMemory → ⊥) → IsConfig bytes c → ⊥ }
+    ensures one_cause { (bytes : List ℕ) (d e : ConfigError) → RefusesConfigBytes bytes d → RefusesConfigBytes bytes e → (d ≡ NoMemory → ⊥) → (e ≡ NoMemory → ⊥) → d ≡ e }
     ensures one_list { (c : Configuration) (domains others : List (List ℕ)) → AreDomains c domains → AreDomains c others → domains ≡ others }
 {
     spiffe_name::laws::one_reading();

@@ -6,7 +6,7 @@ ghost use Rattle.url.specs.Parts.{Parts};
 ghost use Rattle.spiffe_name.specs.TrustDomain.{IsDomainText};
 ghost use Rattle.fed_config.specs.EndpointUrl.{IsParsed};
 ghost use Rattle.fed_config.specs.Entries.{seed_text};
-ghost use Rattle.fed_config.specs.Reading.{Fails, HasName, IsProfile, SaysNames, SaysDomain, SaysUrl, SaysDocument, cause_of, joined_relationship, joined_seed};
+ghost use Rattle.fed_config.specs.Reading.{Fails, HasName, IsProfile, SaysNames, SaysDomain, SaysUrl, SaysSeedDocument, cause_of, joined_relationship, joined_seed};
 
 use crate::error::ConfigError;
 use crate::relationship::{EndpointUrl, Relationship};
@@ -88,7 +88,7 @@ pub(crate) fn read_documents(
     alloc: Global,
     entries: &[SeedEntry],
 ) -> Result<Vec<Document>, ConfigError>
-    ensures { MatchResult result (λ v. AllZip (λ e document. SaysDocument (seed_text e) document) entries.now v.items)
+    ensures { MatchResult result (λ v. AllZip (λ e document. SaysSeedDocument (seed_text e) document) entries.now v.items)
         (Fails ConfigError.BadSeed (AllByRecursion (λ e. (b : Bundle) × Means (seed_text e).bundle b × Fits b) entries.now)) }
 {
     let mut documents = Vec::with_capacity(alloc, entries.len())?;
@@ -160,7 +160,7 @@ fn url_of(alloc: Global, entry: &RelationshipEntry) -> Result<EndpointUrl, Confi
 }
 
 fn document_of(alloc: Global, entry: &SeedEntry) -> Result<Document, ConfigError>
-    ensures { MatchResult result (SaysDocument (seed_text entry.now))
+    ensures { MatchResult result (SaysSeedDocument (seed_text entry.now))
         (Fails ConfigError.BadSeed ((b : Bundle) × Means (seed_text entry.now).bundle b × Fits b)) }
 {
     bundle_doc::laws::values();

@@ -2,7 +2,7 @@
 ghost use Rattle.std.specs.Prelude.{◌≡◌, ◌↔◌, ◌≤◌, IsTrue, MatchResult, length};
 ghost use Rattle.fed_config.specs.Configuration.{IsConfiguration};
 ghost use Rattle.fed_config.specs.Entries.{written_of};
-ghost use Rattle.fed_config.specs.Reading.{AreSets, Fails, HasFewDomains, IsConfig, IsRead, RefusesBytes, RefusesRead};
+ghost use Rattle.fed_config.specs.Reading.{HasRisingLists, Fails, HasFewDomains, IsConfig, IsRead, RefusesConfigBytes, RefusesRead};
 
 use crate::canonical::id_of;
 use crate::config::Config;
@@ -39,7 +39,7 @@ impl Config {
     /// The first of [`ConfigError`]'s causes that holds anywhere. Where memory ran out it is [`ConfigError::NoMemory`],
     /// whatever else holds: memory is first wanted for the JSON value of bytes that are UTF-8 and not empty.
     pub fn read(alloc: Global, bytes: &[u8]) -> Result<Config, ConfigError>
-        ensures { MatchResult result (IsConfig bytes.now) (RefusesBytes bytes.now) }
+        ensures { MatchResult result (IsConfig bytes.now) (RefusesConfigBytes bytes.now) }
     {
         let Ok(text) = str::from_utf8(bytes) else {
             return Err(ConfigError::NotJson);
@@ -81,7 +81,7 @@ impl Config {
         relationships: Vec<Relationship>,
         seeds: Vec<Seed>,
     ) -> Result<Config, ConfigError>
-        requires { AreSets (record { relationships = relationships.items; seeds = seeds.items }) }
+        requires { HasRisingLists (record { relationships = relationships.items; seeds = seeds.items }) }
         ensures { MatchResult result
             (λ c. (c ≡ record { relationships = relationships.items; seeds = seeds.items }) × IsConfiguration c)
             (Fails ConfigError.TooMany (HasFewDomains (record { relationships = relationships.items; seeds = seeds.items }))) }

@@ -4,7 +4,7 @@ ghost use Rattle.std.specs.List.{AllZip};
 ghost use Rattle.serde_json.specs.Data.{Data};
 ghost use Rattle.serde_json.specs.View.{view, items_view};
 ghost use Rattle.jwk_set.specs.Element.{HasText};
-ghost use Rattle.jwk_set.specs.Forms.{Finds};
+ghost use Rattle.jwk_set.specs.Forms.{FindsMember};
 ghost use Rattle.fed_config.specs.Written.{HasCount, HasArray, RelationshipText, SeedText, Written, SaysRelationshipText, SaysSeedText, SaysWritten};
 ghost use Rattle.fed_config.specs.Entries.{seed_text, written_of};
 ghost use Rattle.fed_config.specs.Reading.{Fails};
@@ -66,7 +66,7 @@ pub(crate) fn read_entries<'a>(alloc: Global, value: &'a Value) -> Result<Entrie
 
 /// The elements of a member that is an array.
 fn array_of<'a>(value: &'a Value, name: &str) -> Option<&'a Vec<Value>>
-    ensures { Finds (option_map (λ v. map view v.now.items) result) (HasArray (view value.now) name.now) }
+    ensures { FindsMember (option_map (λ v. map view v.now.items) result) (HasArray (view value.now) name.now) }
 {
     value.get(name)?.as_array()
 }
@@ -104,7 +104,7 @@ fn read_seeds<'a>(alloc: Global, elements: &'a [Value]) -> Result<Vec<SeedEntry<
 
 /// The texts of a relationship, where the value has its shape.
 fn relationship_entry(value: &Value) -> Option<RelationshipEntry<'_>>
-    ensures { Finds result (SaysRelationshipText (view value.now)) }
+    ensures { FindsMember result (SaysRelationshipText (view value.now)) }
 {
     if !has_count(value, 4) {
         return None;
@@ -119,7 +119,7 @@ fn relationship_entry(value: &Value) -> Option<RelationshipEntry<'_>>
 
 /// The parts of a seed, where the value has its shape.
 fn seed_entry(value: &Value) -> Option<SeedEntry<'_>>
-    ensures { Finds (option_map seed_text result) (SaysSeedText (view value.now)) }
+    ensures { FindsMember (option_map seed_text result) (SaysSeedText (view value.now)) }
 {
     if !has_count(value, 2) {
         return None;
@@ -142,7 +142,7 @@ fn has_count(value: &Value, count: usize) -> bool
 
 /// The text of a member.
 fn text_of<'a>(value: &'a Value, name: &str) -> Option<&'a str>
-    ensures { Finds (option_map (λ s. s.now) result) (HasText (view value.now) name.now) }
+    ensures { FindsMember (option_map (λ s. s.now) result) (HasText (view value.now) name.now) }
 {
     value.get(name)?.as_str()
 }

@@ -12,7 +12,7 @@ use Rattle.fed_config.specs.Configuration.{Configuration}
 use Rattle.byte_lines.specs.Lines.{Lines}
 use Rattle.receipt_core.proofs.OrderFacts.{cmp_less}
 use Rattle.receipt_core.proofs.RisingFacts.{Has, Contains-from_has}
-use Rattle.fedbundle.specs.Stream.{IsRefused, Complaint, IsOfLine, IsOfRest, complaint_cmp, AreComplaints, AreFirstComplaints}
+use Rattle.fedbundle.specs.Stream.{IsRefusedLine, Complaint, IsOfLine, IsOfRest, complaint_cmp, AreComplaints, AreFirstComplaints}
 use Rattle.fedbundle.specs.declared.complaint.LineFault.{LineFault}
 use Rattle.fedbundle.specs.declared.complaint.LineFault.TheVariants.{Cut}
 use Rattle.fedbundle.proofs.TakenFacts.{one_cause}
@@ -83,7 +83,7 @@ complaints_none c = record {
 
 -- the complaints of lines with one more are those of the lines and those of the last
 last_cases : (c : Configuration) (texts : List (List ℕ)) (text : List ℕ) (x : Complaint) → IsOfLine c (texts ++ text ∷ []) x
-    → IsOfLine c texts x ⊎ ((x.number ≡ length texts + 1) × IsRefused c text x.why)
+    → IsOfLine c texts x ⊎ ((x.number ≡ length texts + 1) × IsRefusedLine c text x.why)
 last_cases c texts text x is =
     let at = is.number in
     let low = slice_get_within (texts ++ text ∷ []) is.place is.text is.stands in
@@ -93,7 +93,7 @@ last_cases c texts text x is =
       | inr e ↦
           let here : Some is.text ≡ Some text = sym is.stands ∙ ap (slice_get (texts ++ text ∷ [])) e ∙ get_last texts text in
           let same : is.text ≡ text = cc in
-          inr (at ∙ ap (λ n. n + 1) e, subst (λ (t : List ℕ). IsRefused c t x.why) same is.refused)
+          inr (at ∙ ap (λ n. n + 1) e, subst (λ (t : List ℕ). IsRefusedLine c t x.why) same is.refused)
     ]
   where
     below_or_last : (k n : ℕ) → k < n + 1 → (k < n) ⊎ (k ≡ n)
@@ -101,7 +101,7 @@ last_cases c texts text x is =
     below_or_last zero (suc n) h = inl (omega arith)
     below_or_last (suc k) (suc n) h = elim (below_or_last k n (omega arith)) [ inl low ↦ inl (omega arith) | inr e ↦ inr (ap suc e) ]
 
-pub complaints_same : (c : Configuration) (texts : List (List ℕ)) (text : List ℕ) (xs : List Complaint) → AreComplaints c (only texts) xs → ((why : LineFault) → IsRefused c text why → ⊥)
+pub complaints_same : (c : Configuration) (texts : List (List ℕ)) (text : List ℕ) (xs : List Complaint) → AreComplaints c (only texts) xs → ((why : LineFault) → IsRefusedLine c text why → ⊥)
     → AreComplaints c (only (texts ++ text ∷ [])) xs
 complaints_same c texts text xs are none = record {
   rising = are.rising;
@@ -124,7 +124,7 @@ low_rising c texts xs why are =
     rising_push complaint_cmp xs (at_number (length texts + 1) why) are.rising
     (λ x has. let low = of_line_low c texts x (whole_sound c texts xs x are (Contains-from_has xs x has)) in cmp_less x.number (length texts + 1) (omega arith))
 
-pub complaints_more : (c : Configuration) (texts : List (List ℕ)) (text : List ℕ) (why : LineFault) (xs : List Complaint) → AreComplaints c (only texts) xs → IsRefused c text why
+pub complaints_more : (c : Configuration) (texts : List (List ℕ)) (text : List ℕ) (why : LineFault) (xs : List Complaint) → AreComplaints c (only texts) xs → IsRefusedLine c text why
     → AreComplaints c (only (texts ++ text ∷ [])) (xs ++ at_number (length texts + 1) why ∷ [])
 complaints_more c texts text why xs are refused = record {
   rising = low_rising c texts xs why are;

@@ -13,7 +13,7 @@ use Rattle.receipt_core.specs.Receipt.{Receipt, receipt_cmp}
 use Rattle.receipt_core.proofs.OrderFacts.{by_order_of, cmp_equal, cmp_greater}
 use Rattle.receipt_core.proofs.RisingFacts.{Has, Has-from_contains, Contains-from_has, each_has}
 use Rattle.bundle_view.proofs.ListFacts.{not_below_itself, not_both, same_list}
-use Rattle.fedbundle.specs.Stream.{AreTaken, AreTooMany, Complaint, complaint_cmp, AreComplaints, AreFirstComplaints}
+use Rattle.fedbundle.specs.Stream.{AreTaken, OverfillStore, Complaint, complaint_cmp, AreComplaints, AreFirstComplaints}
 
 module _ {A : Type 0} (cmp : A → A → Ordering) (total : IsTotalOrder cmp) where
   first_below : (x : A) (xs : List A) (y : A) → IsStrictlySortedBy cmp (x ∷ xs) → Has xs y → cmp x y ≡ Less
@@ -93,7 +93,7 @@ first_telling c lines xs ys p q =
     (λ x has. Has-from_contains ys x (q.complete x (p.sound x (Contains-from_has xs x has))))
     (λ x y has others below. Has-from_contains xs y (p.before x y (Contains-from_has xs x has) (q.sound y (Contains-from_has ys y others)) (below_number y x below)))
 
-pub too_many_for_all : (c : Configuration) (texts : List (List ℕ)) (rs : List Receipt) → AreTooMany c texts → AreTaken c texts rs → 65536 < length rs
+pub too_many_for_all : (c : Configuration) (texts : List (List ℕ)) (rs : List Receipt) → OverfillStore c texts → AreTaken c texts rs → 65536 < length rs
 too_many_for_all c texts rs many taken =
     let fewer = no_longer receipt_cmp receipt_total many.some rs many.rising taken.rising (λ r has. Has-from_contains rs r (taken.complete r (many.each r (Contains-from_has many.some r has)))) in
     let low = many.many in

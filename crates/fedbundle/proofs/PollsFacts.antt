@@ -8,7 +8,7 @@ use Rattle.std.specs.Str.{bytes_eq}
 use Rattle.jiff.specs.Types.{Timestamp}
 use Rattle.fed_config.specs.declared.relationship.Relationship.{Relationship}
 use Rattle.receipt_core.specs.Acceptance.{Meaning}
-use Rattle.poll_log.specs.Polling.{Standing, IsDue, IsNext, IsNextAfter, domains_of, standing_in}
+use Rattle.poll_log.specs.Polling.{Standing, IsPollDue, IsNext, IsNextAfter, polled_domains, standing_in}
 use Rattle.poll_log.specs.declared.error.PollError.{PollError}
 use Rattle.poll_log.specs.declared.error.PollError.TheVariants.{PastRange}
 use Rattle.bundle_view.proofs.GroupFacts.{taken_more}
@@ -21,9 +21,9 @@ by_test : (s : Standing) (others : Option Standing) (q : Bool) → (x : Standing
 by_test s others true rest = (s, refl)
 by_test s others false rest = rest
 
-standing_in-some : (log : List Standing) (domain : List ℕ) → Contains (domains_of log) domain → (x : Standing) × (standing_in log domain ≡ Some x)
+standing_in-some : (log : List Standing) (domain : List ℕ) → Contains (polled_domains log) domain → (x : Standing) × (standing_in log domain ≡ Some x)
 standing_in-some [] domain has = absurd (contains_none domain has)
-standing_in-some (s ∷ log) domain has = elim (contains_cases s.domain (domains_of log) domain has) [
+standing_in-some (s ∷ log) domain has = elim (contains_cases s.domain (polled_domains log) domain has) [
   | inl same ↦ (s, ap (λ q. cond q (Some s) (standing_in log domain)) ((bytes_eq-Decides s.domain domain).1 same))
   | inr later ↦ by_test s (standing_in log domain) (bytes_eq s.domain domain) (standing_in-some log domain later)
 ]
@@ -36,13 +36,13 @@ past_in : (hint : Option ℕ) (o : Option Standing) (s : Standing) (e : PollErro
 past_in hint None s e is h = cc
 past_in hint (Some x) s e is h = past_after hint x.failures x.last e h
 
-pub told_refused : (hint : Option ℕ) (log : List Standing) (domain : List ℕ) (now : ℤ) (e : PollError) (old new : List ℕ) → Contains (domains_of log) domain
+pub told_refused : (hint : Option ℕ) (log : List Standing) (domain : List ℕ) (now : ℤ) (e : PollError) (old new : List ℕ) → Contains (polled_domains log) domain
     → IsNext hint (standing_in log domain) (Err e) → new ≡ old ++ codes "past range" → AddsNext hint (standing_in log domain) now old new
 told_refused hint log domain now e old new has refused made =
     let known = standing_in-some log domain has in
     record { answer = codes "past range"; tells = inr (inl (past_in hint (standing_in log domain) known.0 e known.1 refused, refl)); now_is = made }
 
-pub told_moment : (hint : Option ℕ) (s : Option Standing) (now : ℤ) (t : Timestamp) (old new : List ℕ) → (IsDue hint s now → ⊥)
+pub told_moment : (hint : Option ℕ) (s : Option Standing) (now : ℤ) (t : Timestamp) (old new : List ℕ) → (IsPollDue hint s now → ⊥)
     → IsNext hint s (Ok (Some t)) → new ≡ old ++ seconds_text t → AddsNext hint s now old new
 told_moment hint s now t old new early next made = record { answer = seconds_text t; tells = inr (inr (early, (t, next, refl))); now_is = made }
 

@@ -13,15 +13,15 @@ use Rattle.byte_lines.specs.Device.{AppendsBeginning}
 use Rattle.byte_lines.specs.Lines.{Lines, lines_of, with_line, HasLine, HasNoLine, HasMore}
 use Rattle.receipt_core.specs.Receipt.{Receipt, with_receipt}
 use Rattle.byte_lines.proofs.StreamFacts.{lines_of-line, lines_of-rest}
-use Rattle.trust_closure.specs.Changes.{State, Took}
+use Rattle.trust_closure.specs.Changes.{HeldAndRoom, Took}
 use Rattle.trust_closure.specs.declared.outcome.Taken.{Taken}
 use Rattle.trust_closure.specs.declared.outcome.Taken.TheVariants.{New as TakenNew, Already as TakenAlready}
-use Rattle.fedbundle.specs.Stream.{AreTaken, AreTooMany, IsRefused, Complaint, complaint_text}
+use Rattle.fedbundle.specs.Stream.{AreTaken, OverfillStore, IsRefusedLine, Complaint, complaint_text}
 use Rattle.bundle_view.specs.Report.{WritesReport, BeginsReport}
 use Rattle.bundle_view.specs.declared.error.ReportError.{ReportError}
 use Rattle.bundle_view.specs.declared.error.ReportError.TheVariants.{Io as SinkFailed, NoMemory as NoMemoryForReport}
-use Rattle.fedbundle.specs.Run.{Reports, BeginsTelling, BeginsReporting, meaning_of, of_line, of_report}
-use Rattle.fedbundle.specs.Judging.{TakesText, IsTextTooMany, HasJudged, TriesText, StopsJudging}
+use Rattle.fedbundle.specs.Run.{Reports, BeginsTelling, BeginsReporting, meaning_of_receipts, of_line, of_report}
+use Rattle.fedbundle.specs.Judging.{TakesReceiptText, IsTextTooMany, HasJudged, TriesText, StopsJudging}
 use Rattle.fedbundle.specs.declared.run_error.RunError.{RunError}
 use Rattle.fedbundle.specs.declared.run_error.RunError.TheVariants.{Full, NoMemory, Io}
 use Rattle.byte_lines.specs.declared.error.DeviceError.{DeviceError}
@@ -100,23 +100,23 @@ so_far_none c stream kept m told empty config held records = record {
 }
 
 -- the receipt of a line is held
-taken_on : (c : Configuration) (read : List (List ℕ)) (text : List ℕ) (old new : State) → IsConfiguration c → old.meaning.config ≡ c → AreTaken c read old.meaning.held → length old.meaning.held ≤ 65536
-    → TakesText old text new
+taken_on : (c : Configuration) (read : List (List ℕ)) (text : List ℕ) (old new : HeldAndRoom) → IsConfiguration c → old.meaning.config ≡ c → AreTaken c read old.meaning.held → length old.meaning.held ≤ 65536
+    → TakesReceiptText old text new
     → (new.meaning.config ≡ old.meaning.config) × (new.meaning.records ≡ old.meaning.records) × AreTaken c (read ++ text ∷ []) new.meaning.held × (length new.meaning.held ≤ 65536)
-    × ((why : LineFault) → IsRefused c text why → ⊥)
+    × ((why : LineFault) → IsRefusedLine c text why → ⊥)
 taken_on c read text old new valid config taken few takes = by_case takes.taken takes.took
   where
     r : Receipt
     r = takes.receipt
 
-    refused_not : IsFitting old.meaning.config r → (why : LineFault) → IsRefused c text why → ⊥
+    refused_not : IsFitting old.meaning.config r → (why : LineFault) → IsRefusedLine c text why → ⊥
     refused_not fits why refused = unrefused c text r why valid takes.is (subst (λ (d : Configuration). IsFitting d r) config fits) refused
 
     fits_then : IsFitting old.meaning.config r → AreTaken c (read ++ text ∷ []) (with_receipt r old.meaning.held)
     fits_then fits = taken_more c read text r old.meaning.held taken takes.is (subst (λ (d : Configuration). IsFitting d r) config fits)
 
     by_case : (t : Taken) → Took old r new t → (new.meaning.config ≡ old.meaning.config) × (new.meaning.records ≡ old.meaning.records) × AreTaken c (read ++ text ∷ []) new.meaning.held × (length new.meaning.held ≤ 65536)
-        × ((why : LineFault) → IsRefused c text why → ⊥)
+        × ((why : LineFault) → IsRefusedLine c text why → ⊥)
     by_case (TakenNew n) took =
         let size = one_longer c read r old.meaning.held taken takes.is.is took.unheld in
         let held : new.meaning.held ≡ with_receipt r old.meaning.held = ap (λ (m : Meaning). m.held) took.meaning in (
@@ -128,16 +128,16 @@ taken_on c read text old new valid config taken few takes = by_case takes.taken 
         )
     by_case TakenAlready took =
         let fits : IsFitting c r = (taken.sound r took.held).fits in
-        let held : new.meaning.held ≡ old.meaning.held = ap (λ (s : State). s.meaning.held) took.same in (
-          ap (λ (s : State). s.meaning.config) took.same,
-          ap (λ (s : State). s.meaning.records) took.same,
+        let held : new.meaning.held ≡ old.meaning.held = ap (λ (s : HeldAndRoom). s.meaning.held) took.same in (
+          ap (λ (s : HeldAndRoom). s.meaning.config) took.same,
+          ap (λ (s : HeldAndRoom). s.meaning.records) took.same,
           subst (AreTaken c (read ++ text ∷ [])) (held_already c read r old.meaning.held taken took.held ∙ sym held) (taken_more c read text r old.meaning.held taken takes.is fits),
           (let same = ap length held in omega arith),
           λ why refused. unrefused c text r why valid takes.is fits refused,
         )
 
-pub so_far_taken : (c : Configuration) (stream left next : Option (List ℕ)) (old new : State) (told tells now : Option (List ℕ)) (number count : ℕ) (text : List ℕ)
-    → IsConfiguration c → SoFar c stream left old.meaning told tells number count → HasLine left next text → TakesText old text new → now ≡ tells
+pub so_far_taken : (c : Configuration) (stream left next : Option (List ℕ)) (old new : HeldAndRoom) (told tells now : Option (List ℕ)) (number count : ℕ) (text : List ℕ)
+    → IsConfiguration c → SoFar c stream left old.meaning told tells number count → HasLine left next text → TakesReceiptText old text new → now ≡ tells
     → SoFar c stream next new.meaning told now (number + 1) count
 so_far_taken c stream left next old new told tells now number count text valid so has takes kept =
     let on = taken_on c so.read text old new valid so.judged.config so.judged.taken so.judged.few takes in
@@ -158,7 +158,7 @@ so_far_taken c stream left next old new told tells now number count text valid s
     }
 
 pub so_far_told : (c : Configuration) (stream left next : Option (List ℕ)) (old new : Meaning) (told tells now : Option (List ℕ)) (number count : ℕ) (text : List ℕ) (why : LineFault)
-    → IsConfiguration c → SoFar c stream left old told tells number count → HasLine left next text → IsRefused c text why → new ≡ old → Appends tells now (complaint_text (at_number (number + 1) why))
+    → IsConfiguration c → SoFar c stream left old told tells number count → HasLine left next text → IsRefusedLine c text why → new ≡ old → Appends tells now (complaint_text (at_number (number + 1) why))
     → SoFar c stream next new told now (number + 1) (count + 1)
 so_far_told c stream left next old new told tells now number count text why valid so has refused same here =
     let x = at_number (length so.read + 1) why in
@@ -232,7 +232,7 @@ begun_so_far c (Some xs) (Some ys) m told tells now number count so kept = recor
 }
 
 pub begun_line : (c : Configuration) (stream left next : Option (List ℕ)) (m : Meaning) (told tells now : Option (List ℕ)) (number count : ℕ) (text : List ℕ) (why : LineFault)
-    → SoFar c stream left m told tells number count → HasLine left next text → IsRefused c text why → AppendsBeginning tells now (complaint_text (at_number (number + 1) why))
+    → SoFar c stream left m told tells number count → HasLine left next text → IsRefusedLine c text why → AppendsBeginning tells now (complaint_text (at_number (number + 1) why))
     → IfSome stream (λ bytes. BeginsTelling c (lines_of bytes) told now)
 begun_line c None left next m told tells now number count text why so has refused here = tt
 begun_line c (Some xs) None next m told tells now number count text why so has refused here = absurd so.passed
@@ -260,8 +260,8 @@ begun_rest c (Some xs) (Some ys) m told tells now number count so none more here
       begun = begun_more told tells now so.judged.complaints x so.judged.telling here_at;
     })
 
-pub too_many : (c : Configuration) (stream left next : Option (List ℕ)) (old : State) (told tells : Option (List ℕ)) (number count : ℕ) (text : List ℕ)
-    → SoFar c stream left old.meaning told tells number count → HasLine left next text → IsTextTooMany old text → IfSome stream (λ bytes. AreTooMany c (lines_of bytes).whole)
+pub too_many : (c : Configuration) (stream left next : Option (List ℕ)) (old : HeldAndRoom) (told tells : Option (List ℕ)) (number count : ℕ) (text : List ℕ)
+    → SoFar c stream left old.meaning told tells number count → HasLine left next text → IsTextTooMany old text → IfSome stream (λ bytes. OverfillStore c (lines_of bytes).whole)
 too_many c None left next old told tells number count text so has full = tt
 too_many c (Some xs) None next old told tells number count text so has full = absurd so.passed
 too_many c (Some xs) (Some ys) None old told tells number count text so has full = absurd has.1
@@ -279,11 +279,11 @@ too_many c (Some xs) (Some ys) (Some zs) old told tells number count text so has
 
 -- ---- the answers to a line
 
-refused_here : (c : Configuration) (stream left : Option (List ℕ)) (old : State) (told tells : Option (List ℕ)) (number count : ℕ) (text : List ℕ) (why : LineFault)
-    → SoFar c stream left old.meaning told tells number count → IsRefused old.meaning.config text why → IsRefused c text why
-refused_here c stream left old told tells number count text why so refused = subst (λ (d : Configuration). IsRefused d text why) so.judged.config refused
+refused_here : (c : Configuration) (stream left : Option (List ℕ)) (old : HeldAndRoom) (told tells : Option (List ℕ)) (number count : ℕ) (text : List ℕ) (why : LineFault)
+    → SoFar c stream left old.meaning told tells number count → IsRefusedLine old.meaning.config text why → IsRefusedLine c text why
+refused_here c stream left old told tells number count text why so refused = subst (λ (d : Configuration). IsRefusedLine d text why) so.judged.config refused
 
-pub so_far_text : (c : Configuration) (stream left next : Option (List ℕ)) (old new : State) (told tells now : Option (List ℕ)) (number count : ℕ) (text : List ℕ) (failed : Bool) (n : ℕ)
+pub so_far_text : (c : Configuration) (stream left next : Option (List ℕ)) (old new : HeldAndRoom) (told tells now : Option (List ℕ)) (number count : ℕ) (text : List ℕ) (failed : Bool) (n : ℕ)
     → IsConfiguration c → SoFar c stream left old.meaning told tells number count → HasLine left next text → TriesText old text (number + 1) new tells now failed (Ok n)
     → SoFar c stream next new.meaning told now (number + 1) (count + n)
 so_far_text c stream left next old new told tells now number count text failed n valid so has tried = elim tried [
@@ -297,7 +297,7 @@ so_far_text c stream left next old new told tells now number count text failed n
       (refused_here c stream left old told tells number count text tellings.why so tellings.refuses.refused) tellings.refuses.same tellings.now)
 ]
 
-pub at_most_one : (old new : State) (text : List ℕ) (number : ℕ) (tells now : Option (List ℕ)) (failed : Bool) (n : ℕ) → TriesText old text number new tells now failed (Ok n) → n ≤ 1
+pub at_most_one : (old new : HeldAndRoom) (text : List ℕ) (number : ℕ) (tells now : Option (List ℕ)) (failed : Bool) (n : ℕ) → TriesText old text number new tells now failed (Ok n) → n ≤ 1
 at_most_one old new text number tells now failed n tried = elim tried [ inl (takes, kept, none) ↦ omega arith | inr (tellings, one) ↦ omega arith ]
 
 pub stops_line : (c : Configuration) (stream told tells : Option (List ℕ)) (e : DeviceError) → IfSome stream (λ bytes. BeginsTelling c (lines_of bytes) told tells)
@@ -306,7 +306,7 @@ stops_line c None told tells e begins = tt
 stops_line c (Some xs) told tells SourceFailed begins = begins
 stops_line c (Some xs) told tells NoMemoryForLine begins = begins
 
-full_too : (c : Configuration) (stream told tells : Option (List ℕ)) → IfSome stream (λ bytes. AreTooMany c (lines_of bytes).whole) → IfSome stream (λ bytes. BeginsTelling c (lines_of bytes) told tells)
+full_too : (c : Configuration) (stream told tells : Option (List ℕ)) → IfSome stream (λ bytes. OverfillStore c (lines_of bytes).whole) → IfSome stream (λ bytes. BeginsTelling c (lines_of bytes) told tells)
     → IfSome stream (λ bytes. StopsJudging c (lines_of bytes) told tells Full)
 full_too c None told tells many begins = tt
 full_too c (Some xs) told tells many begins = (many, begins)
@@ -316,7 +316,7 @@ pub stops_io : (c : Configuration) (stream told tells : Option (List ℕ)) → I
 stops_io c None told tells begins = tt
 stops_io c (Some xs) told tells begins = begins
 
-pub stops_text : (c : Configuration) (stream left next : Option (List ℕ)) (old new : State) (told tells now : Option (List ℕ)) (number count : ℕ) (text : List ℕ) (failed : Bool) (e : RunError)
+pub stops_text : (c : Configuration) (stream left next : Option (List ℕ)) (old new : HeldAndRoom) (told tells now : Option (List ℕ)) (number count : ℕ) (text : List ℕ) (failed : Bool) (e : RunError)
     → SoFar c stream left old.meaning told tells number count → HasLine left next text → TriesText old text (number + 1) new tells now failed (Err e)
     → IfSome stream (λ bytes. StopsJudging c (lines_of bytes) told now e)
 stops_text c stream left next old new told tells now number count text failed Full so has (full, kept) =
@@ -350,7 +350,7 @@ end_of (x ∷ kept) (Some xs) end = absurd (cc)
 pub begun_judged : (c : Configuration) (lines : Lines) (m : Meaning) (told tells : Option (List ℕ)) (n : ℕ) → HasJudged c lines m told tells n → BeginsTelling c lines told tells
 begun_judged c lines m told tells n judged = record { complaints = judged.complaints; first = first_all c lines judged.complaints judged.all; begun = begun_all told tells _ judged.telling }
 
-meaning_is : (c : Configuration) (m : Meaning) → m.config ≡ c → m.records ≡ [] → m ≡ meaning_of c m.held
+meaning_is : (c : Configuration) (m : Meaning) → m.config ≡ c → m.records ≡ [] → m ≡ meaning_of_receipts c m.held
 meaning_is c m config records = λ i. record { config = config i; held = m.held; records = records i }
 
 pub told_whole : (c : Configuration) (stream : Option (List ℕ)) (m : Meaning) (told tells : Option (List ℕ)) (n : ℕ) → IfSome stream (λ bytes. HasJudged c (lines_of bytes) m told tells n)

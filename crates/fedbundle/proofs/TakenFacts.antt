@@ -19,7 +19,7 @@ use Rattle.receipt_core.proofs.LineFacts.{one_line, one_receipt}
 use Rattle.receipt_core.proofs.ReadFacts.{length-line}
 use Rattle.receipt_core.proofs.RisingFacts.{Has, Has-from_contains, Contains-from_has, each_has, all_from_has, AreSets-from_total}
 use Rattle.bundle_view.proofs.ListFacts.{not_below_itself}
-use Rattle.fedbundle.specs.Stream.{IsTaken, AreTaken, IsRefused}
+use Rattle.fedbundle.specs.Stream.{IsTaken, AreTaken, IsRefusedLine}
 use Rattle.fedbundle.specs.declared.complaint.LineFault.{LineFault}
 use Rattle.fedbundle.specs.declared.complaint.LineFault.TheVariants.{NotCanonical, TooLong, UnknownDomain, WrongEndpoint, Cut}
 
@@ -52,7 +52,7 @@ one_relationship c a b is p q same =
 
 -- ---- what is refused is not taken
 
-pub untaken : (c : Configuration) (text : List ℕ) (why : LineFault) → IsConfiguration c → IsRefused c text why → (r : Receipt) → IsReceipt r → IsFitting c r → text ≡ line r → ⊥
+pub untaken : (c : Configuration) (text : List ℕ) (why : LineFault) → IsConfiguration c → IsRefusedLine c text why → (r : Receipt) → IsReceipt r → IsFitting c r → text ≡ line r → ⊥
 untaken c text NotCanonical is refused r receipt fits e = refused.1 r (record { is = receipt; text = e })
 untaken c text TooLong is refused r receipt fits e = let same = ap length e in omega (arith, length-line r receipt)
 untaken c text UnknownDomain is (s, read, unknown) r receipt fits e =
@@ -66,7 +66,7 @@ untaken c text WrongEndpoint is (s, read, wrong) r receipt fits e =
 untaken c text Cut is refused r receipt fits e = absurd refused
 
 -- a line is refused for one cause
-pub one_cause : (c : Configuration) (text : List ℕ) (a b : LineFault) → IsRefused c text a → IsRefused c text b → a ≡ b
+pub one_cause : (c : Configuration) (text : List ℕ) (a b : LineFault) → IsRefusedLine c text a → IsRefusedLine c text b → a ≡ b
 one_cause c text NotCanonical NotCanonical p q = refl
 one_cause c text NotCanonical TooLong p q = absurd (omega (arith, p.0, q))
 one_cause c text NotCanonical UnknownDomain p q = absurd (p.1 q.0 q.1)
@@ -94,7 +94,7 @@ one_cause c text UnknownDomain Cut p q = absurd q
 one_cause c text WrongEndpoint Cut p q = absurd q
 
 -- a refused line isn't that of a receipt that fits
-pub unrefused : (c : Configuration) (text : List ℕ) (r : Receipt) (why : LineFault) → IsConfiguration c → IsLine text r → IsFitting c r → IsRefused c text why → ⊥
+pub unrefused : (c : Configuration) (text : List ℕ) (r : Receipt) (why : LineFault) → IsConfiguration c → IsLine text r → IsFitting c r → IsRefusedLine c text why → ⊥
 unrefused c text r why is read fits refused = untaken c text why is refused r read.is fits read.text
 
 -- ---- one line more

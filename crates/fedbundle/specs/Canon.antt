@@ -21,13 +21,13 @@ key_line None = []
 key_line (Some key) = digest_line (codes "key ") key.0
 
 -- a line for each X.509 authority
-abbrev pub keys_text : List Authority → List ℕ
-keys_text [] = []
-keys_text (a ∷ others) = key_line (key_id_of a) ++ keys_text others
+abbrev pub key_lines : List Authority → List ℕ
+key_lines [] = []
+key_lines (a ∷ others) = key_line (key_id_of a) ++ key_lines others
 
 -- the canonical text, the id and the id of each X.509 authority in order, each on a line of its own
 abbrev pub canon_text : List ℕ → Bundle → List ℕ
-canon_text domain b = canonical_text b ++ (10 ∷ [] ++ (digest_line (codes "id ") (doc_id_of domain b) ++ keys_text b.authorities))
+canon_text domain b = canonical_text b ++ (10 ∷ [] ++ (digest_line (codes "id ") (doc_id_of domain b) ++ key_lines b.authorities))
 
 -- the bytes that were read: all, where there are no more than a document may have, and else one byte more than that
 abbrev pub Reads : Option (List ℕ) → Option (List ℕ) → List ℕ → Type 0

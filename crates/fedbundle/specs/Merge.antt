@@ -3,7 +3,7 @@ use Rattle.std.specs.Prelude.{◌≡◌, ℕ, ◌⊎◌, List, codes, Option}
 use Rattle.std.specs.Io.KnownBytes.{Appends}
 use Rattle.receipt_core.specs.Acceptance.{Meaning}
 use Rattle.byte_lines.specs.Device.{AppendsBeginning}
-use Rattle.trust_closure.specs.Changes.{State, HasMerged, HasRefusedMerge}
+use Rattle.trust_closure.specs.Changes.{HeldAndRoom, HasMerged, HasRefusedMerge}
 use Rattle.trust_closure.specs.declared.error.TakeError.{TakeError}
 use Rattle.replica_sync.specs.Snapshots.{IsSnapshot, RefusesSnapshot}
 use Rattle.replica_sync.specs.declared.error.SyncError.{SyncError}
@@ -33,14 +33,14 @@ pub record BeginsMerged (stream : Option (List ℕ)) (old new : Meaning) (held h
   pub begun : AppendsBeginning held holds (count_text count)
 
 -- The stream is no snapshot of this configuration, for this cause.
-pub record RefusesStream (stream : Option (List ℕ)) (old new : State) (error : CommandError) : Type 0 where
+pub record RefusesStream (stream : Option (List ℕ)) (old new : HeldAndRoom) (error : CommandError) : Type 0 where
   pub why : SyncError
   pub is : error ≡ Sync why
   pub cause : RefusesSnapshot old.meaning.config stream why
   pub unchanged : new ≡ old
 
 -- It is one, and what it holds is not taken, for this cause.
-pub record RefusesOther (stream : Option (List ℕ)) (old new : State) (error : CommandError) : Type 0 where
+pub record RefusesOther (stream : Option (List ℕ)) (old new : HeldAndRoom) (error : CommandError) : Type 0 where
   pub other : Meaning
   pub snapshot : IsSnapshot old.meaning.config stream other
   pub why : TakeError
@@ -48,6 +48,6 @@ pub record RefusesOther (stream : Option (List ℕ)) (old new : State) (error : 
   pub refused : HasRefusedMerge old other new why
 
 -- Nothing is taken for one of these causes, and nothing was written.
-abbrev pub RefusesMergeRun : Option (List ℕ) → State → State → Option (List ℕ) → Option (List ℕ) → CommandError → Type 0
+abbrev pub RefusesMergeRun : Option (List ℕ) → HeldAndRoom → HeldAndRoom → Option (List ℕ) → Option (List ℕ) → CommandError → Type 0
 RefusesMergeRun stream old new held holds error =
     (holds ≡ held) × (RefusesStream stream old new error ⊎ RefusesOther stream old new error)

@@ -4,7 +4,7 @@ use Rattle.std.specs.Io.KnownBytes.{Appends}
 use Rattle.receipt_core.specs.Acceptance.{Meaning}
 use Rattle.byte_lines.specs.Device.{AppendsBeginning}
 use Rattle.receipt_core.specs.Receipt.{Receipt, line}
-use Rattle.trust_closure.specs.Changes.{State}
+use Rattle.trust_closure.specs.Changes.{HeldAndRoom}
 use Rattle.bundle_view.specs.Observe.{HasObserved, HasNotObserved}
 use Rattle.bundle_view.specs.declared.observation.Verdict.{Verdict}
 use Rattle.bundle_view.specs.declared.observe_error.ObserveError.{ObserveError}
@@ -31,7 +31,7 @@ pub record CutsObservation (before after : Option (List ℕ)) (domain : List ℕ
   pub beginning : AppendsBeginning held holds (line receipt ++ 10 ∷ [])
 
 -- They were not, for this cause, and nothing was written.
-pub record RefusesRun (before after : Option (List ℕ)) (domain : List ℕ) (verdict : Verdict) (old new : State) (held holds : Option (List ℕ)) (error : CommandError) : Type 0 where
+pub record RefusesRun (before after : Option (List ℕ)) (domain : List ℕ) (verdict : Verdict) (old new : HeldAndRoom) (held holds : Option (List ℕ)) (error : CommandError) : Type 0 where
   pub bytes : List ℕ
   pub read : Reads before after bytes
   pub why : ObserveError

@@ -8,7 +8,7 @@ use Rattle.bundle_doc.specs.Bundle.{Bundle}
 use Rattle.receipt_core.specs.Acceptance.{Meaning}
 use Rattle.byte_lines.specs.Device.{AppendsBeginning}
 use Rattle.bundle_view.specs.Current.{IsCurrent}
-use Rattle.poll_log.specs.Polling.{Standing, IsDue, IsNext, domains_of, polled, standing_in}
+use Rattle.poll_log.specs.Polling.{Standing, IsPollDue, IsNext, polled_domains, polled, standing_in}
 use Rattle.poll_log.specs.PollLines.{IsLogOf, RefusesPolls}
 use Rattle.poll_log.specs.declared.error.PollError.{PollError}
 use Rattle.poll_log.specs.declared.error.PollError.TheVariants.{PastRange, Io as SourceFailed}
@@ -37,9 +37,9 @@ TellsMoment hint s answer = (t : Timestamp) × IsNext hint s (Ok (Some t)) × (a
 -- what is told of a domain's next poll: that it is due, that it is past the range of moments, or else its moment
 abbrev pub TellsNext : Option ℕ → Option Standing → ℤ → List ℕ → Type 0
 TellsNext hint s now answer =
-    (IsDue hint s now × (answer ≡ codes "due"))
+    (IsPollDue hint s now × (answer ≡ codes "due"))
     ⊎ (IsNext hint s (Err PastRange) × (answer ≡ codes "past range"))
-    ⊎ ((IsDue hint s now → ⊥) × TellsMoment hint s answer)
+    ⊎ ((IsPollDue hint s now → ⊥) × TellsMoment hint s answer)
 
 -- the domain's line
 pub record IsPollLine (m : Meaning) (log : List Standing) (now : ℤ) (domain line : List ℕ) : Type 0 where
@@ -63,7 +63,7 @@ IsPollsText m log now text = ArePollLines m log now (polled m.config) text
 
 -- The log has each relationship's domain, and is that of the bytes where the source tells them.
 pub record ReadsLog (before : Option (List ℕ)) (m : Meaning) (log : List Standing) : Type 0 where
-  pub domains : domains_of log ≡ polled m.config
+  pub domains : polled_domains log ≡ polled m.config
   pub lines : IfSome before (λ bytes. IsLogOf (polled m.config) bytes log)
 
 -- ---- a run

@@ -16,15 +16,15 @@ use Rattle.fedbundle.specs.declared.run_error.RunError.{RunError}
 use Rattle.fedbundle.specs.declared.run_error.RunError.TheVariants.{NoMemory, Io}
 
 -- these receipts, and no record of distrust
-abbrev pub meaning_of : Configuration → List Receipt → Meaning
-meaning_of c receipts = record { config = c; held = receipts; records = [] }
+abbrev pub meaning_of_receipts : Configuration → List Receipt → Meaning
+meaning_of_receipts c receipts = record { config = c; held = receipts; records = [] }
 
 -- The report of the receipts that are taken was written, and all complaints were told, n of them.
 pub record Reports (c : Configuration) (lines : Lines) (held holds told tells : Option (List ℕ)) (n : ℕ) : Type 0 where
   pub receipts : List Receipt
   pub taken : AreTaken c lines.whole receipts
   pub few : length receipts ≤ 65536
-  pub report : WritesReport (meaning_of c receipts) held holds
+  pub report : WritesReport (meaning_of_receipts c receipts) held holds
   pub complaints : List Complaint
   pub all : AreComplaints c lines complaints
   pub telling : Appends told tells (flat_map complaint_text complaints)
@@ -40,7 +40,7 @@ pub record BeginsTelling (c : Configuration) (lines : Lines) (told tells : Optio
 pub record BeginsReporting (c : Configuration) (lines : Lines) (held holds : Option (List ℕ)) : Type 0 where
   pub receipts : List Receipt
   pub taken : AreTaken c lines.whole receipts
-  pub begun : BeginsReport (meaning_of c receipts) held holds
+  pub begun : BeginsReport (meaning_of_receipts c receipts) held holds
 
 -- The source or the sink of complaints failed, and nothing of the report was written; or the report's sink failed.
 abbrev pub FailsReport : Configuration → Option (List ℕ) → Option (List ℕ) → Option (List ℕ) → Bool → Bool → Bool → Type 0

@@ -27,7 +27,7 @@ pub record AreTaken (c : Configuration) (texts : List (List ℕ)) (receipts : Li
   pub complete : (r : Receipt) → IsTaken c texts r → Contains receipts r
 
 -- There are more of them than a closure holds.
-pub record AreTooMany (c : Configuration) (texts : List (List ℕ)) : Type 0 where
+pub record OverfillStore (c : Configuration) (texts : List (List ℕ)) : Type 0 where
   pub some : List Receipt
   pub rising : IsStrictlySortedBy receipt_cmp some
   pub each : (r : Receipt) → Contains some r → IsTaken c texts r
@@ -36,12 +36,12 @@ pub record AreTooMany (c : Configuration) (texts : List (List ℕ)) : Type 0 whe
 -- ---- what is told
 
 -- a line without a receipt that fits, and the cause
-abbrev pub IsRefused : Configuration → List ℕ → LineFault → Type 0
-IsRefused c text NotCanonical = (length text ≤ 8388608) × IsNoLine text
-IsRefused c text TooLong = 8388608 < length text
-IsRefused c text UnknownDomain = (r : Receipt) × IsLine text r × IsOfUnknownDomain c r
-IsRefused c text WrongEndpoint = (r : Receipt) × IsLine text r × IsOfWrongEndpoint c r
-IsRefused c text Cut = ⊥
+abbrev pub IsRefusedLine : Configuration → List ℕ → LineFault → Type 0
+IsRefusedLine c text NotCanonical = (length text ≤ 8388608) × IsNoLine text
+IsRefusedLine c text TooLong = 8388608 < length text
+IsRefusedLine c text UnknownDomain = (r : Receipt) × IsLine text r × IsOfUnknownDomain c r
+IsRefusedLine c text WrongEndpoint = (r : Receipt) × IsLine text r × IsOfWrongEndpoint c r
+IsRefusedLine c text Cut = ⊥
 
 pub record Complaint : Type 0 where
   pub number : ℕ
@@ -53,7 +53,7 @@ pub record IsOfLine (c : Configuration) (texts : List (List ℕ)) (x : Complaint
   pub number : x.number ≡ place + 1
   pub text : List ℕ
   pub stands : slice_get texts place ≡ Some text
-  pub refused : IsRefused c text x.why
+  pub refused : IsRefusedLine c text x.why
 
 -- The lines are followed by bytes that no line feed ends, whatever they are.
 pub record IsOfRest (lines : Lines) (x : Complaint) : Type 0 where

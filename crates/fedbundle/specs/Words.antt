@@ -62,11 +62,11 @@ abbrev pub with_name : App → CommandName → App
 with_name app name = with_subcommand app (leaf name).top
 
 -- the command before it has its subcommands: its words begin behind the program's name, and it has a version
-abbrev pub bare : App
-bare = let app = new_app (codes "fedbundle") in record app { top = record app.top { no_binary_name = true; has_version = true } }
+abbrev pub bare_app : App
+bare_app = let app = new_app (codes "fedbundle") in record app { top = record app.top { no_binary_name = true; has_version = true } }
 
 abbrev pub the_command : App
-the_command = fold with_name bare all_names
+the_command = fold with_name bare_app all_names
 
 -- ---- what words call for
 

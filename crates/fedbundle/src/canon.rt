@@ -1,6 +1,6 @@
 //! `canon`: a bundle document as it was fetched, printed in its canonical form with its ids.
 ghost use Rattle.std.specs.Prelude.{◌≡◌, ◌++◌, IfErr, IfOk, IsErrOf, OnOk};
-ghost use Rattle.fedbundle.specs.Canon.{FailsCanon, PrintsCanon, RefusesCanon, canon_text, digest_line, key_line, keys_text};
+ghost use Rattle.fedbundle.specs.Canon.{FailsCanon, PrintsCanon, RefusesCanon, canon_text, digest_line, key_line, key_lines};
 ghost use Rattle.fedbundle.specs.declared.error.CommandError.TheVariants.{Io, NoMemory};
 ghost use Rattle.jwk_set.specs.Element.{key_id_of};
 
@@ -55,7 +55,7 @@ fn render(alloc: Global, domain: &TrustDomain, document: &Document) -> Result<Ve
 }
 
 fn push_keys(out: &mut Vec<u8>, authorities: &[Authority]) -> Result<(), AllocError>
-    ensures { OnOk result (out.new.items ≡ out.old.items ++ keys_text authorities.now) }
+    ensures { OnOk result (out.new.items ≡ out.old.items ++ key_lines authorities.now) }
 {
     for authority in authorities {
         push_key(out, authority)?;

@@ -1,6 +1,6 @@
 //! `distrust`: a key that vouches for nothing any more.
 ghost use Rattle.std.specs.Prelude.{◌≡◌, MatchResult};
-ghost use Rattle.fedbundle.specs.Distrust.{HoldsRecord, RefusesRecord};
+ghost use Rattle.fedbundle.specs.Distrust.{HoldsRecord, RefusesDistrusting};
 
 use crate::error::CommandError;
 use jwk_set::KeyId;
@@ -19,7 +19,7 @@ pub fn run_distrust<C: Closure>(
 ) -> Result<(), CommandError>
     ensures { MatchResult result
         (λ _. HoldsRecord (C.state closure.old).meaning (record { domain = domain.now; key = key }) (C.state closure.new).meaning)
-        (RefusesRecord (C.state closure.old).meaning (record { domain = domain.now; key = key }) (C.state closure.new).meaning) }
+        (RefusesDistrusting (C.state closure.old).meaning (record { domain = domain.now; key = key }) (C.state closure.new).meaning) }
 {
     match closure.distrust(domain, key) {
         Ok(Distrusted::New { .. }) => Ok(()),

@@ -5,15 +5,15 @@ ghost use Rattle.fed_config.specs.Configuration.{Configuration};
 ghost use Rattle.byte_lines.specs.Lines.{Lines};
 ghost use Rattle.receipt_core.specs.Receipt.{Receipt};
 ghost use Rattle.bundle_view.specs.Report.{IsReport};
-ghost use Rattle.fedbundle.specs.Stream.{IsTaken, AreTaken, AreTooMany, Complaint, AreComplaints, AreFirstComplaints};
-ghost use Rattle.fedbundle.specs.Run.{meaning_of};
+ghost use Rattle.fedbundle.specs.Stream.{IsTaken, AreTaken, OverfillStore, Complaint, AreComplaints, AreFirstComplaints};
+ghost use Rattle.fedbundle.specs.Run.{meaning_of_receipts};
 
 /// Two streams with the same receipts that fit among their lines have one report, whatever their order, their repeats
 /// and their other lines, and whichever closure took them.
 pub fn one_report()
     ensures { (c : Configuration) (one other : Lines) (rs ss : List Receipt) (s t : List ℕ)
         → ((r : Receipt) → (IsTaken c one.whole r ↔ IsTaken c other.whole r)) → AreTaken c one.whole rs → AreTaken c other.whole ss
-        → IsReport (meaning_of c rs) s → IsReport (meaning_of c ss) t → s ≡ t }
+        → IsReport (meaning_of_receipts c rs) s → IsReport (meaning_of_receipts c ss) t → s ≡ t }
 {
     trust_closure::laws::one_list();
     bundle_view::laws::one_view();
@@ -28,5 +28,5 @@ pub fn one_telling()
 
 /// Where there are too many receipts, no closure can hold those that are taken.
 pub fn too_many()
-    ensures { (c : Configuration) (texts : List (List ℕ)) (rs : List Receipt) → AreTooMany c texts → AreTaken c texts rs → 65536 < length rs }
+    ensures { (c : Configuration) (texts : List (List ℕ)) (rs : List Receipt) → OverfillStore c texts → AreTaken c texts rs → 65536 < length rs }
 {}

@@ -1,7 +1,7 @@
 //! `polls`: when each domain is polled next.
 ghost use Rattle.std.specs.Prelude.{◌≡◌, ◌++◌, true, Contains, IfErr, IfOk, IsErrOf, OnOk};
 ghost use Rattle.std.specs.Io.KnownBytes.{IsAtEnd};
-ghost use Rattle.poll_log.specs.Polling.{domains_of, polled, standing_in};
+ghost use Rattle.poll_log.specs.Polling.{polled_domains, polled, standing_in};
 ghost use Rattle.fedbundle.specs.Polls.{AddsNext, AddsPollLine, CutsPolls, IsHint, IsPollsText, PrintsPolls, RefusesLines, seconds_text};
 ghost use Rattle.fedbundle.specs.declared.error.CommandError.TheVariants.{Io, NoMemory};
 
@@ -54,7 +54,7 @@ fn render<C: Closure>(
     log: &PollLog,
     now: Timestamp,
 ) -> Result<Vec<u8>, AllocError>
-    requires { domains_of log.now ≡ polled (C.state closure.now).meaning.config }
+    requires { polled_domains log.now ≡ polled (C.state closure.now).meaning.config }
     ensures { IfOk result (λ text. IsPollsText (C.state closure.now).meaning log.now now.nanosecond text.items) }
 {
     let mut text = Vec::new(alloc);
@@ -71,7 +71,7 @@ fn push_line<C: Closure>(
     domain: &TrustDomain,
     now: Timestamp,
 ) -> Result<(), AllocError>
-    requires { Contains (domains_of log.now) domain.now }
+    requires { Contains (polled_domains log.now) domain.now }
     ensures { OnOk result (AddsPollLine (C.state closure.now).meaning log.now now.nanosecond domain.now text.old.items text.new.items) }
 {
     text.extend_from_slice(domain.as_str().as_bytes())?;
@@ -96,7 +96,7 @@ fn push_next(
     hint: Option<u64>,
     now: Timestamp,
 ) -> Result<(), AllocError>
-    requires { Contains (domains_of log.now) domain.now }
+    requires { Contains (polled_domains log.now) domain.now }
     ensures { OnOk result (AddsNext hint (standing_in log.now domain.now) now.nanosecond text.old.items text.new.items) }
 {
     if log.due(domain, hint, now) {

@@ -2,7 +2,7 @@
 ghost use Rattle.std.specs.Prelude.{◌≡◌, IfOk, OnOk, OnErr, IfSome, IsErrOf};
 ghost use Rattle.std.specs.Io.KnownBytes.{IsAtEnd};
 ghost use Rattle.byte_lines.specs.Lines.{lines_of};
-ghost use Rattle.fedbundle.specs.Stream.{AreTooMany};
+ghost use Rattle.fedbundle.specs.Stream.{OverfillStore};
 ghost use Rattle.fedbundle.specs.Run.{Reports, BeginsTelling, FailsReport};
 ghost use Rattle.fedbundle.specs.declared.run_error.RunError.TheVariants.{Full, NoMemory, Io};
 
@@ -47,7 +47,7 @@ pub fn run_report<R: Source, W: Sink, E: Sink>(
         Reports config.now (lines_of bytes) (W.contents sink.old) (W.contents sink.new) (E.contents complaints.old) (E.contents complaints.new) n)) }
     ensures read { OnOk result (IsAtEnd (R.remaining source.new)) }
     ensures full { IsErrOf result Full → (W.contents sink.new ≡ W.contents sink.old)
-        × IfSome (R.remaining source.old) (λ bytes. AreTooMany config.now (lines_of bytes).whole) }
+        × IfSome (R.remaining source.old) (λ bytes. OverfillStore config.now (lines_of bytes).whole) }
     ensures memory { IsErrOf result NoMemory → W.contents sink.new ≡ W.contents sink.old }
     ensures io { IsErrOf result Io
         → FailsReport config.now (R.remaining source.old) (W.contents sink.old) (W.contents sink.new) (R.has_failed source.new) (W.has_failed sink.new) (E.has_failed complaints.new) }
@@ -72,7 +72,7 @@ pub fn run_report_with<C: Closure, R: Source, W: Sink, E: Sink>(
         Reports config.now (lines_of bytes) (W.contents sink.old) (W.contents sink.new) (E.contents complaints.old) (E.contents complaints.new) n)) }
     ensures read { OnOk result (IsAtEnd (R.remaining source.new)) }
     ensures full { IsErrOf result Full → (W.contents sink.new ≡ W.contents sink.old)
-        × IfSome (R.remaining source.old) (λ bytes. AreTooMany config.now (lines_of bytes).whole) }
+        × IfSome (R.remaining source.old) (λ bytes. OverfillStore config.now (lines_of bytes).whole) }
     ensures memory { IsErrOf result NoMemory → W.contents sink.new ≡ W.contents sink.old }
     ensures io { IsErrOf result Io
         → FailsReport config.now (R.remaining source.old) (W.contents sink.old) (W.contents sink.new) (R.has_failed source.new) (W.has_failed sink.new) (E.has_failed complaints.new) }

@@ -10,7 +10,7 @@ use Rattle.base64.proofs.OnLiterals.{base64_on_literals}
 use Rattle.json.specs.Print.{escape_byte}
 use Rattle.serde_json.specs.Data.{Data, string, array, object, no_items, item, Members, no_members, member}
 use Rattle.jwk_set.specs.Forms.{IsUrlText, IsNonEmptyText, IsCertificate, is_url_symbol}
-use Rattle.jwk_set.specs.Element.{IsElement, key_id_of, text_of}
+use Rattle.jwk_set.specs.Element.{IsElement, key_id_of, element_text}
 use Rattle.jwk_set.specs.declared.authority.PublicKey.TheVariants.{Rsa, Ec}
 use Rattle.jwk_set.specs.declared.authority.Authority.{Authority}
 use Rattle.jwk_set.specs.declared.authority.Authority.TheVariants.{X509, Jwt}
@@ -117,10 +117,10 @@ no_object (Jwt kid key) h = let role = h.0 in cc
 pub jwt_has_no_key_id : key_id_of (Jwt (codes "k") (Rsa (codes "AQAB") (codes "AQAB"))) ≡ None
 jwt_has_no_key_id = refl
 
-pub text_of_rsa : text_of (X509 (Rsa (codes "AQAB") (codes "Ag")) (codes "abc")) ≡ codes "{\"e\":\"Ag\",\"kty\":\"RSA\",\"n\":\"AQAB\",\"use\":\"x509-svid\",\"x5c\":[\"YWJj\"]}"
+pub text_of_rsa : element_text (X509 (Rsa (codes "AQAB") (codes "Ag")) (codes "abc")) ≡ codes "{\"e\":\"Ag\",\"kty\":\"RSA\",\"n\":\"AQAB\",\"use\":\"x509-svid\",\"x5c\":[\"YWJj\"]}"
 unfolding base64_on_literals escape_byte
 text_of_rsa = refl
 
-pub text_of_ec : text_of (Jwt (codes "k\"") (Ec (codes "P-256") (codes "AQ") (codes "Ag"))) ≡ codes "{\"crv\":\"P-256\",\"kid\":\"k\\\"\",\"kty\":\"EC\",\"use\":\"jwt-svid\",\"x\":\"AQ\",\"y\":\"Ag\"}"
+pub text_of_ec : element_text (Jwt (codes "k\"") (Ec (codes "P-256") (codes "AQ") (codes "Ag"))) ≡ codes "{\"crv\":\"P-256\",\"kid\":\"k\\\"\",\"kty\":\"EC\",\"use\":\"jwt-svid\",\"x\":\"AQ\",\"y\":\"Ag\"}"
 unfolding escape_byte
 text_of_ec = refl

@@ -6,8 +6,8 @@ use Rattle.json.specs.Tree.{json_tokens}
 use Rattle.json.specs.Written.{Written}
 use Rattle.serde_json.specs.Written.{outline, compact_text}
 use Rattle.serde_json.proofs.Texts.{print-outline}
-use Rattle.jwk_set.specs.Element.{IsElement, IsAuthority, tree_of, text_of}
-use Rattle.jwk_set.specs.Written.{Adds, member_tokens}
+use Rattle.jwk_set.specs.Element.{IsElement, IsAuthority, tree_of, element_text}
+use Rattle.jwk_set.specs.Written.{AppendsTokens, member_tokens}
 use Rattle.jwk_set.specs.declared.authority.PublicKey.TheVariants.{Rsa, Ec}
 use Rattle.jwk_set.specs.declared.authority.Authority.{Authority}
 use Rattle.jwk_set.specs.declared.authority.Authority.TheVariants.{X509, Jwt}
@@ -28,6 +28,6 @@ tokens-tree_of (X509 (Ec crv x y) der) = refl
 tokens-tree_of (Jwt kid (Rsa n e)) = refl
 tokens-tree_of (Jwt kid (Ec crv x y)) = refl
 
-pub print-text_of : (a : Authority) (opened new : Written) → opened.before ≡ [] → opened.tokens ≡ begin_object ∷ [] → Adds opened new (member_tokens a) → new.before ++ print new.tokens ≡ text_of a
+pub print-text_of : (a : Authority) (opened new : Written) → opened.before ≡ [] → opened.tokens ≡ begin_object ∷ [] → AppendsTokens opened new (member_tokens a) → new.before ++ print new.tokens ≡ element_text a
 print-text_of a opened new empty begun adds =
     ap₂ (λ b ts. b ++ print ts) (adds.before ∙ empty) (adds.tokens ∙ ap (λ ts. ts ++ member_tokens a) begun ∙ tokens-tree_of a) ∙ print-outline (tree_of a)

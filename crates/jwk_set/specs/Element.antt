@@ -71,5 +71,5 @@ abbrev pub tree_of : Authority → Data
 tree_of a = object (with_authority a no_members)
 
 -- its text, with no space
-abbrev pub text_of : Authority → List ℕ
-text_of a = compact_text (tree_of a)
+abbrev pub element_text : Authority → List ℕ
+element_text a = compact_text (tree_of a)

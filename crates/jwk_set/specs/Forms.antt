@@ -5,9 +5,9 @@ use Rattle.std.specs.Str.{IsUtf8}
 use Rattle.base64.specs.GeneralPurpose.{IsBytes}
 
 -- what was found has the property, and where nothing was found nothing has it
-abbrev pub Finds : {X : Type 0} → Option X → (X → Type 0) → Type 0
-Finds None P = (x : _) → P x → ⊥
-Finds (Some x) P = P x
+abbrev pub FindsMember : {X : Type 0} → Option X → (X → Type 0) → Type 0
+FindsMember None P = (x : _) → P x → ⊥
+FindsMember (Some x) P = P x
 
 -- a symbol of the URL and filename safe alphabet (RFC 4648, section 5): A-Z a-z 0-9 - _
 abbrev pub is_url_symbol : ℕ → Bool

@@ -4,7 +4,7 @@ ghost use Rattle.serde_json.specs.Data.{string, array, item, no_items, put, no_m
 ghost use Rattle.serde_json.specs.View.{view, members_view};
 ghost use Rattle.base64.specs.Engines.{standard};
 ghost use Rattle.base64.specs.GeneralPurpose.{encode_of};
-ghost use Rattle.jwk_set.specs.Element.{IsElement, IsKey, IsAuthority, key_id_of, text_of, tree_of, with_authority, with_key};
+ghost use Rattle.jwk_set.specs.Element.{IsElement, IsKey, IsAuthority, key_id_of, element_text, tree_of, with_authority, with_key};
 ghost use Rattle.jwk_set.specs.Forms.{IsCertificate};
 
 use crate::forms::{Certificate, NonEmptyText, UrlText};
@@ -92,7 +92,7 @@ impl Authority {
     /// # Errors
     /// Memory ran out.
     pub fn to_text(&self, alloc: Global) -> Result<String, AllocError>
-        ensures { IfOk result (λ t. string_bytes t ≡ text_of self.now) }
+        ensures { IfOk result (λ t. string_bytes t ≡ element_text self.now) }
     {
         write_text(alloc, self)
     }

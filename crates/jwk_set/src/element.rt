@@ -3,7 +3,7 @@ ghost use Rattle.std.specs.Prelude.{◌≡◌, ◌↔◌, IsTrue, IfOk, MatchRes
 ghost use Rattle.serde_json.specs.Data.{array, item, string, no_items};
 ghost use Rattle.serde_json.specs.Find.{get};
 ghost use Rattle.serde_json.specs.View.{view};
-ghost use Rattle.jwk_set.specs.Forms.{Finds, IsUrlText, IsNonEmptyText, IsCertificate};
+ghost use Rattle.jwk_set.specs.Forms.{FindsMember, IsUrlText, IsNonEmptyText, IsCertificate};
 ghost use Rattle.jwk_set.specs.Element.{HasText, HasCertificate, HasKey, HasKeyType, HasKind, IsKey, IsElement};
 
 use crate::authority::{Authority, PublicKey};
@@ -28,7 +28,7 @@ use std::alloc::{AllocError, Global};
 /// Memory ran out, which comes only for an element whose `use` and `kty` are among those named
 /// above.
 pub fn read_element(alloc: Global, element: &Value) -> Result<Option<Authority>, AllocError>
-    ensures { MatchResult result (λ o. Finds o (IsElement (view element.now)))
+    ensures { MatchResult result (λ o. FindsMember o (IsElement (view element.now)))
         (λ _. HasKind (view element.now)) }
 {
     if has_text(element, "use", "x509-svid") {
@@ -42,7 +42,7 @@ pub fn read_element(alloc: Global, element: &Value) -> Result<Option<Authority>,
 
 fn read_x509(alloc: Global, element: &Value) -> Result<Option<Authority>, AllocError>
     requires { HasText (view element.now) (codes "use") (codes "x509-svid") }
-    ensures { MatchResult result (λ o. Finds o (IsElement (view element.now)))
+    ensures { MatchResult result (λ o. FindsMember o (IsElement (view element.now)))
         (λ _. HasKeyType (view element.now)) }
 {
     let Some(key) = read_key(alloc, element)? else {
@@ -56,7 +56,7 @@ fn read_x509(alloc: Global, element: &Value) -> Result<Option<Authority>, AllocE
 
 fn read_jwt(alloc: Global, element: &Value) -> Result<Option<Authority>, AllocError>
     requires { HasText (view element.now) (codes "use") (codes "jwt-svid") }
-    ensures { MatchResult result (λ o. Finds o (IsElement (view element.now)))
+    ensures { MatchResult result (λ o. FindsMember o (IsElement (view element.now)))
         (λ _. HasKeyType (view element.now)) }
 {
     let Some(key) = read_key(alloc, element)? else {
@@ -69,7 +69,7 @@ fn read_jwt(alloc: Global, element: &Value) -> Result<Option<Authority>, AllocEr
 }
 
 fn read_key(alloc: Global, element: &Value) -> Result<Option<PublicKey>, AllocError>
-    ensures { MatchResult result (λ o. Finds o (λ key. HasKey (view element.now) key × IsKey key))
+    ensures { MatchResult result (λ o. FindsMember o (λ key. HasKey (view element.now) key × IsKey key))
         (λ _. HasKeyType (view element.now)) }
 {
     if has_text(element, "kty", "RSA") {
@@ -83,7 +83,7 @@ fn read_key(alloc: Global, element: &Value) -> Result<Option<PublicKey>, AllocEr
 
 fn read_rsa(alloc: Global, element: &Value) -> Result<Option<PublicKey>, AllocError>
     requires { HasText (view element.now) (codes "kty") (codes "RSA") }
-    ensures { IfOk result (λ o. Finds o (λ key. HasKey (view element.now) key × IsKey key)) }
+    ensures { IfOk result (λ o. FindsMember o (λ key. HasKey (view element.now) key × IsKey key)) }
 {
     let Some(n) = read_url_text(alloc, element, "n")? else {
         return Ok(None);
@@ -96,7 +96,7 @@ fn read_rsa(alloc: Global, element: &Value) -> Result<Option<PublicKey>, AllocEr
 
 fn read_ec(alloc: Global, element: &Value) -> Result<Option<PublicKey>, AllocError>
     requires { HasText (view element.now) (codes "kty") (codes "EC") }
-    ensures { IfOk result (λ o. Finds o (λ key. HasKey (view element.now) key × IsKey key)) }
+    ensures { IfOk result (λ o. FindsMember o (λ key. HasKey (view element.now) key × IsKey key)) }
 {
     let Some(crv) = read_non_empty_text(alloc, element, "crv")? else {
         return Ok(None);
@@ -111,7 +111,7 @@ fn read_ec(alloc: Global, element: &Value) -> Result<Option<PublicKey>, AllocErr
 }
 
 fn read_certificate(alloc: Global, element: &Value) -> Result<Option<Certificate>, AllocError>
-    ensures { IfOk result (λ o. Finds o (λ der. HasCertificate (view element.now) der
+    ensures { IfOk result (λ o. FindsMember o (λ der. HasCertificate (view element.now) der
         × IsCertificate der)) }
 {
     match only_text(element, "x5c") {
@@ -121,7 +121,7 @@ fn read_certificate(alloc: Global, element: &Value) -> Result<Option<Certificate
 }
 
 fn read_url_text(alloc: Global, element: &Value, name: &str) -> Result<Option<UrlText>, AllocError>
-    ensures { IfOk result (λ o. Finds o (λ text. HasText (view element.now) name.now text
+    ensures { IfOk result (λ o. FindsMember o (λ text. HasText (view element.now) name.now text
         × IsUrlText text)) }
 {
     match text_of(element, name) {
@@ -135,7 +135,7 @@ fn read_non_empty_text(
     element: &Value,
     name: &str,
 ) -> Result<Option<NonEmptyText>, AllocError>
-    ensures { IfOk result (λ o. Finds o (λ text. HasText (view element.now) name.now text
+    ensures { IfOk result (λ o. FindsMember o (λ text. HasText (view element.now) name.now text
         × IsNonEmptyText text)) }
 {
     match text_of(element, name) {
@@ -154,20 +154,20 @@ fn has_text(element: &Value, name: &str, text: &str) -> bool
 }
 
 fn text_of<'a>(element: &'a Value, name: &str) -> Option<&'a str>
-    ensures { Finds (option_map (λ text. text.now) result) (HasText (view element.now) name.now) }
+    ensures { FindsMember (option_map (λ text. text.now) result) (HasText (view element.now) name.now) }
 {
     element.get(name)?.as_str()
 }
 
 fn only_text<'a>(element: &'a Value, name: &str) -> Option<&'a str>
-    ensures { Finds (option_map (λ text. text.now) result)
+    ensures { FindsMember (option_map (λ text. text.now) result)
         (λ text. get name.now (view element.now) ≡ Some (array (item (string text) no_items))) }
 {
     only(element.get(name)?.as_array()?)?.as_str()
 }
 
 fn only(items: &[Value]) -> Option<&Value>
-    ensures { Finds (option_map (λ item. item.now) result) (λ item. items.now ≡ item ∷ []) }
+    ensures { FindsMember (option_map (λ item. item.now) result) (λ item. items.now ≡ item ∷ []) }
 {
     match items {
         [only] => Some(only),

@@ -4,7 +4,7 @@ ghost use Rattle.std.specs.Cmp.{partial_equiv_from_equiv};
 ghost use Rattle.std.specs.Cmp.Lexicographic.{pointwise, nat_list_eq_equiv};
 ghost use Rattle.base64.specs.Engines.{standard};
 ghost use Rattle.base64.specs.GeneralPurpose.{encode_of};
-ghost use Rattle.jwk_set.specs.Forms.{Finds, IsUrlText, IsNonEmptyText, IsCertificate, is_url_symbol as url_symbol};
+ghost use Rattle.jwk_set.specs.Forms.{FindsMember, IsUrlText, IsNonEmptyText, IsCertificate, is_url_symbol as url_symbol};
 
 use base64::DecodeAllocError;
 use base64::engine::general_purpose::STANDARD;
@@ -34,7 +34,7 @@ impl UrlText {
     /// # Errors
     /// Memory ran out.
     pub fn read(alloc: Global, text: &str) -> Result<Option<UrlText>, AllocError>
-        ensures { IfOk result (λ o. Finds o (λ t. (t ≡ text.now) × IsUrlText t)) }
+        ensures { IfOk result (λ o. FindsMember o (λ t. (t ≡ text.now) × IsUrlText t)) }
     {
         if !is_url_text(text.as_bytes()) {
             return Ok(None);
@@ -100,7 +100,7 @@ impl NonEmptyText {
     /// # Errors
     /// Memory ran out.
     pub fn read(alloc: Global, text: &str) -> Result<Option<NonEmptyText>, AllocError>
-        ensures { IfOk result (λ o. Finds o (λ t. (t ≡ text.now) × IsNonEmptyText t)) }
+        ensures { IfOk result (λ o. FindsMember o (λ t. (t ≡ text.now) × IsNonEmptyText t)) }
     {
         if text.is_empty() {
             return Ok(None);
@@ -168,7 +168,7 @@ impl Certificate {
     /// # Errors
     /// Memory ran out.
     pub fn decode(alloc: Global, text: &str) -> Result<Option<Certificate>, AllocError>
-        ensures { IfOk result (λ o. Finds o (λ der. (text.now ≡ encode_of standard der)
+        ensures { IfOk result (λ o. FindsMember o (λ der. (text.now ≡ encode_of standard der)
             × IsCertificate der)) }
     {
         match STANDARD.decode(alloc, text.as_bytes()) {

@@ -1,8 +1,8 @@
 //! The text of an authority's element, written member by member in the order of their names.
 ghost use Rattle.std.specs.Prelude.{◌≡◌, [], ◌∷◌, codes, IfOk, OnOk, string_bytes};
 ghost use Rattle.json.specs.Token.{key, string};
-ghost use Rattle.jwk_set.specs.Element.{text_of};
-ghost use Rattle.jwk_set.specs.Written.{Adds, chain_tokens, ec_tokens, key_of, kid_tokens, member_tokens, rsa_tokens, text_tokens, use_tokens};
+ghost use Rattle.jwk_set.specs.Element.{element_text};
+ghost use Rattle.jwk_set.specs.Written.{AppendsTokens, chain_tokens, ec_tokens, key_of, kid_tokens, member_tokens, rsa_tokens, text_tokens, use_tokens};
 
 use crate::authority::{Authority, PublicKey};
 use json::Writer;
@@ -12,7 +12,7 @@ use std::alloc::{AllocError, Global};
 const FIXED_BYTES: usize = 80;
 
 pub(crate) fn write_text(alloc: Global, authority: &Authority) -> Result<String, AllocError>
-    ensures { IfOk result (λ t. string_bytes t ≡ text_of authority.now) }
+    ensures { IfOk result (λ t. string_bytes t ≡ element_text authority.now) }
 {
     let mut out = Writer::new(Vec::with_capacity(alloc, length_of(authority))?);
     out.begin_object()?;
@@ -24,7 +24,7 @@ pub(crate) fn write_text(alloc: Global, authority: &Authority) -> Result<String,
 }
 
 fn write_members(alloc: Global, out: &mut Writer, authority: &Authority) -> Result<(), AllocError>
-    ensures { OnOk result (Adds out.old out.new (member_tokens authority.now)) }
+    ensures { OnOk result (AppendsTokens out.old out.new (member_tokens authority.now)) }
 {
     match key_of(authority) {
         PublicKey::Rsa { n, e } => write_rsa(alloc, out, authority, n.as_str(), e.as_str()),
@@ -66,7 +66,7 @@ fn write_rsa(
     n: &str,
     e: &str,
 ) -> Result<(), AllocError>
-    ensures { OnOk result (Adds out.old out.new (rsa_tokens authority.now n.now e.now)) }
+    ensures { OnOk result (AppendsTokens out.old out.new (rsa_tokens authority.now n.now e.now)) }
 {
     write_member(out, "e", e)?;
     write_kid(out, authority)?;
@@ -85,7 +85,7 @@ fn write_ec(
     x: &str,
     y: &str,
 ) -> Result<(), AllocError>
-    ensures { OnOk result (Adds out.old out.new (ec_tokens authority.now crv.now x.now y.now)) }
+    ensures { OnOk result (AppendsTokens out.old out.new (ec_tokens authority.now crv.now x.now y.now)) }
 {
     write_member(out, "crv", crv)?;
     write_kid(out, authority)?;
@@ -98,7 +98,7 @@ fn write_ec(
 }
 
 fn write_kid(out: &mut Writer, authority: &Authority) -> Result<(), AllocError>
-    ensures { OnOk result (Adds out.old out.new (kid_tokens authority.now)) }
+    ensures { OnOk result (AppendsTokens out.old out.new (kid_tokens authority.now)) }
 {
     match authority {
         Authority::X509 { .. } => Ok(()),
@@ -107,7 +107,7 @@ fn write_kid(out: &mut Writer, authority: &Authority) -> Result<(), AllocError>
 }
 
 fn write_use(out: &mut Writer, authority: &Authority) -> Result<(), AllocError>
-    ensures { OnOk result (Adds out.old out.new (use_tokens authority.now)) }
+    ensures { OnOk result (AppendsTokens out.old out.new (use_tokens authority.now)) }
 {
     match authority {
         Authority::X509 { .. } => write_member(out, "use", "x509-svid"),
@@ -116,7 +116,7 @@ fn write_use(out: &mut Writer, authority: &Authority) -> Result<(), AllocError>
 }
 
 fn write_chain(alloc: Global, out: &mut Writer, authority: &Authority) -> Result<(), AllocError>
-    ensures { OnOk result (Adds out.old out.new (chain_tokens authority.now)) }
+    ensures { OnOk result (AppendsTokens out.old out.new (chain_tokens authority.now)) }
 {
     match authority {
         Authority::X509 { der, .. } => {
@@ -131,7 +131,7 @@ fn write_chain(alloc: Global, out: &mut Writer, authority: &Authority) -> Result
 }
 
 fn write_member(out: &mut Writer, name: &str, text: &str) -> Result<(), AllocError>
-    ensures { OnOk result (Adds out.old out.new (text_tokens name.now text.now)) }
+    ensures { OnOk result (AppendsTokens out.old out.new (text_tokens name.now text.now)) }
 {
     out.key(name)?;
     out.string(text)

@@ -8,7 +8,7 @@ use Rattle.std.proofs.lemmas.List.Elements.{Contains-get_or, Contains-push, Cont
 use Rattle.std.proofs.lemmas.Option.{slice_get_within, same_Some, none-some}
 use Rattle.wait_index.specs.declared.edges.Edge.{Edge}
 use Rattle.wait_index.specs.Net.{Net, is_closed, with_node, with_label, with_offer, with_wait, with_root}
-use Rattle.label_net.specs.Spots.{Spot, Arrow, arrow_at, arrows_from, offered_at, awaited_at, offer_arrow, wait_arrow, IsUsed, Mirrors, bare}
+use Rattle.label_net.specs.Spots.{Spot, Arrow, arrow_at, arrows_from, offered_at, awaited_at, offer_arrow, wait_arrow, IsUsed, Mirrors, bare_spot}
 use Rattle.label_net.proofs.Arrows.{arrows-push}
 
 -- arrows name labels that are there, so more labels change none
@@ -117,15 +117,15 @@ module _ {A : Type 0} (spots : List (Spot A)) (labels : List A) (IsShut : A → 
   length-roots = ap length h.roots ∙ length-map spots (λ (s : Spot A). s.rooted)
 
   -- a node is added
-  pub Mirrors-node : Mirrors (spots ++ bare ∷ []) labels IsShut (with_node net)
+  pub Mirrors-node : Mirrors (spots ++ bare_spot ∷ []) labels IsShut (with_node net)
   Mirrors-node = record {
-    roots = ap (λ rs. rs ++ false ∷ []) h.roots ∙ sym (map_push (λ (s : Spot A). s.rooted) spots bare);
+    roots = ap (λ rs. rs ++ false ∷ []) h.roots ∙ sym (map_push (λ (s : Spot A). s.rooted) spots bare_spot);
     sizes = h.sizes;
     closed = h.closed;
-    offers = h.offers ∙ sym (arrows-push offered_at 0 spots bare ∙ append-nil (arrows_from offered_at 0 spots));
-    waits = h.waits ∙ sym (arrows-push awaited_at 0 spots bare ∙ append-nil (arrows_from awaited_at 0 spots));
+    offers = h.offers ∙ sym (arrows-push offered_at 0 spots bare_spot ∙ append-nil (arrows_from offered_at 0 spots));
+    waits = h.waits ∙ sym (arrows-push awaited_at 0 spots bare_spot ∙ append-nil (arrows_from awaited_at 0 spots));
     once = h.once;
-    used = λ label c. IsUsed-push spots bare label (h.used label c);
+    used = λ label c. IsUsed-push spots bare_spot label (h.used label c);
   }
 
   -- none is added

@@ -37,8 +37,8 @@ pub record Wired : Type 0 where
   pub edges : ℕ
 
 -- for how many edges there is room, should each come with a new label, where a list of labels has room for `listed`
-abbrev pub edges_room : Stock Label → Index → ℕ → ℕ
-edges_room stock index listed = min (min index.room.labels index.room.edges) (min stock.capacity listed - length stock.items)
+abbrev pub labelled_edges_room : Stock Label → Index → ℕ → ℕ
+labelled_edges_room stock index listed = min (min index.room.labels index.room.edges) (min stock.capacity listed - length stock.items)
 
 abbrev pub wired_of : Stock Label → Index → ℕ → Wired
 wired_of stock index listed = record {
@@ -47,7 +47,7 @@ wired_of stock index listed = record {
   marked = index.marked;
   last = index.last;
   nodes = index.room.nodes;
-  edges = edges_room stock index listed;
+  edges = labelled_edges_room stock index listed;
 }
 
 -- Labels are found in their order, the net has one label for each, the marked nodes are the reached ones, and each label
@@ -61,7 +61,7 @@ pub record IsWired (stock : Stock Label) (index : Index) (listed : ℕ) : Type 0
 -- ---- what one call does
 
 -- Nothing but the room has changed, and that has grown or stayed.
-pub record IsRoomier (old new : Wired) : Type 0 where
+pub record IsRoomierIndex (old new : Wired) : Type 0 where
   pub labels : new.labels ≡ old.labels
   pub net : new.net ≡ old.net
   pub marked : new.marked ≡ old.marked

@@ -55,5 +55,5 @@ pub record Mirrors {A : Type 0} (spots : List (Spot A)) (labels : List A) (IsShu
   pub used : (label : A) → Contains labels label → IsUsed spots label
 
 -- a spot without any of it
-abbrev pub bare : {A : Type 0} → Spot A
-bare = record { rooted = false; offers = []; awaits = None }
+abbrev pub bare_spot : {A : Type 0} → Spot A
+bare_spot = record { rooted = false; offers = []; awaits = None }

@@ -35,7 +35,7 @@ impl Model for Wiring {
 }
 
 impl Wiring {
-    ghost use Rattle.label_net.specs.Labels.{IsRoomier, HasNode, Offers, Awaits, IsRooted, IsOfKey, Closes};
+    ghost use Rattle.label_net.specs.Labels.{IsRoomierIndex, HasNode, Offers, Awaits, IsRooted, IsOfKey, Closes};
 
     /// An index without nodes, labels and room.
     pub fn new(alloc: Global) -> Self
@@ -60,7 +60,7 @@ impl Wiring {
     /// # Errors
     /// Memory ran out. Only the room may have grown.
     pub fn try_reserve(&mut self, nodes: usize, edges: usize) -> Result<(), AllocError>
-        ensures roomier { IsRoomier self.old self.new }
+        ensures roomier { IsRoomierIndex self.old self.new }
         ensures nodes { OnOk result (nodes ≤ self.new.nodes) }
         ensures edges { OnOk result (edges ≤ self.new.edges) }
         ensures within { nodes ≤ self.old.nodes → edges ≤ self.old.edges → IsOk result }

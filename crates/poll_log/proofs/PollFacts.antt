@@ -19,8 +19,8 @@ use Rattle.std.proofs.lemmas.Slice.Eq.{bytes_eq-Decides}
 use Rattle.spiffe_name.specs.TrustDomain.{IsDomainText}
 use Rattle.fed_config.specs.Configuration.{Configuration, IsConfiguration, IsRelationship, domain_cmp, relationship_cmp}
 use Rattle.fed_config.specs.declared.relationship.Relationship.{Relationship}
-use Rattle.poll_log.specs.Polling.{Poll, is_of_domain, has_failed, polls_of, first_moment, Standing, standing_of, log_of, domains_of, IsLog, Adds, standing_in, IsNextAfter, IsNext, IsDueAfter, IsDue}
-use Rattle.poll_log.specs.Inside.Standings.{AreNames, after, kept, IsIn, IsPlaceOf}
+use Rattle.poll_log.specs.Polling.{Poll, is_of_domain, has_failed, polls_of, first_moment, Standing, standing_of, log_of, polled_domains, IsLog, RecordsPoll, standing_in, IsNextAfter, IsNext, IsDueAfter, IsPollDue}
+use Rattle.poll_log.specs.Inside.Standings.{AreNames, after, kept_standing, IsIn, IsPlaceOf}
 use Rattle.poll_log.specs.declared.log.Standing as held
 use Rattle.poll_log.specs.declared.error.PollError.{PollError}
 use Rattle.poll_log.proofs.MemberFacts.{not_below_itself, contains_first, contains_later, contains_cases}
@@ -63,7 +63,7 @@ standing_of-other polls p domain differ =
 
 -- ---- a log
 
-pub domains_of-log : (domains : List (List ℕ)) (polls : List Poll) → domains_of (log_of domains polls) ≡ domains
+pub domains_of-log : (domains : List (List ℕ)) (polls : List Poll) → polled_domains (log_of domains polls) ≡ domains
 domains_of-log [] polls = refl
 domains_of-log (d ∷ ds) polls = ap (λ l. d ∷ l) (domains_of-log ds polls)
 
@@ -94,17 +94,17 @@ log_of-more (x ∷ xs) polls p (suc k) d rising at =
     let below : domain_cmp x p.domain ≡ Less = each_at (λ y. domain_cmp x y ≡ Less) xs k p.domain rising.0 at in
     ap₂ (λ s l. s ∷ l) (sym (standing_of-other polls p x (λ e. differs x p.domain below (sym e)))) (log_of-more xs polls p k d rising.1 at)
 
-pub rising_of : (log : List Standing) → IsLog log → IsStrictlySortedBy domain_cmp (domains_of log)
-rising_of log is = subst (IsStrictlySortedBy domain_cmp) (sym (ap domains_of is.is ∙ domains_of-log is.domains is.polls)) is.rising
+pub rising_of : (log : List Standing) → IsLog log → IsStrictlySortedBy domain_cmp (polled_domains log)
+rising_of log is = subst (IsStrictlySortedBy domain_cmp) (sym (ap polled_domains is.is ∙ domains_of-log is.domains is.polls)) is.rising
 
-pub Adds-at : (log : List Standing) (p : Poll) (k : ℕ) (d : Standing) → IsLog log → slice_get (domains_of log) k ≡ Some p.domain → Adds log p (set log k (after (get_or log k d) p.moment p.ok))
+pub Adds-at : (log : List Standing) (p : Poll) (k : ℕ) (d : Standing) → IsLog log → slice_get (polled_domains log) k ≡ Some p.domain → RecordsPoll log p (set log k (after (get_or log k d) p.moment p.ok))
 Adds-at log p k d is at domains polls log_is =
-    let own : domains_of log ≡ domains = ap domains_of log_is ∙ domains_of-log domains polls in
+    let own : polled_domains log ≡ domains = ap polled_domains log_is ∙ domains_of-log domains polls in
     let rising : IsStrictlySortedBy domain_cmp domains = subst (IsStrictlySortedBy domain_cmp) own (rising_of log is) in
     ap (λ l. set l k (after (get_or l k d) p.moment p.ok)) log_is
     ∙ log_of-more domains polls p k d rising (subst (λ l. slice_get l k ≡ Some p.domain) own at)
 
-pub IsLog-more : (old new : List Standing) (p : Poll) → IsLog old → Adds old p new → IsLog new
+pub IsLog-more : (old new : List Standing) (p : Poll) → IsLog old → RecordsPoll old p new → IsLog new
 IsLog-more old new p is adds = record {
   domains = is.domains;
   rising = is.rising;
@@ -115,7 +115,7 @@ IsLog-more old new p is adds = record {
 
 -- ---- searches
 
-pub standing_in-at : (log : List Standing) (domain : List ℕ) (k : ℕ) (d : Standing) → IsStrictlySortedBy domain_cmp (domains_of log) → slice_get (domains_of log) k ≡ Some domain → standing_in log domain ≡ Some (get_or log k d)
+pub standing_in-at : (log : List Standing) (domain : List ℕ) (k : ℕ) (d : Standing) → IsStrictlySortedBy domain_cmp (polled_domains log) → slice_get (polled_domains log) k ≡ Some domain → standing_in log domain ≡ Some (get_or log k d)
 unfolding IsStrictlySortedBy
 standing_in-at [] domain k d rising at = cc
 standing_in-at (s ∷ log) domain zero d rising at =
@@ -123,11 +123,11 @@ standing_in-at (s ∷ log) domain zero d rising at =
     let test : bytes_eq s.domain domain ≡ true = (bytes_eq-Decides s.domain domain).1 same in
     ap (λ q. cond q (Some s) (standing_in log domain)) test
 standing_in-at (s ∷ log) domain (suc k) d rising at =
-    let below : domain_cmp s.domain domain ≡ Less = each_at (λ y. domain_cmp s.domain y ≡ Less) (domains_of log) k domain rising.0 at in
+    let below : domain_cmp s.domain domain ≡ Less = each_at (λ y. domain_cmp s.domain y ≡ Less) (polled_domains log) k domain rising.0 at in
     let test : bytes_eq s.domain domain ≡ false = other_bytes s.domain domain (differs s.domain domain below) in
     ap (λ q. cond q (Some s) (standing_in log domain)) test ∙ standing_in-at log domain k d rising.1 at
 
-pub standing_in-none : (log : List Standing) (domain : List ℕ) → (Contains (domains_of log) domain → ⊥) → standing_in log domain ≡ None
+pub standing_in-none : (log : List Standing) (domain : List ℕ) → (Contains (polled_domains log) domain → ⊥) → standing_in log domain ≡ None
 standing_in-none [] domain lacks = refl
 standing_in-none (s ∷ log) domain lacks =
     let test : bytes_eq s.domain domain ≡ false = other_bytes s.domain domain (λ e. lacks (0, omega arith, e)) in
@@ -177,15 +177,15 @@ module _ {X : Type 0} (key : X → List ℕ) where
   place_found xs x (Ok k) rising within found = slice_get_key xs k x within (λ d. exact_bytes (key (get_or xs k d)) x (found d))
   place_found xs x (Err i) rising within splits = not_found xs x i rising splits
 
-domains_of-kept : (xs : List held.Standing) → domains_of (map kept xs) ≡ map (λ (s : held.Standing). s.domain) xs
+domains_of-kept : (xs : List held.Standing) → polled_domains (map kept_standing xs) ≡ map (λ (s : held.Standing). s.domain) xs
 domains_of-kept [] = refl
 domains_of-kept (x ∷ xs) = ap (λ l. x.domain ∷ l) (domains_of-kept xs)
 
 -- a search in the standings as they are held
-pub standing_found : (xs : List held.Standing) (log : List Standing) (x : List ℕ) (r : Result ℕ ℕ) → map kept xs ≡ log → IsLog log → IsSearchInRange r (length xs)
+pub standing_found : (xs : List held.Standing) (log : List Standing) (x : List ℕ) (r : Result ℕ ℕ) → map kept_standing xs ≡ log → IsLog log → IsSearchInRange r (length xs)
     → IsBinarySearchResult (λ (s : held.Standing). slice_cmp nat_cmp s.domain x) xs r → IsPlaceOf log x (result_ok r)
 standing_found xs log x r log_is is within answer =
-    let same : domains_of log ≡ map (λ (s : held.Standing). s.domain) xs = sym (ap domains_of log_is) ∙ domains_of-kept xs in
+    let same : polled_domains log ≡ map (λ (s : held.Standing). s.domain) xs = sym (ap polled_domains log_is) ∙ domains_of-kept xs in
     subst (λ names. IsIn names x (result_ok r)) (sym same)
     (place_found (λ (s : held.Standing). s.domain) xs x r (subst (IsStrictlySortedBy domain_cmp) same (rising_of log is)) within answer)
 
@@ -218,21 +218,21 @@ IsLog-new c rs log form same is = record {
 
 -- ---- the standings as they are held
 
-kept_at : (items : List held.Standing) (log : List Standing) (k : ℕ) (x : held.Standing) → map kept items ≡ log → x ≡ get_or items k x → k < length items → get_or log k (kept x) ≡ kept x
-kept_at items log k x log_is there within = ap (λ l. get_or l k (kept x)) (sym log_is) ∙ get_or-map kept items k x (kept x) within ∙ ap kept (sym there)
+kept_at : (items : List held.Standing) (log : List Standing) (k : ℕ) (x : held.Standing) → map kept_standing items ≡ log → x ≡ get_or items k x → k < length items → get_or log k (kept_standing x) ≡ kept_standing x
+kept_at items log k x log_is there within = ap (λ l. get_or l k (kept_standing x)) (sym log_is) ∙ get_or-map kept_standing items k x (kept_standing x) within ∙ ap kept_standing (sym there)
 
-pub kept-set : (items : List held.Standing) (log : List Standing) (k : ℕ) (x y : held.Standing) (moment : ℤ) (ok : Bool) → map kept items ≡ log → x ≡ get_or items k x → k < length log → kept y ≡ after (kept x) moment ok
-    → map kept (set items k y) ≡ set log k (after (get_or log k (kept x)) moment ok)
+pub kept-set : (items : List held.Standing) (log : List Standing) (k : ℕ) (x y : held.Standing) (moment : ℤ) (ok : Bool) → map kept_standing items ≡ log → x ≡ get_or items k x → k < length log → kept_standing y ≡ after (kept_standing x) moment ok
+    → map kept_standing (set items k y) ≡ set log k (after (get_or log k (kept_standing x)) moment ok)
 kept-set items log k x y moment ok log_is there within changed =
-    let inside : k < length items = omega (arith, ap length log_is, length-map items kept) in
-    map-set kept items k y ∙ ap₂ (λ l s. set l k s) log_is (changed ∙ ap (λ s. after s moment ok) (sym (kept_at items log k x log_is there inside)))
+    let inside : k < length items = omega (arith, ap length log_is, length-map items kept_standing) in
+    map-set kept_standing items k y ∙ ap₂ (λ l s. set l k s) log_is (changed ∙ ap (λ s. after s moment ok) (sym (kept_at items log k x log_is there inside)))
 
-pub standing_in-held : (items : List held.Standing) (log : List Standing) (domain : List ℕ) (k : ℕ) (x : held.Standing) → map kept items ≡ log → IsLog log → slice_get (domains_of log) k ≡ Some domain → x ≡ get_or items k x → k < length items
-    → standing_in log domain ≡ Some (kept x)
-standing_in-held items log domain k x log_is is at there within = standing_in-at log domain k (kept x) (rising_of log is) at ∙ ap Some (kept_at items log k x log_is there within)
+pub standing_in-held : (items : List held.Standing) (log : List Standing) (domain : List ℕ) (k : ℕ) (x : held.Standing) → map kept_standing items ≡ log → IsLog log → slice_get (polled_domains log) k ≡ Some domain → x ≡ get_or items k x → k < length items
+    → standing_in log domain ≡ Some (kept_standing x)
+standing_in-held items log domain k x log_is is at there within = standing_in-at log domain k (kept_standing x) (rising_of log is) at ∙ ap Some (kept_at items log k x log_is there within)
 
 -- a place that is given lies within
-pub within_log : (log : List Standing) (k : ℕ) (domain : List ℕ) → slice_get (domains_of log) k ≡ Some domain → k < length log
+pub within_log : (log : List Standing) (k : ℕ) (domain : List ℕ) → slice_get (polled_domains log) k ≡ Some domain → k < length log
 within_log [] k domain at = cc
 within_log (s ∷ log) zero domain at = omega arith
 within_log (s ∷ log) (suc k) domain at = omega (arith, within_log log k domain at)
@@ -243,12 +243,12 @@ not_due_after : (hint : Option ℕ) (failures : ℕ) (last : Option ℤ) (now : 
 not_due_after hint failures None now e refused due = cc
 not_due_after hint failures (Some last) now e refused due = refused.1 due.0
 
-pub not_due : (hint : Option ℕ) (s : Option Standing) (now : ℤ) (e : PollError) → IsNext hint s (Err e) → IsDue hint s now → ⊥
+pub not_due : (hint : Option ℕ) (s : Option Standing) (now : ℤ) (e : PollError) → IsNext hint s (Err e) → IsPollDue hint s now → ⊥
 not_due hint None now e refused due = due
 not_due hint (Some s) now e refused due = not_due_after hint s.failures s.last now e refused due
 
-pub slice_get-domain : (log : List Standing) (k : ℕ) (s : Standing) → k < length log → slice_get (domains_of log) k ≡ Some (get_or log k s).domain
+pub slice_get-domain : (log : List Standing) (k : ℕ) (s : Standing) → k < length log → slice_get (polled_domains log) k ≡ Some (get_or log k s).domain
 slice_get-domain log k s within = slice_get-map (λ (x : Standing). x.domain) log k ∙ ap (option_map (λ (x : Standing). x.domain)) (slice_get-get_or log k s within)
 
-pub names_of : (log : List Standing) → IsLog log → AreNames (domains_of log)
-names_of log is = subst AreNames (sym (ap domains_of is.is ∙ domains_of-log is.domains is.polls)) is.names
+pub names_of : (log : List Standing) → IsLog log → AreNames (polled_domains log)
+names_of log is = subst AreNames (sym (ap polled_domains is.is ∙ domains_of-log is.domains is.polls)) is.names

@@ -6,7 +6,7 @@ use Rattle.std.specs.Io.KnownBytes.{IsAtEnd, prepend_known}
 use Rattle.fed_config.specs.Configuration.{Configuration, IsConfiguration}
 use Rattle.byte_lines.specs.Lines.{Lines, lines_of, with_line, HasLine, HasNoLine, HasMore}
 use Rattle.byte_lines.proofs.StreamFacts.{lines_of-line, lines_of-rest}
-use Rattle.poll_log.specs.Polling.{Poll, Standing, domains_of, log_of, polled}
+use Rattle.poll_log.specs.Polling.{Poll, Standing, polled_domains, log_of, polled}
 use Rattle.poll_log.specs.Inside.Standings.{AreNames}
 use Rattle.poll_log.specs.PollLines.{FirstBad, IsLogOf, RefusesPolls, SaysPoll, Tells, TellsNoMoment, TellsNothing, outcome_text, poll_of}
 use Rattle.poll_log.specs.Inside.PollSteps.{AddsLine, HasRead, ReadTo, RecordsLine}
@@ -51,7 +51,7 @@ passed domains (Some xs) (Some ys) (Some zs) polls n text p read line says =
 
 pub HasRead-line : (domains : List (List ℕ)) (a b c : Option (List ℕ)) (old new : List Standing) (n : ℕ) (text : List ℕ) → HasRead domains a b old n → HasLine b c text → AddsLine old text new → HasRead domains a c new (n + 1)
 HasRead-line domains a b c old new n text read line added =
-    let own : domains_of old ≡ domains = ap domains_of read.is ∙ domains_of-log domains read.polls in
+    let own : polled_domains old ≡ domains = ap polled_domains read.is ∙ domains_of-log domains read.polls in
     record {
       polls = read.polls ++ poll_of added.told ∷ [];
       is = added.adds domains read.polls read.is;
@@ -59,8 +59,8 @@ HasRead-line domains a b c old new n text read line added =
           (record { told = added.told; tells = subst (λ ds. Tells ds text added.told) own added.tells; moment = added.moment; is = refl });
     }
 
-pub own_domains : (domains : List (List ℕ)) (a b : Option (List ℕ)) (log : List Standing) (n : ℕ) → HasRead domains a b log n → domains_of log ≡ domains
-own_domains domains a b log n read = ap domains_of read.is ∙ domains_of-log domains read.polls
+pub own_domains : (domains : List (List ℕ)) (a b : Option (List ℕ)) (log : List Standing) (n : ℕ) → HasRead domains a b log n → polled_domains log ≡ domains
+own_domains domains a b log n read = ap polled_domains read.is ∙ domains_of-log domains read.polls
 
 -- ---- the first bad line
 
@@ -86,13 +86,13 @@ if_some : (a : Option (List ℕ)) (P Q : List ℕ → Type 0) → ((xs : List �
 if_some None P Q f h = tt
 if_some (Some xs) P Q f h = f xs h
 
-pub RefusesPolls-line : (domains : List (List ℕ)) (a b c : Option (List ℕ)) (log : List Standing) (n : ℕ) (text : List ℕ) → HasRead domains a b log n → HasLine b c text → TellsNothing (domains_of log) text
+pub RefusesPolls-line : (domains : List (List ℕ)) (a b c : Option (List ℕ)) (log : List Standing) (n : ℕ) (text : List ℕ) → HasRead domains a b log n → HasLine b c text → TellsNothing (polled_domains log) text
     → IfSome a (λ xs. RefusesPolls domains xs (BadLine (n + 1)))
 RefusesPolls-line domains a b c log n text read line nothing =
     if_some a _ _ (λ xs first. inl first)
     (bad domains a b c log n text (TellsNothing domains) read line (subst (λ ds. TellsNothing ds text) (own_domains domains a b log n read) nothing))
 
-pub RefusesPolls-moment : (domains : List (List ℕ)) (a b c : Option (List ℕ)) (log : List Standing) (n : ℕ) (text : List ℕ) → HasRead domains a b log n → HasLine b c text → TellsNoMoment (domains_of log) text
+pub RefusesPolls-moment : (domains : List (List ℕ)) (a b c : Option (List ℕ)) (log : List Standing) (n : ℕ) (text : List ℕ) → HasRead domains a b log n → HasLine b c text → TellsNoMoment (polled_domains log) text
     → IfSome a (λ xs. RefusesPolls domains xs (BadMoment (n + 1)))
 RefusesPolls-moment domains a b c log n text read line none =
     bad domains a b c log n text (TellsNoMoment domains) read line (subst (λ ds. TellsNoMoment ds text) (own_domains domains a b log n read) none)
@@ -158,6 +158,6 @@ RefusesPolls-record domains a b c log new n text Io read line refused = absurd r
 pub RefusesPolls-long : (config : Configuration) (a b c : Option (List ℕ)) (log : List Standing) (n : ℕ) (text : List ℕ) → IsConfiguration config → HasRead (polled config) a b log n → HasLine b c text → 8388608 < length text
     → IfSome a (λ xs. RefusesPolls (polled config) xs (BadLine (n + 1)))
 RefusesPolls-long config a b c log n text form read line long =
-    let own : domains_of log ≡ polled config = own_domains (polled config) a b log n read in
+    let own : polled_domains log ≡ polled config = own_domains (polled config) a b log n read in
     RefusesPolls-line (polled config) a b c log n text read line
-    (too_long (domains_of log) text (subst AreNames (sym own) (each_name config.relationships form.each_relationship)) long)
+    (too_long (polled_domains log) text (subst AreNames (sym own) (each_name config.relationships form.each_relationship)) long)

@@ -65,8 +65,8 @@ standing_of polls domain = record {
 abbrev pub log_of : List (List ℕ) → List Poll → List Standing
 log_of domains polls = map (standing_of polls) domains
 
-abbrev pub domains_of : List Standing → List (List ℕ)
-domains_of log = map (λ s. s.domain) log
+abbrev pub polled_domains : List Standing → List (List ℕ)
+polled_domains log = map (λ s. s.domain) log
 
 -- the domains that are polled: those with a relationship
 abbrev pub polled : Configuration → List (List ℕ)
@@ -81,13 +81,13 @@ pub record IsLog (log : List Standing) : Type 0 where
   pub is : log ≡ log_of domains polls
 
 -- the log of any polls became that of the same polls with one more behind them
-abbrev pub Adds : List Standing → Poll → List Standing → Type 0
-Adds old p new = (domains : List (List ℕ)) (polls : List Poll) → old ≡ log_of domains polls → new ≡ log_of domains (polls ++ p ∷ [])
+abbrev pub RecordsPoll : List Standing → Poll → List Standing → Type 0
+RecordsPoll old p new = (domains : List (List ℕ)) (polls : List Poll) → old ≡ log_of domains polls → new ≡ log_of domains (polls ++ p ∷ [])
 
 -- what `record` does: refused only where the log has no such domain, and then it is as it was
 abbrev pub Records : List Standing → Poll → List Standing → Result (Unit {0}) PollError → Type 0
-Records old p new (Ok _) = Contains (domains_of old) p.domain × Adds old p new
-Records old p new (Err e) = (e ≡ NoRelationship) × (Contains (domains_of old) p.domain → ⊥) × (new ≡ old)
+Records old p new (Ok _) = Contains (polled_domains old) p.domain × RecordsPoll old p new
+Records old p new (Err e) = (e ≡ NoRelationship) × (Contains (polled_domains old) p.domain → ⊥) × (new ≡ old)
 
 -- ---- the next poll
 
@@ -118,6 +118,6 @@ abbrev pub IsDueAfter : Option ℕ → ℕ → Option ℤ → ℤ → Type 0
 IsDueAfter hint failures None now = ⊤
 IsDueAfter hint failures (Some last) now = IsTimestampNanos (next_nanos hint failures last) × (next_nanos hint failures last ≤ℤ now)
 
-abbrev pub IsDue : Option ℕ → Option Standing → ℤ → Type 0
-IsDue hint None now = ⊥
-IsDue hint (Some s) now = IsDueAfter hint s.failures s.last now
+abbrev pub IsPollDue : Option ℕ → Option Standing → ℤ → Type 0
+IsPollDue hint None now = ⊥
+IsPollDue hint (Some s) now = IsDueAfter hint s.failures s.last now

@@ -4,7 +4,7 @@ ghost use Rattle.std.specs.Fmt.{signed_decimal};
 ghost use Rattle.std.specs.List.{AllPass};
 ghost use Rattle.std.specs.Io.KnownBytes.{IsAtEnd};
 ghost use Rattle.spiffe_name.specs.Bytes.{FirstFails};
-ghost use Rattle.poll_log.specs.Polling.{domains_of, polled};
+ghost use Rattle.poll_log.specs.Polling.{polled_domains, polled};
 ghost use Rattle.poll_log.specs.PollErrors.{is_poll_fault};
 ghost use Rattle.poll_log.specs.PollLines.{IsLogOf, ReadsSeconds, RefusesPolls, TellsNothing, outcome_text};
 ghost use Rattle.poll_log.specs.Inside.PollSteps.{IsWord, RecordsLine, TellsParts, is_no_space};
@@ -32,7 +32,7 @@ pub fn read_polls<R: Source>(
     config: &Config,
     source: &mut R,
 ) -> Result<PollLog, PollError>
-    ensures domains { IfOk result (λ log. domains_of log ≡ polled config.now) }
+    ensures domains { IfOk result (λ log. polled_domains log ≡ polled config.now) }
     ensures log { IfOk result (λ log. IfSome (R.remaining source.old) (λ bytes. IsLogOf (polled config.now) bytes log)) }
     ensures refused { IfErr result (λ e. IfSome (R.remaining source.old) (λ bytes. RefusesPolls (polled config.now) bytes e)) }
     ensures end { OnOk result (IsAtEnd (R.remaining source.new)) }
@@ -77,7 +77,7 @@ struct Parts {
 }
 
 fn read_parts(log: &PollLog, text: &[u8]) -> Option<Parts>
-    ensures { MatchOption result (TellsNothing (domains_of log.now) text.now) (TellsParts (domains_of log.now) text.now) }
+    ensures { MatchOption result (TellsNothing (polled_domains log.now) text.now) (TellsParts (polled_domains log.now) text.now) }
 {
     let (domain, rest) = first_word(text)?;
     let place = log.place_of(domain)?;

@@ -1,8 +1,8 @@
 //! What a replica keeps of its polls.
 ghost use Rattle.std.specs.Prelude.{◌≡◌, ◌<◌, ◌↔◌, [], ℕ, List, map, length, Some, IsTrue, MatchResult, slice_get};
 ghost use Rattle.fed_config.specs.Configuration.{IsConfiguration};
-ghost use Rattle.poll_log.specs.Polling.{Adds, IsDue, IsNext, Records, domains_of, log_of, polled, standing_in};
-ghost use Rattle.poll_log.specs.Inside.Standings.{AreNames, IsPlaceOf, after, kept};
+ghost use Rattle.poll_log.specs.Polling.{RecordsPoll, IsPollDue, IsNext, Records, polled_domains, log_of, polled, standing_in};
+ghost use Rattle.poll_log.specs.Inside.Standings.{AreNames, IsPlaceOf, after, kept_standing};
 
 use crate::error::PollError;
 use crate::waiting::{MOST_FAILURES, wait};
@@ -25,13 +25,13 @@ pub struct PollLog {
 impl Model for PollLog {
     ghost use Rattle.std.specs.Prelude.{List, map};
     ghost use Rattle.poll_log.specs.Polling.{Standing as Kept, IsLog};
-    ghost use Rattle.poll_log.specs.Inside.Standings.{kept};
+    ghost use Rattle.poll_log.specs.Inside.Standings.{kept_standing};
 
     ghost Value = { List Kept };
 
-    ghost view = { λ log. map kept log.standings.items };
+    ghost view = { λ log. map kept_standing log.standings.items };
 
-    ghost invariant = { λ log. IsLog (map kept log.standings.items) };
+    ghost invariant = { λ log. IsLog (map kept_standing log.standings.items) };
 }
 
 impl PollLog {
@@ -94,7 +94,7 @@ impl PollLog {
     /// Whether the domain is to be polled now: it was never polled, or its next poll is at this moment or before it. A
     /// domain without a relationship is never due, nor is one whose next poll is past the range. It takes no memory.
     pub fn due(&self, domain: &TrustDomain, hint: Option<u64>, now: Timestamp) -> bool
-        ensures { IsTrue result ↔ IsDue hint (standing_in self.now domain.now) now.nanosecond }
+        ensures { IsTrue result ↔ IsPollDue hint (standing_in self.now domain.now) now.nanosecond }
     {
         match self.next_poll(domain, hint) {
             Ok(Some(next)) => next <= now,
@@ -106,7 +106,7 @@ impl PollLog {
     /// Where the log keeps the domain, found by binary search.
     pub(crate) fn place_of(&self, domain: &[u8]) -> Option<usize>
         ensures place { IsPlaceOf self.now domain.now result }
-        ensures names { AreNames (domains_of self.now) }
+        ensures names { AreNames (polled_domains self.now) }
     {
         self.standings
             .binary_search_by(|standing| standing.domain.as_str().as_bytes().cmp(domain))
@@ -116,8 +116,8 @@ impl PollLog {
     /// Records a poll of the domain at this place.
     pub(crate) fn add(&mut self, place: usize, moment: Timestamp, ok: bool)
         requires { place < length self.old }
-        ensures { (domain : List ℕ) → slice_get (domains_of self.old) place ≡ Some domain
-            → Adds self.old (record { domain = domain; moment = moment.nanosecond; ok = ok }) self.new }
+        ensures { (domain : List ℕ) → slice_get (polled_domains self.old) place ≡ Some domain
+            → RecordsPoll self.old (record { domain = domain; moment = moment.nanosecond; ok = ok }) self.new }
     {
         self.standings[place].add(moment, ok);
     }
@@ -135,7 +135,7 @@ impl Standing {
     ghost use Rattle.poll_log.specs.Polling.{IsNextAfter};
 
     fn add(&mut self, moment: Timestamp, ok: bool)
-        ensures { kept self.new ≡ after (kept self.old) moment.nanosecond ok }
+        ensures { kept_standing self.new ≡ after (kept_standing self.old) moment.nanosecond ok }
     {
         self.last = Some(moment);
         self.failures = if ok {
@@ -146,7 +146,7 @@ impl Standing {
     }
 
     fn next_poll(&self, hint: Option<u64>) -> Result<Option<Timestamp>, PollError>
-        ensures { IsNextAfter hint (kept self.now).failures (kept self.now).last result }
+        ensures { IsNextAfter hint (kept_standing self.now).failures (kept_standing self.now).last result }
     {
         let Some(last) = self.last else {
             return Ok(None);
@@ -159,7 +159,7 @@ impl Standing {
 }
 
 fn never_polled(alloc: Global, relationships: &[Relationship]) -> Result<Vec<Standing>, AllocError>
-    ensures { MatchResult result (λ standings. map kept standings.items ≡ log_of (map (λ r. r.domain) relationships.now) [])
+    ensures { MatchResult result (λ standings. map kept_standing standings.items ≡ log_of (map (λ r. r.domain) relationships.now) [])
         (λ _. 0 < length relationships.now) }
 {
     let mut standings = Vec::with_capacity(alloc, relationships.len())?;

@@ -15,14 +15,14 @@ use Rattle.serde_json.specs.Data.{Data, string, array, object, Members, member, 
 use Rattle.serde_json.specs.Written.{compact_text}
 use Rattle.spiffe_name.specs.Bytes.{is_domain_byte, is_segment_byte}
 use Rattle.spiffe_name.specs.TrustDomain.{IsDomainText}
-use Rattle.spiffe_name.specs.SpiffeId.{Id, IsId, IsSegment, joined, scheme}
+use Rattle.spiffe_name.specs.SpiffeId.{Id, IsId, IsSegment, path_of_segments, scheme}
 use Rattle.spiffe_name.proofs.Plain.{IsPlainText-domain, IsPlainText-id}
 use Rattle.spiffe_name.proofs.Ids.{one_value}
 use Rattle.jwk_set.proofs.EscapeFacts.{escape_itself}
 use Rattle.bundle_doc.specs.Bundle.{Bundle, IsBundle, document_tree, canonical_text, with_number, trees}
 use Rattle.bundle_doc.proofs.BundleFacts.{IsPlain-document_tree, one_text}
 use Rattle.receipt_core.specs.Receipt.{Receipt, IsReceipt, line, receipt_cmp, key_cmp, triple_cmp, IsDistrust, distrust_line, distrust_cmp}
-use Rattle.receipt_core.specs.Parts.{pieces, distrust_pieces, text_of, parts_cmp}
+use Rattle.receipt_core.specs.Parts.{pieces, distrust_pieces, written_receipt, parts_cmp}
 use Rattle.receipt_core.specs.declared.distrust.Distrust.{Distrust}
 use Rattle.receipt_core.specs.declared.triple.Triple.{Triple}
 use Rattle.receipt_core.proofs.OrderFacts.{Above, Apart, behind, first_apart, first_marked, then_assoc, then_equal, both_equal}
@@ -40,10 +40,10 @@ domain_above b h = grind (arith, nat_tests)
 all_domain : (text : List ℕ) → IsDomainText text → All (λ b. 34 < b) text
 all_domain text h = All-weaker (λ b. is_domain_byte b ≡ true) (λ b. 34 < b) domain_above text h.bytes
 
-all_segments : (segments : List (List ℕ)) → AllByRecursion IsSegment segments → All (λ b. 34 < b) (joined segments)
+all_segments : (segments : List (List ℕ)) → AllByRecursion IsSegment segments → All (λ b. 34 < b) (path_of_segments segments)
 all_segments [] h = All-nil (λ b. 34 < b)
 all_segments (s ∷ segments) h =
-    All-append (λ b. 34 < b) (47 ∷ s) (joined segments)
+    All-append (λ b. 34 < b) (47 ∷ s) (path_of_segments segments)
     (All-cons (λ b. 34 < b) 47 s (omega arith) (All-weaker (λ b. is_segment_byte b ≡ true) (λ b. 34 < b) segment_above s h.0.bytes))
     (all_segments segments h.1)
 
@@ -95,7 +95,7 @@ pieces_split t r1 r2 r3 r4 r5 d n e k v e1 e2 e3 e4 e5 e6 =
     rw (e1, e2, e3, e4, e5, e6)
     (regrouped (codes "{\"doc\":") d (codes ",\"domain\":\"") n (codes "\",\"endpoint\":\"") e (codes "\",\"key\":\"") k (codes "\",\"voucher\":\"") v (codes "\"}"))
 
-pub line_text : (r : Receipt) → IsReceipt r → line r ≡ text_of r
+pub line_text : (r : Receipt) → IsReceipt r → line r ≡ written_receipt r
 unfolding line
 line_text r h =
     tree_text (document_tree r.document) r.domain r.endpoint.text (encode_lower r.key.0) (encode_lower r.voucher.0)

@@ -11,7 +11,7 @@ use Rattle.jwk_set.proofs.PlainFacts.{IsJson-compact_text}
 use Rattle.spiffe_name.specs.SpiffeId.{Id, IsId}
 use Rattle.spiffe_name.proofs.Ids.{one_value}
 use Rattle.spiffe_name.proofs.Plain.{IsPlainText-domain, IsPlainText-id}
-use Rattle.bundle_doc.specs.Bundle.{Bundle, IsKept, Means, document_tree, canonical_text}
+use Rattle.bundle_doc.specs.Bundle.{Bundle, IsStoredDocument, Means, document_tree, canonical_text}
 use Rattle.bundle_doc.proofs.BundleFacts.{IsPlain-document_tree, Means-document_tree, one_meaning, depth-document_tree}
 use Rattle.receipt_core.specs.Receipt.{Receipt, IsReceipt, IsDigest, line, receipt_tree, IsDistrust, distrust_line, distrust_tree}
 use Rattle.receipt_core.specs.Line.{IsLine, IsNoLine, IsRecord, IsNoRecord, RefusesRecord, IsNoJson, Unless, SaysReceipt, SaysDocument, SaysDistrust}
@@ -149,7 +149,7 @@ pub no_long_line : (bytes : List ℕ) → 1051063 < length bytes → IsNoLine by
 no_long_line bytes long = λ r is. let short = length-line r is.is in let same = ap length is.text in absurd (omega arith)
 
 -- the line of parts that were read from its pieces
-pub IsLine-pieces : (b : Bundle) (n : List ℕ) (id : Id) (k v dt nt et kt vt : List ℕ) → IsKept b dt → (n ≡ nt) × IsDomainText n → (id.text ≡ et) × IsId id → (encode_lower k ≡ kt) × IsDigest k → (encode_lower v ≡ vt) × IsDigest v
+pub IsLine-pieces : (b : Bundle) (n : List ℕ) (id : Id) (k v dt nt et kt vt : List ℕ) → IsStoredDocument b dt → (n ≡ nt) × IsDomainText n → (id.text ≡ et) × IsId id → (encode_lower k ≡ kt) × IsDigest k → (encode_lower v ≡ vt) × IsDigest v
     → IsLine (pieces dt nt et kt vt) (record { domain = n; endpoint = id; document = b; voucher = record { 0 = v }; key = record { 0 = k } })
 IsLine-pieces b n id k v dt nt et kt vt document domain endpoint key voucher =
     let is : IsReceipt (record { domain = n; endpoint = id; document = b; voucher = record { 0 = v }; key = record { 0 = k } }) = record {

@@ -20,10 +20,10 @@ abbrev pub IsNoLine : List ℕ → Type 0
 IsNoLine bytes = (r : Receipt) → IsLine bytes r → ⊥
 
 -- Why bytes are refused. Memory is wanted only for a line that is within the bound of receipts' lines.
-abbrev pub RefusesLine : List ℕ → LineError → Type 0
-RefusesLine bytes TooLong = 8388608 < length bytes
-RefusesLine bytes NotCanonical = (length bytes ≤ 8388608) × IsNoLine bytes
-RefusesLine bytes NoMemory = length bytes ≤ 1051063
+abbrev pub RefusesReceiptLine : List ℕ → LineError → Type 0
+RefusesReceiptLine bytes TooLong = 8388608 < length bytes
+RefusesReceiptLine bytes NotCanonical = (length bytes ≤ 8388608) × IsNoLine bytes
+RefusesReceiptLine bytes NoMemory = length bytes ≤ 1051063
 
 -- the bytes are the record's line
 pub record IsRecord (bytes : List ℕ) (x : Distrust) : Type 0 where

@@ -21,8 +21,8 @@ unfoldable pub pieces : List ℕ → List ℕ → List ℕ → List ℕ → List
 pieces document domain endpoint key voucher =
     codes "{\"doc\":" ++ (document ++ (codes ",\"domain\":\"" ++ (domain ++ (codes "\",\"endpoint\":\"" ++ (endpoint ++ (codes "\",\"key\":\"" ++ (key ++ (codes "\",\"voucher\":\"" ++ (voucher ++ codes "\"}")))))))))
 
-abbrev pub text_of : Receipt → List ℕ
-text_of r = pieces (canonical_text r.document) r.domain r.endpoint.text (encode_lower r.key.0) (encode_lower r.voucher.0)
+abbrev pub written_receipt : Receipt → List ℕ
+written_receipt r = pieces (canonical_text r.document) r.domain r.endpoint.text (encode_lower r.key.0) (encode_lower r.voucher.0)
 
 -- a record's line, piece by piece
 unfoldable pub distrust_pieces : List ℕ → List ℕ → List ℕ

@@ -2,8 +2,8 @@
 ghost use Rattle.std.specs.Prelude.{◌≡◌, ◌++◌, ◌↔◌, IsTrue, IfOk, IfSome, MatchResult};
 ghost use Rattle.serde_json.specs.View.{view};
 ghost use Rattle.jwk_set.specs.Json.{IsJson};
-ghost use Rattle.jwk_set.specs.Forms.{Finds};
-ghost use Rattle.receipt_core.specs.Line.{IsLine, IsNoJson, IsNoLine, RefusesLine, SaysReceipt, Unless};
+ghost use Rattle.jwk_set.specs.Forms.{FindsMember};
+ghost use Rattle.receipt_core.specs.Line.{IsLine, IsNoJson, IsNoLine, RefusesReceiptLine, SaysReceipt, Unless};
 ghost use Rattle.receipt_core.specs.Parts.{pieces};
 
 use crate::line_error::LineError;
@@ -26,7 +26,7 @@ const MAX_RECEIPT_LINE_BYTES: usize = 1_051_063;
 
 // The receipt of a line.
 pub(crate) fn read_receipt(alloc: Global, bytes: &[u8]) -> Result<Receipt, LineError>
-    ensures { MatchResult result (IsLine bytes.now) (RefusesLine bytes.now) }
+    ensures { MatchResult result (IsLine bytes.now) (RefusesReceiptLine bytes.now) }
 {
     if bytes.len() > MAX_LINE_BYTES {
         return Err(LineError::TooLong);
@@ -168,7 +168,7 @@ pub(crate) fn is_same(text: &[u8], bytes: &[u8]) -> bool
 }
 
 fn receipt_of(alloc: Global, value: &Value) -> Result<Option<Receipt>, AllocError>
-    ensures { IfOk result (λ o. Finds o (SaysReceipt (view value.now))) }
+    ensures { IfOk result (λ o. FindsMember o (SaysReceipt (view value.now))) }
 {
     let Some(key) = read_digest(value, "key") else {
         return Ok(None);

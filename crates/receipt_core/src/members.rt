@@ -5,7 +5,7 @@ ghost use Rattle.hex.specs.Hex.{encode_lower};
 ghost use Rattle.serde_json.specs.View.{view};
 ghost use Rattle.spiffe_name.specs.TrustDomain.{IsDomainText};
 ghost use Rattle.spiffe_name.specs.SpiffeId.{IsId};
-ghost use Rattle.jwk_set.specs.Forms.{Finds};
+ghost use Rattle.jwk_set.specs.Forms.{FindsMember};
 ghost use Rattle.jwk_set.specs.Element.{HasText};
 ghost use Rattle.receipt_core.specs.Receipt.{IsDigest};
 ghost use Rattle.receipt_core.specs.Line.{SaysDocument};
@@ -18,7 +18,7 @@ use std::alloc::{AllocError, Global};
 
 // The trust domain of this name.
 pub(crate) fn domain_of(alloc: Global, text: &str) -> Result<Option<TrustDomain>, AllocError>
-    ensures { IfOk result (λ o. Finds o (λ d. (d ≡ text.now) × IsDomainText d)) }
+    ensures { IfOk result (λ o. FindsMember o (λ d. (d ≡ text.now) × IsDomainText d)) }
 {
     match TrustDomain::read(alloc, text) {
         Ok(domain) => Ok(Some(domain)),
@@ -29,7 +29,7 @@ pub(crate) fn domain_of(alloc: Global, text: &str) -> Result<Option<TrustDomain>
 
 // The ID of this text.
 pub(crate) fn endpoint_of(alloc: Global, text: &str) -> Result<Option<SpiffeId>, AllocError>
-    ensures { IfOk result (λ o. Finds o (λ id. (id.text ≡ text.now) × IsId id)) }
+    ensures { IfOk result (λ o. FindsMember o (λ id. (id.text ≡ text.now) × IsId id)) }
 {
     match SpiffeId::read(alloc, text) {
         Ok(id) => Ok(Some(id)),
@@ -40,7 +40,7 @@ pub(crate) fn endpoint_of(alloc: Global, text: &str) -> Result<Option<SpiffeId>,
 
 // The digest of these lower-case digits.
 pub(crate) fn digest_of(text: &str) -> Option<[u8; 32]>
-    ensures { Finds result (λ d. (encode_lower d ≡ text.now) × IsDigest d) }
+    ensures { FindsMember result (λ d. (encode_lower d ≡ text.now) × IsDigest d) }
 {
     let digest = decoded(text.as_bytes())?;
     if is_digits(&digest, text.as_bytes()) {
@@ -71,7 +71,7 @@ fn is_digits(digest: &[u8; 32], text: &[u8]) -> bool
 
 // The text of a member.
 fn text_of<'a>(value: &'a Value, name: &str) -> Option<&'a str>
-    ensures { Finds (option_map (λ text. text.now) result) (HasText (view value.now) name.now) }
+    ensures { FindsMember (option_map (λ text. text.now) result) (HasText (view value.now) name.now) }
 {
     value.get(name)?.as_str()
 }
@@ -82,7 +82,7 @@ pub(crate) fn read_domain(
     value: &Value,
     name: &str,
 ) -> Result<Option<TrustDomain>, AllocError>
-    ensures { IfOk result (λ o. Finds o (λ d. HasText (view value.now) name.now d × IsDomainText d)) }
+    ensures { IfOk result (λ o. FindsMember o (λ d. HasText (view value.now) name.now d × IsDomainText d)) }
 {
     match text_of(value, name) {
         Some(text) => domain_of(alloc, text),
@@ -96,7 +96,7 @@ pub(crate) fn read_endpoint(
     value: &Value,
     name: &str,
 ) -> Result<Option<SpiffeId>, AllocError>
-    ensures { IfOk result (λ o. Finds o (λ id. HasText (view value.now) name.now id.text × IsId id)) }
+    ensures { IfOk result (λ o. FindsMember o (λ id. HasText (view value.now) name.now id.text × IsId id)) }
 {
     match text_of(value, name) {
         Some(text) => endpoint_of(alloc, text),
@@ -106,7 +106,7 @@ pub(crate) fn read_endpoint(
 
 // The digest that a member spells.
 pub(crate) fn read_digest(value: &Value, name: &str) -> Option<[u8; 32]>
-    ensures { Finds result (λ d. HasText (view value.now) name.now (encode_lower d) × IsDigest d) }
+    ensures { FindsMember result (λ d. HasText (view value.now) name.now (encode_lower d) × IsDigest d) }
 {
     match text_of(value, name) {
         Some(text) => digest_of(text),
@@ -116,7 +116,7 @@ pub(crate) fn read_digest(value: &Value, name: &str) -> Option<[u8; 32]>
 
 // The document that the member `doc` means.
 pub(crate) fn read_document(alloc: Global, value: &Value) -> Result<Option<Document>, AllocError>
-    ensures { IfOk result (λ o. Finds o (SaysDocument (view value.now))) }
+    ensures { IfOk result (λ o. FindsMember o (SaysDocument (view value.now))) }
 {
     match value.get("doc") {
         Some(document) => document_of(alloc, document),
@@ -125,7 +125,7 @@ pub(crate) fn read_document(alloc: Global, value: &Value) -> Result<Option<Docum
 }
 
 fn document_of(alloc: Global, value: &Value) -> Result<Option<Document>, AllocError>
-    ensures { IfOk result (λ o. Finds o (λ b. Means (view value.now) b × Fits b)) }
+    ensures { IfOk result (λ o. FindsMember o (λ b. Means (view value.now) b × Fits b)) }
 {
     match Document::from_value(alloc, value) {
         Ok(document) => Ok(Some(document)),

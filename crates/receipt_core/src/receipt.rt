@@ -3,7 +3,7 @@ ghost use Rattle.std.specs.Prelude.{◌≡◌, ◌↔◌, IsTrue, IfOk, IfSome, 
 ghost use Rattle.std.specs.Cmp.{partial_equiv_from_equiv};
 ghost use Rattle.receipt_core.specs.Receipt.{IsReceipt, line, receipt_cmp, receipt_id_of, need_of, offers_of, pair_of};
 ghost use Rattle.receipt_core.specs.Order.{same_receipt, receipt_total, receipt_equiv, receipt_po};
-ghost use Rattle.receipt_core.specs.Line.{IsLine, RefusesLine};
+ghost use Rattle.receipt_core.specs.Line.{IsLine, RefusesReceiptLine};
 ghost use Rattle.receipt_core.specs.Parts.{IsKeptReceipt, parts_cmp, rest_cmp};
 
 use crate::line::{id_of, write_receipt};
@@ -91,7 +91,7 @@ impl Receipt {
     /// - [`LineError::NotCanonical`]: it is no receipt's line,
     /// - [`LineError::NoMemory`]: memory ran out, which is answered only within the bound of receipts' lines.
     pub fn read_line(alloc: Global, bytes: &[u8]) -> Result<Receipt, LineError>
-        ensures { MatchResult result (IsLine bytes.now) (RefusesLine bytes.now) }
+        ensures { MatchResult result (IsLine bytes.now) (RefusesReceiptLine bytes.now) }
     {
         read_receipt(alloc, bytes)
     }

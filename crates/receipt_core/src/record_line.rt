@@ -2,7 +2,7 @@
 ghost use Rattle.std.specs.Prelude.{◌≡◌, IfOk, MatchResult};
 ghost use Rattle.serde_json.specs.View.{view};
 ghost use Rattle.jwk_set.specs.Json.{IsJson};
-ghost use Rattle.jwk_set.specs.Forms.{Finds};
+ghost use Rattle.jwk_set.specs.Forms.{FindsMember};
 ghost use Rattle.receipt_core.specs.Receipt.{distrust_line};
 ghost use Rattle.receipt_core.specs.Line.{IsNoRecord, IsRecord, RefusesRecord, SaysDistrust, Unless};
 
@@ -49,7 +49,7 @@ fn read_value(alloc: Global, value: &Value, bytes: &[u8]) -> Result<Distrust, Li
 }
 
 fn distrust_of(alloc: Global, value: &Value) -> Result<Option<Distrust>, AllocError>
-    ensures { IfOk result (λ o. Finds o (SaysDistrust (view value.now))) }
+    ensures { IfOk result (λ o. FindsMember o (SaysDistrust (view value.now))) }
 {
     let Some(key) = read_digest(value, "distrust") else {
         return Ok(None);

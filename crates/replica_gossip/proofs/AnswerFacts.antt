@@ -10,7 +10,7 @@ use Rattle.replica_sync.specs.declared.error.SyncError.{SyncError}
 use Rattle.replica_sync.specs.declared.error.SyncError.TheVariants.{Io, NoMemory}
 use Rattle.replica_sync.proofs.SnapshotFacts.{consumes_both}
 use Rattle.replica_gossip.specs.Messages.{told_of, told_text, reply_text}
-use Rattle.replica_gossip.specs.FirstLines.{Expected, IsTold}
+use Rattle.replica_gossip.specs.FirstLines.{Expected, IsGiveHeader}
 use Rattle.replica_gossip.specs.Answers.{RefusesHead, content_lines}
 use Rattle.replica_gossip.specs.Spelling.{HasHead, TellsHead, told_by_head}
 use Rattle.replica_gossip.specs.Taking.{StopsReply, StopsWithin, TakesLines, TakesReply}
@@ -45,7 +45,7 @@ answer_taken m config bucket before h stream middle left new read same head line
         own = refl;
         about = refl;
         answer = record {
-          told = subst IsTold (told_is m.config bucket head.text h lines.content tells lines.receipts lines.records) tells.tells.line.is;
+          told = subst IsGiveHeader (told_is m.config bucket head.text h lines.content tells lines.receipts lines.records) tells.tells.line.is;
           valid = lines.taken.begun.valid;
           rising = lines.taken.begun.rising;
         };

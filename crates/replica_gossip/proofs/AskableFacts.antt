@@ -8,7 +8,7 @@ use Rattle.replica_sync.specs.Snapshots.{ended}
 use Rattle.replica_sync.specs.declared.error.SyncError.{SyncError}
 use Rattle.replica_sync.specs.declared.error.SyncError.TheVariants.{BadHeader, ConfigDiffers, VersionDiffers, NotCanonical, NotRising, BadCount, Truncated, Refused, Io, NoMemory}
 use Rattle.replica_gossip.specs.Messages.{Asked, asked_of, asked_text, question_text}
-use Rattle.replica_gossip.specs.FirstLines.{HasBadFirst, IsAskedLine, IsOther, IsOwn, RefusesAsked}
+use Rattle.replica_gossip.specs.FirstLines.{HasBadFirstLine, IsAskedLine, IsOther, IsOwn, RefusesAsked}
 use Rattle.replica_gossip.specs.Questions.{IsAskable, RefusesQuestion}
 use Rattle.replica_gossip.proofs.FeedlessFacts.{is-first, no-first, plain-asked, same-line}
 use Rattle.replica_gossip.proofs.FirstLineFacts.{one-asked}
@@ -39,7 +39,7 @@ one-question bytes p q (Some left) (Some rest) is valid e f =
 
 -- ---- no fault
 
-pub first-cause : (refuses : List ℕ → SyncError → Type 0) (bytes text after : List ℕ) (new : Option (List ℕ)) (e : SyncError) → HasNoFeed text → bytes ≡ ended text ++ after → HasBadFirst refuses (Some bytes) new e
+pub first-cause : (refuses : List ℕ → SyncError → Type 0) (bytes text after : List ℕ) (new : Option (List ℕ)) (e : SyncError) → HasNoFeed text → bytes ≡ ended text ++ after → HasBadFirstLine refuses (Some bytes) new e
     → ((e ≡ BadHeader) × (8388608 < length text)) ⊎ refuses text e
 first-cause refuses bytes text after new e plain is h =
     subst (λ t. ((e ≡ BadHeader) × (8388608 < length t)) ⊎ refuses t e) (is-first bytes text after h.text new plain is h.is).0 h.cause
@@ -67,7 +67,7 @@ no-bad-question config q Io is own ample (inr h) = h
 no-bad-question config q NoMemory is own ample (inr h) = ample refl
 
 module _ (config : Option Configuration) (bytes : List ℕ) (q : Question) (left : List ℕ) (is : IsAskable q) (own : IsOwn config q.config) (begins : bytes ≡ question_text q ++ left) where
-  bad-first : (new : Option (List ℕ)) (e : SyncError) → e ≢ NoMemory → HasBadFirst (RefusesAsked config) (Some bytes) new e → ⊥
+  bad-first : (new : Option (List ℕ)) (e : SyncError) → e ≢ NoMemory → HasBadFirstLine (RefusesAsked config) (Some bytes) new e → ⊥
   bad-first new e ample h =
       no-bad-question config q e is own ample (first-cause (RefusesAsked config) bytes (asked_text (asked_of q)) left new e (plain-asked (asked_of q) is.asked) begins h)
 

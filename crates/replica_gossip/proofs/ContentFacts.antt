@@ -14,7 +14,7 @@ use Rattle.receipt_core.specs.Receipt.{Receipt, line, receipt_cmp, distrust_line
 use Rattle.receipt_core.specs.Acceptance.{Meaning}
 use Rattle.byte_lines.specs.Lines.{HasLine}
 use Rattle.receipt_core.specs.Rising.{with_item, with_items}
-use Rattle.replica_sync.specs.State.{State, meaning_of}
+use Rattle.replica_sync.specs.State.{State, meaning_of_state}
 use Rattle.replica_sync.specs.Snapshots.{ended, last_of, text_of_lines}
 use Rattle.replica_sync.specs.Entries.{entry_line, with_entry, IsAbove}
 use Rattle.replica_sync.specs.declared.entry.Entry.{Entry}
@@ -24,7 +24,7 @@ use Rattle.replica_sync.proofs.SnapshotFacts.{consumes_both}
 use Rattle.replica_gossip.specs.Messages.{record_text, receipt_text}
 use Rattle.replica_gossip.specs.Answers.{content_lines}
 use Rattle.replica_gossip.specs.Gathering.{pushed}
-use Rattle.replica_gossip.specs.Taking.{gained}
+use Rattle.replica_gossip.specs.Taking.{meaning_gained}
 
 -- ---- lists
 
@@ -93,8 +93,8 @@ text_of_content content =
 
 -- ---- what is held
 
-pub gained_pushed : (old : Meaning) (content : State) (entry : Entry) → with_entry entry (gained old content) ≡ gained old (pushed entry content)
+pub gained_pushed : (old : Meaning) (content : State) (entry : Entry) → with_entry entry (meaning_gained old content) ≡ meaning_gained old (pushed entry content)
 gained_pushed old content (Record x) =
-    ap (λ records. meaning_of old.config (record { held = with_items receipt_cmp content.held old.held; records = records })) (sym (joined_one distrust_cmp content.records old.records x))
+    ap (λ records. meaning_of_state old.config (record { held = with_items receipt_cmp content.held old.held; records = records })) (sym (joined_one distrust_cmp content.records old.records x))
 gained_pushed old content (AReceipt r) =
-    ap (λ held. meaning_of old.config (record { held = held; records = with_items distrust_cmp content.records old.records })) (sym (joined_one receipt_cmp content.held old.held r))
+    ap (λ held. meaning_of_state old.config (record { held = held; records = with_items distrust_cmp content.records old.records })) (sym (joined_one receipt_cmp content.held old.held r))

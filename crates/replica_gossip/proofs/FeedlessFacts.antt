@@ -11,8 +11,8 @@ use Rattle.receipt_core.proofs.HexFacts.{Above-encode_lower}
 use Rattle.byte_lines.proofs.StreamFacts.{lines_of-line, lines_of-rest}
 use Rattle.replica_sync.specs.Snapshots.{ended}
 use Rattle.replica_sync.proofs.FeedFacts.{Feedless, feedless_both, feedless_decimal}
-use Rattle.replica_gossip.specs.Messages.{Asked, Told, asked_text, distrusts_part, quoted, told_text}
-use Rattle.replica_gossip.specs.FirstLines.{IsAsked, IsRecordCount, IsTold}
+use Rattle.replica_gossip.specs.Messages.{Asked, GiveHeader, asked_text, distrusts_part, quoted, told_text}
+use Rattle.replica_gossip.specs.FirstLines.{IsAsked, IsRecordCount, IsGiveHeader}
 use Rattle.replica_gossip.proofs.AskedFacts.{small-bucket}
 use Rattle.replica_gossip.proofs.IdFacts.{later_text}
 
@@ -68,7 +68,7 @@ feedless-asked a is =
     (labelled (codes ",\"have\":[") _ refl (feedless_both (join_by quoted (codes ",") a.question.ids) _ (feedless-ids a.question.ids is.ids)
     (labelled (codes "],\"of\":") _ refl (feedless_both (decimal a.buckets) _ (feedless_decimal a.buckets is.buckets) (feedless-by (codes "}") refl))))))))))
 
-feedless-told : (t : Told) → IsTold t → Feedless (told_text t)
+feedless-told : (t : GiveHeader) → IsGiveHeader t → Feedless (told_text t)
 unfolding told_text
 feedless-told t is =
     let few : t.bucket < 2 ^ 64 = let below = is.bucket in let many = is.buckets in omega (arith, below, many) in
@@ -85,7 +85,7 @@ plain text h = All-from_recursion (λ b. b ≢ 10) text h
 pub plain-asked : (a : Asked) → IsAsked a → HasNoFeed (asked_text a)
 plain-asked a is = plain (asked_text a) (feedless-asked a is)
 
-pub plain-told : (t : Told) → IsTold t → HasNoFeed (told_text t)
+pub plain-told : (t : GiveHeader) → IsGiveHeader t → HasNoFeed (told_text t)
 plain-told t is = plain (told_text t) (feedless-told t is)
 
 -- ---- the first line of a stream

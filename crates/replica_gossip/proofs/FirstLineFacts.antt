@@ -8,7 +8,7 @@ use Rattle.std.proofs.lemmas.List.{append_cancel_left}
 use Rattle.hex.specs.Hex.{encode_lower, decode_sized}
 use Rattle.receipt_core.specs.Receipt.{IsDigest}
 use Rattle.receipt_core.proofs.HexFacts.{decode_sized-encode_lower}
-use Rattle.replica_gossip.specs.Messages.{Asked, Told, distrusts_part, quoted, told_text}
+use Rattle.replica_gossip.specs.Messages.{Asked, GiveHeader, distrusts_part, quoted, told_text}
 use Rattle.replica_gossip.specs.FirstLines.{IsAskedLine, IsToldLine}
 use Rattle.replica_gossip.proofs.AskedFacts.{behind_bucket, behind_config, behind_format, behind_ids, small-bucket, whole-line}
 use Rattle.replica_gossip.proofs.IdFacts.{later_text}
@@ -103,14 +103,14 @@ one-part (Some m) (Some n) more rest p q e =
     let number = one-number m n 44 44 (drop 1 (format_label ++ more)) (drop 1 (format_label ++ rest)) p q refl refl (append_cancel_left records_label _ _ both) in
     (ap Some number.0, append_cancel_left format_label more rest number.1)
 
-pub one-told : (text : List ℕ) (a b : Told) → IsToldLine text a → IsToldLine text b → a ≡ b
+pub one-told : (text : List ℕ) (a b : GiveHeader) → IsToldLine text a → IsToldLine text b → a ≡ b
 unfolding told_text
 one-told text a b p q =
-    let last : Told → List ℕ = λ t. codes ",\"of\":" ++ (decimal t.buckets ++ codes "}") in
-    let later : Told → List ℕ = λ t. decimal t.format ++ last t in
-    let behind : Told → List ℕ = λ t. distrusts_part t.distrusts ++ (format_label ++ later t) in
-    let counted : Told → List ℕ = λ t. codes "\",\"count\":" ++ (decimal t.count ++ behind t) in
-    let configured : Told → List ℕ = λ t. codes ",\"config\":\"" ++ (encode_lower t.config ++ counted t) in
+    let last : GiveHeader → List ℕ = λ t. codes ",\"of\":" ++ (decimal t.buckets ++ codes "}") in
+    let later : GiveHeader → List ℕ = λ t. decimal t.format ++ last t in
+    let behind : GiveHeader → List ℕ = λ t. distrusts_part t.distrusts ++ (format_label ++ later t) in
+    let counted : GiveHeader → List ℕ = λ t. codes "\",\"count\":" ++ (decimal t.count ++ behind t) in
+    let configured : GiveHeader → List ℕ = λ t. codes ",\"config\":\"" ++ (encode_lower t.config ++ counted t) in
     let few : a.bucket < 2 ^ 64 = let below = p.is.bucket in let many = p.is.buckets in omega (arith, below, many) in
     let few_too : b.bucket < 2 ^ 64 = let below = q.is.bucket in let many = q.is.buckets in omega (arith, below, many) in
     let whole : codes "{\"bucket\":" ++ (decimal a.bucket ++ configured a) ≡ codes "{\"bucket\":" ++ (decimal b.bucket ++ configured b) = sym p.spelt ∙ q.spelt in

@@ -20,10 +20,10 @@ use Rattle.replica_sync.specs.declared.error.SyncError.{SyncError}
 use Rattle.replica_sync.proofs.HeldFacts.{AllBelow, below_last, rising_head, rising_tail, text_cmp}
 use Rattle.replica_sync.proofs.SnapshotFacts.{consumes_both}
 use Rattle.replica_gossip.specs.Messages.{receipt_text, record_text, reply_text, told_of, told_text}
-use Rattle.replica_gossip.specs.FirstLines.{Expected, IsTold}
+use Rattle.replica_gossip.specs.FirstLines.{Expected, IsGiveHeader}
 use Rattle.replica_gossip.specs.Answers.{Heads, IsAnswer, IsBegun, RefusesGive, Wants, content_lines}
 use Rattle.replica_gossip.specs.Spelling.{HasHead, TellsHead, told_by_head}
-use Rattle.replica_gossip.specs.Gathering.{StopsGathering, Gathers, GathersAll, IsFurther, IsWhole, Pushes, pushed}
+use Rattle.replica_gossip.specs.Gathering.{StopsGathering, Gathers, GathersAll, IsNextAnswerLine, IsWhole, Pushes, pushed}
 use Rattle.replica_gossip.specs.declared.told_reader.Head.{Head}
 
 -- ---- the bound of a line that says something
@@ -154,7 +154,7 @@ gathers-none count distrusts stream content none = subst (λ s. Gathers count di
     nothing None = tt
     nothing (Some bytes) = refl
 
-pub gathers-more : (count distrusts : ℕ) (stream before after : Option (List ℕ)) (old new : State) → Gathers count distrusts stream old before → IsFurther count distrusts old before new after
+pub gathers-more : (count distrusts : ℕ) (stream before after : Option (List ℕ)) (old new : State) → Gathers count distrusts stream old before → IsNextAnswerLine count distrusts old before new after
     → Gathers count distrusts stream new after
 gathers-more count distrusts stream before after old new g f =
     let grown = grows count distrusts old g.begun f.wanted f.text new f.wants f.pushes in
@@ -187,7 +187,7 @@ whole-reply old middle new h content head all =
 pub whole-answer : (old middle new : Option (List ℕ)) (h : Head) (content : State) → HasHead None old middle h → GathersAll h.count h.distrusts middle content new
     → IsAnswer (record { bucket = h.bucket; config = h.config.0; content = content })
 whole-answer old middle new h content head all = record {
-  told = subst IsTold (told-whole h content all.whole) head.tells.tells.line.is;
+  told = subst IsGiveHeader (told-whole h content all.whole) head.tells.tells.line.is;
   valid = all.gathers.begun.valid;
   rising = all.gathers.begun.rising;
 }

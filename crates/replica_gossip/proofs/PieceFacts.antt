@@ -4,7 +4,7 @@ use Rattle.std.specs.Prelude.{codes, decimal}
 use Rattle.std.specs.List.{flat_map, join_by}
 use Rattle.hex.specs.Hex.{encode_lower}
 use Rattle.receipt_core.specs.declared.receipt_id.ReceiptId.{ReceiptId}
-use Rattle.replica_gossip.specs.Messages.{quoted, Asked, asked_text, Told, distrusts_part, told_text}
+use Rattle.replica_gossip.specs.Messages.{quoted, Asked, asked_text, GiveHeader, distrusts_part, told_text}
 use Rattle.replica_gossip.proofs.Glue.{glue}
 
 abbrev pub bytes_of : ReceiptId → List ℕ
@@ -36,7 +36,7 @@ asked-pushed a s0 s1 s2 s3 s4 s5 s6 s7 s8 s9 s10 s11 e1 e2 e3 e4 e5 e6 e7 e8 e9 
     (glue s6 s7 s11 _ _ e7 (glue s7 s8 s11 _ _ e8 (glue s8 s9 s11 _ _ e9 (glue s9 s10 s11 _ _ e10 e11)))))))))
 
 -- the first line of an answer, piece by piece
-pub told-pushed : (t : Told) (s0 s1 s2 s3 s4 s5 s6 s7 s8 s9 s10 s11 s12 : List ℕ) → s1 ≡ s0 ++ codes "{\"bucket\":" → s2 ≡ s1 ++ decimal t.bucket → s3 ≡ s2 ++ codes ",\"config\":\""
+pub told-pushed : (t : GiveHeader) (s0 s1 s2 s3 s4 s5 s6 s7 s8 s9 s10 s11 s12 : List ℕ) → s1 ≡ s0 ++ codes "{\"bucket\":" → s2 ≡ s1 ++ decimal t.bucket → s3 ≡ s2 ++ codes ",\"config\":\""
     → s4 ≡ s3 ++ encode_lower t.config → s5 ≡ s4 ++ codes "\",\"count\":" → s6 ≡ s5 ++ decimal t.count → s7 ≡ s6 ++ distrusts_part t.distrusts
     → s8 ≡ s7 ++ codes ",\"format\":" → s9 ≡ s8 ++ decimal t.format → s10 ≡ s9 ++ codes ",\"of\":" → s11 ≡ s10 ++ decimal t.buckets → s12 ≡ s11 ++ codes "}"
     → s12 ≡ s0 ++ told_text t

@@ -14,7 +14,7 @@ use Rattle.receipt_core.specs.Acceptance.{Meaning}
 use Rattle.byte_lines.specs.Device.{AppendsBeginning}
 use Rattle.receipt_core.specs.Receipt.{receipt_cmp}
 use Rattle.receipt_core.specs.Rising.{placed, with_item, with_items}
-use Rattle.replica_sync.specs.State.{State, joined, meaning_of}
+use Rattle.replica_sync.specs.State.{State, joined, meaning_of_state}
 use Rattle.replica_sync.specs.Session.{Question, Reply, question_of, state_of}
 use Rattle.replica_sync.specs.declared.error.SyncError.{SyncError}
 use Rattle.replica_sync.specs.declared.error.SyncError.TheVariants.{BadHeader, ConfigDiffers, VersionDiffers, NotCanonical, NotRising, BadCount, Truncated, Refused, Io, NoMemory}
@@ -50,7 +50,7 @@ pub record AskedUpTo (old : Meaning) (stream before : Option (List ℕ)) (bucket
   pub replies : List Reply
   pub session : Session old.config stream replies left
   pub number : length replies ≡ bucket
-  pub meaning : now ≡ meaning_of old.config (after_replies (state_of old) replies)
+  pub meaning : now ≡ meaning_of_state old.config (after_replies (state_of old) replies)
   pub asked : Appends before after (flat_map question_text (questions_of old.config 0 (state_of old) replies))
   pub read_is : read ≡ line_count replies
 
@@ -60,7 +60,7 @@ none_consumed (Some bytes) = refl
 
 more_at : (old : Meaning) (stream before : Option (List ℕ)) (bucket : ℕ) (now : Meaning) (left after : Option (List ℕ)) (read : ℕ) (new : Meaning) (left_then after_then : Option (List ℕ)) (read_then : ℕ)
     → (so_far : AskedUpTo old stream before bucket now left after read)
-    → TakesReply (meaning_of old.config (after_replies (state_of old) so_far.replies)) bucket left read new left_then read_then
+    → TakesReply (meaning_of_state old.config (after_replies (state_of old) so_far.replies)) bucket left read new left_then read_then
     → Appends after after_then (question_text (question_in old.config (after_replies (state_of old) so_far.replies) bucket))
     → AskedUpTo old stream before (bucket + 1) new left_then after_then read_then
 more_at old stream before bucket now left after read new left_then after_then read_then so_far takes asks =
@@ -78,7 +78,7 @@ more_at old stream before bucket now left after read new left_then after_then re
         text = subst (Consumes stream left_then) (sym (texts_more reply_text replies takes.reply)) (consumes_both stream left left_then (flat_map reply_text replies) (reply_text takes.reply) so_far.session.text takes.text);
       };
       number = omega (arith, longer, number);
-      meaning = takes.meaning ∙ ap (meaning_of old.config) (sym (fold-append (λ held reply. joined held reply.content) (state_of old) replies (takes.reply ∷ [])));
+      meaning = takes.meaning ∙ ap (meaning_of_state old.config) (sym (fold-append (λ held reply. joined held reply.content) (state_of old) replies (takes.reply ∷ [])));
       asked = subst (Appends before after_then) (sym (ap (flat_map question_text) (questions_more old.config 0 bucket (state_of old) replies takes.reply place) ∙ texts_more question_text (questions_of old.config 0 (state_of old) replies) _))
           (Appends-trans before after after_then (flat_map question_text (questions_of old.config 0 (state_of old) replies)) _ so_far.asked asks);
       read_is = omega (arith, read_is, more, lines);
@@ -128,7 +128,7 @@ asked_whole (Err e) a b text p = written_all e a b text p
 
 stops_at : (old : Meaning) (stream before : Option (List ℕ)) (bucket : ℕ) (now : Meaning) (left after : Option (List ℕ)) (read : ℕ) (new : Meaning) (after_then : Option (List ℕ)) (e : SyncError) → bucket < 256
     → (so_far : AskedUpTo old stream before bucket now left after read)
-    → StopsReply (meaning_of old.config (after_replies (state_of old) so_far.replies)) (length so_far.replies) (line_count so_far.replies + 1) left new e
+    → StopsReply (meaning_of_state old.config (after_replies (state_of old) so_far.replies)) (length so_far.replies) (line_count so_far.replies + 1) left new e
     → IsWritten e after after_then (question_text (question_in old.config (after_replies (state_of old) so_far.replies) (length so_far.replies)))
     → PullsUpTo old stream before new after_then e
 stops_at old stream before bucket now left after read new after_then e few so_far stops asks =

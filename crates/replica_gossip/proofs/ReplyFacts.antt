@@ -24,9 +24,9 @@ use Rattle.replica_sync.specs.declared.error.SyncError.TheVariants.{BadHeader, C
 use Rattle.replica_sync.proofs.FeedFacts.{Feedless, feedless_line, feedless_record}
 use Rattle.replica_sync.proofs.HeldFacts.{all_back, rising_head, rising_tail, text_cmp}
 use Rattle.replica_sync.proofs.OneFacts.{held_back, lines_back}
-use Rattle.replica_gossip.specs.Messages.{Told, distrusts_part, reply_text, told_of, told_text}
-use Rattle.replica_gossip.specs.FirstLines.{Expected, HasBadFirst, IsAbout, IsOwn, IsRecordCount, IsTold, IsToldLine, RefusesTold, config_of}
-use Rattle.replica_gossip.specs.Answers.{AnswerBegins, IsAnswer, IsBegun, IsContent, HasBadNext, RefusesGive, RefusesHead, RefusesNext, Wants, content_lines, refused_text}
+use Rattle.replica_gossip.specs.Messages.{GiveHeader, distrusts_part, reply_text, told_of, told_text}
+use Rattle.replica_gossip.specs.FirstLines.{Expected, HasBadFirstLine, IsAbout, IsOwn, IsRecordCount, IsGiveHeader, IsToldLine, RefusesTold, config_of}
+use Rattle.replica_gossip.specs.Answers.{AnswerBegins, IsAnswer, IsBegun, IsContent, HasBadNext, RefusesGive, RefusesHead, RefusesNextEntry, Wants, content_lines, refused_text}
 use Rattle.replica_gossip.proofs.AskableFacts.{first-cause, no-other}
 use Rattle.replica_gossip.proofs.ContentFacts.{text_of_content}
 use Rattle.replica_gossip.proofs.FeedlessFacts.{no-first, plain-told, same-line}
@@ -41,7 +41,7 @@ told-line r is = record { is = is.told; spelt = refl }
 short-number : (n : ℕ) → n < 2 ^ 64 → length (decimal n) ≤ 20
 short-number n h = length-decimal-le 20 n (omega arith) (omega (arith, h)) h
 
-short-part : (t : Told) → IsTold t → length (distrusts_part t.distrusts) ≤ 33
+short-part : (t : GiveHeader) → IsGiveHeader t → length (distrusts_part t.distrusts) ≤ 33
 short-part t is = by-count t.distrusts is.records
   where
     by-count : (d : Option ℕ) → IsRecordCount t.format d → length (distrusts_part d) ≤ 33
@@ -53,7 +53,7 @@ parts-length : (b c n d f k : List ℕ)
     ≡ length b + length c + length n + length d + length f + length k + 48
 parts-length b c n d f k = simp length-append (omega arith)
 
-short-told : (t : Told) → IsTold t → length (told_text t) ≤ 8388608
+short-told : (t : GiveHeader) → IsGiveHeader t → length (told_text t) ≤ 8388608
 unfolding told_text
 short-told t is =
     let whole = parts-length (decimal t.bucket) (encode_lower t.config) (decimal t.count) (distrusts_part t.distrusts) (decimal t.format) (decimal t.buckets) in
@@ -71,10 +71,10 @@ no-bad-told expected r e is about own ample (inl long) = let more = long.1 in le
 no-bad-told expected r BadHeader is about own ample (inr none) = none (told_of r) (record { line = told-line r is; about = about })
 no-bad-told expected r ConfigDiffers is about own ample (inr h) =
     let same = one-told (told_text (told_of r)) h.told (told_of r) h.tells.line (told-line r is) in
-    no-other (config_of expected) r.config h.told.config own (ap (λ (t : Told). t.config) same) h.other
+    no-other (config_of expected) r.config h.told.config own (ap (λ (t : GiveHeader). t.config) same) h.other
 no-bad-told expected r VersionDiffers is about own ample (inr h) =
     let same = one-told (told_text (told_of r)) h.told (told_of r) h.tells.line (told-line r is) in
-    h.unspoken (ap (λ (t : Told). t.format) same, ap (λ (t : Told). t.buckets) same)
+    h.unspoken (ap (λ (t : GiveHeader). t.format) same, ap (λ (t : GiveHeader). t.buckets) same)
 no-bad-told expected r (NotCanonical n) is about own ample (inr h) = h
 no-bad-told expected r (NotRising n) is about own ample (inr h) = h
 no-bad-told expected r BadCount is about own ample (inr h) = h
@@ -136,8 +136,8 @@ pub same-reply : (bytes : List ℕ) (a b : Reply) (left rest : List ℕ) → IsA
 same-reply bytes a b left rest is valid e f =
     let first = same-line bytes (told_text (told_of a)) (told_text (told_of b)) _ _ (plain-told (told_of a) is.told) (plain-told (told_of b) valid.told) (in-lines bytes a left e) (in-lines bytes b rest f) in
     let told : told_of a ≡ told_of b = one-told (told_text (told_of a)) (told_of a) (told_of b) (told-line a is) (record { is = valid.told; spelt = first.line }) in
-    let receipts : length a.content.held ≡ length b.content.held = ap (λ (t : Told). t.count) told in
-    let records : length a.content.records ≡ length b.content.records = some-once _ _ (ap (λ (t : Told). t.distrusts) told) in
+    let receipts : length a.content.held ≡ length b.content.held = ap (λ (t : GiveHeader). t.count) told in
+    let records : length a.content.records ≡ length b.content.records = some-once _ _ (ap (λ (t : GiveHeader). t.distrusts) told) in
     let many = count-lines a.content in
     let many_too = count-lines b.content in
     let lines = same-front (content_lines a.content) (content_lines b.content) _ _ (omega (arith, receipts, records, many, many_too)) (same-lines a.content b.content left rest is.valid valid.valid first.rest) in
@@ -286,7 +286,7 @@ module _ (whole content : State) (count distrusts : ℕ) (rest after : List ℕ)
 
   no-next-fault : (refuses : Wanted → List ℕ → List ℕ → SyncError → Type 0) (new : Option (List ℕ)) (e : SyncError)
       → ((wanted : Wanted) (text : List ℕ) → IsGood whole content wanted text → refuses wanted (last_of (content_lines content)) text e → ⊥)
-      → e ≢ Io → e ≢ NoMemory → RefusesNext refuses count distrusts content (Some rest) new e → ⊥
+      → e ≢ Io → e ≢ NoMemory → RefusesNextEntry refuses count distrusts content (Some rest) new e → ⊥
   no-next-fault refuses new BadHeader welcome calm ample h = h
   no-next-fault refuses new ConfigDiffers welcome calm ample h = h
   no-next-fault refuses new VersionDiffers welcome calm ample h = h
@@ -301,7 +301,7 @@ module _ (whole content : State) (count distrusts : ℕ) (rest after : List ℕ)
 -- ---- no fault
 
 module _ (expected : Option Expected) (bytes : List ℕ) (r : Reply) (after : List ℕ) (is : IsAnswer r) (about : IsAbout expected r.bucket) (own : IsOwn (config_of expected) r.config) (begins : bytes ≡ reply_text r ++ after) where
-  bad-first : (new : Option (List ℕ)) (e : SyncError) → e ≢ NoMemory → HasBadFirst (RefusesTold expected) (Some bytes) new e → ⊥
+  bad-first : (new : Option (List ℕ)) (e : SyncError) → e ≢ NoMemory → HasBadFirstLine (RefusesTold expected) (Some bytes) new e → ⊥
   bad-first new e ample h =
       no-bad-told expected r e is about own ample
       (first-cause (RefusesTold expected) bytes (told_text (told_of r)) _ new e (plain-told (told_of r) is.told) (in-lines bytes r after begins) h)
@@ -326,14 +326,14 @@ module _ (expected : Option Expected) (bytes : List ℕ) (r : Reply) (after : Li
       let told : b.heads.told ≡ told_of r = one-told b.first b.heads.told (told_of r) line (record { is = is.told; spelt = first.line }) in
       record {
         begun = b.begun;
-        receipts = b.heads.receipts ∙ ap (λ (t : Told). t.count) told;
-        records = some-once distrusts (length r.content.records) (b.heads.records ∙ ap (λ (t : Told). t.distrusts) told);
+        receipts = b.heads.receipts ∙ ap (λ (t : GiveHeader). t.count) told;
+        records = some-once distrusts (length r.content.records) (b.heads.records ∙ ap (λ (t : GiveHeader). t.distrusts) told);
         lines = same-lines content r.content rest after b.begun.valid is.valid first.rest;
       }
 
   pub no-fault-behind : (refuses : Wanted → List ℕ → List ℕ → SyncError → Type 0) (count distrusts : ℕ) (content : State) (left new : Option (List ℕ)) (e : SyncError)
       → ((wanted : Wanted) (text : List ℕ) → IsGood r.content content wanted text → refuses wanted (last_of (content_lines content)) text e → ⊥)
-      → e ≢ Io → e ≢ NoMemory → AnswerBegins expected (Some bytes) count distrusts content left → RefusesNext refuses count distrusts content left new e → ⊥
+      → e ≢ Io → e ≢ NoMemory → AnswerBegins expected (Some bytes) count distrusts content left → RefusesNextEntry refuses count distrusts content left new e → ⊥
   no-fault-behind refuses count distrusts content None new e welcome calm ample b h = b.text
   no-fault-behind refuses count distrusts content (Some rest) new e welcome calm ample b h =
       no-next-fault r.content content count distrusts rest after is.valid is.rising (is-part count distrusts content rest b) refuses new e welcome calm ample h

@@ -15,18 +15,18 @@ use Rattle.replica_sync.specs.declared.error.SyncError.{SyncError}
 use Rattle.replica_sync.specs.declared.error.SyncError.TheVariants.{BadHeader, ConfigDiffers, VersionDiffers, NotCanonical, NotRising, BadCount, Truncated, Refused, Io, NoMemory}
 use Rattle.replica_gossip.specs.Messages.{question_text, reply_text}
 use Rattle.replica_gossip.specs.Questions.{Asks, IsQuestionOf, IsWritten, RefusesFurther, RefusesQuestion, ServesUpTo, replies_text}
-use Rattle.replica_gossip.specs.Asking.{HasAsked, IsNoneAsked, RefusesLine, RefusesSpoken, asking_by}
+use Rattle.replica_gossip.specs.Asking.{HasAsked, IsNoneAsked, RefusesHaveLine, RefusesSpoken, asking_by}
 use Rattle.replica_gossip.specs.Serving.{FailsReading, FailsWriting, Served, ServesOne}
 use Rattle.replica_gossip.specs.declared.asking.Asking.{Asking}
 use Rattle.replica_gossip.proofs.Written.{begins-second}
 
 -- ---- one question
 
-pub refused-line : (old new : Option (List ℕ)) (text : List ℕ) (e : SyncError) → HasLine old new text → IsNoneAsked text e → RefusesLine old new e
-refused-line old new text e is (inl none) = subst (RefusesLine old new) (sym none.0) (record { text = text; is = is; cause = inr none.1 })
-refused-line old new text e is (inr memory) = subst (RefusesLine old new) (sym memory) tt
+pub refused-line : (old new : Option (List ℕ)) (text : List ℕ) (e : SyncError) → HasLine old new text → IsNoneAsked text e → RefusesHaveLine old new e
+refused-line old new text e is (inl none) = subst (RefusesHaveLine old new) (sym none.0) (record { text = text; is = is; cause = inr none.1 })
+refused-line old new text e is (inr memory) = subst (RefusesHaveLine old new) (sym memory) tt
 
-pub refused-question : (old new : Option (List ℕ)) (e : SyncError) → RefusesLine old new e → RefusesQuestion None old new e
+pub refused-question : (old new : Option (List ℕ)) (e : SyncError) → RefusesHaveLine old new e → RefusesQuestion None old new e
 refused-question old new BadHeader h = h
 refused-question old new ConfigDiffers h = absurd h
 refused-question old new VersionDiffers h = absurd h
@@ -42,7 +42,7 @@ pub no-line-at-end : (old : Option (List ℕ)) → IsAtEnd old → HasNoLine old
 no-line-at-end None h = tt
 no-line-at-end (Some xs) h = subst HasNoFeed (sym h) (λ i d below. absurd (omega arith))
 
-pub refused-further : (config : Configuration) (old new : Option (List ℕ)) (e : SyncError) → RefusesLine old new e → RefusesFurther config old e
+pub refused-further : (config : Configuration) (old new : Option (List ℕ)) (e : SyncError) → RefusesHaveLine old new e → RefusesFurther config old e
 refused-further config old new BadHeader h = (new, record { text = h.text; is = h.is; cause = h.cause })
 refused-further config old new ConfigDiffers h = absurd h
 refused-further config old new VersionDiffers h = absurd h

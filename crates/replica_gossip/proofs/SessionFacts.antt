@@ -6,7 +6,7 @@ use Rattle.fed_config.specs.Configuration.{Configuration}
 use Rattle.receipt_core.specs.Acceptance.{Meaning}
 use Rattle.byte_lines.specs.Lines.{HasLine}
 use Rattle.trust_closure.specs.declared.error.TakeError.{TakeError}
-use Rattle.replica_sync.specs.State.{State, meaning_of}
+use Rattle.replica_sync.specs.State.{State, meaning_of_state}
 use Rattle.replica_sync.specs.Session.{Question, Reply, state_of}
 use Rattle.replica_sync.specs.Snapshots.{ended, last_of}
 use Rattle.replica_sync.specs.declared.entry.Wanted.{Wanted}
@@ -182,4 +182,4 @@ pub pulled-once : (old : Meaning) (bytes : List ℕ) (before after since then : 
 pulled-once old bytes before after since then new now all other =
     let many : length all.replies ≡ length other.replies = all.all ∙ sym other.all in
     let same = both-replies old.config bytes all.replies other.replies all.left other.left all.session.each other.session.each many all.session.text other.session.text in
-    all.meaning ∙ ap (λ (rs : List Reply). meaning_of old.config (after_replies (state_of old) rs)) same ∙ sym other.meaning
+    all.meaning ∙ ap (λ (rs : List Reply). meaning_of_state old.config (after_replies (state_of old) rs)) same ∙ sym other.meaning

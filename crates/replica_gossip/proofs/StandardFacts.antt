@@ -3,7 +3,7 @@ use Rattle.std.proofs.Common.{◌≡◌, [], ◌∷◌, Some, None, codes, refl}
 use Rattle.std.specs.Fmt.{digits}
 use Rattle.hex.specs.Hex.{encode_with}
 use Rattle.replica_sync.specs.Session.{Question, Reply}
-use Rattle.replica_gossip.specs.Messages.{Asked, asked_text, Told, told_text, question_text, reply_text}
+use Rattle.replica_gossip.specs.Messages.{Asked, asked_text, GiveHeader, told_text, question_text, reply_text}
 
 -- ---- questions
 

@@ -8,7 +8,7 @@ use Rattle.byte_lines.specs.Lines.{HasLine}
 use Rattle.replica_sync.specs.State.{State, no_state}
 use Rattle.replica_sync.specs.Session.{state_of}
 use Rattle.replica_sync.specs.Snapshots.{last_of, text_of_lines}
-use Rattle.replica_sync.specs.Entries.{IsWanted, RefusesLine, TakesText, entry_line, with_entry}
+use Rattle.replica_sync.specs.Entries.{IsWanted, RefusesEntryLine, TakesEntryText, entry_line, with_entry}
 use Rattle.replica_sync.specs.declared.entry.Entry.{Entry}
 use Rattle.replica_sync.specs.declared.entry.Entry.TheVariants.{Record, Receipt as AReceipt}
 use Rattle.replica_sync.specs.declared.entry.Wanted.{Wanted}
@@ -16,10 +16,10 @@ use Rattle.replica_sync.specs.declared.entry.Wanted.TheVariants.{Records, Receip
 use Rattle.replica_sync.specs.declared.error.SyncError.{SyncError}
 use Rattle.replica_sync.specs.declared.error.SyncError.TheVariants.{BadHeader, ConfigDiffers, VersionDiffers, NotCanonical, NotRising, BadCount, Truncated, Refused, Io, NoMemory}
 use Rattle.replica_sync.proofs.HeldFacts.{text_cmp, last_pushed}
-use Rattle.replica_gossip.specs.Answers.{content_lines, IsBegun, IsContent, RefusesNext, Wants, next_number}
+use Rattle.replica_gossip.specs.Answers.{content_lines, IsBegun, IsContent, RefusesNextEntry, Wants, next_entry_number}
 use Rattle.replica_gossip.specs.Gathering.{pushed}
 use Rattle.replica_gossip.specs.Pulling.{refused_line}
-use Rattle.replica_gossip.specs.Taking.{gained, HasNotTaken, HasTaken, IsNextOf, RefusesTaking, StopsWithin, TakesNext}
+use Rattle.replica_gossip.specs.Taking.{meaning_gained, HasNotTaken, HasTakenPart, IsNextOf, RefusesTakingLine, StopsWithin, TakesNext}
 use Rattle.replica_gossip.proofs.ContentFacts.{HasPlace, all_pushed, consumes_one, gained_pushed, lines_pushed, rising_pushed}
 
 -- ---- so much of an answer
@@ -27,7 +27,7 @@ use Rattle.replica_gossip.proofs.ContentFacts.{HasPlace, all_pushed, consumes_on
 -- So much of the answer is taken, so many lines are still to come, and the last one and the number of lines are known.
 pub record SoFar (old : Meaning) (stream : Option (List ℕ)) (count distrusts first receipts records : ℕ) (now : Meaning) (left : Option (List ℕ)) (last : List ℕ) (read : ℕ) : Type 0 where
   pub content : State
-  pub taken : HasTaken old stream count distrusts content now left
+  pub taken : HasTakenPart old stream count distrusts content now left
   pub last_is : last ≡ last_of (content_lines content)
   pub receipts_due : length content.held + receipts ≡ count
   pub records_due : length content.records + records ≡ distrusts
@@ -128,8 +128,8 @@ counted Receipts (AReceipt r) content receipts records receipts_then records_the
 counted Either entry content receipts records receipts_then records_then is h = absurd h
 
 taken_pushed : (wanted : Wanted) (old : Meaning) (stream : Option (List ℕ)) (count distrusts : ℕ) (content : State) (now new : Meaning) (left after : Option (List ℕ)) (text : List ℕ) (number : ℕ)
-    → HasTaken old stream count distrusts content now left → Wants count distrusts content wanted → HasLine left after text → (taken : TakesText wanted now (last_of (content_lines content)) text new number)
-    → HasTaken old stream count distrusts (pushed taken.entry content) new after
+    → HasTakenPart old stream count distrusts content now left → Wants count distrusts content wanted → HasLine left after text → (taken : TakesEntryText wanted now (last_of (content_lines content)) text new number)
+    → HasTakenPart old stream count distrusts (pushed taken.entry content) new after
 taken_pushed wanted old stream count distrusts content now new left after text number so_far w is taken =
     let place = has_place wanted taken.entry count distrusts content taken.next.is.is so_far.begun w in
     let lines : content_lines (pushed taken.entry content) ≡ content_lines content ++ text ∷ [] =
@@ -143,7 +143,7 @@ taken_pushed wanted old stream count distrusts content now new left after text n
     }
 
 last_taken : (wanted : Wanted) (count distrusts : ℕ) (content : State) (now new : Meaning) (text : List ℕ) (number : ℕ) → IsBegun count distrusts content → Wants count distrusts content wanted
-    → (taken : TakesText wanted now (last_of (content_lines content)) text new number) → text ≡ last_of (content_lines (pushed taken.entry content))
+    → (taken : TakesEntryText wanted now (last_of (content_lines content)) text new number) → text ≡ last_of (content_lines (pushed taken.entry content))
 last_taken wanted count distrusts content now new text number begun w taken =
     let place = has_place wanted taken.entry count distrusts content taken.next.is.is begun w in
     taken.next.is.spelt ∙ sym (ap last_of (lines_pushed taken.entry content place) ∙ last_pushed (content_lines content) (entry_line taken.entry))
@@ -155,7 +155,7 @@ so_far_more wanted old stream count distrusts first receipts records receipts_th
     let content = so_far.content in
     let w = wants wanted count distrusts content receipts records receipts_then records_then next so_far.receipts_due so_far.records_due in
     let number = takes.taken.0 in
-    let taken : TakesText wanted now (last_of (content_lines content)) text new number = subst (λ (l : List ℕ). TakesText wanted now l text new number) so_far.last_is takes.taken.1 in
+    let taken : TakesEntryText wanted now (last_of (content_lines content)) text new number = subst (λ (l : List ℕ). TakesEntryText wanted now l text new number) so_far.last_is takes.taken.1 in
     let c = counted wanted taken.entry content receipts records receipts_then records_then taken.next.is.is next in
     let c_held = c.held in
     let c_records = c.records_held in
@@ -174,25 +174,25 @@ so_far_more wanted old stream count distrusts first receipts records receipts_th
 
 -- ---- why it stops
 
-cause_at : (wanted : Wanted) (m now : Meaning) (before last : List ℕ) (next number : ℕ) (text : List ℕ) (e : SyncError) → now ≡ m → last ≡ before → number ≡ next → RefusesLine wanted now last number text e
-    → RefusesLine wanted m before next text e
+cause_at : (wanted : Wanted) (m now : Meaning) (before last : List ℕ) (next number : ℕ) (text : List ℕ) (e : SyncError) → now ≡ m → last ≡ before → number ≡ next → RefusesEntryLine wanted now last number text e
+    → RefusesEntryLine wanted m before next text e
 cause_at wanted m now before last next number text e p q r h =
-    subst (λ (x : Meaning). RefusesLine wanted x before next text e) p (subst (λ (l : List ℕ). RefusesLine wanted now l next text e) q (subst (λ (n : ℕ). RefusesLine wanted now last n text e) r h))
+    subst (λ (x : Meaning). RefusesEntryLine wanted x before next text e) p (subst (λ (l : List ℕ). RefusesEntryLine wanted now l next text e) q (subst (λ (n : ℕ). RefusesEntryLine wanted now last n text e) r h))
 
 bad_next : (wanted : Wanted) (old : Meaning) (first count distrusts : ℕ) (content : State) (now : Meaning) (last : List ℕ) (number : ℕ) (left after : Option (List ℕ)) (e : SyncError) → Wants count distrusts content wanted
-    → now ≡ gained old content → last ≡ last_of (content_lines content) → number ≡ next_number first content → RefusesTaking wanted now last number left after e
-    → RefusesNext (refused_line old.config (state_of old) first content) count distrusts content left after e
+    → now ≡ meaning_gained old content → last ≡ last_of (content_lines content) → number ≡ next_entry_number first content → RefusesTakingLine wanted now last number left after e
+    → RefusesNextEntry (refused_line old.config (state_of old) first content) count distrusts content left after e
 bad_next wanted old first count distrusts content now last number left after BadHeader w m l n h = absurd h
 bad_next wanted old first count distrusts content now last number left after ConfigDiffers w m l n h = absurd h
 bad_next wanted old first count distrusts content now last number left after VersionDiffers w m l n h = absurd h
 bad_next wanted old first count distrusts content now last number left after (NotCanonical k) w m l n h =
-    record { wanted = wanted; wants = w; text = h.text; is = h.is; cause = cause_at wanted (gained old content) now (last_of (content_lines content)) last (next_number first content) number h.text (NotCanonical k) m l n h.cause }
+    record { wanted = wanted; wants = w; text = h.text; is = h.is; cause = cause_at wanted (meaning_gained old content) now (last_of (content_lines content)) last (next_entry_number first content) number h.text (NotCanonical k) m l n h.cause }
 bad_next wanted old first count distrusts content now last number left after (NotRising k) w m l n h =
-    record { wanted = wanted; wants = w; text = h.text; is = h.is; cause = cause_at wanted (gained old content) now (last_of (content_lines content)) last (next_number first content) number h.text (NotRising k) m l n h.cause }
+    record { wanted = wanted; wants = w; text = h.text; is = h.is; cause = cause_at wanted (meaning_gained old content) now (last_of (content_lines content)) last (next_entry_number first content) number h.text (NotRising k) m l n h.cause }
 bad_next wanted old first count distrusts content now last number left after BadCount w m l n h = absurd h
 bad_next wanted old first count distrusts content now last number left after Truncated w m l n h = record { wanted = wanted; wants = w; ends = h }
 bad_next wanted old first count distrusts content now last number left after (Refused k why) w m l n h =
-    record { wanted = wanted; wants = w; text = h.text; is = h.is; cause = cause_at wanted (gained old content) now (last_of (content_lines content)) last (next_number first content) number h.text (Refused k why) m l n h.cause }
+    record { wanted = wanted; wants = w; text = h.text; is = h.is; cause = cause_at wanted (meaning_gained old content) now (last_of (content_lines content)) last (next_entry_number first content) number h.text (Refused k why) m l n h.cause }
 bad_next wanted old first count distrusts content now last number left after Io w m l n h = tt
 bad_next wanted old first count distrusts content now last number left after NoMemory w m l n h = tt
 
@@ -206,7 +206,7 @@ so_far_fails wanted old stream count distrusts first receipts records receipts_t
       content = content;
       left = left;
       after = after;
-      taken = subst (λ (m : Meaning). HasTaken old stream count distrusts content m left) (sym fails.same) so_far.taken;
+      taken = subst (λ (m : Meaning). HasTakenPart old stream count distrusts content m left) (sym fails.same) so_far.taken;
       cause = bad_next wanted old first count distrusts content now last (read + 1) left after e
           (wants wanted count distrusts content receipts records receipts_then records_then next so_far.receipts_due so_far.records_due)
           so_far.taken.meaning so_far.last_is (omega (arith, before)) fails.cause;

@@ -7,7 +7,7 @@ use Rattle.std.proofs.KnownBytes.{Appends-trans}
 use Rattle.std.specs.Prelude.{Result, Ok, Err, IsErr, true, false}
 use Rattle.byte_lines.specs.Device.{AppendsBeginning}
 use Rattle.replica_sync.specs.declared.error.SyncError.{SyncError}
-use Rattle.replica_gossip.specs.Messages.{Writes}
+use Rattle.replica_gossip.specs.Messages.{WritesText}
 
 pub nothing-appended : (a : Option (List ℕ)) → Appends a a []
 nothing-appended None = tt
@@ -40,11 +40,11 @@ wrote-begun old now new text rest piece later w e a =
     subst (AppendsBeginning old new) (sym (w.whole ∙ ap (λ t. w.pieces ++ t) e))
     (begins-second old now new w.pieces (piece ++ later) w.appended (begins-first now new piece later a))
 
-pub writes-err : (old new : Option (List ℕ)) (r : Result (Unit {0}) SyncError) (text : List ℕ) → IsErr r → AppendsBeginning old new text → Writes old new r text
+pub writes-err : (old new : Option (List ℕ)) (r : Result (Unit {0}) SyncError) (text : List ℕ) → IsErr r → AppendsBeginning old new text → WritesText old new r text
 writes-err old new (Ok done) text e begun = absurd (let f : false ≡ true = e in cc)
 writes-err old new (Err why) text e begun = begun
 
 -- the first piece was written, and then the second or a beginning of it
-pub writes-then : (old now new : Option (List ℕ)) (r : Result (Unit {0}) SyncError) (first second : List ℕ) → Appends old now first → Writes now new r second → Writes old new r (first ++ second)
+pub writes-then : (old now new : Option (List ℕ)) (r : Result (Unit {0}) SyncError) (first second : List ℕ) → Appends old now first → WritesText now new r second → WritesText old new r (first ++ second)
 writes-then old now new (Ok done) first second before written = Appends-trans old now new first second before written
 writes-then old now new (Err why) first second before begun = begins-second old now new first second before begun

@@ -10,11 +10,11 @@ use Rattle.receipt_core.specs.Receipt.{IsReceipt, line, IsDistrust, distrust_lin
 use Rattle.replica_sync.specs.State.{State}
 use Rattle.replica_sync.specs.Session.{Reply}
 use Rattle.replica_sync.specs.Snapshots.{ended, last_of, text_of_lines}
-use Rattle.replica_sync.specs.Entries.{RefusesText}
+use Rattle.replica_sync.specs.Entries.{RefusesEntryText}
 use Rattle.replica_sync.specs.declared.entry.Wanted.{Wanted}
 use Rattle.replica_sync.specs.declared.entry.Wanted.TheVariants.{Records, Receipts, Either}
-use Rattle.replica_gossip.specs.Messages.{Told, told_of}
-use Rattle.replica_gossip.specs.FirstLines.{Expected, TellsOf, IsOwn, IsSpoken, IsTold, config_of, HasBadFirst, RefusesTold}
+use Rattle.replica_gossip.specs.Messages.{GiveHeader, told_of}
+use Rattle.replica_gossip.specs.FirstLines.{Expected, TellsOf, IsOwn, IsSpoken, IsGiveHeader, config_of, HasBadFirstLine, RefusesTold}
 use Rattle.replica_sync.specs.declared.error.SyncError.{SyncError}
 use Rattle.replica_sync.specs.declared.error.SyncError.TheVariants.{BadHeader, ConfigDiffers, VersionDiffers, NotCanonical, NotRising, BadCount, Truncated, Refused, Io, NoMemory}
 
@@ -25,7 +25,7 @@ content_lines content = map distrust_line content.records ++ map line content.he
 -- It is a first line that is read: about the bucket that is wanted, of this configuration, in the one format that is
 -- spoken, with so many receipts and records.
 pub record Heads (expected : Option Expected) (text : List ℕ) (count distrusts : ℕ) : Type 0 where
-  pub told : Told
+  pub told : GiveHeader
   pub tells : TellsOf expected text told
   pub own : IsOwn (config_of expected) told.config
   pub spoken : IsSpoken told.format told.buckets
@@ -39,7 +39,7 @@ pub record IsContent (content : State) : Type 0 where
 
 -- It is an answer: its bucket is one of 256, its digest has 32 bytes, and the lines of what it gives rise.
 pub record IsAnswer (reply : Reply) : Type 0 where
-  pub told : IsTold (told_of reply)
+  pub told : IsGiveHeader (told_of reply)
   pub valid : IsContent reply.content
   pub rising : IsStrictlySortedBy (slice_cmp nat_cmp) (content_lines reply.content)
 
@@ -65,8 +65,8 @@ Wants count distrusts content Receipts = (length content.records ≡ distrusts) 
 Wants count distrusts content Either = ⊥
 
 -- the number of the next line, where the answer's first has the number
-abbrev pub next_number : ℕ → State → ℕ
-next_number first content = first + 1 + length content.records + length content.held
+abbrev pub next_entry_number : ℕ → State → ℕ
+next_entry_number first content = first + 1 + length content.records + length content.held
 
 -- The next line has a fault. It is used up.
 pub record HasBadNext (refuses : Wanted → List ℕ → List ℕ → SyncError → Type 0) (count distrusts : ℕ) (content : State) (left after : Option (List ℕ)) (e : SyncError) : Type 0 where
@@ -83,23 +83,23 @@ pub record HasNoNext (count distrusts : ℕ) (content : State) (left : Option (L
   pub ends : HasNoLine left
 
 -- why the line that is wanted behind so much of an answer is not read
-abbrev pub RefusesNext : (Wanted → List ℕ → List ℕ → SyncError → Type 0) → ℕ → ℕ → State → Option (List ℕ) → Option (List ℕ) → SyncError → Type 0
-RefusesNext refuses count distrusts content left after BadHeader = ⊥
-RefusesNext refuses count distrusts content left after ConfigDiffers = ⊥
-RefusesNext refuses count distrusts content left after VersionDiffers = ⊥
-RefusesNext refuses count distrusts content left after (NotCanonical n) = HasBadNext refuses count distrusts content left after (NotCanonical n)
-RefusesNext refuses count distrusts content left after (NotRising n) = HasBadNext refuses count distrusts content left after (NotRising n)
-RefusesNext refuses count distrusts content left after BadCount = ⊥
-RefusesNext refuses count distrusts content left after Truncated = HasNoNext count distrusts content left
-RefusesNext refuses count distrusts content left after (Refused n why) = HasBadNext refuses count distrusts content left after (Refused n why)
-RefusesNext refuses count distrusts content left after Io = Unit {0}
-RefusesNext refuses count distrusts content left after NoMemory = Unit {0}
+abbrev pub RefusesNextEntry : (Wanted → List ℕ → List ℕ → SyncError → Type 0) → ℕ → ℕ → State → Option (List ℕ) → Option (List ℕ) → SyncError → Type 0
+RefusesNextEntry refuses count distrusts content left after BadHeader = ⊥
+RefusesNextEntry refuses count distrusts content left after ConfigDiffers = ⊥
+RefusesNextEntry refuses count distrusts content left after VersionDiffers = ⊥
+RefusesNextEntry refuses count distrusts content left after (NotCanonical n) = HasBadNext refuses count distrusts content left after (NotCanonical n)
+RefusesNextEntry refuses count distrusts content left after (NotRising n) = HasBadNext refuses count distrusts content left after (NotRising n)
+RefusesNextEntry refuses count distrusts content left after BadCount = ⊥
+RefusesNextEntry refuses count distrusts content left after Truncated = HasNoNext count distrusts content left
+RefusesNextEntry refuses count distrusts content left after (Refused n why) = HasBadNext refuses count distrusts content left after (Refused n why)
+RefusesNextEntry refuses count distrusts content left after Io = Unit {0}
+RefusesNextEntry refuses count distrusts content left after NoMemory = Unit {0}
 
 -- why no first line is read, where one should begin
 abbrev pub RefusesHead : Option Expected → Option (List ℕ) → Option (List ℕ) → SyncError → Type 0
-RefusesHead expected old new BadHeader = HasBadFirst (RefusesTold expected) old new BadHeader
-RefusesHead expected old new ConfigDiffers = HasBadFirst (RefusesTold expected) old new ConfigDiffers
-RefusesHead expected old new VersionDiffers = HasBadFirst (RefusesTold expected) old new VersionDiffers
+RefusesHead expected old new BadHeader = HasBadFirstLine (RefusesTold expected) old new BadHeader
+RefusesHead expected old new ConfigDiffers = HasBadFirstLine (RefusesTold expected) old new ConfigDiffers
+RefusesHead expected old new VersionDiffers = HasBadFirstLine (RefusesTold expected) old new VersionDiffers
 RefusesHead expected old new (NotCanonical n) = ⊥
 RefusesHead expected old new (NotRising n) = ⊥
 RefusesHead expected old new BadCount = ⊥
@@ -112,17 +112,17 @@ RefusesHead expected old new NoMemory = Unit {0}
 
 -- what is wrong with a line where nothing is held yet
 abbrev pub refused_text : State → Wanted → List ℕ → List ℕ → SyncError → Type 0
-refused_text content wanted last text e = RefusesText wanted last (next_number 1 content) text e
+refused_text content wanted last text e = RefusesEntryText wanted last (next_entry_number 1 content) text e
 
 -- A good beginning, and behind it this fault.
-pub record FailsBehind (old new : Option (List ℕ)) (e : SyncError) : Type 0 where
+pub record AnswerFailsBehind (old new : Option (List ℕ)) (e : SyncError) : Type 0 where
   pub count : ℕ
   pub distrusts : ℕ
   pub content : State
   pub left : Option (List ℕ)
   pub begins : AnswerBegins None old count distrusts content left
-  pub cause : RefusesNext (refused_text content) count distrusts content left new e
+  pub cause : RefusesNextEntry (refused_text content) count distrusts content left new e
 
 -- Why no answer is read. The lines that were read are used up.
 abbrev pub RefusesGive : Option (List ℕ) → Option (List ℕ) → SyncError → Type 0
-RefusesGive old new e = RefusesHead None old new e ⊎ FailsBehind old new e
+RefusesGive old new e = RefusesHead None old new e ⊎ AnswerFailsBehind old new e

@@ -8,7 +8,7 @@ use Rattle.replica_sync.specs.Session.{Question}
 use Rattle.replica_sync.specs.declared.error.SyncError.{SyncError}
 use Rattle.replica_sync.specs.declared.error.SyncError.TheVariants.{BadHeader, ConfigDiffers, VersionDiffers, NotCanonical, NotRising, BadCount, Truncated, Refused, Io, NoMemory}
 use Rattle.replica_gossip.specs.Messages.{Asked, question_text, quoted}
-use Rattle.replica_gossip.specs.FirstLines.{HasBadFirst, IsAskedLine, IsSpoken, RefusesAsked}
+use Rattle.replica_gossip.specs.FirstLines.{HasBadFirstLine, IsAskedLine, IsSpoken, RefusesAsked}
 use Rattle.replica_gossip.specs.Questions.{IsQuestionOf}
 use Rattle.replica_gossip.specs.declared.asking.Asking.{Asking}
 use Rattle.replica_gossip.specs.declared.asking.Parts.{Parts}
@@ -17,7 +17,7 @@ abbrev pub asking_by : Asking → Asked
 asking_by a = record { question = record { bucket = a.bucket; config = a.have.config; ids = a.have.ids }; format = a.format; buckets = a.buckets }
 
 -- The parts are those of what is asked.
-pub record HasParts (p : Parts) (a : Asked) : Type 0 where
+pub record ArePartsOf (p : Parts) (a : Asked) : Type 0 where
   pub bucket : p.bucket ≡ a.question.bucket
   pub config : p.config.0 ≡ a.question.config
   pub format : p.format ≡ a.format
@@ -51,17 +51,17 @@ FindsAsked old new None = IsAtEnd old × IsAtEnd new
 FindsAsked old new (Some a) = HasAsked old new a
 
 -- why no line of a question is read, of whatever configuration, format and number of buckets
-abbrev pub RefusesLine : Option (List ℕ) → Option (List ℕ) → SyncError → Type 0
-RefusesLine old new BadHeader = HasBadFirst (RefusesAsked None) old new BadHeader
-RefusesLine old new ConfigDiffers = ⊥
-RefusesLine old new VersionDiffers = ⊥
-RefusesLine old new (NotCanonical n) = ⊥
-RefusesLine old new (NotRising n) = ⊥
-RefusesLine old new BadCount = ⊥
-RefusesLine old new Truncated = HasNoLine old × HasMore old
-RefusesLine old new (Refused n why) = ⊥
-RefusesLine old new Io = Unit {0}
-RefusesLine old new NoMemory = Unit {0}
+abbrev pub RefusesHaveLine : Option (List ℕ) → Option (List ℕ) → SyncError → Type 0
+RefusesHaveLine old new BadHeader = HasBadFirstLine (RefusesAsked None) old new BadHeader
+RefusesHaveLine old new ConfigDiffers = ⊥
+RefusesHaveLine old new VersionDiffers = ⊥
+RefusesHaveLine old new (NotCanonical n) = ⊥
+RefusesHaveLine old new (NotRising n) = ⊥
+RefusesHaveLine old new BadCount = ⊥
+RefusesHaveLine old new Truncated = HasNoLine old × HasMore old
+RefusesHaveLine old new (Refused n why) = ⊥
+RefusesHaveLine old new Io = Unit {0}
+RefusesHaveLine old new NoMemory = Unit {0}
 
 -- It is of the one format and number of buckets that are spoken.
 pub record IsSaid (a : Asking) (q : Question) : Type 0 where

@@ -5,7 +5,7 @@ use Rattle.fed_config.specs.Configuration.{Configuration, config_id_of}
 use Rattle.byte_lines.specs.Lines.{HasLine}
 use Rattle.receipt_core.specs.Receipt.{IsDigest}
 use Rattle.replica_sync.specs.Session.{IsQuestion}
-use Rattle.replica_gossip.specs.Messages.{Asked, asked_text, Told, told_text}
+use Rattle.replica_gossip.specs.Messages.{Asked, asked_text, GiveHeader, told_text}
 use Rattle.replica_sync.specs.declared.error.SyncError.{SyncError}
 use Rattle.replica_sync.specs.declared.error.SyncError.TheVariants.{BadHeader, ConfigDiffers, VersionDiffers, NotCanonical, NotRising, BadCount, Truncated, Refused, Io, NoMemory}
 
@@ -86,7 +86,7 @@ IsRecordCount format None = format ≡ 1
 IsRecordCount format (Some number) = number < 2 ^ 64
 
 -- The bucket is one of so many, the numbers have 64 bits, and the digest 32 bytes.
-pub record IsTold (t : Told) : Type 0 where
+pub record IsGiveHeader (t : GiveHeader) : Type 0 where
   pub bucket : t.bucket < t.buckets
   pub count : t.count < 2 ^ 64
   pub records : IsRecordCount t.format t.distrusts
@@ -95,31 +95,31 @@ pub record IsTold (t : Told) : Type 0 where
   pub config : IsDigest t.config
 
 -- It is spelt as an answer's first line, and says this.
-pub record IsToldLine (text : List ℕ) (t : Told) : Type 0 where
-  pub is : IsTold t
+pub record IsToldLine (text : List ℕ) (t : GiveHeader) : Type 0 where
+  pub is : IsGiveHeader t
   pub spelt : text ≡ told_text t
 
 -- It is such a line about the bucket that is wanted.
-pub record TellsOf (expected : Option Expected) (text : List ℕ) (t : Told) : Type 0 where
+pub record TellsOf (expected : Option Expected) (text : List ℕ) (t : GiveHeader) : Type 0 where
   pub line : IsToldLine text t
   pub about : IsAbout expected t.bucket
 
 -- It is one of another configuration.
 pub record TellsOther (expected : Option Expected) (text : List ℕ) : Type 0 where
-  pub told : Told
+  pub told : GiveHeader
   pub tells : TellsOf expected text told
   pub other : IsOther (config_of expected) told.config
 
 -- It is one of this configuration, of another format or number of buckets.
 pub record TellsUnspoken (expected : Option Expected) (text : List ℕ) : Type 0 where
-  pub told : Told
+  pub told : GiveHeader
   pub tells : TellsOf expected text told
   pub own : IsOwn (config_of expected) told.config
   pub unspoken : IsSpoken told.format told.buckets → ⊥
 
 -- what is wrong with the line where an answer's first is wanted
 abbrev pub RefusesTold : Option Expected → List ℕ → SyncError → Type 0
-RefusesTold expected text BadHeader = (told : Told) → TellsOf expected text told → ⊥
+RefusesTold expected text BadHeader = (told : GiveHeader) → TellsOf expected text told → ⊥
 RefusesTold expected text ConfigDiffers = TellsOther expected text
 RefusesTold expected text VersionDiffers = TellsUnspoken expected text
 RefusesTold expected text (NotCanonical n) = ⊥
@@ -133,7 +133,7 @@ RefusesTold expected text NoMemory = Unit {0}
 -- ---- in a stream
 
 -- The stream's first line has a fault; one that is too long is none of a message. It is used up.
-pub record HasBadFirst (refuses : List ℕ → SyncError → Type 0) (old new : Option (List ℕ)) (e : SyncError) : Type 0 where
+pub record HasBadFirstLine (refuses : List ℕ → SyncError → Type 0) (old new : Option (List ℕ)) (e : SyncError) : Type 0 where
   pub text : List ℕ
   pub is : HasLine old new text
   pub cause : ((e ≡ BadHeader) × (8388608 < length text)) ⊎ refuses text e

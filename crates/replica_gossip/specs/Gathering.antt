@@ -9,11 +9,11 @@ use Rattle.replica_sync.specs.declared.entry.Entry.{Entry}
 use Rattle.replica_sync.specs.declared.entry.Entry.TheVariants.{Record, Receipt as AReceipt}
 use Rattle.replica_sync.specs.declared.entry.Wanted.{Wanted}
 use Rattle.replica_sync.specs.declared.error.SyncError.{SyncError}
-use Rattle.replica_gossip.specs.Answers.{IsBegun, RefusesNext, Wants, content_lines, refused_text}
+use Rattle.replica_gossip.specs.Answers.{IsBegun, RefusesNextEntry, Wants, content_lines, refused_text}
 use Rattle.replica_gossip.specs.declared.answer_reader.Content.{Content}
 
-abbrev pub content_of : Content → State
-content_of c = record { held = c.receipts.items; records = c.distrusts.items }
+abbrev pub answer_content : Content → State
+answer_content c = record { held = c.receipts.items; records = c.distrusts.items }
 
 -- with one more at the end of its list
 abbrev pub pushed : Entry → State → State
@@ -27,7 +27,7 @@ pub record Pushes (wanted : Wanted) (old : State) (text : List ℕ) (new : State
   pub now : new ≡ pushed entry old
 
 -- The stream's first line is the one that is wanted. It is used up.
-pub record IsFurther (count distrusts : ℕ) (old : State) (before : Option (List ℕ)) (new : State) (after : Option (List ℕ)) : Type 0 where
+pub record IsNextAnswerLine (count distrusts : ℕ) (old : State) (before : Option (List ℕ)) (new : State) (after : Option (List ℕ)) : Type 0 where
   pub wanted : Wanted
   pub wants : Wants count distrusts old wanted
   pub text : List ℕ
@@ -46,9 +46,9 @@ pub record IsDone (count distrusts : ℕ) (old : State) (before : Option (List �
   pub rest : after ≡ before
 
 -- whether there was one more line
-abbrev pub Steps : ℕ → ℕ → State → Option (List ℕ) → State → Option (List ℕ) → Bool → Type 0
-Steps count distrusts old before new after true = IsFurther count distrusts old before new after
-Steps count distrusts old before new after false = IsDone count distrusts old before new after
+abbrev pub StepsThroughAnswer : ℕ → ℕ → State → Option (List ℕ) → State → Option (List ℕ) → Bool → Type 0
+StepsThroughAnswer count distrusts old before new after true = IsNextAnswerLine count distrusts old before new after
+StepsThroughAnswer count distrusts old before new after false = IsDone count distrusts old before new after
 
 -- The stream begins with the lines of so much of the answer, and `left` is what follows.
 pub record Gathers (count distrusts : ℕ) (stream : Option (List ℕ)) (content : State) (left : Option (List ℕ)) : Type 0 where
@@ -65,4 +65,4 @@ pub record StopsGathering (count distrusts : ℕ) (old new : Option (List ℕ)) 
   pub content : State
   pub left : Option (List ℕ)
   pub gathers : Gathers count distrusts old content left
-  pub cause : RefusesNext (refused_text content) count distrusts content left new e
+  pub cause : RefusesNextEntry (refused_text content) count distrusts content left new e

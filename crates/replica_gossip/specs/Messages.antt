@@ -24,7 +24,7 @@ asked_text a =
     ++ (codes ",\"have\":[" ++ (join_by quoted (codes ",") a.question.ids ++ (codes "],\"of\":" ++ (decimal a.buckets ++ codes "}")))))))))
 
 -- what the first line of an answer says, of whatever format and number of buckets; in the first format it tells no records
-pub record Told : Type 0 where
+pub record GiveHeader : Type 0 where
   pub bucket : ℕ
   pub config : List ℕ
   pub count : ℕ
@@ -36,7 +36,7 @@ abbrev pub distrusts_part : Option ℕ → List ℕ
 distrusts_part None = []
 distrusts_part (Some n) = codes ",\"distrusts\":" ++ decimal n
 
-unfoldable pub told_text : Told → List ℕ
+unfoldable pub told_text : GiveHeader → List ℕ
 told_text t =
     codes "{\"bucket\":" ++ (decimal t.bucket ++ (codes ",\"config\":\"" ++ (encode_lower t.config ++ (codes "\",\"count\":" ++ (decimal t.count
     ++ (distrusts_part t.distrusts ++ (codes ",\"format\":" ++ (decimal t.format ++ (codes ",\"of\":" ++ (decimal t.buckets ++ codes "}"))))))))))
@@ -48,7 +48,7 @@ asked_of q = record { question = q; format = 2; buckets = 256 }
 abbrev pub question_text : Question → List ℕ
 question_text q = ended (asked_text (asked_of q))
 
-abbrev pub told_of : Reply → Told
+abbrev pub told_of : Reply → GiveHeader
 told_of r = record { bucket = r.bucket; config = r.config; count = length r.content.held; distrusts = Some (length r.content.records); format = 2; buckets = 256 }
 
 abbrev pub record_text : Distrust → List ℕ
@@ -62,5 +62,5 @@ abbrev pub reply_text : Reply → List ℕ
 reply_text r = ended (told_text (told_of r)) ++ (flat_map record_text r.content.records ++ flat_map receipt_text r.content.held)
 
 -- exactly the text was written; at a fault a beginning of it
-abbrev pub Writes : {E : Type 0} → Option (List ℕ) → Option (List ℕ) → Result (Unit {0}) E → List ℕ → Type 0
-Writes old new result text = MatchResult result (λ done. Appends old new text) (λ why. AppendsBeginning old new text)
+abbrev pub WritesText : {E : Type 0} → Option (List ℕ) → Option (List ℕ) → Result (Unit {0}) E → List ℕ → Type 0
+WritesText old new result text = MatchResult result (λ done. Appends old new text) (λ why. AppendsBeginning old new text)

@@ -3,13 +3,13 @@ use Rattle.std.specs.Prelude.{◌≡◌, ℕ, ◌+◌, ◌<◌, ◌⊎◌, List,
 use Rattle.std.specs.Io.KnownBytes.{Appends, Consumes}
 use Rattle.fed_config.specs.Configuration.{Configuration, config_id_of}
 use Rattle.receipt_core.specs.Acceptance.{Meaning}
-use Rattle.replica_sync.specs.State.{State, no_state, joined, meaning_of}
+use Rattle.replica_sync.specs.State.{State, no_state, joined, meaning_of_state}
 use Rattle.replica_sync.specs.Session.{Question, Reply, question_of, state_of}
-use Rattle.replica_sync.specs.Entries.{RefusesLine}
+use Rattle.replica_sync.specs.Entries.{RefusesEntryLine}
 use Rattle.replica_sync.specs.declared.entry.Wanted.{Wanted}
 use Rattle.replica_sync.specs.declared.error.SyncError.{SyncError}
 use Rattle.replica_gossip.specs.Messages.{question_text, reply_text}
-use Rattle.replica_gossip.specs.Answers.{IsAnswer, AnswerBegins, RefusesHead, RefusesNext, next_number}
+use Rattle.replica_gossip.specs.Answers.{IsAnswer, AnswerBegins, RefusesHead, RefusesNextEntry, next_entry_number}
 use Rattle.replica_gossip.specs.Questions.{IsWritten}
 use Rattle.replica_gossip.specs.declared.pulling.PullFault.{PullFault}
 
@@ -35,7 +35,7 @@ after_replies state replies = fold (λ held reply. joined held reply.content) st
 
 -- the question about the bucket of a replica that holds this
 abbrev pub question_in : Configuration → State → ℕ → Question
-question_in config state bucket = question_of (meaning_of config state) bucket
+question_in config state bucket = question_of (meaning_of_state config state) bucket
 
 -- The questions to which these are the answers: each has the ids that were held when it was asked.
 abbrev pub questions_of : Configuration → ℕ → State → List Reply → List Question
@@ -49,7 +49,7 @@ line_count (reply ∷ replies) = 1 + length reply.content.records + length reply
 
 -- what is wrong with a line, where the replica held this before the answer and has taken so much of it
 abbrev pub refused_line : Configuration → State → ℕ → State → Wanted → List ℕ → List ℕ → SyncError → Type 0
-refused_line config state first content wanted last text e = RefusesLine wanted (meaning_of config (joined state content)) last (next_number first content) text e
+refused_line config state first content wanted last text e = RefusesEntryLine wanted (meaning_of_state config (joined state content)) last (next_entry_number first content) text e
 
 -- A good beginning of the answer, and behind it this fault.
 pub record FailsWithin (config : Configuration) (state : State) (bucket first : ℕ) (content : State) (left : Option (List ℕ)) (e : SyncError) : Type 0 where
@@ -58,7 +58,7 @@ pub record FailsWithin (config : Configuration) (state : State) (bucket first : 
   pub further : Option (List ℕ)
   pub after : Option (List ℕ)
   pub begins : AnswerBegins (Some (record { config = config; bucket = bucket })) left count distrusts content further
-  pub cause : RefusesNext (refused_line config state first content) count distrusts content further after e
+  pub cause : RefusesNextEntry (refused_line config state first content) count distrusts content further after e
 
 -- Its first line has a fault.
 pub record FailsFirst (config : Configuration) (bucket : ℕ) (content : State) (left : Option (List ℕ)) (e : SyncError) : Type 0 where
@@ -76,7 +76,7 @@ pub record PullsAll (old : Meaning) (stream before : Option (List ℕ)) (new : M
   pub left : Option (List ℕ)
   pub session : Session old.config stream replies left
   pub all : length replies ≡ 256
-  pub meaning : new ≡ meaning_of old.config (after_replies (state_of old) replies)
+  pub meaning : new ≡ meaning_of_state old.config (after_replies (state_of old) replies)
   pub asked : Appends before after (flat_map question_text (questions_of old.config 0 (state_of old) replies))
 
 -- What the lines before the fault have is held now.
@@ -87,7 +87,7 @@ pub record PullsUpTo (old : Meaning) (stream before : Option (List ℕ)) (new : 
   pub few : length replies < 256
   pub content : State
   pub cause : RefusesAnswer old.config (after_replies (state_of old) replies) (length replies) (line_count replies + 1) content left e
-  pub meaning : new ≡ meaning_of old.config (joined (after_replies (state_of old) replies) content)
+  pub meaning : new ≡ meaning_of_state old.config (joined (after_replies (state_of old) replies) content)
   pub asked : IsWritten e before after (flat_map question_text (questions_of old.config 0 (state_of old) replies ++ question_in old.config (after_replies (state_of old) replies) (length replies) ∷ []))
 
 -- so many receipts are held that were not

@@ -8,15 +8,15 @@ use Rattle.byte_lines.specs.Device.{AppendsBeginning}
 use Rattle.byte_lines.specs.Lines.{HasNoLine, HasMore}
 use Rattle.replica_sync.specs.Session.{Question, reply_of}
 use Rattle.replica_gossip.specs.Messages.{asked_of, asked_text, question_text, reply_text}
-use Rattle.replica_gossip.specs.FirstLines.{HasBadFirst, IsAsked, RefusesAsked}
+use Rattle.replica_gossip.specs.FirstLines.{HasBadFirstLine, IsAsked, RefusesAsked}
 use Rattle.replica_sync.specs.declared.error.SyncError.{SyncError}
 use Rattle.replica_sync.specs.declared.error.SyncError.TheVariants.{BadHeader, ConfigDiffers, VersionDiffers, NotCanonical, NotRising, BadCount, Truncated, Refused, Io, NoMemory}
 
 -- Why no question is read, where one should begin. Nothing is known of the stream where the source fails.
 abbrev pub RefusesQuestion : Option Configuration → Option (List ℕ) → Option (List ℕ) → SyncError → Type 0
-RefusesQuestion config old new BadHeader = HasBadFirst (RefusesAsked config) old new BadHeader
-RefusesQuestion config old new ConfigDiffers = HasBadFirst (RefusesAsked config) old new ConfigDiffers
-RefusesQuestion config old new VersionDiffers = HasBadFirst (RefusesAsked config) old new VersionDiffers
+RefusesQuestion config old new BadHeader = HasBadFirstLine (RefusesAsked config) old new BadHeader
+RefusesQuestion config old new ConfigDiffers = HasBadFirstLine (RefusesAsked config) old new ConfigDiffers
+RefusesQuestion config old new VersionDiffers = HasBadFirstLine (RefusesAsked config) old new VersionDiffers
 RefusesQuestion config old new (NotCanonical n) = ⊥
 RefusesQuestion config old new (NotRising n) = ⊥
 RefusesQuestion config old new BadCount = ⊥
@@ -48,9 +48,9 @@ replies_text m questions = flat_map (λ q. reply_text (reply_of m q)) questions
 
 -- Why the next question is not answered: as when it is read alone, but that the stream may end where it would begin.
 abbrev pub RefusesFurther : Configuration → Option (List ℕ) → SyncError → Type 0
-RefusesFurther config left BadHeader = (after : Option (List ℕ)) × HasBadFirst (RefusesAsked (Some config)) left after BadHeader
-RefusesFurther config left ConfigDiffers = (after : Option (List ℕ)) × HasBadFirst (RefusesAsked (Some config)) left after ConfigDiffers
-RefusesFurther config left VersionDiffers = (after : Option (List ℕ)) × HasBadFirst (RefusesAsked (Some config)) left after VersionDiffers
+RefusesFurther config left BadHeader = (after : Option (List ℕ)) × HasBadFirstLine (RefusesAsked (Some config)) left after BadHeader
+RefusesFurther config left ConfigDiffers = (after : Option (List ℕ)) × HasBadFirstLine (RefusesAsked (Some config)) left after ConfigDiffers
+RefusesFurther config left VersionDiffers = (after : Option (List ℕ)) × HasBadFirstLine (RefusesAsked (Some config)) left after VersionDiffers
 RefusesFurther config left (NotCanonical n) = ⊥
 RefusesFurther config left (NotRising n) = ⊥
 RefusesFurther config left BadCount = ⊥

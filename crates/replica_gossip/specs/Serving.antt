@@ -10,8 +10,8 @@ use Rattle.replica_gossip.specs.Messages.{question_text, reply_text}
 use Rattle.replica_gossip.specs.Questions.{Asks, IsQuestionOf, RefusesFurther, replies_text}
 
 -- the device failed, or memory ran out
-abbrev pub IsOfWriting : SyncError → Type 0
-IsOfWriting e = (e ≡ Io) ⊎ (e ≡ NoMemory)
+abbrev pub IsServingFault : SyncError → Type 0
+IsServingFault e = (e ≡ Io) ⊎ (e ≡ NoMemory)
 
 -- The next question was read, and answered.
 pub record ServesOne (m : Meaning) (stream left old new : Option (List ℕ)) : Type 0 where
@@ -32,7 +32,7 @@ pub record FailsReading (m : Meaning) (stream old new : Option (List ℕ)) (e : 
 
 -- It was read, and a beginning of its answer was written.
 pub record FailsWriting (m : Meaning) (stream left old new : Option (List ℕ)) (e : SyncError) : Type 0 where
-  pub cause : IsOfWriting e
+  pub cause : IsServingFault e
   pub question : Question
   pub own : IsQuestionOf m.config question
   pub text : Consumes stream left (question_text question)

@@ -4,7 +4,7 @@ use Rattle.byte_lines.specs.Lines.{HasLine}
 use Rattle.receipt_core.specs.Receipt.{IsDigest}
 use Rattle.replica_sync.specs.declared.error.SyncError.{SyncError}
 use Rattle.replica_sync.specs.declared.error.SyncError.TheVariants.{BadHeader, ConfigDiffers, VersionDiffers, NotCanonical, NotRising, BadCount, Truncated, Refused, Io, NoMemory}
-use Rattle.replica_gossip.specs.Messages.{Asked, Told}
+use Rattle.replica_gossip.specs.Messages.{Asked, GiveHeader}
 use Rattle.replica_gossip.specs.FirstLines.{Expected, IsAbout, IsOwn, IsOther, IsSpoken, TellsOf, config_of}
 use Rattle.replica_gossip.specs.declared.spelling.AskedLine.{AskedLine}
 use Rattle.replica_gossip.specs.declared.spelling.ToldLine.{ToldLine}
@@ -14,11 +14,11 @@ use Rattle.replica_gossip.specs.declared.told_reader.Head.{Head}
 abbrev pub asked_by : AskedLine → Asked
 asked_by a = record { question = record { bucket = a.bucket; config = a.config.0; ids = map (λ id. id.0) a.ids.now }; format = a.format; buckets = a.buckets }
 
-abbrev pub told_by : ToldLine → Told
-told_by t = record { bucket = t.bucket; config = t.config.0; count = t.count; distrusts = t.distrusts; format = t.format; buckets = t.buckets }
+abbrev pub header_by : ToldLine → GiveHeader
+header_by t = record { bucket = t.bucket; config = t.config.0; count = t.count; distrusts = t.distrusts; format = t.format; buckets = t.buckets }
 
 -- Its numbers have 64 bits, and its digest 32 bytes.
-pub record HasWords (t : Told) : Type 0 where
+pub record HasWords (t : GiveHeader) : Type 0 where
   pub count : t.count < 2 ^ 64
   pub distrusts : IfSome t.distrusts (λ n. n < 2 ^ 64)
   pub format : t.format < 2 ^ 64
@@ -31,7 +31,7 @@ expected_by (Some wish) = Some (record { config = wish.config.now; bucket = wish
 
 -- ---- the one format and number of buckets that are spoken
 
-abbrev pub told_by_head : Head → Told
+abbrev pub told_by_head : Head → GiveHeader
 told_by_head h = record { bucket = h.bucket; config = h.config.0; count = h.count; distrusts = Some h.distrusts; format = 2; buckets = 256 }
 
 -- It is a first line that is read, and says this.
@@ -46,13 +46,13 @@ pub record HasHead (expected : Option Expected) (old new : Option (List ℕ)) (h
   pub tells : TellsHead expected text h
 
 -- What is told is wanted, and is this.
-pub record IsHeadOf (expected : Option Expected) (t : Told) (h : Head) : Type 0 where
+pub record IsHeadOf (expected : Option Expected) (t : GiveHeader) (h : Head) : Type 0 where
   pub about : IsAbout expected t.bucket
   pub own : IsOwn (config_of expected) t.config
   pub same : t ≡ told_by_head h
 
 -- what is wrong with what is told
-abbrev pub RefusesSaid : Option Expected → Told → SyncError → Type 0
+abbrev pub RefusesSaid : Option Expected → GiveHeader → SyncError → Type 0
 RefusesSaid expected t BadHeader = IsAbout expected t.bucket → ⊥
 RefusesSaid expected t ConfigDiffers = IsAbout expected t.bucket × IsOther (config_of expected) t.config
 RefusesSaid expected t VersionDiffers = IsAbout expected t.bucket × IsOwn (config_of expected) t.config × (IsSpoken t.format t.buckets → ⊥)

@@ -2,11 +2,11 @@
 ghost use Rattle.std.specs.Prelude.{◌≡◌, ◌<◌, ◌||◌, true, IfOk, IfErr, OnOk, MatchOption};
 ghost use Rattle.std.specs.Io.KnownBytes.{Consumes};
 ghost use Rattle.byte_lines.specs.Streams.{stream_of, left_of};
-ghost use Rattle.replica_sync.specs.Entries.{RefusesText};
+ghost use Rattle.replica_sync.specs.Entries.{RefusesEntryText};
 ghost use Rattle.replica_sync.specs.Snapshots.{is_io, last_of};
 ghost use Rattle.replica_gossip.specs.Messages.{reply_text};
-ghost use Rattle.replica_gossip.specs.Answers.{IsAnswer, IsBegun, RefusesGive, RefusesNext, Wants, content_lines, next_number, refused_text};
-ghost use Rattle.replica_gossip.specs.Gathering.{StopsGathering, GathersAll, IsWhole, Pushes, Steps, content_of, pushed};
+ghost use Rattle.replica_gossip.specs.Answers.{IsAnswer, IsBegun, RefusesGive, RefusesNextEntry, Wants, content_lines, next_entry_number, refused_text};
+ghost use Rattle.replica_gossip.specs.Gathering.{StopsGathering, GathersAll, IsWhole, Pushes, StepsThroughAnswer, answer_content, pushed};
 
 use crate::told_reader::{Head, next_head};
 use byte_lines::{Line, LineBuf, Source};
@@ -56,7 +56,7 @@ struct Content {
 }
 
 fn give_of(head: &Head, content: Content) -> Give
-    ensures { result ≡ record { bucket = head.now.bucket; config = head.now.config.0; content = content_of content } }
+    ensures { result ≡ record { bucket = head.now.bucket; config = head.now.config.0; content = answer_content content } }
 {
     Give::new(
         head.bucket,
@@ -73,7 +73,7 @@ fn read_content<R: Source>(
     lines: &mut LineBuf,
     source: &mut R,
 ) -> Result<Content, SyncError>
-    ensures ok { IfOk result (λ content. GathersAll head.now.count head.now.distrusts (stream_of R.remaining lines.old source.old) (content_of content) (stream_of R.remaining lines.new source.new)) }
+    ensures ok { IfOk result (λ content. GathersAll head.now.count head.now.distrusts (stream_of R.remaining lines.old source.old) (answer_content content) (stream_of R.remaining lines.new source.new)) }
     ensures refused { IfErr result (StopsGathering head.now.count head.now.distrusts (stream_of R.remaining lines.old source.old) (stream_of R.remaining lines.new source.new)) }
     ensures fault { R.has_failed source.new ≡ (is_io result || R.has_failed source.old) }
 {
@@ -94,11 +94,11 @@ fn read_next<R: Source>(
     lines: &mut LineBuf,
     source: &mut R,
 ) -> Result<bool, SyncError>
-    requires begun { IsBegun head.now.count head.now.distrusts (content_of content.old) }
-    requires last { content.old.last.items ≡ last_of (content_lines (content_of content.old)) }
-    ensures ok { IfOk result (Steps head.now.count head.now.distrusts (content_of content.old) (stream_of R.remaining lines.old source.old) (content_of content.new) (stream_of R.remaining lines.new source.new)) }
-    ensures last { OnOk result (content.new.last.items ≡ last_of (content_lines (content_of content.new))) }
-    ensures refused { IfErr result (RefusesNext (refused_text (content_of content.old)) head.now.count head.now.distrusts (content_of content.old) (stream_of R.remaining lines.old source.old) (stream_of R.remaining lines.new source.new)) }
+    requires begun { IsBegun head.now.count head.now.distrusts (answer_content content.old) }
+    requires last { content.old.last.items ≡ last_of (content_lines (answer_content content.old)) }
+    ensures ok { IfOk result (StepsThroughAnswer head.now.count head.now.distrusts (answer_content content.old) (stream_of R.remaining lines.old source.old) (answer_content content.new) (stream_of R.remaining lines.new source.new)) }
+    ensures last { OnOk result (content.new.last.items ≡ last_of (content_lines (answer_content content.new))) }
+    ensures refused { IfErr result (RefusesNextEntry (refused_text (answer_content content.old)) head.now.count head.now.distrusts (answer_content content.old) (stream_of R.remaining lines.old source.old) (stream_of R.remaining lines.new source.new)) }
     ensures fault { R.has_failed source.new ≡ (is_io result || R.has_failed source.old) }
     ensures falls { IfOk result (λ more. more ≡ true → left_of R.budget lines.new source.new < left_of R.budget lines.old source.old) }
 {
@@ -119,8 +119,8 @@ fn read_next<R: Source>(
 
 // Which line should stand behind what was read, where that is not all.
 fn next_wanted(head: &Head, content: &Content) -> Option<Wanted>
-    requires { IsBegun head.now.count head.now.distrusts (content_of content.now) }
-    ensures { MatchOption result (IsWhole head.now.count head.now.distrusts (content_of content.now)) (Wants head.now.count head.now.distrusts (content_of content.now)) }
+    requires { IsBegun head.now.count head.now.distrusts (answer_content content.now) }
+    ensures { MatchOption result (IsWhole head.now.count head.now.distrusts (answer_content content.now)) (Wants head.now.count head.now.distrusts (answer_content content.now)) }
 {
     if (content.distrusts.len() as u64) < head.distrusts {
         return Some(Wanted::Records);
@@ -133,7 +133,7 @@ fn next_wanted(head: &Head, content: &Content) -> Option<Wanted>
 
 // The number of the line behind what was read. There is no memory for so many that it has more than 64 bits.
 fn number_behind(content: &Content) -> Result<u64, AllocError>
-    ensures { IfOk result (λ number. number ≡ next_number 1 (content_of content.now)) }
+    ensures { IfOk result (λ number. number ≡ next_entry_number 1 (answer_content content.now)) }
 {
     let count = content.distrusts.len() as u64 + content.receipts.len() as u64;
     match count.checked_add(2) {
@@ -150,11 +150,11 @@ fn push_line(
     number: u64,
     text: &[u8],
 ) -> Result<(), SyncError>
-    requires last { content.old.last.items ≡ last_of (content_lines (content_of content.old)) }
-    requires number { number ≡ next_number 1 (content_of content.old) }
-    ensures ok { OnOk result (Pushes wanted (content_of content.old) text.now (content_of content.new)) }
+    requires last { content.old.last.items ≡ last_of (content_lines (answer_content content.old)) }
+    requires number { number ≡ next_entry_number 1 (answer_content content.old) }
+    ensures ok { OnOk result (Pushes wanted (answer_content content.old) text.now (answer_content content.new)) }
     ensures last { OnOk result (content.new.last.items ≡ text.now) }
-    ensures refused { IfErr result (refused_text (content_of content.old) wanted (last_of (content_lines (content_of content.old))) text.now) }
+    ensures refused { IfErr result (refused_text (answer_content content.old) wanted (last_of (content_lines (answer_content content.old))) text.now) }
 {
     let entry = next_entry(alloc, wanted, content.last.as_slice(), number, text)?;
     push_entry(content, entry)?;
@@ -163,7 +163,7 @@ fn push_line(
 }
 
 fn push_entry(content: &mut Content, entry: Entry) -> Result<(), AllocError>
-    ensures pushed { OnOk result (content_of content.new ≡ pushed entry (content_of content.old)) }
+    ensures pushed { OnOk result (answer_content content.new ≡ pushed entry (answer_content content.old)) }
     ensures last { content.new.last ≡ content.old.last }
 {
     match entry {

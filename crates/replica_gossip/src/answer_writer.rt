@@ -1,6 +1,6 @@
 //! Answers, written.
 ghost use Rattle.std.specs.Prelude.{◌≡◌, ◌≢◌, IfErr, IfOk, flat_map, true, Err};
-ghost use Rattle.replica_gossip.specs.Messages.{Writes, receipt_text, record_text, reply_text, told_of, told_text};
+ghost use Rattle.replica_gossip.specs.Messages.{WritesText, receipt_text, record_text, reply_text, told_of, told_text};
 ghost use Rattle.replica_sync.specs.Snapshots.{ended};
 ghost use Rattle.replica_sync.specs.declared.error.SyncError.TheVariants.{Io, NoMemory};
 
@@ -26,7 +26,7 @@ pub fn write_answer<W: Sink>(
     answer: Answer<'_>,
     sink: &mut W,
 ) -> Result<(), SyncError>
-    ensures written { Writes (W.contents sink.old) (W.contents sink.new) result (reply_text answer.entry) }
+    ensures written { WritesText (W.contents sink.old) (W.contents sink.new) result (reply_text answer.entry) }
     ensures io { result ≡ Err Io → W.has_failed sink.new ≡ true }
     ensures refused { IfErr result (λ e. e ≢ Io → e ≡ NoMemory) }
 {
@@ -59,7 +59,7 @@ fn write_records<W: Sink>(
     distrusts: Distrusts<'_>,
     sink: &mut W,
 ) -> Result<(), SyncError>
-    ensures written { Writes (W.contents sink.old) (W.contents sink.new) result (flat_map record_text distrusts.entry) }
+    ensures written { WritesText (W.contents sink.old) (W.contents sink.new) result (flat_map record_text distrusts.entry) }
     ensures io { result ≡ Err Io → W.has_failed sink.new ≡ true }
     ensures refused { IfErr result (λ e. e ≢ Io → e ≡ NoMemory) }
 {
@@ -74,7 +74,7 @@ fn write_receipts<W: Sink>(
     receipts: Lacking<'_>,
     sink: &mut W,
 ) -> Result<(), SyncError>
-    ensures written { Writes (W.contents sink.old) (W.contents sink.new) result (flat_map receipt_text receipts.entry) }
+    ensures written { WritesText (W.contents sink.old) (W.contents sink.new) result (flat_map receipt_text receipts.entry) }
     ensures io { result ≡ Err Io → W.has_failed sink.new ≡ true }
     ensures refused { IfErr result (λ e. e ≢ Io → e ≡ NoMemory) }
 {
@@ -90,7 +90,7 @@ fn write_record<W: Sink>(
     key: &KeyId,
     sink: &mut W,
 ) -> Result<(), SyncError>
-    ensures written { Writes (W.contents sink.old) (W.contents sink.new) result (record_text (record { domain = domain.now; key = key.now })) }
+    ensures written { WritesText (W.contents sink.old) (W.contents sink.new) result (record_text (record { domain = domain.now; key = key.now })) }
     ensures io { result ≡ Err Io → W.has_failed sink.new ≡ true }
     ensures refused { IfErr result (λ e. e ≢ Io → e ≡ NoMemory) }
 {
@@ -100,7 +100,7 @@ fn write_record<W: Sink>(
 }
 
 fn write_receipt<W: Sink>(alloc: Global, receipt: &Receipt, sink: &mut W) -> Result<(), SyncError>
-    ensures written { Writes (W.contents sink.old) (W.contents sink.new) result (receipt_text receipt.now) }
+    ensures written { WritesText (W.contents sink.old) (W.contents sink.new) result (receipt_text receipt.now) }
     ensures io { result ≡ Err Io → W.has_failed sink.new ≡ true }
     ensures refused { IfErr result (λ e. e ≢ Io → e ≡ NoMemory) }
 {

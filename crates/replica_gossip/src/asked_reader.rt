@@ -5,7 +5,7 @@ ghost use Rattle.receipt_core.specs.Receipt.{IsDigest};
 ghost use Rattle.replica_sync.specs.State.{id_cmp};
 ghost use Rattle.replica_gossip.specs.Messages.{Asked, asked_text};
 ghost use Rattle.replica_gossip.specs.FirstLines.{IsAskedLine};
-ghost use Rattle.replica_gossip.specs.Asking.{HasParts, IsOfParts, asking_by};
+ghost use Rattle.replica_gossip.specs.Asking.{ArePartsOf, IsOfParts, asking_by};
 
 use crate::asking::{Asking, Parts};
 use crate::id_list::{list_behind, read_ids};
@@ -34,7 +34,7 @@ pub(crate) fn read_asked(alloc: Global, text: &[u8]) -> Result<Option<Asking>, A
 
 // The parts of the line where it is a question's, and else any.
 fn guess(text: &[u8]) -> Parts<'_>
-    ensures parts { (a : Asked) → IsAskedLine text.now a → HasParts result a }
+    ensures parts { (a : Asked) → IsAskedLine text.now a → ArePartsOf result a }
     ensures config { IsDigest result.config.0 }
     ensures few { (result.format < 2 ^ 64) × (result.buckets < 2 ^ 64) }
 {

@@ -3,7 +3,7 @@ ghost use Rattle.std.specs.Prelude.{◌≡◌, ◌+◌, ◌<◌, ◌≤◌, ◌^
 ghost use Rattle.std.specs.Io.KnownBytes.{Appends};
 ghost use Rattle.byte_lines.specs.Streams.{stream_of, left_of};
 ghost use Rattle.replica_sync.specs.Session.{question_of};
-ghost use Rattle.replica_gossip.specs.Messages.{question_text, Writes};
+ghost use Rattle.replica_gossip.specs.Messages.{question_text, WritesText};
 ghost use Rattle.replica_gossip.specs.Questions.{IsWritten};
 ghost use Rattle.replica_gossip.specs.Pulling.{Pulls, PullsAll, PullsUpTo};
 ghost use Rattle.replica_gossip.specs.Taking.{TakesReply, StopsReply};
@@ -126,7 +126,7 @@ fn ask<C: Closure, W: Sink>(
     bucket: u8,
     sink: &mut W,
 ) -> Result<(), SyncError>
-    ensures writes { Writes (W.contents sink.old) (W.contents sink.new) result (question_text (question_of (C.state closure.now).meaning bucket)) }
+    ensures writes { WritesText (W.contents sink.old) (W.contents sink.new) result (question_text (question_of (C.state closure.now).meaning bucket)) }
     ensures refused { IfErr result (λ e. (e ≡ Io) ⊎ (e ≡ NoMemory)) }
     ensures io { IsErrOf result Io → W.has_failed sink.new ≡ true }
 {

@@ -7,7 +7,7 @@ ghost use Rattle.replica_sync.specs.Snapshots.{is_io};
 ghost use Rattle.replica_gossip.specs.Messages.{question_text};
 ghost use Rattle.replica_gossip.specs.FirstLines.{IsAskedLine};
 ghost use Rattle.replica_gossip.specs.Questions.{IsAskable, RefusesFurther, RefusesQuestion};
-ghost use Rattle.replica_gossip.specs.Asking.{FindsAsked, FindsOwn, IsNoneAsked, IsSaid, IsUnsaid, RefusesLine, RefusesSpoken, asking_by};
+ghost use Rattle.replica_gossip.specs.Asking.{FindsAsked, FindsOwn, IsNoneAsked, IsSaid, IsUnsaid, RefusesHaveLine, RefusesSpoken, asking_by};
 
 use crate::asked_reader::read_asked;
 use crate::asking::Asking;
@@ -71,7 +71,7 @@ fn next_asked<R: Source>(
     source: &mut R,
 ) -> Result<Option<Asking>, SyncError>
     ensures ok { IfOk result (FindsAsked (stream_of R.remaining lines.old source.old) (stream_of R.remaining lines.new source.new)) }
-    ensures refused { IfErr result (RefusesLine (stream_of R.remaining lines.old source.old) (stream_of R.remaining lines.new source.new)) }
+    ensures refused { IfErr result (RefusesHaveLine (stream_of R.remaining lines.old source.old) (stream_of R.remaining lines.new source.new)) }
     ensures fault { R.has_failed source.new ≡ (is_io result || R.has_failed source.old) }
     ensures falls { IfOk result (λ found. found ≢ None → left_of R.budget lines.new source.new < left_of R.budget lines.old source.old) }
 {

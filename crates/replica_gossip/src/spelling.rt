@@ -2,7 +2,7 @@
 ghost use Rattle.std.specs.Prelude.{◌≡◌, ◌++◌, OnOk, map, codes};
 ghost use Rattle.std.specs.List.{join_by};
 ghost use Rattle.replica_gossip.specs.Messages.{asked_text, distrusts_part, quoted, told_text};
-ghost use Rattle.replica_gossip.specs.Spelling.{asked_by, told_by};
+ghost use Rattle.replica_gossip.specs.Spelling.{asked_by, header_by};
 
 use byte_lines::{push_digits, push_number};
 use fed_config::ConfigId;
@@ -70,7 +70,7 @@ fn push_quoted(out: &mut Vec<u8>, id: &ReceiptId) -> Result<(), AllocError>
 }
 
 pub(crate) fn push_told(out: &mut Vec<u8>, told: &ToldLine) -> Result<(), AllocError>
-    ensures { OnOk result (out.new.items ≡ out.old.items ++ told_text (told_by told.now)) }
+    ensures { OnOk result (out.new.items ≡ out.old.items ++ told_text (header_by told.now)) }
 {
     out.extend_from_slice(b"{\"bucket\":")?;
     push_number(out, told.bucket)?;

@@ -2,10 +2,10 @@
 ghost use Rattle.std.specs.Prelude.{◌≡◌, ◌++◌, ◌<◌, ◌^◌, ◌↔◌, ◌||◌, ℕ, List, Option, IsTrue, IfOk, IfErr, IfSome, OnOk, MatchOption, codes};
 ghost use Rattle.byte_lines.specs.Streams.{stream_of, left_of};
 ghost use Rattle.replica_sync.specs.Snapshots.{is_io};
-ghost use Rattle.replica_gossip.specs.Messages.{Told, distrusts_part, told_text};
-ghost use Rattle.replica_gossip.specs.FirstLines.{IsAbout, IsOwn, IsRecordCount, IsTold, IsToldLine, RefusesTold, config_of};
+ghost use Rattle.replica_gossip.specs.Messages.{GiveHeader, distrusts_part, told_text};
+ghost use Rattle.replica_gossip.specs.FirstLines.{IsAbout, IsOwn, IsRecordCount, IsGiveHeader, IsToldLine, RefusesTold, config_of};
 ghost use Rattle.replica_gossip.specs.Answers.{RefusesHead};
-ghost use Rattle.replica_gossip.specs.Spelling.{HasHead, HasWords, IsHeadOf, RefusesSaid, TellsHead, expected_by, told_by};
+ghost use Rattle.replica_gossip.specs.Spelling.{HasHead, HasWords, IsHeadOf, RefusesSaid, TellsHead, expected_by, header_by};
 
 use crate::scanner::{after, digest_behind, id_of, number_behind};
 use crate::spelling::{ToldLine, push_told};
@@ -69,9 +69,9 @@ pub(crate) fn read_head(
 
 // What the line says, where it is wanted and of the one format that is spoken.
 fn head_of(expected: Option<Expected<'_>>, told: &ToldLine) -> Result<Head, SyncError>
-    requires { IsTold (told_by told.now) }
-    ensures ok { IfOk result (IsHeadOf (expected_by expected.entry) (told_by told.now)) }
-    ensures refused { IfErr result (RefusesSaid (expected_by expected.entry) (told_by told.now)) }
+    requires { IsGiveHeader (header_by told.now) }
+    ensures ok { IfOk result (IsHeadOf (expected_by expected.entry) (header_by told.now)) }
+    ensures refused { IfErr result (RefusesSaid (expected_by expected.entry) (header_by told.now)) }
 {
     if !is_about(expected, told.bucket) {
         return Err(SyncError::BadHeader);
@@ -114,8 +114,8 @@ fn is_own(expected: Option<Expected<'_>>, config: &ConfigId) -> bool
 /// Reads the first line of an answer, of whatever format and number of buckets. There is none where the line is not spelt
 /// as one, or its bucket is not below that number.
 pub(crate) fn read_told(alloc: Global, text: &[u8]) -> Result<Option<ToldLine>, AllocError>
-    ensures read { IfOk result (λ found. MatchOption found ((t : Told) → IsToldLine text.now t → ⊥) (λ t. IsToldLine text.now (told_by t))) }
-    ensures only { IfOk result (λ found. IfSome found (λ t. (other : Told) → IsToldLine text.now other → told_by t ≡ other)) }
+    ensures read { IfOk result (λ found. MatchOption found ((t : GiveHeader) → IsToldLine text.now t → ⊥) (λ t. IsToldLine text.now (header_by t))) }
+    ensures only { IfOk result (λ found. IfSome found (λ t. (other : GiveHeader) → IsToldLine text.now other → header_by t ≡ other)) }
 {
     let told = guess(text);
     if !is_told(&told) {
@@ -130,8 +130,8 @@ pub(crate) fn read_told(alloc: Global, text: &[u8]) -> Result<Option<ToldLine>, 
 
 // What the line says, where it is spelt as the first of an answer, and else anything.
 fn guess(text: &[u8]) -> ToldLine
-    ensures words { HasWords (told_by result) }
-    ensures right { (t : Told) → IsToldLine text.now t → told_by result ≡ t }
+    ensures words { HasWords (header_by result) }
+    ensures right { (t : GiveHeader) → IsToldLine text.now t → header_by result ≡ t }
 {
     let (bucket, rest) = number_behind(text, b"{\"bucket\":");
     let (config, rest) = digest_behind(rest, b",\"config\":\"");
@@ -165,8 +165,8 @@ fn records_behind(text: &[u8]) -> (Option<u64>, &[u8])
 
 // Whether the bucket is one of so many, and the number of records is told, but for the first format.
 fn is_told(told: &ToldLine) -> bool
-    requires { HasWords (told_by told.now) }
-    ensures { IsTrue result ↔ IsTold (told_by told.now) }
+    requires { HasWords (header_by told.now) }
+    ensures { IsTrue result ↔ IsGiveHeader (header_by told.now) }
 {
     if told.bucket >= told.buckets {
         return false;
@@ -185,7 +185,7 @@ fn is_record_count(format: u64, distrusts: Option<u64>) -> bool
 }
 
 fn is_spelt(alloc: Global, told: &ToldLine, text: &[u8]) -> Result<bool, AllocError>
-    ensures { IfOk result (λ same. IsTrue same ↔ (text.now ≡ told_text (told_by told.now))) }
+    ensures { IfOk result (λ same. IsTrue same ↔ (text.now ≡ told_text (header_by told.now))) }
 {
     let mut spelt = Vec::new(alloc);
     push_told(&mut spelt, told)?;

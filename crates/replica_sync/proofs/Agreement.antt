@@ -7,7 +7,7 @@ use Rattle.std.proofs.lemmas.List.Sums.{fold-append}
 use Rattle.std.proofs.lemmas.Option.{slice_get_within}
 use Rattle.receipt_core.specs.declared.distrust.Distrust.{Distrust}
 use Rattle.receipt_core.specs.Receipt.{Receipt, IsReceipt, IsDistrust}
-use Rattle.replica_sync.specs.State.{State, bucket_of}
+use Rattle.replica_sync.specs.State.{State, bucket_of_id}
 use Rattle.replica_sync.specs.World.{Message, World, Rules, happens, run_from}
 use Rattle.replica_sync.specs.Convergence.{Course, at_question, at_answer, at_taking, after_taking, HasAll, IsPartOf, Lacks, IsQuiet, Settles}
 use Rattle.replica_sync.specs.declared.event.Event.{Event}
@@ -153,7 +153,7 @@ all-receipts laws rules w since i start s l r h =
       | inl e ↦ (part-run laws rules i since w (no-restart rules w since i s)).receipts r (subst (λ k. Contains (w.now k).held r) (sym e) h.1)
       | inr d ↦ elim (cases_lt h.0 rules.replicas) [
         | inl m ↦
-            let found = (from-other laws rules w since i h.0 (bucket_of r) start s l m d (bucket-small r)).receipts r h.1 refl in
+            let found = (from-other laws rules w since i h.0 (bucket_of_id r) start s l m d (bucket-small r)).receipts r h.1 refl in
             let source = ((held-end laws rules w since s).now i).receipts found.0 found.1 in
             subst (Contains ((run_from rules w since).now i).held) (s.one_id source.0 h.0 found.0 r source.1 h.1 found.2) found.1
         | inr m ↦ absurd (contains-none r (subst (λ (z : State). Contains z.held r) (start.outside.now h.0 m) h.1))

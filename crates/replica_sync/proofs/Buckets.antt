@@ -5,7 +5,7 @@ use Rattle.std.specs.List.{AllByRecursion}
 use Rattle.std.specs.Int.{to_be_bytes, w32, bytes_high_first, byte_at}
 use Rattle.sha2.specs.Sha256.{sha256, digest_bytes}
 use Rattle.receipt_core.specs.Receipt.{Receipt, receipt_id_of}
-use Rattle.replica_sync.specs.State.{bucket_of}
+use Rattle.replica_sync.specs.State.{bucket_of_id}
 
 abbrev AreBytes : List ℕ → Type 0
 AreBytes = AllByRecursion (λ b. b < 256)
@@ -31,6 +31,6 @@ first-small : (xs : List ℕ) → AreBytes xs → slice_index_or xs 0 0 ≤ 255
 first-small [] a = omega arith
 first-small (x ∷ xs) a = omega (arith, a.0)
 
-pub bucket-small : (r : Receipt) → bucket_of r ≤ 255
+pub bucket-small : (r : Receipt) → bucket_of_id r ≤ 255
 unfolding receipt_id_of sha256
 bucket-small r = first-small (receipt_id_of r) (digest-bytes _ 8)

@@ -6,7 +6,7 @@ use Rattle.json.specs.Print.{escape_byte}
 use Rattle.receipt_core.specs.declared.distrust.Distrust.{Distrust}
 use Rattle.receipt_core.specs.Receipt.{Receipt, line, distrust_line}
 use Rattle.receipt_core.specs.Acceptance.{Meaning, IsMeaning}
-use Rattle.replica_sync.specs.Snapshots.{IsCount, RefusesPlace, count_beginning, count_line, count_of, records_part}
+use Rattle.replica_sync.specs.Snapshots.{IsCountLine, RefusesPlace, count_beginning, count_line, count_of, records_part}
 use Rattle.replica_sync.specs.declared.error.SyncError.{SyncError}
 use Rattle.replica_sync.specs.declared.error.SyncError.TheVariants.{BadHeader, ConfigDiffers, VersionDiffers, NotCanonical, NotRising, BadCount, Truncated, Refused, Io, NoMemory}
 use Rattle.replica_sync.specs.declared.format.Format.{Format}
@@ -47,7 +47,7 @@ part_length Second records h =
     let number = length-decimal-le 5 records (omega arith) (omega (arith, h)) (omega (arith, h)) in
     omega (arith, whole, label, number)
 
-pub is_count : (format : Format) (m : Meaning) → IsMeaning m → IsCount (count_line format m)
+pub is_count : (format : Format) (m : Meaning) → IsMeaning m → IsCountLine (count_line format m)
 unfolding count_of
 is_count format m valid = record {
   rest = decimal (length m.held) ++ (records_part format (length m.records) ++ codes "}");
@@ -63,10 +63,10 @@ pub no_fault_of_count : (format : Format) (m : Meaning) (text : List ℕ) (e : S
 no_fault_of_count format m text BadHeader valid is ample h = h
 no_fault_of_count format m text ConfigDiffers valid is ample h = h
 no_fault_of_count format m text VersionDiffers valid is ample h = h
-no_fault_of_count format m text (NotCanonical n) valid is ample h = h.further (subst IsCount (sym is) (is_count format m valid))
-no_fault_of_count format m text (NotRising n) valid is ample h = h.further (subst IsCount (sym is) (is_count format m valid))
+no_fault_of_count format m text (NotCanonical n) valid is ample h = h.further (subst IsCountLine (sym is) (is_count format m valid))
+no_fault_of_count format m text (NotRising n) valid is ample h = h.further (subst IsCountLine (sym is) (is_count format m valid))
 no_fault_of_count format m text BadCount valid is ample h = h.other is
 no_fault_of_count format m text Truncated valid is ample h = h
-no_fault_of_count format m text (Refused n why) valid is ample h = h.further (subst IsCount (sym is) (is_count format m valid))
+no_fault_of_count format m text (Refused n why) valid is ample h = h.further (subst IsCountLine (sym is) (is_count format m valid))
 no_fault_of_count format m text Io valid is ample h = h
 no_fault_of_count format m text NoMemory valid is ample h = ample refl

@@ -9,7 +9,7 @@ use Rattle.hex.specs.Hex.{encode_lower, encode_with, lower_digits}
 use Rattle.hex.proofs.HexLemmas.{length-encode_with}
 use Rattle.sha2.specs.Sha256.{sha256, digest_bytes}
 use Rattle.fed_config.specs.Configuration.{Configuration, config_id_of}
-use Rattle.replica_sync.specs.Snapshots.{AreDigits, IsHeader, is_digit, digits_of, header_line, header_of, version_of}
+use Rattle.replica_sync.specs.Snapshots.{AreDigits, IsHeader, is_lower_hex_digit, digits_of, header_line, header_of, version_of}
 use Rattle.replica_sync.specs.declared.format.Format.{Format}
 use Rattle.replica_sync.specs.declared.format.Format.TheVariants.{First, Second}
 use Rattle.replica_sync.proofs.Buckets.{digest-bytes}
@@ -19,12 +19,12 @@ use Rattle.replica_sync.proofs.FeedFacts.{Feedless, feedless_both, feedless_deci
 
 abbrev are_digits_below : ℕ → Bool
 are_digits_below zero = true
-are_digits_below (suc n) = is_digit (slice_index lower_digits n) && are_digits_below n
+are_digits_below (suc n) = is_lower_hex_digit (slice_index lower_digits n) && are_digits_below n
 
-digit_at : (n d : ℕ) → are_digits_below n ≡ true → d < n → is_digit (slice_index lower_digits d) ≡ true
+digit_at : (n d : ℕ) → are_digits_below n ≡ true → d < n → is_lower_hex_digit (slice_index lower_digits d) ≡ true
 digit_at zero d h lt = absurd (omega arith)
 digit_at (suc n) d h lt =
-    let parts = and_parts (is_digit (slice_index lower_digits n)) (are_digits_below n) h in
+    let parts = and_parts (is_lower_hex_digit (slice_index lower_digits n)) (are_digits_below n) h in
     elim (cases_lt d n) [
       | inl below ↦ digit_at n d parts.1 below
       | inr top ↦
@@ -32,14 +32,14 @@ digit_at (suc n) d h lt =
           rw e parts.0
     ]
 
-each_digit : (a : List ℕ) → AllByRecursion (λ b. b < 256) a → AllByRecursion (λ b. is_digit b ≡ true) (encode_lower a)
+each_digit : (a : List ℕ) → AllByRecursion (λ b. b < 256) a → AllByRecursion (λ b. is_lower_hex_digit b ≡ true) (encode_lower a)
 unfolding encode_with
 each_digit [] h = tt
 each_digit (x ∷ a) h = (digit_at 16 (x / 16) refl (omega (arith, h.0)), (digit_at 16 (x % 16) refl (omega arith), each_digit a h.1))
 
-feedless_digits : (xs : List ℕ) → AllByRecursion (λ b. is_digit b ≡ true) xs → Feedless xs
+feedless_digits : (xs : List ℕ) → AllByRecursion (λ b. is_lower_hex_digit b ≡ true) xs → Feedless xs
 feedless_digits [] h = tt
-feedless_digits (x ∷ xs) h = ((λ e. let no : is_digit 10 ≡ true = subst (λ b. is_digit b ≡ true) e h.0 in cc), feedless_digits xs h.1)
+feedless_digits (x ∷ xs) h = ((λ e. let no : is_lower_hex_digit 10 ≡ true = subst (λ b. is_lower_hex_digit b ≡ true) e h.0 in cc), feedless_digits xs h.1)
 
 length-digest : (h : List ℕ) (n : ℕ) → length (digest_bytes h n) ≡ 4 * n
 unfolding digest_bytes
@@ -54,14 +54,14 @@ length-config_id : (c : Configuration) → length (config_id_of c) ≡ 32
 unfolding config_id_of sha256
 length-config_id c = length-digest _ 8
 
-each_of_config : (c : Configuration) → AllByRecursion (λ b. is_digit b ≡ true) (digits_of c)
+each_of_config : (c : Configuration) → AllByRecursion (λ b. is_lower_hex_digit b ≡ true) (digits_of c)
 unfolding config_id_of sha256
 each_of_config c = each_digit (config_id_of c) (digest-bytes _ 8)
 
 config_digits : (c : Configuration) → AreDigits (digits_of c)
 config_digits c = record {
   size = let twice = length-encode_with lower_digits (config_id_of c) in let bytes = length-config_id c in omega (arith, twice, bytes);
-  each = All-from_recursion (λ b. is_digit b ≡ true) (digits_of c) (each_of_config c);
+  each = All-from_recursion (λ b. is_lower_hex_digit b ≡ true) (digits_of c) (each_of_config c);
 }
 
 -- ---- the line

@@ -5,7 +5,7 @@ use Rattle.std.specs.List.{AllByRecursion}
 use Rattle.std.proofs.lemmas.Bool.{cases_Bool, and_from}
 use Rattle.std.proofs.lemmas.Slice.Eq.{bytes_eq-Decides}
 use Rattle.receipt_core.specs.Receipt.{Receipt, IsReceipt, IsDistrust, receipt_id_of}
-use Rattle.replica_sync.specs.State.{State, id_cmp, joined, is_within_limits, bucket_of, is_in_bucket, is_named, ids_held, receipts_lacking}
+use Rattle.replica_sync.specs.State.{State, id_cmp, joined, is_within_limits, bucket_of_id, is_of_bucket, is_named, ids_held, receipts_lacking}
 use Rattle.replica_sync.specs.World.{question, answer, World, Rules, sends, where_so, replies, takes_whole, gained, apply, happens, is_replica}
 use Rattle.replica_sync.specs.Convergence.{Exchange, at_question, at_answer, at_taking, after_taking, HasAll, IsPartOf}
 use Rattle.replica_sync.specs.declared.event.Event.{Event}
@@ -43,15 +43,15 @@ named-held : (state : State) (b : ℕ) (r : Receipt) → is_named (ids_held stat
 named-held state b r e =
     let found = any-from (λ id. bytes_eq id (receipt_id_of r)) (ids_held state b) e in
     let same : found.0 ≡ receipt_id_of r = (bytes_eq-Decides found.0 (receipt_id_of r)).0 found.2 in
-    elim (joined-only id_cmp (map receipt_id_of (filter (is_in_bucket b) state.held)) [] found.0 found.1) [
+    elim (joined-only id_cmp (map receipt_id_of (filter (is_of_bucket b) state.held)) [] found.0 found.1) [
       | inl c ↦
-          let source = map-from receipt_id_of (filter (is_in_bucket b) state.held) found.0 c in
-          (source.0, (filter-from (is_in_bucket b) state.held source.0 source.1).0, source.2 ∙ same)
+          let source = map-from receipt_id_of (filter (is_of_bucket b) state.held) found.0 c in
+          (source.0, (filter-from (is_of_bucket b) state.held source.0 source.1).0, source.2 ∙ same)
       | inr c ↦ absurd (contains-none found.0 c)
     ]
 
 abbrev lacking : State → ℕ → Receipt → Bool
-lacking asking b r = is_in_bucket b r && not (is_named (ids_held asking b) r)
+lacking asking b r = is_of_bucket b r && not (is_named (ids_held asking b) r)
 
 -- the asker held what it named, and takes the others
 gives : (laws : Laws) (i b : ℕ) (asking given before : State) → IsPartOf asking before → Keeps IsReceipt IsDistrust given → Keeps IsReceipt IsDistrust before
@@ -63,7 +63,7 @@ gives laws i b asking given before part forms own = record {
             let s = named-held asking b r named in
             (s.0, laws.receipts.old (receipts_lacking given b (ids_held asking b)) before.held s.0 (part.receipts s.0 s.1), s.2)
         | inr unnamed ↦
-            let sent : Contains (receipts_lacking given b (ids_held asking b)) r = filter-to (lacking asking b) given.held r c (and_from (is_in_bucket b r) (not (is_named (ids_held asking b) r)) (eq-eqb (bucket_of r) b e) (ap not unnamed)) in
+            let sent : Contains (receipts_lacking given b (ids_held asking b)) r = filter-to (lacking asking b) given.held r c (and_from (is_of_bucket b r) (not (is_named (ids_held asking b) r)) (eq-eqb (bucket_of_id r) b e) (ap not unnamed)) in
             let each : AllByRecursion IsReceipt (receipts_lacking given b (ids_held asking b)) = each-to IsReceipt (receipts_lacking given b (ids_held asking b)) (λ s d. forms.receipts s (filter-from (lacking asking b) given.held s d).0) in
             (r, laws.receipts.new (receipts_lacking given b (ids_held asking b)) before.held r each (each-to IsReceipt before.held own.receipts) sent, refl)
       ];

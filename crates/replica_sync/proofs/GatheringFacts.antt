@@ -20,7 +20,7 @@ use Rattle.receipt_core.specs.Receipt.{Receipt, receipt_cmp, distrust_cmp}
 use Rattle.receipt_core.specs.Rising.{with_item, with_items}
 use Rattle.receipt_core.specs.Acceptance.{IsFitting, Meaning, IsMeaning}
 use Rattle.receipt_core.proofs.RisingFacts.{turned}
-use Rattle.trust_closure.specs.Changes.{State as Closed, empty_of, Took, TakesDistrust, HasRefused, HasRefusedMerge}
+use Rattle.trust_closure.specs.Changes.{HeldAndRoom as Closed, empty_of, Took, TakesDistrust, HasRefused, HasRefusedMerge}
 use Rattle.trust_closure.specs.Refusals.{RefusesReceipt, RefusesDistrust, RefusesMerge, AreTooMany}
 use Rattle.trust_closure.specs.declared.error.TakeError.{TakeError}
 use Rattle.trust_closure.specs.declared.error.TakeError.TheVariants.{UnknownDomain, WrongEndpoint, Full, NoMemory, ConfigDiffers}
@@ -29,7 +29,7 @@ use Rattle.trust_closure.specs.declared.outcome.Taken.{Taken}
 use Rattle.trust_closure.specs.declared.outcome.Taken.TheVariants.{New as TakenNew, Already as TakenAlready}
 use Rattle.trust_closure.specs.declared.outcome.Distrusted.{Distrusted}
 use Rattle.trust_closure.specs.declared.outcome.Distrusted.TheVariants.{New as DistrustedNew, Already as DistrustedAlready}
-use Rattle.replica_sync.specs.State.{no_state, joined, is_within_limits, meaning_of}
+use Rattle.replica_sync.specs.State.{no_state, joined, is_within_limits, meaning_of_state}
 use Rattle.replica_sync.specs.Session.{state_of}
 use Rattle.replica_sync.specs.World.{same_id, is_fitting, is_known}
 use Rattle.replica_sync.specs.Playing.{grown, CanHold, CanHoldRecords}
@@ -186,26 +186,26 @@ too-many a b h =
     ]
 
 pub grow-refused : (old new : Closed) (other : Meaning) (why : TakeError) → IsConfiguration other.config → IsMeaning other → HasRefusedMerge old other new why → old.meaning.config ≡ other.config → why ≢ NoMemory
-    → new.meaning ≡ meaning_of old.meaning.config (grown (state_of old.meaning) (state_of other))
+    → new.meaning ≡ meaning_of_state old.meaning.config (grown (state_of old.meaning) (state_of other))
 grow-refused old new other why is valid h same n =
     let many = merge-refused old.meaning other why (subst IsConfiguration (sym same) is) (subst (λ (c : Configuration). AllByRecursion (IsFitting c) other.held) (sym same) valid.fitting)
     (subst (λ (c : Configuration). AllByRecursion (λ x. HasDomain c x.domain) other.records) (sym same) valid.domains) (ap config_id_of same) h.cause n in
     h.unchanged.meaning
-    ∙ ap (λ b. meaning_of old.meaning.config (cond b (joined (state_of old.meaning) (state_of other)) (state_of old.meaning)))
+    ∙ ap (λ b. meaning_of_state old.meaning.config (cond b (joined (state_of old.meaning) (state_of other)) (state_of old.meaning)))
     (sym (too-many (length (joined (state_of old.meaning) (state_of other)).held) (length (joined (state_of old.meaning) (state_of other)).records) many))
 
 -- ---- copies
 
-grown-nothing : (m : Meaning) → IsMeaning m → meaning_of m.config (grown no_state (state_of m)) ≡ m
+grown-nothing : (m : Meaning) → IsMeaning m → meaning_of_state m.config (grown no_state (state_of m)) ≡ m
 grown-nothing m valid =
     let held : with_items receipt_cmp m.held [] ≡ m.held = all-next receipt_cmp receipt_total m.held [] valid.rising in
     let records : with_items distrust_cmp m.records [] ≡ m.records = all-next distrust_cmp distrust_total m.records [] valid.records_rising in
     let same : joined no_state (state_of m) ≡ state_of m = (λ i. record { held = held i; records = records i }) in
     let within : is_within_limits (state_of m) ≡ true = and_from (nat_le (length m.held) 65536) (nat_le (length m.records) 4096) (le-leb (length m.held) 65536 valid.few) (le-leb (length m.records) 4096 valid.few_records) in
-    ap (λ s. meaning_of m.config (cond (is_within_limits s) s no_state)) same ∙ ap (λ b. meaning_of m.config (cond b (state_of m) no_state)) within
+    ap (λ s. meaning_of_state m.config (cond (is_within_limits s) s no_state)) same ∙ ap (λ b. meaning_of_state m.config (cond b (state_of m) no_state)) within
 
-pub copy-same : (m copy new : Meaning) → IsMeaning m → copy ≡ empty_of m.config → new ≡ meaning_of copy.config (grown (state_of copy) (state_of m)) → new ≡ m
-copy-same m copy new valid e h = h ∙ ap (λ (c : Meaning). meaning_of c.config (grown (state_of c) (state_of m))) e ∙ grown-nothing m valid
+pub copy-same : (m copy new : Meaning) → IsMeaning m → copy ≡ empty_of m.config → new ≡ meaning_of_state copy.config (grown (state_of copy) (state_of m)) → new ≡ m
+copy-same m copy new valid e h = h ∙ ap (λ (c : Meaning). meaning_of_state c.config (grown (state_of c) (state_of m))) e ∙ grown-nothing m valid
 
 -- ---- one after another
 

@@ -14,7 +14,7 @@ use Rattle.receipt_core.specs.Receipt.{Receipt, IsReceipt, line, receipt_cmp, Is
 use Rattle.receipt_core.specs.Acceptance.{Meaning, IsMeaning}
 use Rattle.receipt_core.specs.Rising.{with_item, placed}
 use Rattle.receipt_core.proofs.RisingFacts.{turned}
-use Rattle.replica_sync.specs.Entries.{TakesText, IsAbove, IsWanted, entry_line, with_entry}
+use Rattle.replica_sync.specs.Entries.{TakesEntryText, IsAbove, IsWanted, entry_line, with_entry}
 use Rattle.replica_sync.specs.Snapshots.{IsTold, held_lines, last_of, last_line, wanted_of}
 use Rattle.replica_sync.specs.Reading.{IsFurther}
 use Rattle.replica_sync.specs.declared.entry.Entry.{Entry}
@@ -194,7 +194,7 @@ module _ (total : IsTotalOrder receipt_cmp) (records_total : IsTotalOrder distru
   further_entry Second m (Record x) valid told is above = further_record m x valid is above
   further_entry Second m (AReceipt r) valid told is above = further_receipt Second m r valid told is above
 
-  pub further : (format : Format) (m new : Meaning) (text : List ℕ) (count : ℕ) → IsMeaning m → IsTold format m → TakesText (wanted_of format) m (last_line m) text new count → IsFurther format m text new
+  pub further : (format : Format) (m new : Meaning) (text : List ℕ) (count : ℕ) → IsMeaning m → IsTold format m → TakesEntryText (wanted_of format) m (last_line m) text new count → IsFurther format m text new
   further format m new text count valid told taken =
       let spelt = taken.next.is.spelt in
       let same = taken.taken.meaning in

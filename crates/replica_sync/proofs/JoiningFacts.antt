@@ -7,7 +7,7 @@ use Rattle.receipt_core.specs.Receipt.{Receipt, IsReceipt, receipt_cmp, distrust
 use Rattle.receipt_core.specs.Rising.{with_items}
 use Rattle.receipt_core.specs.Sets.{AreSets, Always}
 use Rattle.receipt_core.specs.Acceptance.{Meaning, IsMeaning}
-use Rattle.trust_closure.specs.Changes.{State as ClosureState, Takes, TakesDistrust, Took, Distrusts}
+use Rattle.trust_closure.specs.Changes.{HeldAndRoom as ClosureState, Takes, TakesDistrust, Took, Distrusts}
 use Rattle.trust_closure.specs.Merge.{offers_count}
 use Rattle.trust_closure.specs.Refusals.{IsRoomier, RefusesDistrust, RefusesReceipt}
 use Rattle.trust_closure.specs.declared.error.TakeError.{TakeError}

@@ -4,7 +4,7 @@ use Rattle.std.specs.Prelude.{Contains, slice_get, Option, Some, None, not, ⊤}
 use Rattle.std.proofs.lemmas.Bool.{and_parts}
 use Rattle.receipt_core.specs.declared.distrust.Distrust.{Distrust}
 use Rattle.receipt_core.specs.Receipt.{Receipt}
-use Rattle.replica_sync.specs.State.{State, joined, is_within_limits, is_in_bucket, is_named, receipts_lacking, first_of, ids_held}
+use Rattle.replica_sync.specs.State.{State, joined, is_within_limits, is_of_bucket, is_named, receipts_lacking, first_of, ids_held}
 use Rattle.replica_sync.specs.World.{Message, question, answer, World, Rules, Effect, gains, sends, saves, restarts, where_so, replies, takes_whole, takes_part, with_state, gained, apply, happens, run_from, is_replica}
 use Rattle.replica_sync.specs.declared.event.Event.{Event}
 use Rattle.replica_sync.specs.declared.event.Event.TheVariants.{Take, Revoke, Ask, Answer, Absorb, Part, Join, Save, Restart}
@@ -73,7 +73,7 @@ kept-replies : (P : Receipt → Type 0) (Q : Distrust → Type 0) (place : ℕ) 
 kept-replies P Q place A w state j k None h s = h
 kept-replies P Q place A w state j k (Some (question asker bucket ids)) h s =
     kept-sends P Q place A w (answer j k (record { held = receipts_lacking state bucket ids; records = state.records })) h (record {
-      receipts = λ r c. s.receipts r (filter-from (λ o. is_in_bucket bucket o && not (is_named ids o)) state.held r c).0;
+      receipts = λ r c. s.receipts r (filter-from (λ o. is_of_bucket bucket o && not (is_named ids o)) state.held r c).0;
       records = s.records;
     })
 kept-replies P Q place A w state j k (Some (answer answerer other content)) h s = h

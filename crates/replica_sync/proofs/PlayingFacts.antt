@@ -10,10 +10,10 @@ use Rattle.receipt_core.specs.declared.distrust.Distrust.{Distrust}
 use Rattle.receipt_core.specs.Receipt.{Receipt, receipt_cmp, distrust_cmp}
 use Rattle.receipt_core.specs.Acceptance.{Meaning, IsMeaning}
 use Rattle.trust_closure.specs.Changes.{empty_of}
-use Rattle.replica_sync.specs.State.{State, no_state, joined, is_within_limits, receipts_lacking, first_of, meaning_of}
+use Rattle.replica_sync.specs.State.{State, no_state, joined, is_within_limits, receipts_lacking, first_of, meaning_of_state}
 use Rattle.replica_sync.specs.Session.{state_of}
 use Rattle.replica_sync.specs.World.{Message, question, answer, World, rules_of, Effect, gains, sends, saves, restarts, where_so, replies, takes_whole, takes_part, at_replica, gained, apply, happens, is_replica, is_fitting, is_known}
-use Rattle.replica_sync.specs.Playing.{AreOf, message_of, answered, asked, CanHold, CanHoldRecords, IsSound, Plays, Follows}
+use Rattle.replica_sync.specs.Playing.{AreOf, message_of, answered, asked, CanHold, CanHoldRecords, IsSound, Plays, StandsForEvent}
 use Rattle.replica_sync.specs.declared.event.Event.{Event}
 use Rattle.replica_sync.specs.declared.event.Event.TheVariants.{Take, Revoke, Answer, Absorb, Part, Join}
 use Rattle.replica_sync.specs.declared.playing.Playing.{Playing}
@@ -82,7 +82,7 @@ module _ {A : Type 0} (meaning : A → Meaning) (config : Configuration) (n : �
 -- ---- what events come to
 
 pub on-all : {E : Type 0} {V : Type 0} {A : Type 0} (meaning : A → Meaning) (config : Configuration) (old new : Playing A) (event : Event) (result : Result V E)
-    → ((n : ℕ) (w : World) → Plays meaning config n old w → OnOk result (Plays meaning config n new (happens (rules_of config n) w event))) → OnOk result (Follows meaning config old new event)
+    → ((n : ℕ) (w : World) → Plays meaning config n old w → OnOk result (Plays meaning config n new (happens (rules_of config n) w event))) → OnOk result (StandsForEvent meaning config old new event)
 on-all meaning config old new event (Ok v) h = λ n w p. h n w p
 on-all meaning config old new event (Err e) h = tt
 
@@ -134,7 +134,7 @@ record-gains config n w i x fresh more e unfit next =
 pub gain-follows : {E : Type 0} {V : Type 0} {A : Type 0} (meaning : A → Meaning) (config : Configuration) (old new : Playing A) (event : Event) (i : ℕ) (more : Meaning) (result : Result V E)
     → ((n : ℕ) (w : World) (c : Configuration) → more.config ≡ c → Plays meaning c n old w → OnOk result (Plays meaning c n new (apply w (where_so (is_replica (rules_of c n) i) (gains i (state_of more))))))
     → ((n : ℕ) (w : World) → Plays meaning config n old w → (more.config ≡ config) × (apply w (where_so (is_replica (rules_of config n) i) (gains i (state_of more))) ≡ happens (rules_of config n) w event))
-    → OnOk result (Follows meaning config old new event)
+    → OnOk result (StandsForEvent meaning config old new event)
 gain-follows meaning config old new event i more result h same =
     on-all meaning config old new event result (λ n w p.
     on_ok_weaker result (subst (Plays meaning config n new) (same n w p).1) (h n w config (same n w p).0 p))
@@ -167,7 +167,7 @@ and-right : (a b : Bool) → b ≡ true → (a && b) ≡ a
 and-right true b e = e
 and-right false b e = refl
 
-pub join-gains : (config : Configuration) (n : ℕ) (w : World) (i j : ℕ) (found more : Meaning) → j < n → found ≡ meaning_of config (w.now j) → more ≡ found
+pub join-gains : (config : Configuration) (n : ℕ) (w : World) (i j : ℕ) (found more : Meaning) → j < n → found ≡ meaning_of_state config (w.now j) → more ≡ found
     → (more.config ≡ config) × (apply w (where_so (is_replica (rules_of config n) i) (gains i (state_of more))) ≡ happens (rules_of config n) w (Join i j))
 join-gains config n w i j found more l f m =
     let e = m ∙ f in (
@@ -181,7 +181,7 @@ pub absorb-gains : (config : Configuration) (n : ℕ) (w : World) (i k : ℕ) (c
     → (more.config ≡ config) × (apply w (where_so (is_replica (rules_of config n) i) (gains i (state_of more))) ≡ happens (rules_of config n) w (Absorb i k))
 absorb-gains config n w i k content rs xs more sound a re xe built =
     let can = sound-at config w.sent k content sound a in
-    let e : more ≡ meaning_of config content = built (subst (CanHold config) (sym re) can.0) (subst (CanHoldRecords config) (sym xe) can.1) ∙ (λ ι. record { config = config; held = re ι; records = xe ι }) in (
+    let e : more ≡ meaning_of_state config content = built (subst (CanHold config) (sym re) can.0) (subst (CanHoldRecords config) (sym xe) can.1) ∙ (λ ι. record { config = config; held = re ι; records = xe ι }) in (
       ap (λ (m : Meaning). m.config) e,
       ap (λ (m : Meaning). apply w (where_so (is_replica (rules_of config n) i) (gains i (state_of m)))) e
           ∙ ap (λ (effect : Effect). apply w (where_so (is_replica (rules_of config n) i) effect)) (sym (some-taken i (slice_get w.sent k) content a)),
@@ -193,7 +193,7 @@ pub part-gains : (config : Configuration) (n : ℕ) (w : World) (i k count : ℕ
     → (more.config ≡ config) × (apply w (where_so (is_replica (rules_of config n) i) (gains i (state_of more))) ≡ happens (rules_of config n) w (Part i k count))
 part-gains config n w i k count content rs xs more sound a re xe built =
     let can = sound-at config w.sent k content sound a in
-    let e : more ≡ meaning_of config (first_of count content) =
+    let e : more ≡ meaning_of_state config (first_of count content) =
     built (subst (CanHold config) (sym re) (can-take config (count - length content.records) content.held can.0)) (subst (CanHoldRecords config) (sym xe) (knows-take config count content.records can.1)) ∙ (λ ι. record { config = config; held = re ι; records = xe ι }) in (
       ap (λ (m : Meaning). m.config) e,
       ap (λ (m : Meaning). apply w (where_so (is_replica (rules_of config n) i) (gains i (state_of m)))) e
@@ -204,7 +204,7 @@ abbrev reply_to : ℕ → ℕ → ℕ → List (List ℕ) → State → Message
 reply_to i k bucket ids s = answer i k (record { held = receipts_lacking s bucket ids; records = s.records })
 
 pub answer-follows : {A : Type 0} (meaning : A → Meaning) (config : Configuration) (n : ℕ) (old new : Playing A) (w : World) (i k : ℕ) (m : Meaning) (bucket : ℕ) (ids : List (List ℕ)) (told : Sent) → i < n → Plays meaning config n old w
-    → m ≡ meaning_of config (w.now i) → IsMeaning m → asked (slice_get w.sent k) ≡ Some (bucket, ids) → message_of told ≡ answer i k (record { held = receipts_lacking (state_of m) bucket ids; records = m.records })
+    → m ≡ meaning_of_state config (w.now i) → IsMeaning m → asked (slice_get w.sent k) ≡ Some (bucket, ids) → message_of told ≡ answer i k (record { held = receipts_lacking (state_of m) bucket ids; records = m.records })
     → new.held.items ≡ old.held.items → new.saved.items ≡ old.saved.items → new.sent.items ≡ old.sent.items ++ told ∷ [] → Plays meaning config n new (happens (rules_of config n) w (Answer i k))
 answer-follows meaning config n old new w i k m bucket ids told l p e valid a says held saved sent =
     let same : state_of m ≡ w.now i = ap state_of e in
@@ -213,7 +213,7 @@ answer-follows meaning config n old new w i k m bucket ids told l p e valid a sa
     (subst (λ (s : State). IsSound config (reply_to i k bucket ids s)) same (sound-reply config m bucket ids (ap (λ (m : Meaning). m.config) e) valid)))
 
 pub here : {A : Type 0} (meaning : A → Meaning) (config : Configuration) (n : ℕ) (closures given : List A) (states : ℕ → State) (i : ℕ) (c : A) → AreOf meaning config n closures states → given ≡ closures → i < length given
-    → c ≡ get_or given i c → (i < n) × (meaning c ≡ meaning_of config (states i))
+    → c ≡ get_or given i c → (i < n) × (meaning c ≡ meaning_of_state config (states i))
 here meaning config n closures given states i c h e l f =
     let inside : i < n = omega (arith, l, ap length e, h.count) in
     (inside, ap meaning (f ∙ ap (λ xs. get_or xs i c) e) ∙ h.each i c inside)

@@ -22,7 +22,7 @@ use Rattle.std.specs.Cmp.Lexicographic.{slice_cmp}
 use Rattle.receipt_core.specs.declared.receipt_id.ReceiptId.{ReceiptId}
 use Rattle.receipt_core.specs.Receipt.{Receipt, receipt_id_of}
 use Rattle.std.specs.List.{filter}
-use Rattle.replica_sync.specs.State.{State, id_cmp, ids_held, is_in_bucket}
+use Rattle.replica_sync.specs.State.{State, id_cmp, ids_held, is_of_bucket}
 
 -- the order of ids is that of their bytes
 abbrev pub bytes_of : ReceiptId → List ℕ
@@ -80,7 +80,7 @@ id_found ids x (Err place) rising range found =
 -- ids that are held rise
 pub held-rising : (state : State) (bucket : ℕ) → IsStrictlySortedBy id_cmp (ids_held state bucket)
 unfolding IsStrictlySortedBy
-held-rising state bucket = with_items-rising id_cmp id_total (map receipt_id_of (filter (is_in_bucket bucket) state.held)) [] tt
+held-rising state bucket = with_items-rising id_cmp id_total (map receipt_id_of (filter (is_of_bucket bucket) state.held)) [] tt
 
 -- ---- whether ids rise
 

@@ -4,7 +4,7 @@ use Rattle.std.specs.Prelude.{◌↔◌, Contains, IsTrue, filter, not, bytes_eq
 use Rattle.std.specs.List.{list_any}
 use Rattle.receipt_core.specs.Receipt.{Receipt, receipt_id_of}
 use Rattle.receipt_core.specs.Acceptance.{Meaning, IsMeaning}
-use Rattle.replica_sync.specs.State.{is_named, is_in_bucket, receipts_lacking}
+use Rattle.replica_sync.specs.State.{is_named, is_of_bucket, receipts_lacking}
 use Rattle.replica_sync.specs.Session.{state_of}
 use Rattle.replica_sync.specs.Lacking.{not_named}
 use Rattle.replica_sync.proofs.Members.{contains-none, contains-cases, any-from}
@@ -66,6 +66,6 @@ few-kept p (r ∷ rs) = omega (arith, kept-few (p r) r (filter p rs) (length rs)
 
 pub few-lacking : (m : Meaning) (bucket : ℕ) (ids : List (List ℕ)) → IsMeaning m → length (receipts_lacking (state_of m) bucket ids) ≤ 65536
 few-lacking m bucket ids valid =
-    let kept = few-kept (λ r. is_in_bucket bucket r && not (is_named ids r)) m.held in
+    let kept = few-kept (λ r. is_of_bucket bucket r && not (is_named ids r)) m.held in
     let few = valid.few in
     omega arith

@@ -11,7 +11,7 @@ use Rattle.fed_config.specs.Configuration.{Configuration, HasDomain}
 use Rattle.receipt_core.specs.declared.distrust.Distrust.{Distrust}
 use Rattle.receipt_core.specs.Receipt.{Receipt, receipt_cmp, distrust_cmp}
 use Rattle.receipt_core.specs.Acceptance.{Meaning, IsMeaning, IsFitting}
-use Rattle.replica_sync.specs.State.{State, is_in_bucket, is_named, receipts_lacking}
+use Rattle.replica_sync.specs.State.{State, is_of_bucket, is_named, receipts_lacking}
 use Rattle.replica_sync.specs.Session.{state_of}
 use Rattle.replica_sync.specs.World.{Message, question, answer}
 use Rattle.replica_sync.specs.Playing.{answered, CanHold, CanHoldRecords, IsSound}
@@ -82,9 +82,9 @@ pub sound-reply : (config : Configuration) (m : Meaning) (bucket : ℕ) (ids : L
     → CanHold config (receipts_lacking (state_of m) bucket ids) × CanHoldRecords config m.records
 sound-reply config m bucket ids e h = (
   record {
-    fitting = all-filter (IsFitting config) (λ r. is_in_bucket bucket r && not (is_named ids r)) m.held (subst (λ (c : Configuration). AllByRecursion (IsFitting c) m.held) e h.fitting);
-    rising = IsStrictlySortedBy-filter receipt_cmp (λ r. is_in_bucket bucket r && not (is_named ids r)) m.held h.rising;
-    few = let fewer = fewer-filtered (λ r. is_in_bucket bucket r && not (is_named ids r)) m.held in let few = h.few in omega (arith, fewer, few);
+    fitting = all-filter (IsFitting config) (λ r. is_of_bucket bucket r && not (is_named ids r)) m.held (subst (λ (c : Configuration). AllByRecursion (IsFitting c) m.held) e h.fitting);
+    rising = IsStrictlySortedBy-filter receipt_cmp (λ r. is_of_bucket bucket r && not (is_named ids r)) m.held h.rising;
+    few = let fewer = fewer-filtered (λ r. is_of_bucket bucket r && not (is_named ids r)) m.held in let few = h.few in omega (arith, fewer, few);
   },
   record { domains = subst (λ (c : Configuration). AllByRecursion (λ x. HasDomain c x.domain) m.records) e h.domains; rising = h.records_rising; few = h.few_records },
 )

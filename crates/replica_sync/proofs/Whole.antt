@@ -12,7 +12,7 @@ use Rattle.fed_config.specs.declared.seed.Seed.{Seed}
 use Rattle.receipt_core.specs.declared.distrust.Distrust.{Distrust}
 use Rattle.receipt_core.specs.Receipt.{Receipt, IsReceipt, IsDistrust, Pair, pair_of}
 use Rattle.receipt_core.specs.Acceptance.{Meaning, IsMeaning, IsFitting, Vouches, Leads, IsMember, IsClosed, pair_of_seed}
-use Rattle.replica_sync.specs.State.{no_state, meaning_of}
+use Rattle.replica_sync.specs.State.{no_state, meaning_of_state}
 use Rattle.replica_sync.specs.World.{Message, question, answer, World, empty_world, Rules, rules_of, same_id, is_fitting, is_known, happens, run_from, run, is_replica}
 use Rattle.replica_sync.specs.Convergence.{IsEvent, AreEvents, Lacks, WasTaken, WasRevoked, ComesFrom, IsPartOf, Exchange, at_answer, after_taking, HasAll, Settles}
 use Rattle.replica_sync.specs.declared.event.Event.{Event}
@@ -115,7 +115,7 @@ all-forms laws config n events h =
 all-tidy : (laws : Laws) (rules : Rules) (events : List Event) → Throughout (λ i state. IsTidy state) (run rules events)
 all-tidy laws rules events = throughout-run rules (λ i state. IsTidy state) (tidy-kept laws rules) events empty_world tidy-empty
 
-pub means : (laws : Laws) (config : Configuration) (n : ℕ) (events : List Event) (i : ℕ) → AreEvents events → IsMeaning (meaning_of config ((run (rules_of config n) events).now i))
+pub means : (laws : Laws) (config : Configuration) (n : ℕ) (events : List Event) (i : ℕ) → AreEvents events → IsMeaning (meaning_of_state config ((run (rules_of config n) events).now i))
 means laws config n events i h =
     let state = (run (rules_of config n) events).now i in
     let forms = (all-forms laws config n events h).now i in

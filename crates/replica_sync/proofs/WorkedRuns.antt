@@ -5,7 +5,7 @@ use Rattle.std.proofs.lemmas.List.Sums.{fold-append}
 use Rattle.std.specs.declared.cmp.Ordering.TheVariants.{Less, Equal, Greater}
 use Rattle.receipt_core.specs.declared.distrust.Distrust.{Distrust}
 use Rattle.receipt_core.specs.Receipt.{Receipt, receipt_id_of, receipt_cmp, distrust_cmp}
-use Rattle.replica_sync.specs.State.{State, no_state, bucket_of, id_cmp}
+use Rattle.replica_sync.specs.State.{State, no_state, bucket_of_id, id_cmp}
 use Rattle.replica_sync.specs.World.{World, empty_world, Rules, question, answer, at_replica, happens, run_from, run}
 use Rattle.replica_sync.specs.declared.event.Event.{Event}
 use Rattle.replica_sync.specs.declared.event.Event.TheVariants.{Take, Revoke, Ask, Answer, Absorb, Restart}
@@ -19,8 +19,8 @@ starts a b x = Take 0 a ∷ Take 1 b ∷ Revoke 2 x ∷ []
 
 -- two receipts in one bucket, the first below the second
 pub record AreApart (a b : Receipt) (x : Distrust) : Type 0 where
-  pub bucket : bucket_of a ≡ 1
-  pub other_bucket : bucket_of b ≡ 1
+  pub bucket : bucket_of_id a ≡ 1
+  pub other_bucket : bucket_of_id b ≡ 1
   pub less : receipt_cmp a b ≡ Less
   pub greater : receipt_cmp b a ≡ Greater
   pub same : receipt_cmp a a ≡ Equal
@@ -91,14 +91,14 @@ differs s t a p q e = let held : a ∷ [] ≡ [] = ap (λ (u : State). u.held) (
 abbrev later_take : Receipt → List Event
 later_take a = Ask 1 1 ∷ Answer 0 0 ∷ Absorb 1 1 ∷ Take 0 a ∷ []
 
-later_take-differs : (a : Receipt) → bucket_of a ≡ 1 → (run three (later_take a)).now 0 ≢ (run three (later_take a)).now 1
+later_take-differs : (a : Receipt) → bucket_of_id a ≡ 1 → (run three (later_take a)).now 0 ≢ (run three (later_take a)).now 1
 later_take-differs a p = differs ((run three (later_take a)).now 0) ((run three (later_take a)).now 1) a refl refl
 
 -- replica 1 has all of 0's answer, and then starts again from what it never saved
 abbrev later_restart : Receipt → List Event
 later_restart a = Take 0 a ∷ Ask 1 1 ∷ Answer 0 0 ∷ Absorb 1 1 ∷ Restart 1 ∷ []
 
-later_restart-differs : (a : Receipt) → bucket_of a ≡ 1 → (run three (later_restart a)).now 0 ≢ (run three (later_restart a)).now 1
+later_restart-differs : (a : Receipt) → bucket_of_id a ≡ 1 → (run three (later_restart a)).now 0 ≢ (run three (later_restart a)).now 1
 later_restart-differs a p = differs ((run three (later_restart a)).now 0) ((run three (later_restart a)).now 1) a (simp p) (simp p)
 
 -- 0 took a receipt, answered, and started again without it; both have had each other's answers since, and then the old
@@ -106,5 +106,5 @@ later_restart-differs a p = differs ((run three (later_restart a)).now 0) ((run 
 abbrev late_answer : Receipt → List Event
 late_answer a = Take 0 a ∷ Ask 1 1 ∷ Answer 0 0 ∷ Restart 0 ∷ Ask 1 1 ∷ Answer 0 2 ∷ Absorb 1 3 ∷ Ask 0 1 ∷ Answer 1 4 ∷ Absorb 0 5 ∷ Absorb 1 1 ∷ []
 
-late_answer-differs : (a : Receipt) → bucket_of a ≡ 1 → (run three (late_answer a)).now 1 ≢ (run three (late_answer a)).now 0
+late_answer-differs : (a : Receipt) → bucket_of_id a ≡ 1 → (run three (late_answer a)).now 1 ≢ (run three (late_answer a)).now 0
 late_answer-differs a p = differs ((run three (late_answer a)).now 1) ((run three (late_answer a)).now 0) a (simp p) (simp p)

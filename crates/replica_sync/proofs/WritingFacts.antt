@@ -8,17 +8,17 @@ use Rattle.receipt_core.specs.Acceptance.{Meaning}
 use Rattle.receipt_core.specs.Receipt.{line, distrust_line}
 use Rattle.replica_sync.specs.Snapshots.{snapshot_text, header_line, count_line, ended, text_of_lines}
 use Rattle.replica_sync.specs.declared.format.Format.TheVariants.{Second}
-use Rattle.replica_sync.specs.Writing.{Writes, Written, IsOfWriting}
+use Rattle.replica_sync.specs.Writing.{Writes, WrittenSoFar, IsOfWriting}
 use Rattle.replica_sync.specs.declared.error.SyncError.{SyncError}
 
-pub started : (none : (old : Option (List ℕ)) → Appends old old []) (old : Option (List ℕ)) (whole : List ℕ) → Written old old whole whole
+pub started : (none : (old : Option (List ℕ)) → Appends old old []) (old : Option (List ℕ)) (whole : List ℕ) → WrittenSoFar old old whole whole
 started none old whole = record { done = []; appended = none old; parts = refl }
 
 module _ (both : (old between new : Option (List ℕ)) (first second : List ℕ) → Appends old between first → Appends between new second → Appends old new (first ++ second))
     (in_first : (old new : Option (List ℕ)) (first second : List ℕ) → AppendsBeginning old new first → AppendsBeginning old new (first ++ second))
     (in_second : (old between new : Option (List ℕ)) (first second : List ℕ) → Appends old between first → AppendsBeginning between new second → AppendsBeginning old new (first ++ second)) where
   -- one more piece
-  pub one_more : (old now new : Option (List ℕ)) (piece rest before whole : List ℕ) → before ≡ piece ++ rest → Written old now before whole → Appends now new piece → Written old new rest whole
+  pub one_more : (old now new : Option (List ℕ)) (piece rest before whole : List ℕ) → before ≡ piece ++ rest → WrittenSoFar old now before whole → Appends now new piece → WrittenSoFar old new rest whole
   one_more old now new piece rest before whole e w p = record {
     done = w.done ++ piece;
     appended = both old now new w.done piece w.appended p;
@@ -26,7 +26,7 @@ module _ (both : (old between new : Option (List ℕ)) (first second : List ℕ)
   }
 
   -- a beginning of one more piece
-  pub begun_in : (old now new : Option (List ℕ)) (piece rest before whole : List ℕ) → before ≡ piece ++ rest → Written old now before whole → AppendsBeginning now new piece → AppendsBeginning old new whole
+  pub begun_in : (old now new : Option (List ℕ)) (piece rest before whole : List ℕ) → before ≡ piece ++ rest → WrittenSoFar old now before whole → AppendsBeginning now new piece → AppendsBeginning old new whole
   begun_in old now new piece rest before whole e w p =
       subst (AppendsBeginning old new) (sym (w.parts ∙ ap (λ t. w.done ++ t) e))
       (in_second old now new w.done (piece ++ rest) w.appended (in_first now new piece rest p))
@@ -46,13 +46,13 @@ module _ (both : (old between new : Option (List ℕ)) (first second : List ℕ)
 
 -- nothing more
 pub begun_before : (in_second : (old between new : Option (List ℕ)) (first second : List ℕ) → Appends old between first → AppendsBeginning between new second → AppendsBeginning old new (first ++ second))
-    (nothing : (now : Option (List ℕ)) (text : List ℕ) → AppendsBeginning now now text) (old now : Option (List ℕ)) (rest whole : List ℕ) → Written old now rest whole → AppendsBeginning old now whole
+    (nothing : (now : Option (List ℕ)) (text : List ℕ) → AppendsBeginning now now text) (old now : Option (List ℕ)) (rest whole : List ℕ) → WrittenSoFar old now rest whole → AppendsBeginning old now whole
 begun_before in_second nothing old now rest whole w = subst (AppendsBeginning old now) (sym w.parts) (in_second old now now w.done rest w.appended (nothing now rest))
 
 pub nothing : (none : (old : Option (List ℕ)) → Appends old old []) (now : Option (List ℕ)) (text : List ℕ) → AppendsBeginning now now text
 nothing none now text = (0, none now)
 
-pub finished : (old now : Option (List ℕ)) (rest whole : List ℕ) → rest ≡ [] → Written old now rest whole → Appends old now whole
+pub finished : (old now : Option (List ℕ)) (rest whole : List ℕ) → rest ≡ [] → WrittenSoFar old now rest whole → Appends old now whole
 finished old now rest whole e w = subst (Appends old now) (sym (w.parts ∙ ap (λ t. w.done ++ t) e ∙ append-nil w.done)) w.appended
 
 -- a refusal

@@ -8,10 +8,10 @@ use Rattle.receipt_core.specs.Acceptance.{Meaning}
 use Rattle.receipt_core.specs.Rising.{with_item}
 use Rattle.trust_closure.specs.Merge.{offers_count}
 use Rattle.trust_closure.specs.Refusals.{Room, IsRoomier}
-use Rattle.trust_closure.specs.Changes.{State as ClosureState}
+use Rattle.trust_closure.specs.Changes.{HeldAndRoom as ClosureState}
 use Rattle.trust_closure.specs.declared.error.TakeError.{TakeError}
 use Rattle.trust_closure.specs.declared.error.TakeError.TheVariants.{NoMemory as NoTakeMemory}
-use Rattle.replica_sync.specs.State.{State, joined, meaning_of}
+use Rattle.replica_sync.specs.State.{State, joined, meaning_of_state}
 use Rattle.replica_sync.specs.Entries.{RefusesEntry, with_entry}
 use Rattle.replica_sync.specs.Session.{Reply, state_of}
 use Rattle.replica_sync.specs.declared.entry.Entry.{Entry}
@@ -55,14 +55,14 @@ pub record IsFirstRefused (m : Meaning) (entries : List Entry) (number : ℕ) (w
   pub named : why ≢ NoTakeMemory
 
 -- It is of a configuration with the same digest.
-abbrev pub IsOfConfig : Meaning → Reply → Type 0
-IsOfConfig m reply = reply.config ≡ config_id_of m.config
+abbrev pub IsReplyOfConfig : Meaning → Reply → Type 0
+IsReplyOfConfig m reply = reply.config ≡ config_id_of m.config
 
 -- All that it says is held, and so many receipts are that were not.
 pub record HasAbsorbed (old : Meaning) (reply : Reply) (new : Meaning) (count : ℕ) : Type 0 where
-  pub of_config : IsOfConfig old reply
+  pub of_config : IsReplyOfConfig old reply
   pub welcome : AreWelcome old (entries_of reply.content)
-  pub meaning : new ≡ meaning_of old.config (joined (state_of old) reply.content)
+  pub meaning : new ≡ meaning_of_state old.config (joined (state_of old) reply.content)
   pub more : length new.held ≡ length old.held + count
 
 -- the room that the receipts and their offers may take
@@ -71,22 +71,22 @@ room_for receipts = record { receipts = length receipts; offers = offers_count r
 
 -- All of it is welcome, and there was not room for it already.
 pub record WantsRoom (old : ClosureState) (reply : Reply) : Type 0 where
-  pub of_config : IsOfConfig old.meaning reply
+  pub of_config : IsReplyOfConfig old.meaning reply
   pub welcome : AreWelcome old.meaning (entries_of reply.content)
   pub beyond : IsRoomier (room_for reply.content.held) old.room → ⊥
 
 -- It has more lines than memory holds: their numbers are no numbers of 64 bits.
 pub record IsTooLong (old : ClosureState) (reply : Reply) : Type 0 where
-  pub of_config : IsOfConfig old.meaning reply
+  pub of_config : IsReplyOfConfig old.meaning reply
   pub long : 2 ^ 64 ≤ length (entries_of reply.content) + 2
 
 pub record RefusesOne (m : Meaning) (reply : Reply) (number : ℕ) (why : TakeError) : Type 0 where
-  pub of_config : IsOfConfig m reply
+  pub of_config : IsReplyOfConfig m reply
   pub first : IsFirstRefused m (entries_of reply.content) number why
 
 abbrev pub RefusesReply : ClosureState → Reply → SyncError → Type 0
 RefusesReply old reply BadHeader = ⊥
-RefusesReply old reply ConfigDiffers = IsOfConfig old.meaning reply → ⊥
+RefusesReply old reply ConfigDiffers = IsReplyOfConfig old.meaning reply → ⊥
 RefusesReply old reply VersionDiffers = ⊥
 RefusesReply old reply (NotCanonical n) = ⊥
 RefusesReply old reply (NotRising n) = ⊥

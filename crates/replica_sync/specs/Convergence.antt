@@ -3,7 +3,7 @@ use Rattle.std.specs.Prelude.{◌≡◌, ◌≢◌, ℕ, ◌<◌, ◌≤◌, ⊤
 use Rattle.std.specs.List.{AllByRecursion}
 use Rattle.receipt_core.specs.declared.distrust.Distrust.{Distrust}
 use Rattle.receipt_core.specs.Receipt.{Receipt, IsReceipt, IsDistrust, receipt_id_of}
-use Rattle.replica_sync.specs.State.{State, joined, is_within_limits, bucket_of}
+use Rattle.replica_sync.specs.State.{State, joined, is_within_limits, bucket_of_id}
 use Rattle.replica_sync.specs.World.{World, Rules, answer, happens, run_from}
 use Rattle.replica_sync.specs.declared.event.Event.{Event}
 use Rattle.replica_sync.specs.declared.event.Event.TheVariants.{Take, Revoke, Ask, Answer, Absorb, Part, Join, Save, Restart}
@@ -80,7 +80,7 @@ pub record Exchange (rules : Rules) (start : World) (asker answerer bucket : ℕ
 
 -- of the bucket's receipts the other has each, or one with its id, and it has all records
 pub record HasAll (bucket : ℕ) (given taken : State) : Type 0 where
-  pub receipts : (r : Receipt) → Contains given.held r → bucket_of r ≡ bucket → (s : Receipt) × Contains taken.held s × (receipt_id_of s ≡ receipt_id_of r)
+  pub receipts : (r : Receipt) → Contains given.held r → bucket_of_id r ≡ bucket → (s : Receipt) × Contains taken.held s × (receipt_id_of s ≡ receipt_id_of r)
   pub distrusts : (x : Distrust) → Contains given.records x → Contains taken.records x
 
 -- ---- when all have the same

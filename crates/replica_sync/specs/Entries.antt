@@ -105,38 +105,38 @@ pub record IsRefused (wanted : Wanted) (m : Meaning) (last text : List ℕ) (why
   pub cause : RefusesEntry m entry why
 
 -- what is wrong with the text alone
-abbrev pub RefusesText : Wanted → List ℕ → ℕ → List ℕ → SyncError → Type 0
-RefusesText wanted last number text BadHeader = ⊥
-RefusesText wanted last number text ConfigDiffers = ⊥
-RefusesText wanted last number text VersionDiffers = ⊥
-RefusesText wanted last number text (NotCanonical n) = (n ≡ number) × IsNoLineOf wanted text
-RefusesText wanted last number text (NotRising n) = (n ≡ number) × IsNotAbove wanted last text
-RefusesText wanted last number text BadCount = ⊥
-RefusesText wanted last number text Truncated = ⊥
-RefusesText wanted last number text (Refused n why) = ⊥
-RefusesText wanted last number text Io = ⊥
-RefusesText wanted last number text NoMemory = length text ≤ 1051063
+abbrev pub RefusesEntryText : Wanted → List ℕ → ℕ → List ℕ → SyncError → Type 0
+RefusesEntryText wanted last number text BadHeader = ⊥
+RefusesEntryText wanted last number text ConfigDiffers = ⊥
+RefusesEntryText wanted last number text VersionDiffers = ⊥
+RefusesEntryText wanted last number text (NotCanonical n) = (n ≡ number) × IsNoLineOf wanted text
+RefusesEntryText wanted last number text (NotRising n) = (n ≡ number) × IsNotAbove wanted last text
+RefusesEntryText wanted last number text BadCount = ⊥
+RefusesEntryText wanted last number text Truncated = ⊥
+RefusesEntryText wanted last number text (Refused n why) = ⊥
+RefusesEntryText wanted last number text Io = ⊥
+RefusesEntryText wanted last number text NoMemory = length text ≤ 1051063
 
 -- The faults of the line with this number, where the closure means m: the first of these that holds.
-abbrev pub RefusesLine : Wanted → Meaning → List ℕ → ℕ → List ℕ → SyncError → Type 0
-RefusesLine wanted m last number text BadHeader = ⊥
-RefusesLine wanted m last number text ConfigDiffers = ⊥
-RefusesLine wanted m last number text VersionDiffers = ⊥
-RefusesLine wanted m last number text (NotCanonical n) = (n ≡ number) × IsNoLineOf wanted text
-RefusesLine wanted m last number text (NotRising n) = (n ≡ number) × IsNotAbove wanted last text
-RefusesLine wanted m last number text BadCount = ⊥
-RefusesLine wanted m last number text Truncated = ⊥
-RefusesLine wanted m last number text (Refused n why) = (n ≡ number) × (why ≢ NoTakeMemory) × IsRefused wanted m last text why
-RefusesLine wanted m last number text Io = ⊥
-RefusesLine wanted m last number text NoMemory = (length text ≤ 1051063) ⊎ IsRefused wanted m last text NoTakeMemory
+abbrev pub RefusesEntryLine : Wanted → Meaning → List ℕ → ℕ → List ℕ → SyncError → Type 0
+RefusesEntryLine wanted m last number text BadHeader = ⊥
+RefusesEntryLine wanted m last number text ConfigDiffers = ⊥
+RefusesEntryLine wanted m last number text VersionDiffers = ⊥
+RefusesEntryLine wanted m last number text (NotCanonical n) = (n ≡ number) × IsNoLineOf wanted text
+RefusesEntryLine wanted m last number text (NotRising n) = (n ≡ number) × IsNotAbove wanted last text
+RefusesEntryLine wanted m last number text BadCount = ⊥
+RefusesEntryLine wanted m last number text Truncated = ⊥
+RefusesEntryLine wanted m last number text (Refused n why) = (n ≡ number) × (why ≢ NoTakeMemory) × IsRefused wanted m last text why
+RefusesEntryLine wanted m last number text Io = ⊥
+RefusesEntryLine wanted m last number text NoMemory = (length text ≤ 1051063) ⊎ IsRefused wanted m last text NoTakeMemory
 
 -- The text is the next line, and what it says is held.
-pub record TakesText (wanted : Wanted) (old : Meaning) (last text : List ℕ) (new : Meaning) (count : ℕ) : Type 0 where
+pub record TakesEntryText (wanted : Wanted) (old : Meaning) (last text : List ℕ) (new : Meaning) (count : ℕ) : Type 0 where
   pub entry : Entry
   pub next : IsNextEntry wanted last text entry
   pub taken : TakesEntry old entry new count
 
 -- The line has this fault, and nothing has changed.
 pub record HasRefusedLine (wanted : Wanted) (old : Meaning) (last : List ℕ) (number : ℕ) (text : List ℕ) (new : Meaning) (why : SyncError) : Type 0 where
-  pub cause : RefusesLine wanted old last number text why
+  pub cause : RefusesEntryLine wanted old last number text why
   pub same : new ≡ old

@@ -6,7 +6,7 @@ use Rattle.fed_config.specs.Configuration.{Configuration, HasDomain}
 use Rattle.receipt_core.specs.declared.distrust.Distrust.{Distrust}
 use Rattle.receipt_core.specs.Receipt.{Receipt, receipt_cmp, distrust_cmp}
 use Rattle.receipt_core.specs.Acceptance.{Meaning, IsFitting}
-use Rattle.replica_sync.specs.State.{State, joined, is_within_limits, meaning_of}
+use Rattle.replica_sync.specs.State.{State, joined, is_within_limits, meaning_of_state}
 use Rattle.replica_sync.specs.World.{Message, question, answer, World, rules_of, happens}
 use Rattle.replica_sync.specs.declared.event.Event.{Event}
 use Rattle.replica_sync.specs.declared.message.Content.{Content}
@@ -17,7 +17,7 @@ use Rattle.replica_sync.specs.declared.playing.Playing.{Playing}
 -- There are so many closures, and each means what the state of its number says.
 pub record AreOf {A : Type 0} (meaning : A → Meaning) (config : Configuration) (n : ℕ) (closures : List A) (states : ℕ → State) : Type 0 where
   pub count : length closures ≡ n
-  pub each : (i : ℕ) (c : A) → i < n → meaning (slice_index_or closures i c) ≡ meaning_of config (states i)
+  pub each : (i : ℕ) (c : A) → i < n → meaning (slice_index_or closures i c) ≡ meaning_of_state config (states i)
 
 -- all this is gained, or nothing where that would be too much
 abbrev pub grown : State → State → State
@@ -69,5 +69,5 @@ pub record Plays {A : Type 0} (meaning : A → Meaning) (config : Configuration)
   pub sound : AllByRecursion (IsSound config) w.sent
 
 -- after the event it stands for what the world is then
-abbrev pub Follows : {A : Type 0} → (A → Meaning) → Configuration → Playing A → Playing A → Event → Type 0
-Follows meaning config old new event = (n : ℕ) (w : World) → Plays meaning config n old w → Plays meaning config n new (happens (rules_of config n) w event)
+abbrev pub StandsForEvent : {A : Type 0} → (A → Meaning) → Configuration → Playing A → Playing A → Event → Type 0
+StandsForEvent meaning config old new event = (n : ℕ) (w : World) → Plays meaning config n old w → Plays meaning config n new (happens (rules_of config n) w event)

@@ -17,16 +17,16 @@ pub record IsFurther (format : Format) (old : Meaning) (text : List ℕ) (new : 
   pub number : next_number new ≡ next_number old + 1
 
 -- It tells the numbers.
-pub record IsLast (format : Format) (old : Meaning) (text : List ℕ) (new : Meaning) : Type 0 where
+pub record IsLastLine (format : Format) (old : Meaning) (text : List ℕ) (new : Meaning) : Type 0 where
   pub same : new ≡ old
   pub text_is : text ≡ count_line format old
 
 -- whether it is not the last one
 abbrev pub Judges : Format → Meaning → List ℕ → Meaning → Bool → Type 0
 Judges format old text new true = IsFurther format old text new
-Judges format old text new false = IsLast format old text new
+Judges format old text new false = IsLastLine format old text new
 
-pub record Steps (format : Format) (old : Meaning) (before : Option (List ℕ)) (new : Meaning) (after : Option (List ℕ)) (more : Bool) : Type 0 where
+pub record StepsThroughSnapshot (format : Format) (old : Meaning) (before : Option (List ℕ)) (new : Meaning) (after : Option (List ℕ)) (more : Bool) : Type 0 where
   pub text : List ℕ
   pub is : HasLine before after text
   pub judged : Judges format old text new more

@@ -38,6 +38,6 @@ reply_of m q = record {
 }
 
 -- how many receipts and records there are
-pub record IsCounted (state : State) (count distrusts : ℕ) : Type 0 where
+pub record HasCounts (state : State) (count distrusts : ℕ) : Type 0 where
   pub receipts : count ≡ length state.held
   pub records : distrusts ≡ length state.records

@@ -7,7 +7,7 @@ use Rattle.fed_config.specs.Configuration.{Configuration, config_id_of}
 use Rattle.receipt_core.specs.Receipt.{line, distrust_line}
 use Rattle.receipt_core.specs.Acceptance.{Meaning, IsMeaning}
 use Rattle.byte_lines.specs.Lines.{HasLine, HasNoLine, HasMore}
-use Rattle.replica_sync.specs.Entries.{RefusesLine}
+use Rattle.replica_sync.specs.Entries.{RefusesEntryLine}
 use Rattle.replica_sync.specs.declared.entry.Wanted.{Wanted}
 use Rattle.replica_sync.specs.declared.entry.Wanted.TheVariants.{Receipts, Either}
 use Rattle.replica_sync.specs.declared.format.Format.{Format}
@@ -90,13 +90,13 @@ pub record IsSnapshot (config : Configuration) (stream : Option (List ℕ)) (m :
 
 -- ---- what is refused: the first line
 
-abbrev pub is_digit : ℕ → Bool
-is_digit b = (nat_le 48 b && nat_le b 57) || (nat_le 97 b && nat_le b 102)
+abbrev pub is_lower_hex_digit : ℕ → Bool
+is_lower_hex_digit b = (nat_le 48 b && nat_le b 57) || (nat_le 97 b && nat_le b 102)
 
 -- 64 lower-case hexadecimal digits
 pub record AreDigits (digits : List ℕ) : Type 0 where
   pub size : length digits ≡ 64
-  pub each : AllPass is_digit digits
+  pub each : AllPass is_lower_hex_digit digits
 
 -- It has the parts of a first line.
 pub record IsSplit (text digits number : List ℕ) : Type 0 where
@@ -174,20 +174,20 @@ abbrev pub next_number : Meaning → ℕ
 next_number m = length m.records + length m.held + 2
 
 -- It is to tell the numbers.
-pub record IsCount (text : List ℕ) : Type 0 where
+pub record IsCountLine (text : List ℕ) : Type 0 where
   pub rest : List ℕ
   pub begins : text ≡ count_beginning ++ rest
   pub few : length text ≤ 8388608
 
 -- It tells other numbers, or tells them otherwise.
 pub record IsBadCount (format : Format) (m : Meaning) (text : List ℕ) : Type 0 where
-  pub count : IsCount text
+  pub count : IsCountLine text
   pub other : text ≡ count_line format m → ⊥
 
 -- It isn't to tell the numbers, and has a fault of one line.
 pub record IsBadLine (format : Format) (m : Meaning) (text : List ℕ) (e : SyncError) : Type 0 where
-  pub further : IsCount text → ⊥
-  pub cause : RefusesLine (wanted_of format) m (last_line m) (next_number m) text e
+  pub further : IsCountLine text → ⊥
+  pub cause : RefusesEntryLine (wanted_of format) m (last_line m) (next_number m) text e
 
 -- what is wrong with the line that follows the good beginning
 abbrev pub RefusesPlace : Format → Meaning → List ℕ → SyncError → Type 0

@@ -27,30 +27,30 @@ abbrev pub is_within_limits : State → Bool
 is_within_limits state = nat_le (length state.held) 65536 && nat_le (length state.records) 4096
 
 -- the byte with which the receipt's id begins
-abbrev pub bucket_of : Receipt → ℕ
-bucket_of r = slice_index_or (receipt_id_of r) 0 0
+abbrev pub bucket_of_id : Receipt → ℕ
+bucket_of_id r = slice_index_or (receipt_id_of r) 0 0
 
-abbrev pub is_in_bucket : ℕ → Receipt → Bool
-is_in_bucket bucket r = bucket_of r == bucket
+abbrev pub is_of_bucket : ℕ → Receipt → Bool
+is_of_bucket bucket r = bucket_of_id r == bucket
 
 abbrev pub id_cmp : List ℕ → List ℕ → Ordering
 id_cmp = slice_cmp nat_cmp
 
 -- the ids of a bucket's receipts, each once, rising
 abbrev pub ids_held : State → ℕ → List (List ℕ)
-ids_held state bucket = with_items id_cmp (map receipt_id_of (filter (is_in_bucket bucket) state.held)) []
+ids_held state bucket = with_items id_cmp (map receipt_id_of (filter (is_of_bucket bucket) state.held)) []
 
 abbrev pub is_named : List (List ℕ) → Receipt → Bool
 is_named ids r = list_any (λ id. bytes_eq id (receipt_id_of r)) ids
 
 -- the bucket's receipts whose ids are not named
 abbrev pub receipts_lacking : State → ℕ → List (List ℕ) → List Receipt
-receipts_lacking state bucket ids = filter (λ r. is_in_bucket bucket r && not (is_named ids r)) state.held
+receipts_lacking state bucket ids = filter (λ r. is_of_bucket bucket r && not (is_named ids r)) state.held
 
 -- an answer that was cut: records come before receipts
 abbrev pub first_of : ℕ → State → State
 first_of count gain = record { held = take (count - length gain.records) gain.held; records = take count gain.records }
 
 -- what a closure with this configuration and these sets means
-abbrev pub meaning_of : Configuration → State → Meaning
-meaning_of config state = record { config = config; held = state.held; records = state.records }
+abbrev pub meaning_of_state : Configuration → State → Meaning
+meaning_of_state config state = record { config = config; held = state.held; records = state.records }

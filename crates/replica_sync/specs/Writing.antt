@@ -25,7 +25,7 @@ pub record Writes {T : Type 0} (old new : Option (List ℕ)) (text : List ℕ) (
   pub cause : IfErr result IsOfWriting
 
 -- Of the whole text all but the rest was written.
-pub record Written (old now : Option (List ℕ)) (rest whole : List ℕ) : Type 0 where
+pub record WrittenSoFar (old now : Option (List ℕ)) (rest whole : List ℕ) : Type 0 where
   pub done : List ℕ
   pub appended : Appends old now done
   pub parts : whole ≡ done ++ rest

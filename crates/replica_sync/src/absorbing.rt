@@ -2,7 +2,7 @@
 ghost use Rattle.std.specs.Prelude.{◌≡◌, ◌+◌, ◌^◌, ◌<◌, ◌≤◌, ◌↔◌, IsTrue, MatchOption, MatchResult, length};
 ghost use Rattle.trust_closure.specs.Refusals.{IsRoomier};
 ghost use Rattle.trust_closure.specs.Merge.{offers_count};
-ghost use Rattle.replica_sync.specs.State.{joined, meaning_of};
+ghost use Rattle.replica_sync.specs.State.{joined, meaning_of_state};
 ghost use Rattle.replica_sync.specs.Session.{state_of};
 ghost use Rattle.replica_sync.specs.Absorbing.{AreWelcome, HasAbsorbed, HasRefusedReply, IsFirstRefused, entries_of, room_for};
 
@@ -96,7 +96,7 @@ fn offers_of_all(receipts: &[Receipt]) -> Option<usize>
 fn take_whole<C: Closure>(closure: &mut C, give: Give) -> usize
     requires welcome { AreWelcome (C.state closure.old).meaning (entries_of give.content) }
     requires room { IsRoomier (room_for give.content.held) (C.state closure.old).room }
-    ensures meaning { (C.state closure.new).meaning ≡ meaning_of (C.state closure.old).meaning.config (joined (state_of (C.state closure.old).meaning) give.content) }
+    ensures meaning { (C.state closure.new).meaning ≡ meaning_of_state (C.state closure.old).meaning.config (joined (state_of (C.state closure.old).meaning) give.content) }
     ensures count { length (C.state closure.new).meaning.held ≡ length (C.state closure.old).meaning.held + result }
 {
     let held = closure.receipt_count();

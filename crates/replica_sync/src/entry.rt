@@ -1,7 +1,7 @@
 //! One line of a list of receipts and records of distrust.
 ghost use Rattle.std.specs.Prelude.{◌≡◌, MatchResult, length};
-ghost use Rattle.receipt_core.specs.Line.{RefusesRecord, RefusesLine as RefusesReceipt};
-ghost use Rattle.replica_sync.specs.Entries.{IsEntry, IsNextEntry, RefusesSpelling, RefusesText, TakesEntry, TakesText, HasRefusedEntry, HasRefusedLine};
+ghost use Rattle.receipt_core.specs.Line.{RefusesRecord, RefusesReceiptLine as RefusesReceipt};
+ghost use Rattle.replica_sync.specs.Entries.{IsEntry, IsNextEntry, RefusesSpelling, RefusesEntryText, TakesEntry, TakesEntryText, HasRefusedEntry, HasRefusedLine};
 
 use crate::error::SyncError;
 use receipt_core::{Distrust, LineError, Receipt};
@@ -34,7 +34,7 @@ pub fn take_line<C: Closure>(
     number: u64,
     text: &[u8],
 ) -> Result<u64, SyncError>
-    ensures { MatchResult result (TakesText wanted (C.state closure.old).meaning last.now text.now (C.state closure.new).meaning)
+    ensures { MatchResult result (TakesEntryText wanted (C.state closure.old).meaning last.now text.now (C.state closure.new).meaning)
         (HasRefusedLine wanted (C.state closure.old).meaning last.now number text.now (C.state closure.new).meaning) }
 {
     let entry = next_entry(alloc, wanted, last, number, text)?;
@@ -53,7 +53,7 @@ pub fn next_entry(
     number: u64,
     text: &[u8],
 ) -> Result<Entry, SyncError>
-    ensures { MatchResult result (IsNextEntry wanted last.now text.now) (RefusesText wanted last.now number text.now) }
+    ensures { MatchResult result (IsNextEntry wanted last.now text.now) (RefusesEntryText wanted last.now number text.now) }
 {
     match read_entry(alloc, wanted, text) {
         Ok(entry) => {

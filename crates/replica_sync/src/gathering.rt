@@ -2,7 +2,7 @@
 ghost use Rattle.std.specs.Prelude.{◌≡◌, ◌≢◌, ◌++◌, ◌∷◌, [], false, List, IfOk, OnOk};
 ghost use Rattle.receipt_core.specs.declared.distrust.Distrust.{Distrust};
 ghost use Rattle.receipt_core.specs.Receipt.{Receipt};
-ghost use Rattle.replica_sync.specs.State.{meaning_of};
+ghost use Rattle.replica_sync.specs.State.{meaning_of_state};
 ghost use Rattle.replica_sync.specs.Session.{state_of};
 ghost use Rattle.replica_sync.specs.World.{is_fitting, is_known};
 ghost use Rattle.replica_sync.specs.Playing.{grown, CanHold, CanHoldRecords};
@@ -18,7 +18,7 @@ use trust_closure::{Closure, NoMemory, TakeError};
 /// Memory ran out.
 pub(crate) fn grow<C: Closure>(closure: &mut C, more: &C) -> Result<(), NoMemory>
     ensures { (C.state closure.old).meaning.config ≡ (C.state more.now).meaning.config
-        → OnOk result ((C.state closure.new).meaning ≡ meaning_of (C.state closure.old).meaning.config (grown (state_of (C.state closure.old).meaning) (state_of (C.state more.now).meaning))) }
+        → OnOk result ((C.state closure.new).meaning ≡ meaning_of_state (C.state closure.old).meaning.config (grown (state_of (C.state closure.old).meaning) (state_of (C.state more.now).meaning))) }
 {
     let _domains = more.config().domains();
     match closure.merge(more) {

@@ -3,7 +3,7 @@ ghost use Rattle.std.specs.Prelude.{◌≡◌, ◌≢◌, ℕ, ◌<◌, ◌≤�
 ghost use Rattle.fed_config.specs.Configuration.{Configuration, IsConfiguration};
 ghost use Rattle.receipt_core.specs.Receipt.{Pair};
 ghost use Rattle.receipt_core.specs.Acceptance.{Meaning, IsMeaning, IsMember, IsClosed};
-ghost use Rattle.replica_sync.specs.State.{State, no_state, meaning_of};
+ghost use Rattle.replica_sync.specs.State.{State, no_state, meaning_of_state};
 ghost use Rattle.replica_sync.specs.World.{rules_of, run};
 ghost use Rattle.replica_sync.specs.Convergence.{AreEvents, Lacks, ComesFrom, IsPartOf, Exchange, HasAll, Settles, at_answer, after_taking};
 ghost use Rattle.replica_sync.specs.Snapshots.{IsSnapshot, RefusesSnapshot};
@@ -29,11 +29,11 @@ pub fn world()
         → ComesFrom n events ((run (rules_of config n) events).saved i) }
 
     ensures means { (config : Configuration) (n : ℕ) (events : List Event) (i : ℕ) → AreEvents events
-        → IsMeaning (meaning_of config ((run (rules_of config n) events).now i)) }
+        → IsMeaning (meaning_of_state config ((run (rules_of config n) events).now i)) }
     ensures closed { (config : Configuration) (n : ℕ) (events : List Event) (i : ℕ)
-        → let m = meaning_of config ((run (rules_of config n) events).now i) in IsClosed m (IsMember m) }
+        → let m = meaning_of_state config ((run (rules_of config n) events).now i) in IsClosed m (IsMember m) }
     ensures least { (config : Configuration) (n : ℕ) (events : List Event) (i : ℕ) (set : Pair → Bool)
-        → let m = meaning_of config ((run (rules_of config n) events).now i) in
+        → let m = meaning_of_state config ((run (rules_of config n) events).now i) in
         IsClosed m (λ p. set p ≡ true) → (p : Pair) → IsMember m p → set p ≡ true }
 
     ensures grows { (config : Configuration) (n : ℕ) (events : List Event) (event : Event) (i : ℕ) → event ≢ Restart i

@@ -1,7 +1,7 @@
 //! Numbers and digests in the lines of streams.
 ghost use Rattle.std.specs.Prelude.{◌≡◌, ◌↔◌, ◌^◌, ◌<◌, ℕ, IsTrue, Some, decimal};
-ghost use Rattle.jwk_set.specs.Forms.{Finds};
-ghost use Rattle.replica_sync.specs.Snapshots.{AreDigits, is_digit};
+ghost use Rattle.jwk_set.specs.Forms.{FindsMember};
+ghost use Rattle.replica_sync.specs.Snapshots.{AreDigits, is_lower_hex_digit};
 
 pub use byte_lines::{push_digits, push_number};
 use itoa::Buffer;
@@ -9,7 +9,7 @@ use std::str;
 
 /// The number of these decimal digits: `0`, or without a leading zero, and at most 2^64 - 1.
 pub fn read_number(text: &[u8]) -> Option<u64>
-    ensures { Finds result (λ n. (n < 2 ^ 64) × (text.now ≡ decimal n)) }
+    ensures { FindsMember result (λ n. (n < 2 ^ 64) × (text.now ≡ decimal n)) }
 {
     let number = parsed(text)?;
     if is_number(text, number) {
@@ -44,7 +44,7 @@ pub(crate) fn are_digits(text: &[u8]) -> bool
 }
 
 fn is_hex_digit(byte: u8) -> bool
-    ensures { result ≡ is_digit byte }
+    ensures { result ≡ is_lower_hex_digit byte }
 {
     (b'0' <= byte && byte <= b'9') || (b'a' <= byte && byte <= b'f')
 }

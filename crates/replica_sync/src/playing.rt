@@ -4,7 +4,7 @@ ghost use Rattle.fed_config.specs.Configuration.{Configuration};
 ghost use Rattle.replica_sync.specs.State.{State, no_state};
 ghost use Rattle.replica_sync.specs.Session.{state_of, question_of};
 ghost use Rattle.replica_sync.specs.World.{World, empty_world, apply, gains, where_so, rules_of, is_replica, at_replica};
-ghost use Rattle.replica_sync.specs.Playing.{AreOf, Plays, Follows};
+ghost use Rattle.replica_sync.specs.Playing.{AreOf, Plays, StandsForEvent};
 ghost use Rattle.replica_sync.specs.declared.event.Event.{Event};
 
 use crate::asking::have;
@@ -57,7 +57,7 @@ pub(crate) fn take<C: Closure>(
     replica: usize,
     receipt: &Receipt,
 ) -> Result<(), NoMemory>
-    ensures { OnOk result (Follows (λ c. (C.state c).meaning) config.now playing.old playing.new (Event.Take replica receipt.now)) }
+    ensures { OnOk result (StandsForEvent (λ c. (C.state c).meaning) config.now playing.old playing.new (Event.Take replica receipt.now)) }
 {
     let mut more = C::new(alloc, config)?;
     offer_receipt(alloc, &mut more, receipt)?;
@@ -72,7 +72,7 @@ pub(crate) fn revoke<C: Closure>(
     replica: usize,
     distrust: &Distrust,
 ) -> Result<(), NoMemory>
-    ensures { OnOk result (Follows (λ c. (C.state c).meaning) config.now playing.old playing.new (Event.Revoke replica distrust.now)) }
+    ensures { OnOk result (StandsForEvent (λ c. (C.state c).meaning) config.now playing.old playing.new (Event.Revoke replica distrust.now)) }
 {
     let mut more = C::new(alloc, config)?;
     offer_record(&mut more, distrust);
@@ -86,7 +86,7 @@ pub(crate) fn ask<C: Closure>(
     replica: usize,
     bucket: u8,
 ) -> Result<(), NoMemory>
-    ensures { (config : Configuration) → OnOk result (Follows (λ c. (C.state c).meaning) config playing.old playing.new (Event.Ask replica bucket)) }
+    ensures { (config : Configuration) → OnOk result (StandsForEvent (λ c. (C.state c).meaning) config playing.old playing.new (Event.Ask replica bucket)) }
 {
     let Some(closure) = playing.held.get(replica) else {
         return Ok(());
@@ -116,7 +116,7 @@ pub(crate) fn answer<C: Closure>(
     replica: usize,
     question: usize,
 ) -> Result<(), NoMemory>
-    ensures { (config : Configuration) → OnOk result (Follows (λ c. (C.state c).meaning) config playing.old playing.new (Event.Answer replica question)) }
+    ensures { (config : Configuration) → OnOk result (StandsForEvent (λ c. (C.state c).meaning) config playing.old playing.new (Event.Answer replica question)) }
 {
     let Some(closure) = playing.held.get(replica) else {
         return Ok(());
@@ -141,7 +141,7 @@ pub(crate) fn absorb<C: Closure>(
     replica: usize,
     answer: usize,
 ) -> Result<(), NoMemory>
-    ensures { OnOk result (Follows (λ c. (C.state c).meaning) config.now playing.old playing.new (Event.Absorb replica answer)) }
+    ensures { OnOk result (StandsForEvent (λ c. (C.state c).meaning) config.now playing.old playing.new (Event.Absorb replica answer)) }
 {
     let Some(content) = answer_at(playing.sent.as_slice(), answer) else {
         return Ok(());
@@ -161,7 +161,7 @@ pub(crate) fn part<C: Closure>(
     answer: usize,
     count: usize,
 ) -> Result<(), NoMemory>
-    ensures { OnOk result (Follows (λ c. (C.state c).meaning) config.now playing.old playing.new (Event.Part replica answer count)) }
+    ensures { OnOk result (StandsForEvent (λ c. (C.state c).meaning) config.now playing.old playing.new (Event.Part replica answer count)) }
 {
     let Some(content) = answer_at(playing.sent.as_slice(), answer) else {
         return Ok(());
@@ -185,7 +185,7 @@ pub(crate) fn join<C: Closure>(
     replica: usize,
     other: usize,
 ) -> Result<(), NoMemory>
-    ensures { (config : Configuration) → OnOk result (Follows (λ c. (C.state c).meaning) config playing.old playing.new (Event.Join replica other)) }
+    ensures { (config : Configuration) → OnOk result (StandsForEvent (λ c. (C.state c).meaning) config playing.old playing.new (Event.Join replica other)) }
 {
     let Some(closure) = playing.held.get(other) else {
         return Ok(());
@@ -200,7 +200,7 @@ pub(crate) fn save<C: Closure>(
     playing: &mut Playing<C>,
     replica: usize,
 ) -> Result<(), NoMemory>
-    ensures { (config : Configuration) → OnOk result (Follows (λ c. (C.state c).meaning) config playing.old playing.new (Event.Save replica)) }
+    ensures { (config : Configuration) → OnOk result (StandsForEvent (λ c. (C.state c).meaning) config playing.old playing.new (Event.Save replica)) }
 {
     copy_at(alloc, &playing.held, &mut playing.saved, replica)
 }
@@ -211,7 +211,7 @@ pub(crate) fn restart<C: Closure>(
     playing: &mut Playing<C>,
     replica: usize,
 ) -> Result<(), NoMemory>
-    ensures { (config : Configuration) → OnOk result (Follows (λ c. (C.state c).meaning) config playing.old playing.new (Event.Restart replica)) }
+    ensures { (config : Configuration) → OnOk result (StandsForEvent (λ c. (C.state c).meaning) config playing.old playing.new (Event.Restart replica)) }
 {
     copy_at(alloc, &playing.saved, &mut playing.held, replica)
 }

@@ -31,13 +31,13 @@ pub struct Lacking<'a> {
 
 impl<'a> Model for Answer<'a> {
     ghost use Rattle.std.specs.Prelude.{length};
-    ghost use Rattle.replica_sync.specs.Session.{Reply, IsCounted};
+    ghost use Rattle.replica_sync.specs.Session.{Reply, HasCounts};
 
     ghost Value = { Reply };
 
     ghost view = { λ a. record { bucket = a.bucket; config = a.config.0; content = record { held = a.receipts; records = a.distrusts } } };
 
-    ghost invariant = { λ a. IsCounted (record { held = a.receipts; records = a.distrusts }) a.count a.records };
+    ghost invariant = { λ a. HasCounts (record { held = a.receipts; records = a.distrusts }) a.count a.records };
 }
 
 impl<'a> Model for Lacking<'a> {

@@ -4,7 +4,7 @@ ghost use Rattle.std.specs.Io.KnownBytes.{Consumes, IsAtEnd};
 ghost use Rattle.receipt_core.specs.Acceptance.{IsMeaning};
 ghost use Rattle.byte_lines.specs.Streams.{stream_of, left_of};
 ghost use Rattle.replica_sync.specs.Snapshots.{IsSnapshot, IsTold, RefusesNext, RefusesPlace, RefusesSnapshot, count_of, is_io, last_line, next_number, wanted_of};
-ghost use Rattle.replica_sync.specs.Reading.{FailsBehind, HoldsAll, Judges, RefusesEnd, Steps};
+ghost use Rattle.replica_sync.specs.Reading.{FailsBehind, HoldsAll, Judges, RefusesEnd, StepsThroughSnapshot};
 ghost use Rattle.trust_closure.specs.Changes.{empty_of};
 
 use crate::entry::{Wanted, take_line};
@@ -88,7 +88,7 @@ fn read_next<C: Closure, R: Source>(
     requires last { last.old.items ≡ last_line (C.state closure.old).meaning }
     requires number { number ≡ next_number (C.state closure.old).meaning }
     requires told { IsTold format (C.state closure.old).meaning }
-    ensures ok { IfOk result (Steps format (C.state closure.old).meaning (stream_of R.remaining lines.old source.old) (C.state closure.new).meaning (stream_of R.remaining lines.new source.new)) }
+    ensures ok { IfOk result (StepsThroughSnapshot format (C.state closure.old).meaning (stream_of R.remaining lines.old source.old) (C.state closure.new).meaning (stream_of R.remaining lines.new source.new)) }
     ensures last { IfOk result (λ more. more ≡ true → last.new.items ≡ last_line (C.state closure.new).meaning) }
     ensures valid { IsMeaning (C.state closure.old).meaning }
     ensures refused { IfErr result (RefusesNext format (C.state closure.old).meaning (stream_of R.remaining lines.old source.old)) }

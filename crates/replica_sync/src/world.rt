@@ -1,7 +1,7 @@
 //! Lists of events, played on replicas in memory.
 ghost use Rattle.std.specs.Prelude.{IfOk, OnOk};
 ghost use Rattle.replica_sync.specs.World.{rules_of, run};
-ghost use Rattle.replica_sync.specs.Playing.{AreOf, Follows};
+ghost use Rattle.replica_sync.specs.Playing.{AreOf, StandsForEvent};
 
 use crate::event::Event;
 use crate::playing::{
@@ -42,7 +42,7 @@ fn play<C: Closure>(
     playing: &mut Playing<C>,
     event: &Event,
 ) -> Result<(), NoMemory>
-    ensures { OnOk result (Follows (λ c. (C.state c).meaning) config.now playing.old playing.new event.now) }
+    ensures { OnOk result (StandsForEvent (λ c. (C.state c).meaning) config.now playing.old playing.new event.now) }
 {
     match event {
         Event::Take { replica, receipt } => take(alloc, config, playing, *replica, receipt),

@@ -7,7 +7,7 @@ use Rattle.std.specs.declared.cmp.Ordering.{Ordering}
 use Rattle.std.specs.declared.cmp.Ordering.TheVariants.{Less, Equal, Greater}
 use Rattle.std.specs.List.{All, concat, filter}
 use Rattle.std.specs.Ordering.{ordering_index}
-use Rattle.sorted_order.specs.Blocks.{AreFilled, block_at, length_before, IsEdge, IsEdgeBlock}
+use Rattle.sorted_order.specs.Blocks.{AreFilled, block_at, length_before, IsBoundary, IsEdgeBlock}
 use Rattle.sorted_order.specs.Sought.{IsRising, IsGap, IsFound, IsFirstFound, IsMissing, is_equal, past}
 use Rattle.sorted_order.proofs.BlockFacts.{before_next, before_all, before_within, filled_at, concat-at}
 
@@ -19,7 +19,7 @@ All-block P bs i l all = λ k d h.
     subst P same (all (length_before bs i + k) 0 within)
 
 edge_before : (compared : ℕ → Ordering) (bs : List (List ℕ)) (i w : ℕ) → AreFilled bs → IsEdgeBlock compared bs i
-    → IsEdge compared (block_at bs i) w → 0 < length_before bs i + w → compared (slice_index (concat bs) (length_before bs i + w - 1)) ≡ Less
+    → IsBoundary compared (block_at bs i) w → 0 < length_before bs i + w → compared (slice_index (concat bs) (length_before bs i + w - 1)) ≡ Less
 edge_before compared bs zero zero filled block edge p = absurd (omega arith)
 edge_before compared bs (suc i) zero filled block edge p =
     let some = filled_at bs (suc i) (omega arith) block.within filled in
@@ -31,7 +31,7 @@ edge_before compared bs i (suc w) filled block edge p =
     rw (concat-at bs i w (length_before bs i + suc w - 1) block.within (omega (arith, edge.within)) last) less
 
 edge_after : (compared : ℕ → Ordering) (bs : List (List ℕ)) (i w : ℕ) → AreFilled bs → IsEdgeBlock compared bs i
-    → IsEdge compared (block_at bs i) w → length_before bs i + w < length (concat bs) → compared (slice_index (concat bs) (length_before bs i + w)) ≢ Less
+    → IsBoundary compared (block_at bs i) w → length_before bs i + w < length (concat bs) → compared (slice_index (concat bs) (length_before bs i + w)) ≢ Less
 edge_after compared bs i w filled block edge p =
     elim (cases_lt w (length (block_at bs i))) [
       | inl here ↦ rw (concat-at bs i w (length_before bs i + w) block.within here refl) (edge.after here)
@@ -49,7 +49,7 @@ edge_after compared bs i w filled block edge p =
     ]
 
 pub edge_of_block : (compared : ℕ → Ordering) (bs : List (List ℕ)) (i w : ℕ) → AreFilled bs → IsEdgeBlock compared bs i
-    → IsEdge compared (block_at bs i) w → IsEdge compared (concat bs) (length_before bs i + w)
+    → IsBoundary compared (block_at bs i) w → IsBoundary compared (concat bs) (length_before bs i + w)
 edge_of_block compared bs i w filled block edge = record {
   within = omega (arith, edge.within, before_next bs i block.within, before_within bs (suc i));
   before = edge_before compared bs i w filled block edge;
@@ -65,7 +65,7 @@ index_zero : (o : Ordering) → o ≡ Less → ordering_index o ≤ 0
 index_zero o e = rw e (omega arith)
 
 pub gap_of_edge : (compared : ℕ → Ordering) (numbers : List ℕ) (place : ℕ) → IsRising compared numbers
-    → IsEdge compared numbers place → IsGap compared numbers place
+    → IsBoundary compared numbers place → IsGap compared numbers place
 gap_of_edge compared numbers place rises edge = record {
   within = edge.within;
   before = λ k d z h.
@@ -87,9 +87,9 @@ gap_of_edge compared numbers place rises edge = record {
 
 pub gap_from : (compared : ℕ → Ordering) (bs lent : List (List ℕ)) (items : List ℕ) (block place before : ℕ) → lent ≡ bs
     → concat bs ≡ items → before ≡ length_before lent block → IsRising compared items
-    → IsEdge compared (concat lent) (length_before lent block + place) → IsGap compared items (before + place)
+    → IsBoundary compared (concat lent) (length_before lent block + place) → IsGap compared items (before + place)
 gap_from compared bs lent items block place before same whole e rises edge =
-    let here : IsEdge compared items (before + place) = rw (e, ← whole, ← same) edge in
+    let here : IsBoundary compared items (before + place) = rw (e, ← whole, ← same) edge in
     gap_of_edge compared items (before + place) rises here
 
 -- what stands at the gap, and after it
@@ -154,7 +154,7 @@ found_at compared items place item gap at equal = record {
 pub found_from : (compared : ℕ
     → Ordering) (bs lent : List (List ℕ)) (items : List ℕ) (block place number : ℕ) → lent ≡ bs
     → concat bs ≡ items → IsRising compared items
-    → IsEdge compared (concat lent) (length_before lent block + place)
+    → IsBoundary compared (concat lent) (length_before lent block + place)
     → slice_get (concat lent) (length_before lent block + place) ≡ Some number
     → compared number ≡ Equal → IsFirstFound compared items number
 found_from compared bs lent items block place number same whole rises edge at equal =
@@ -170,7 +170,7 @@ found_from compared bs lent items block place number same whole rises edge at eq
 pub missing_from : (compared : ℕ
     → Ordering) (bs lent : List (List ℕ)) (items : List ℕ) (block place before : ℕ) → lent ≡ bs
     → concat bs ≡ items → before ≡ length_before lent block → IsRising compared items
-    → IsEdge compared (concat lent) (length_before lent block + place)
+    → IsBoundary compared (concat lent) (length_before lent block + place)
     → ((number : ℕ) → slice_get (concat lent) (length_before lent block + place) ≡ Some number
     → compared number ≢ Equal)
     → IsMissing compared items (before + place)

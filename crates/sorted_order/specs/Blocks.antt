@@ -41,7 +41,7 @@ pub record IsSpot (blocks : List (List ℕ)) (at block place : ℕ) : Type 0 whe
   pub whole : length_before blocks block + place ≡ at
 
 -- What stands just before the place stands before what is sought, and what stands there doesn't.
-pub record IsEdge (compared : ℕ → Ordering) (numbers : List ℕ) (place : ℕ) : Type 0 where
+pub record IsBoundary (compared : ℕ → Ordering) (numbers : List ℕ) (place : ℕ) : Type 0 where
   pub within : place ≤ length numbers
   pub before : 0 < place → compared (slice_index numbers (place - 1)) ≡ Less
   pub after : place < length numbers → compared (slice_index numbers place) ≢ Less

@@ -1,7 +1,7 @@
 //! Searches over the blocks of a sequence.
 ghost use Rattle.std.specs.Prelude.{◌≡◌, ℕ, ◌+◌, ◌-◌, ◌^◌, ◌<◌, ◌≤◌, length, slice_get};
 ghost use Rattle.std.specs.List.{All, concat};
-ghost use Rattle.sorted_order.specs.Blocks.{AreFilled, block_at, length_before, IsSpot, IsEdge, IsEdgeBlock};
+ghost use Rattle.sorted_order.specs.Blocks.{AreFilled, block_at, length_before, IsSpot, IsBoundary, IsEdgeBlock};
 ghost use Rattle.sorted_order.specs.Sought.{FindsAt};
 
 use crate::block::Block;
@@ -13,7 +13,7 @@ pub(crate) fn edge<P: Probe>(blocks: &[Block], probe: &P) -> (usize, usize)
     requires filled { AreFilled blocks.now }
     requires known { All (P.knows probe.now) (concat blocks.now) }
     ensures spot { IsSpot blocks.now (length_before blocks.now result.0 + result.1) result.0 result.1 }
-    ensures edge { IsEdge (P.compared probe.now) (concat blocks.now) (length_before blocks.now result.0 + result.1) }
+    ensures edge { IsBoundary (P.compared probe.now) (concat blocks.now) (length_before blocks.now result.0 + result.1) }
 {
     let block = edge_block(blocks, probe);
     let place = edge_in(blocks[block].as_slice(), probe);
@@ -44,7 +44,7 @@ fn edge_block<P: Probe>(blocks: &[Block], probe: &P) -> usize
 /// How many numbers of the block stand before what is sought.
 fn edge_in<P: Probe>(numbers: &[u32], probe: &P) -> usize
     requires { All (P.knows probe.now) numbers.now }
-    ensures { IsEdge (P.compared probe.now) numbers.now result }
+    ensures { IsBoundary (P.compared probe.now) numbers.now result }
 {
     let mut low = 0;
     let mut high = numbers.len();

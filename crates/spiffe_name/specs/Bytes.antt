@@ -51,11 +51,11 @@ abbrev pub is_printable : ℕ → Bool
 is_printable b = nat_le 33 b && nat_le b 126
 
 -- no quotation mark, no backslash and no control character
-abbrev pub is_unescaped : ℕ → Bool
-is_unescaped b = not ((b == 34) || (b == 92) || nat_lt b 32)
+abbrev pub is_quotable : ℕ → Bool
+is_quotable b = not ((b == 34) || (b == 92) || nat_lt b 32)
 
 -- A text that can stand between quotation marks as it is, as in a JSON string (RFC 8259, section 7).
 pub record IsPlainText (text : List ℕ) : Type 0 where
   pub printable : AllPass is_printable text
-  pub unescaped : AllPass is_unescaped text
+  pub unescaped : AllPass is_quotable text
   pub utf8 : IsUtf8 text

@@ -24,13 +24,13 @@ pub record IsSegment (segment : List ℕ) : Type 0 where
   pub named : is_empty_or_modifier segment ≡ false
 
 -- each segment behind a slash
-abbrev pub joined : List (List ℕ) → List ℕ
-joined segments = flat_map (λ segment. 47 ∷ segment) segments
+abbrev pub path_of_segments : List (List ℕ) → List ℕ
+path_of_segments segments = flat_map (λ segment. 47 ∷ segment) segments
 
 pub record IsPath (path : List ℕ) : Type 0 where
   pub segments : List (List ℕ)
   pub each : AllByRecursion IsSegment segments
-  pub whole : path ≡ joined segments
+  pub whole : path ≡ path_of_segments segments
 
 -- Sections 2 and 2.3: the text is the scheme, the name of a trust domain and a path, of at most 2,048 bytes together.
 pub record IsIdText (text domain path : List ℕ) : Type 0 where
@@ -64,12 +64,12 @@ pub record FirstFault (path : List ℕ) (place : ℕ) : Type 0 where
   pub each : AllByRecursion IsSegment front
   pub segment : List ℕ
   pub rest : List ℕ
-  pub whole : path ≡ joined front ++ (47 ∷ (segment ++ rest))
+  pub whole : path ≡ path_of_segments front ++ (47 ∷ (segment ++ rest))
   pub no_slash : AllPass is_not_slash segment
   pub slash : EmptyOrSlash rest
   pub offset : ℕ
   pub fault : FaultInSegment segment offset
-  pub counted : place ≡ length (joined front) + (1 + offset)
+  pub counted : place ≡ length (path_of_segments front) + (1 + offset)
 
 -- The first cause for which the text is no ID, or that there was no memory for one.
 abbrev pub RefusesId : List ℕ → NameError → Type 0

@@ -21,7 +21,7 @@ use Rattle.trust_closure.specs.Flags.{raised_count}
 use Rattle.trust_closure.specs.Held.{Hoard, meaning_of}
 use Rattle.trust_closure.specs.Indexed.{IsBefore}
 use Rattle.trust_closure.specs.Pairs.{Paired, IsPairing, no_pair}
-use Rattle.trust_closure.specs.Plain.{AreSound, AreReleased, IsHadNode, IsFirstHad, IsSet, IsSettled, IsRoomierPaired}
+use Rattle.trust_closure.specs.Plain.{AreSound, AreReleased, IsHadNode, IsFirstHad, IsSet, HasPlainFlags, IsRoomierPaired}
 use Rattle.trust_closure.proofs.Bridge.{pair-of_receipt_node}
 use Rattle.trust_closure.proofs.FlagFacts.{gain-from_flags, count-fewer}
 use Rattle.trust_closure.proofs.IndexFacts.{pairing-counts, same-more, pairs-push, with_arrival, hoard-before, with_mistrust, distrust-sets, always-all}
@@ -51,7 +51,7 @@ released-more m n same more fewer r is = record {
 module _ (h new : Hoard) (p q : Paired) (offers : List Triple) (released others : List Bool) (config : h.config ≡ new.config)
     (arrivals : (place : ℕ) (r : Receipt) → slice_get h.arrived place ≡ Some r → slice_get new.arrived place ≡ Some r)
     (release : (r : Receipt) → IsReleased (meaning_of h) r → IsReleased (meaning_of new) r)
-    (i : IsSettled h p offers released) (j : IsSettled new q offers others)
+    (i : HasPlainFlags h p offers released) (j : HasPlainFlags new q offers others)
     (firsts : (node number : ℕ) → slice_get p.firsts node ≡ Some number → slice_get q.firsts node ≡ Some number)
     (sizes : length p.counts ≤ length q.counts) where
   had-carry : (node : ℕ) → IsHadNode (length h.config.seeds) released node → IsHadNode (length new.config.seeds) others node
@@ -101,7 +101,7 @@ pub settled-from : (h : Hoard) (p q : Paired) (offers : List Triple) (old releas
     → q.numbers ≡ p.numbers → q.firsts ≡ p.firsts → length q.counts ≡ length p.counts
     → ((number : ℕ) → (is_raised (flags_of q.counts) number ≡ true) ↔ IsFirstHad
     (length h.config.seeds) released p.firsts (length p.firsts) number)
-    → IsSettled h q offers released
+    → HasPlainFlags h q offers released
 settled-from h p q offers old released s size are numbers firsts flags raised = record {
   set = record {
     valid = s.valid;
@@ -150,7 +150,7 @@ release-more h new r valid form same is s released =
 pub arrivals-more : (h new : Hoard) (r : Receipt) → new ≡ with_arrival h r → (place : ℕ) (s : Receipt) → slice_get h.arrived place ≡ Some s → slice_get new.arrived place ≡ Some s
 arrivals-more h new r is place s at = ap (λ (x : Hoard). slice_get x.arrived place) is ∙ slice_get-more h.arrived (r ∷ []) place s at
 
-pub sound-push : (h new : Hoard) (p : Paired) (offers : List Triple) (released : List Bool) (r : Receipt) → IsSettled h p offers released → IsReceipt r → new ≡ with_arrival h r → AreSound (meaning_of new) new.arrived (released ++ false ∷ [])
+pub sound-push : (h new : Hoard) (p : Paired) (offers : List Triple) (released : List Bool) (r : Receipt) → HasPlainFlags h p offers released → IsReceipt r → new ≡ with_arrival h r → AreSound (meaning_of new) new.arrived (released ++ false ∷ [])
 sound-push h new p offers released r i form is place s at raised =
     elim (slice_get-push_cases h.arrived r place s (ap (λ (x : Hoard). slice_get x.arrived place) (sym is) ∙ at)) [
       | inl a ↦ release-more h new r i.set.valid form i.set.same is s ((i.settled place s a.1).0 (sym (get_or_append_left released (false ∷ []) false place (omega (arith, a.0, i.set.size))) ∙ raised))
@@ -181,9 +181,9 @@ sound-lowered m arrived flags low place r at raised = absurd (both_ways (is_rais
 
 -- ---- more room
 
-pub settled-roomier : (h new : Hoard) (p q : Paired) (offers : List Triple) (released : List Bool) → IsSettled h p offers released → new ≡ record h { capacity = new.capacity } → IsRoomierPaired p q → IsSettled new q offers released
+pub settled-roomier : (h new : Hoard) (p q : Paired) (offers : List Triple) (released : List Bool) → HasPlainFlags h p offers released → new ≡ record h { capacity = new.capacity } → IsRoomierPaired p q → HasPlainFlags new q offers released
 settled-roomier h new p q offers released i is r =
-    subst (λ x. IsSettled x q offers released) (sym is) (record {
+    subst (λ x. HasPlainFlags x q offers released) (sym is) (record {
       set = record {
         valid = i.set.valid;
         once = i.set.once;
@@ -218,7 +218,7 @@ raised-as flags a b rs ss fs gs seeds released firsts raised n =
     (subst (λ (bs : List Bool). (is_raised flags n ≡ true) ↔ IsFirstHad a bs gs (length gs) n) released
     (subst (λ (ns : List ℕ). (is_raised flags n ≡ true) ↔ IsFirstHad a rs ns (length ns) n) firsts (raised n)))
 
-pub gain-added : (h new : Hoard) (p q : Paired) (offers : List Triple) (released others : List Bool) (r : Receipt) (first : ℕ) → IsSettled h p offers released → IsReceipt r → new ≡ with_arrival h r → IsSettled new q offers others
+pub gain-added : (h new : Hoard) (p q : Paired) (offers : List Triple) (released others : List Bool) (r : Receipt) (first : ℕ) → HasPlainFlags h p offers released → IsReceipt r → new ≡ with_arrival h r → HasPlainFlags new q offers others
     → q.firsts ≡ p.firsts ++ first ∷ [] → length q.counts ≡ length p.counts + 1
     → (raised_count (flags_of p.counts) ≤ raised_count (flags_of q.counts))
     × ((n : ℕ) → raised_count (flags_of q.counts) ≡ raised_count (flags_of p.counts) + n
@@ -233,8 +233,8 @@ gain-added h new p q offers released others r first i form is j list size =
     )
 
 pub loss-fallen : (old new : Hoard) (xs : List Distrust) (p q : Paired) (offers : List Triple)
-    (released others : List Bool) → IsSettled old p offers released → IsBefore old xs new
-    → IsSettled new q offers others
+    (released others : List Bool) → HasPlainFlags old p offers released → IsBefore old xs new
+    → HasPlainFlags new q offers others
     → q.firsts ≡ p.firsts → length q.counts ≡ length p.counts
     → (raised_count (flags_of q.counts) ≤ raised_count (flags_of p.counts))
     × ((n : ℕ) → raised_count (flags_of p.counts) ≡ raised_count (flags_of q.counts) + n

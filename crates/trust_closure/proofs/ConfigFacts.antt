@@ -20,11 +20,11 @@ use Rattle.receipt_core.specs.Acceptance.{Meaning}
 use Rattle.receipt_core.proofs.RisingFacts.{with_item-all}
 use Rattle.std.specs.Bool.{IsTrue}
 use Rattle.std.specs.Prelude.{◌↔◌, Bool}
-use Rattle.trust_closure.specs.Records.{distrust_by, distrusts_of, record_cmp, AreWithin, Adds}
+use Rattle.trust_closure.specs.Records.{distrust_by, distrusts_of, record_cmp, AreWithin, InsertsRecord}
 use Rattle.trust_closure.specs.declared.records.Addition.{Addition}
 use Rattle.trust_closure.specs.declared.records.Addition.TheVariants.{Added, There, Full as NoPlace}
 use Rattle.trust_closure.specs.declared.record.Record.{Record}
-use Rattle.trust_closure.specs.Held.{domains_of, bucket_cmp, IsHoard, AddsOrRefuses, told}
+use Rattle.trust_closure.specs.Held.{domains_of, bucket_cmp, IsHoard, AddsOrRefuses, addition_result}
 use Rattle.trust_closure.proofs.CountFacts.{contains_none}
 use Rattle.trust_closure.proofs.RisingFacts.{rising_same, with_items_has, with_items_gets, with_items_rising, with_item_rising, with_item_longer, each_has}
 use Rattle.trust_closure.proofs.RecordFacts.{IsMapped, mapped, contains_map, distrusts_rising, distrusts_with, record_of, record_total}
@@ -201,7 +201,7 @@ hoard_none c is = record {
 hoard_with : (c : Configuration) (stock : Stock Receipt) (buckets : List ℕ) (old new : List Record) → IsHoard c stock buckets old → new ≡ old → IsHoard c stock buckets new
 hoard_with c stock buckets old new hoard e = subst (IsHoard c stock buckets) (sym e) hoard
 
-pub hoard_add : (c : Configuration) (stock : Stock Receipt) (buckets : List ℕ) (old new : List Record) (x : Record) → IsHoard c stock buckets old → x.domain < length (domains_of c) → IsDigest x.key.0 → (a : Addition) → Adds old x new a → IsHoard c stock buckets new
+pub hoard_add : (c : Configuration) (stock : Stock Receipt) (buckets : List ℕ) (old new : List Record) (x : Record) → IsHoard c stock buckets old → x.domain < length (domains_of c) → IsDigest x.key.0 → (a : Addition) → InsertsRecord old x new a → IsHoard c stock buckets new
 hoard_add c stock buckets old new x hoard below key There h = hoard_with c stock buckets old new hoard h.1
 hoard_add c stock buckets old new x hoard below key NoPlace h = hoard_with c stock buckets old new hoard h.now
 hoard_add c stock buckets old new x hoard below key Added h =
@@ -229,7 +229,7 @@ meaning_with c held records = record { config = c; held = held; records = distru
 lacks : (c : Configuration) (old : List Record) (x : Record) → x.domain < length (domains_of c) → AreWithin (length (domains_of c)) old → (Contains old x → ⊥) → Contains (distrusts_of (domains_of c) old) (distrust_by (domains_of c) x) → ⊥
 lacks c old x below within unheld has = unheld (record_of (domains_of c) x old (are_domains c).rising below within has)
 
-pub told_adds : (c : Configuration) (held : List Receipt) (old new : List Record) (x : Record) → x.domain < length (domains_of c) → AreWithin (length (domains_of c)) old → (a : Addition) → Adds old x new a → AddsOrRefuses (meaning_with c held old) (distrust_by (domains_of c) x) (meaning_with c held new) (told a)
+pub told_adds : (c : Configuration) (held : List Receipt) (old new : List Record) (x : Record) → x.domain < length (domains_of c) → AreWithin (length (domains_of c)) old → (a : Addition) → InsertsRecord old x new a → AddsOrRefuses (meaning_with c held old) (distrust_by (domains_of c) x) (meaning_with c held new) (addition_result a)
 told_adds c held old new x below within There h =
     (contains_map (distrust_by (domains_of c)) old x h.0, ap (λ rs. meaning_with c held rs) h.1)
 told_adds c held old new x below within NoPlace h =

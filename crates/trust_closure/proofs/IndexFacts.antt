@@ -24,12 +24,12 @@ use Rattle.receipt_core.specs.Sets.{AreSets, Always}
 use Rattle.receipt_core.proofs.LineFacts.{one_receipt, one_distrust}
 use Rattle.receipt_core.proofs.RisingFacts.{AreSets-from_total}
 use Rattle.label_net.specs.declared.label.Label.{Label}
-use Rattle.label_net.specs.Spots.{Spot, Mirrors, bare}
+use Rattle.label_net.specs.Spots.{Spot, Mirrors, bare_spot}
 use Rattle.label_net.proofs.Arrows.{Contains-map, Contains-from_map}
 use Rattle.std.proofs.lemmas.List.{length-map, length-append}
 use Rattle.trust_closure.specs.Views.{IsPendingCount}
 use Rattle.receipt_core.specs.Acceptance.{Meaning, IsMeaning, IsMember, IsReleased, IsFitting, pair_of_seed}
-use Rattle.label_net.specs.Labels.{Wired, IsOfKey, Closes, HasNode, IsRooted, IsRoomier as IsRoomierWired}
+use Rattle.label_net.specs.Labels.{Wired, IsOfKey, Closes, HasNode, IsRooted, IsRoomierIndex as IsRoomierWired}
 use Rattle.label_net.proofs.Edges.{slice_get-left, slice_get-map_cases, slice_get-Contains, Contains-slice_get, one_place, root-of_spot}
 use Rattle.label_net.proofs.Mirroring.{Mirrors-shut}
 use Rattle.trust_closure.specs.Nodes.{pairs_of, is_raised}
@@ -39,7 +39,7 @@ use Rattle.trust_closure.specs.Held.{Hoard, meaning_of, HasAdded}
 use Rattle.trust_closure.specs.NetOf.{spots_of, spot_of_seed, spot_of_receipt, IsShutBy, IsNetOf, IsWiringOf, triple_by}
 use Rattle.trust_closure.specs.Pairs.{Paired, IsPairing, HasRaised, no_pair}
 use Rattle.trust_closure.specs.Work.{ClosesAtOnce, IsWorkOf, AreOld}
-use Rattle.trust_closure.specs.Indexed.{IsBuilt, IsIndexed, WasCounted, IsDistrusted, IsBefore, HasRoom, IsKept, Reserves, IsIndexOf, Indexed, indexed_of, IsSeeded}
+use Rattle.trust_closure.specs.Indexed.{IsBuilt, IsIndexed, WasCounted, IsDistrusted, IsBefore, HasRoom, IsIndexedClosure, Reserves, IsIndexOf, Indexed, indexed_of, IsSeeded}
 use Rattle.trust_closure.specs.declared.indexed.Spare.{Spare}
 use Rattle.trust_closure.specs.Changes.{IsGain}
 use Rattle.std.proofs.Common.{eqb}
@@ -548,7 +548,7 @@ room-kept h new p q w v spare r is held firsts pairs wired = record {
 }
 
 pub reserves-from : (h new : Hoard) (p q : Paired) (w v : Wired) (spare more : Spare)
-    → IsKept h p w spare → new ≡ record h { capacity = new.capacity } → q.numbers ≡ p.numbers
+    → IsIndexedClosure h p w spare → new ≡ record h { capacity = new.capacity } → q.numbers ≡ p.numbers
     → q.firsts ≡ p.firsts → q.counts ≡ p.counts → IsRoomierWired w v → HasRoom new q v more
     → spare.receipts ≤ more.receipts → spare.offers ≤ more.offers
     → Reserves h new p q w v spare more
@@ -566,17 +566,17 @@ reserves-from h new p q w v spare more k is numbers firsts counts r room receipt
 
 -- a refusal leaves the room
 pub reserves-kept : (h new : Hoard) (p q : Paired) (w v : Wired) (spare : Spare)
-    → IsKept h p w spare → new ≡ record h { capacity = new.capacity } → h.capacity ≤ new.capacity
+    → IsIndexedClosure h p w spare → new ≡ record h { capacity = new.capacity } → h.capacity ≤ new.capacity
     → q.numbers ≡ p.numbers → q.firsts ≡ p.firsts → q.counts ≡ p.counts → p.capacity ≤ q.capacity
     → IsRoomierWired w v → Reserves h new p q w v spare spare
 reserves-kept h new p q w v spare k is held numbers firsts counts pairs r =
     reserves-from h new p q w v spare spare k is numbers firsts counts r
     (room-kept h new p q w v spare k.room is held firsts pairs r) (omega arith) (omega arith)
 
-pub reserves-held : (h new : Hoard) (p : Paired) (w : Wired) (spare : Spare) → IsKept h p w spare → new ≡ record h { capacity = new.capacity } → h.capacity ≤ new.capacity → Reserves h new p p w w spare spare
+pub reserves-held : (h new : Hoard) (p : Paired) (w : Wired) (spare : Spare) → IsIndexedClosure h p w spare → new ≡ record h { capacity = new.capacity } → h.capacity ≤ new.capacity → Reserves h new p p w w spare spare
 reserves-held h new p w spare k is held = reserves-kept h new p p w w spare k is held refl refl refl (omega arith) (same-wiring w)
 
-pub reserves-pairs : (h new : Hoard) (p q : Paired) (w : Wired) (spare : Spare) → IsKept h p w spare
+pub reserves-pairs : (h new : Hoard) (p q : Paired) (w : Wired) (spare : Spare) → IsIndexedClosure h p w spare
     → new ≡ record h { capacity = new.capacity } → h.capacity ≤ new.capacity → q.numbers ≡ p.numbers
     → q.firsts ≡ p.firsts → q.counts ≡ p.counts → p.capacity ≤ q.capacity
     → Reserves h new p q w w spare spare
@@ -613,7 +613,7 @@ index-of_built h p w spare turns b once =
     record { labels = map (triple_by b.domains) w.labels; net = b.wired.mirrors; held = b.same; once = once; seeds = parts.0; receipts = parts.1 }
 
 pub index-of_kept : (h : Hoard) (p : Paired) (w : Wired) (spare : Spare) (turns : ℕ)
-    → IsKept h p w spare → length h.arrived ≡ length h.held → IsIndexOf (indexed_of h w spare turns)
+    → IsIndexedClosure h p w spare → length h.arrived ≡ length h.held → IsIndexOf (indexed_of h w spare turns)
 index-of_kept h p w spare turns k once = index-of_built h p w spare turns k.indexed.built once
 
 -- the work of records that are held besides
@@ -696,7 +696,7 @@ wired-seed h seeds s w a b c d node triples wired room has rooted is offers doma
     let before = wiring-same domains h.records spots w a (wired domains are) room in
     let at : node ≡ length spots = has.number ∙ node-number domains h.records spots a before in
     let first = wiring-node domains are.rising h.records spots a b node before has in
-    let second = wiring-root domains are.rising h.records spots b c bare node at first rooted in
+    let second = wiring-root domains are.rising h.records spots b c bare_spot node at first rooted in
     let third = offers domains spots (record { rooted = true; offers = []; awaits = None }) are at second in
     subst (λ ss. IsWiringOf domains h.records ss d) (sym (map_push spot_of_seed seeds s))
     (subst (λ (ts : List Triple). IsWiringOf domains h.records (spots ++ record { rooted = true; offers = ts; awaits = None } ∷ []) d) is third)
@@ -748,7 +748,7 @@ built-seeded h domains p w seeds valid held arrived are is g =
 pub kept-seeded : (h : Hoard) (p q : Paired) (w : Wired) (nodes : List ℕ) (seeds : List Seed) → IsBuilt h p w → IsSeeded h seeds p w → h.arrived ≡ [] → length seeds ≤ 4096
     → q.numbers ≡ p.numbers → q.firsts ≡ p.firsts → q.capacity ≡ p.capacity → nodes ≡ w.marked
     → AddsNodes p.firsts nodes p.counts q.counts
-    → IsKept h q w (record { receipts = 0; offers = 0 })
+    → IsIndexedClosure h q w (record { receipts = 0; offers = 0 })
 kept-seeded h p q w nodes seeds b g none few numbers firsts capacity is adds =
     let right : AddsNodes q.firsts w.marked p.counts q.counts = subst
     (λ fs. AddsNodes fs w.marked p.counts q.counts) (sym firsts)

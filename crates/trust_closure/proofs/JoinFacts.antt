@@ -16,11 +16,11 @@ use Rattle.receipt_core.specs.Order.{receipt_total}
 use Rattle.receipt_core.specs.Receipt.{Receipt, receipt_cmp, distrust_cmp, pair_of, offers_of}
 use Rattle.receipt_core.specs.Rising.{placed, with_item, with_items}
 use Rattle.receipt_core.specs.Acceptance.{IsFitting, Meaning, IsMeaning}
-use Rattle.trust_closure.specs.Changes.{State, Takes, HasMerged, Took}
-use Rattle.trust_closure.specs.Held.{Adds, AddsOrRefuses}
+use Rattle.trust_closure.specs.Changes.{HeldAndRoom, Takes, HasMerged, Took}
+use Rattle.trust_closure.specs.Held.{AddsRecord, AddsOrRefuses}
 use Rattle.trust_closure.specs.declared.records.Addition.{Addition}
 use Rattle.trust_closure.specs.declared.records.Addition.TheVariants.{Added, There, Full as NoPlace}
-use Rattle.trust_closure.specs.Merge.{IsShare, AreKnown, AreWelcome, offers_count}
+use Rattle.trust_closure.specs.Merge.{IsShare, AreKnown, FitWithinRoom, offers_count}
 use Rattle.trust_closure.specs.Refusals.{Room, IsRoomier, IsOfWrongEndpoint, RefusesReceipt, RefusesDistrust, RefusesMerge, WantsCopies, all_records}
 use Rattle.trust_closure.specs.declared.copies.Share.{Share}
 use Rattle.trust_closure.specs.declared.error.TakeError.{TakeError}
@@ -81,19 +81,19 @@ with_items_grows cmp (i ∷ items) xs = let first = with_item_grows cmp i xs in 
 -- ---- receipts in turn
 
 -- With those that are left the receipts will be those of all, and these are welcome.
-pub record IsJoining (start now : State) (all rest : List Receipt) : Type 0 where
+pub record IsJoining (start now : HeldAndRoom) (all rest : List Receipt) : Type 0 where
   pub config : now.meaning.config ≡ start.meaning.config
   pub records : now.meaning.records ≡ start.meaning.records
   pub held : with_items receipt_cmp rest now.meaning.held ≡ with_items receipt_cmp all start.meaning.held
-  pub welcome : AreWelcome now rest
+  pub welcome : FitWithinRoom now rest
 
-pub IsJoining-start : (start : State) (all : List Receipt) → AreWelcome start all → IsJoining start start all all
+pub IsJoining-start : (start : HeldAndRoom) (all : List Receipt) → FitWithinRoom start all → IsJoining start start all all
 IsJoining-start start all welcome = record { config = refl; records = refl; held = refl; welcome = welcome }
 
 offers_first : (r : Receipt) (later : List Receipt) → offers_count (r ∷ later) ≡ length (offers_of (pair_of r)) + offers_count later
 offers_first r later = sum_by-cons (λ s. length (offers_of (pair_of s))) r later
 
-took : (start now new : State) (all later : List Receipt) (r : Receipt) → IsMeaning now.meaning → IsJoining start now all (r ∷ later) → (taken : Taken) → Took now r new taken → IsJoining start new all later
+took : (start now new : HeldAndRoom) (all later : List Receipt) (r : Receipt) → IsMeaning now.meaning → IsJoining start now all (r ∷ later) → (taken : Taken) → Took now r new taken → IsJoining start new all later
 took start now new all later r is joining (TakenNew accepted) h =
     let few = joining.welcome.few in
     let receipts = joining.welcome.room.receipts in
@@ -125,9 +125,9 @@ took start now new all later r is joining TakenAlready h =
         room = record { receipts = omega arith; offers = omega (arith, offers_first r later) };
       };
     } in
-    subst (λ (s : State). IsJoining start s all later) (sym h.same) stays
+    subst (λ (s : HeldAndRoom). IsJoining start s all later) (sym h.same) stays
 
-never : (start now : State) (all later : List Receipt) (r : Receipt) → IsConfiguration now.meaning.config → IsJoining start now all (r ∷ later) → (why : TakeError) → RefusesReceipt now.meaning now.room r why → ⊥
+never : (start now : HeldAndRoom) (all later : List Receipt) (r : Receipt) → IsConfiguration now.meaning.config → IsJoining start now all (r ∷ later) → (why : TakeError) → RefusesReceipt now.meaning now.room r why → ⊥
 never start now all later r is joining UnknownDomain h =
     let fits : IsFitting now.meaning.config r = joining.welcome.fitting r (contains_first r later) in
     h fits.relationship fits.has fits.domain
@@ -142,15 +142,15 @@ never start now all later r is joining NoMemory h =
     h.beyond (omega arith) (omega (arith, offers_first r later))
 never start now all later r is joining ConfigDiffers h = h
 
-takes_next : (start now new : State) (all later : List Receipt) (r : Receipt) → IsMeaning now.meaning → IsConfiguration now.meaning.config → IsJoining start now all (r ∷ later) → (result : Result Taken Refused) → Takes now r new result → IsJoining start new all later
+takes_next : (start now new : HeldAndRoom) (all later : List Receipt) (r : Receipt) → IsMeaning now.meaning → IsConfiguration now.meaning.config → IsJoining start now all (r ∷ later) → (result : Result Taken Refused) → Takes now r new result → IsJoining start new all later
 takes_next start now new all later r is form joining (Ok taken) h = took start now new all later r is joining taken h
 takes_next start now new all later r is form joining (Err refused) h = absurd (never start now all later r form joining refused.why h.cause)
 
-pub IsJoining-next : (start now new : State) (m : Meaning) (all rest later : List Receipt) (r : Receipt) (result : Result Taken Refused) → m ≡ now.meaning → IsMeaning m → IsConfiguration m.config → IsJoining start now all rest → rest ≡ r ∷ later → Takes now r new result → IsJoining start new all later
+pub IsJoining-next : (start now new : HeldAndRoom) (m : Meaning) (all rest later : List Receipt) (r : Receipt) (result : Result Taken Refused) → m ≡ now.meaning → IsMeaning m → IsConfiguration m.config → IsJoining start now all rest → rest ≡ r ∷ later → Takes now r new result → IsJoining start new all later
 IsJoining-next start now new m all rest later r result same is form joining e h =
     takes_next start now new all later r (subst IsMeaning same is) (subst (λ (k : Meaning). IsConfiguration k.config) same form) (subst (IsJoining start now all) e joining) result h
 
-pub IsJoining-end : (start now : State) (all rest : List Receipt) → IsJoining start now all rest → rest ≡ [] → now.meaning ≡ record start.meaning { held = with_items receipt_cmp all start.meaning.held }
+pub IsJoining-end : (start now : HeldAndRoom) (all rest : List Receipt) → IsJoining start now all rest → rest ≡ [] → now.meaning ≡ record start.meaning { held = with_items receipt_cmp all start.meaning.held }
 IsJoining-end start now all rest joining e =
     let held : now.meaning.held ≡ with_items receipt_cmp all start.meaning.held = sym (ap (λ xs. with_items receipt_cmp xs now.meaning.held) e) ∙ joining.held in
     let config = joining.config in
@@ -171,7 +171,7 @@ IsDistrusting-start start all known = record
     { config = refl; held = refl; records = refl; known = known }
 
 distrusted : (start now new : Meaning) (all later : List Distrust) (x : Distrust) → IsMeaning now
-    → IsDistrusting start now all (x ∷ later) → (done : Addition) → Adds now x new done
+    → IsDistrusting start now all (x ∷ later) → (done : Addition) → AddsRecord now x new done
     → IsDistrusting start new all later
 distrusted start now new all later x is joining Added h = record {
   config = ap (λ (m : Meaning). m.config) h.meaning ∙ joining.config;
@@ -266,7 +266,7 @@ share_known m now other share records is same e =
     subst (λ (k : Meaning). AreKnown k records) (sym same)
     (subst (AreKnown m) (sym e) (record { domains = is.mergeable.of_config.domains; few = is.mergeable.few_records }))
 
-pub share_welcome : (m other : Meaning) (roomy now : State) (share : Share) (records : List Distrust) → IsShare m other share → roomy.meaning ≡ m → now.meaning ≡ record roomy.meaning { records = with_items distrust_cmp records roomy.meaning.records } → now.room ≡ roomy.room → IsRoomier (record { receipts = length share.copies.items; offers = share.offers }) roomy.room → AreWelcome now share.copies.items
+pub share_welcome : (m other : Meaning) (roomy now : HeldAndRoom) (share : Share) (records : List Distrust) → IsShare m other share → roomy.meaning ≡ m → now.meaning ≡ record roomy.meaning { records = with_items distrust_cmp records roomy.meaning.records } → now.room ≡ roomy.room → IsRoomier (record { receipts = length share.copies.items; offers = share.offers }) roomy.room → FitWithinRoom now share.copies.items
 share_welcome m other roomy now share records is same e room roomier =
     let config : now.meaning.config ≡ m.config = ap (λ (k : Meaning). k.config) e ∙ ap (λ (k : Meaning). k.config) same in
     let held : now.meaning.held ≡ m.held = ap (λ (k : Meaning). k.held) e ∙ ap (λ (k : Meaning). k.held) same in

@@ -15,7 +15,7 @@ use Rattle.trust_closure.specs.Flags.{TellsMembers}
 use Rattle.trust_closure.specs.NodeCounts.{flags_of}
 use Rattle.trust_closure.specs.Held.{Hoard, meaning_of}
 use Rattle.trust_closure.specs.Pairs.{Paired, HasRaised}
-use Rattle.trust_closure.specs.Plain.{AreSeedOffers, IsOfferedBelow, IsOffered, IsVouched, AreSound, AreQuietBelow, AreReleased, IsHadNode, IsFirstHad, IsSettled}
+use Rattle.trust_closure.specs.Plain.{AreSeedOffers, IsOfferedBelow, IsOffered, IsVouched, AreSound, AreQuietBelow, AreReleased, IsHadNode, IsFirstHad, HasPlainFlags}
 use Rattle.trust_closure.proofs.Bridge.{pair-of_seed_node, pair-of_receipt_node}
 use Rattle.trust_closure.proofs.CountFacts.{contains_first, contains_later, contains_none, contains_cases}
 use Rattle.trust_closure.proofs.FlagFacts.{Raises}
@@ -172,7 +172,7 @@ module _ (seeds : ℕ) (released : List Bool) (firsts : List ℕ) (k : ℕ) wher
       only : (n : ℕ) → Contains (k ∷ []) n → n ≡ k
       only n c = elim (contains_cases k [] n c) [ inl e ↦ sym e | inr none ↦ absurd (contains_none n none) ]
 
-module _ (h : Hoard) (p : Paired) (seed_offers : List Triple) (released : List Bool) (i : IsSettled h p seed_offers released) where
+module _ (h : Hoard) (p : Paired) (seed_offers : List Triple) (released : List Bool) (i : HasPlainFlags h p seed_offers released) where
   had-member : (node : ℕ) (q : Pair) → IsHadNode (length h.config.seeds) released node → slice_get (pairs_of h.config.seeds h.arrived) node ≡ Some q → IsMember (meaning_of h) q
   had-member node q had at = elim (slice_get-append_cases (map pair_of_seed h.config.seeds) (map pair_of h.arrived) node q at) [
     | inl a ↦

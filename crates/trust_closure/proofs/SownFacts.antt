@@ -17,7 +17,7 @@ use Rattle.trust_closure.specs.Flags.{raised_count}
 use Rattle.trust_closure.specs.Held.{Hoard, meaning_of}
 use Rattle.trust_closure.specs.Views.{IsPendingCount}
 use Rattle.trust_closure.specs.Pairs.{Paired, IsPairing}
-use Rattle.trust_closure.specs.Plain.{AreSeedOffers, IsSet, IsSettled, IsSown, AreReleased}
+use Rattle.trust_closure.specs.Plain.{AreSeedOffers, IsSet, HasPlainFlags, IsSown, AreReleased}
 use Rattle.trust_closure.proofs.CountFacts.{contains_none}
 use Rattle.trust_closure.proofs.NodeCountFacts.{count_at-push}
 use Rattle.trust_closure.proofs.FlagFacts.{passing, passing-to, passing-from, passing-differ, only_wide, length-only_wide, count-passing, different-map}
@@ -76,7 +76,7 @@ length-passing_every : (n : ℕ) → length (passing (λ k. true) n) ≡ n
 length-passing_every zero = refl
 length-passing_every (suc n) = ap suc (length-passing_every n)
 
-pub pending-plain : (h : Hoard) (p : Paired) (offers : List Triple) (released : List Bool) (none : Receipt) (n : ℕ) → IsSettled h p offers released → n + raised_count released ≡ length released → IsPendingCount (meaning_of h) n
+pub pending-plain : (h : Hoard) (p : Paired) (offers : List Triple) (released : List Bool) (none : Receipt) (n : ℕ) → HasPlainFlags h p offers released → n + raised_count released ≡ length released → IsPendingCount (meaning_of h) n
 pending-plain h p offers released none n i total =
     let count = length h.arrived in
     let raised : ℕ → Bool = λ k. is_raised released k in

@@ -17,7 +17,7 @@ use Rattle.receipt_core.specs.Receipt.{Receipt, Pair, key_ids, offer_of, offers_
 use Rattle.receipt_core.specs.Acceptance.{IsFitting}
 use Rattle.label_net.specs.declared.label.Label.{Label}
 use Rattle.label_net.specs.Labels.{Wired, HasNumber, HasNode, Offers, Awaits, IsRooted}
-use Rattle.label_net.specs.Spots.{Spot, Mirrors, bare}
+use Rattle.label_net.specs.Spots.{Spot, Mirrors, bare_spot}
 use Rattle.label_net.proofs.Arrows.{Contains-from_map}
 use Rattle.label_net.proofs.Edges.{slice_get-map_at, slice_get-Contains}
 use Rattle.label_net.proofs.Mirroring.{rooted_spot, offering_spot, awaiting_spot, length-roots, MirrorsBut, Mirrors-but, Mirrors-node, Mirrors-label, Mirrors-root, Mirrors-offer, Mirrors-wait}
@@ -112,11 +112,11 @@ module _ (domains : List (List ℕ)) (rising : IsStrictlySortedBy domain_cmp dom
   -- ---- one call
 
   module _ (records : List Distrust) (spots : List (Spot Triple)) (old new : Wired) where
-    pub wiring-node : (node : ℕ) → IsWiringOf domains records spots old → HasNode old new node → IsWiringOf domains records (spots ++ bare ∷ []) new
+    pub wiring-node : (node : ℕ) → IsWiringOf domains records spots old → HasNode old new node → IsWiringOf domains records (spots ++ bare_spot ∷ []) new
     wiring-node node h n = record {
       within = All-same (λ (x : Label). x.domain < length domains) new.labels old.labels n.labels h.within;
-      mirrors = subst (λ ls. Mirrors (spots ++ bare ∷ []) (map (triple_by domains) ls) (IsShutBy records) new.net) (sym n.labels)
-          (subst (Mirrors (spots ++ bare ∷ []) (map (triple_by domains) old.labels) (IsShutBy records)) (sym n.net) (Mirrors-node spots (map (triple_by domains) old.labels) (IsShutBy records) old.net h.mirrors));
+      mirrors = subst (λ ls. Mirrors (spots ++ bare_spot ∷ []) (map (triple_by domains) ls) (IsShutBy records) new.net) (sym n.labels)
+          (subst (Mirrors (spots ++ bare_spot ∷ []) (map (triple_by domains) old.labels) (IsShutBy records)) (sym n.net) (Mirrors-node spots (map (triple_by domains) old.labels) (IsShutBy records) old.net h.mirrors));
     }
 
     pub wiring-root : (spot : Spot Triple) (node : ℕ) → node ≡ length spots → IsWiringOf domains records (spots ++ spot ∷ []) old → IsRooted old node new → IsWiringOf domains records (spots ++ rooted_spot spot ∷ []) new

@@ -14,7 +14,7 @@ use Rattle.trust_closure.specs.Count.{IsCount}
 use Rattle.trust_closure.specs.Refusals.{Room, IsRoomier, RefusesReceipt, RefusesDistrust, RefusesMerge, IsOfConfig, all_receipts, all_records}
 
 -- what a closure holds, and how much more it has memory for
-pub record State : Type 0 where
+pub record HeldAndRoom : Type 0 where
   pub meaning : Meaning
   pub room : Room
 
@@ -27,14 +27,14 @@ abbrev pub IsGain : Meaning → Meaning → ℕ → Type 0
 IsGain old new n = IsCount (λ (p : Pair). IsMember new p × (IsMember old p → ⊥)) n
 
 -- The meaning is the same, and the room is kept or has grown.
-pub record IsUnchanged (old new : State) : Type 0 where
+pub record IsUnchanged (old new : HeldAndRoom) : Type 0 where
   pub meaning : new.meaning ≡ old.meaning
   pub room : IsRoomier old.room new.room
 
 -- ---- one receipt
 
 -- It fits, was not held and is held now; it has taken no more room than that of one receipt and its offers.
-pub record HasTaken (old : State) (r : Receipt) (new : State) (accepted_now : ℕ) : Type 0 where
+pub record HasTaken (old : HeldAndRoom) (r : Receipt) (new : HeldAndRoom) (accepted_now : ℕ) : Type 0 where
   pub fits : IsFitting old.meaning.config r
   pub unheld : Contains old.meaning.held r → ⊥
   pub few : length old.meaning.held < 65536
@@ -44,21 +44,21 @@ pub record HasTaken (old : State) (r : Receipt) (new : State) (accepted_now : �
   pub offers : old.room.offers ≤ new.room.offers + length (offers_of (pair_of r))
 
 -- It was held, and all is as it was.
-pub record HasReceiptAlready (old : State) (r : Receipt) (new : State) : Type 0 where
+pub record HasReceiptAlready (old : HeldAndRoom) (r : Receipt) (new : HeldAndRoom) : Type 0 where
   pub held : Contains old.meaning.held r
   pub same : new ≡ old
 
-abbrev pub Took : State → Receipt → State → Taken → Type 0
+abbrev pub Took : HeldAndRoom → Receipt → HeldAndRoom → Taken → Type 0
 Took old r new (TakenNew accepted_now) = HasTaken old r new accepted_now
 Took old r new TakenAlready = HasReceiptAlready old r new
 
 -- The receipt comes back, and nothing is lost.
-pub record HasRefused (old : State) (r : Receipt) (new : State) (refused : Refused) : Type 0 where
+pub record HasRefused (old : HeldAndRoom) (r : Receipt) (new : HeldAndRoom) (refused : Refused) : Type 0 where
   pub receipt : refused.receipt ≡ r
   pub cause : RefusesReceipt old.meaning old.room r refused.why
   pub unchanged : IsUnchanged old new
 
-abbrev pub Takes : State → Receipt → State → Result Taken Refused → Type 0
+abbrev pub Takes : HeldAndRoom → Receipt → HeldAndRoom → Result Taken Refused → Type 0
 Takes old r new result = MatchResult result (Took old r new) (HasRefused old r new)
 
 -- ---- one record of distrust
@@ -99,9 +99,9 @@ pub record HasMerged (old other new : Meaning) (n : ℕ) : Type 0 where
   pub count : length (all_receipts old other) ≡ length old.held + n
 
 -- Nothing is joined.
-pub record HasRefusedMerge (old : State) (other : Meaning) (new : State) (why : TakeError) : Type 0 where
+pub record HasRefusedMerge (old : HeldAndRoom) (other : Meaning) (new : HeldAndRoom) (why : TakeError) : Type 0 where
   pub cause : RefusesMerge old.meaning other why
   pub unchanged : IsUnchanged old new
 
-abbrev pub Merges : State → Meaning → State → Result ℕ TakeError → Type 0
+abbrev pub Merges : HeldAndRoom → Meaning → HeldAndRoom → Result ℕ TakeError → Type 0
 Merges old other new result = MatchResult result (HasMerged old.meaning other new.meaning) (HasRefusedMerge old other new)

@@ -93,16 +93,16 @@ pub record HasAdded (old : Meaning) (x : Distrust) (new : Meaning) : Type 0 wher
   pub few : length old.records < 4096
   pub meaning : new ≡ record old { records = with_distrust x old.records }
 
-abbrev pub Adds : Meaning → Distrust → Meaning → Addition → Type 0
-Adds old x new Added = HasAdded old x new
-Adds old x new There = Contains old.records x × (new ≡ old)
-Adds old x new NoPlace = ⊥
+abbrev pub AddsRecord : Meaning → Distrust → Meaning → Addition → Type 0
+AddsRecord old x new Added = HasAdded old x new
+AddsRecord old x new There = Contains old.records x × (new ≡ old)
+AddsRecord old x new NoPlace = ⊥
 
 abbrev pub AddsOrRefuses : Meaning → Distrust → Meaning → Result Addition TakeError → Type 0
-AddsOrRefuses old x new result = MatchResult result (Adds old x new) (λ why. RefusesDistrust old x why × (new ≡ old))
+AddsOrRefuses old x new result = MatchResult result (AddsRecord old x new) (λ why. RefusesDistrust old x why × (new ≡ old))
 
 -- what is told of an addition
-abbrev pub told : Addition → Result Addition TakeError
-told Added = Ok Added
-told There = Ok There
-told NoPlace = Err Full
+abbrev pub addition_result : Addition → Result Addition TakeError
+addition_result Added = Ok Added
+addition_result There = Ok There
+addition_result NoPlace = Err Full

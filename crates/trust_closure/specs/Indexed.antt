@@ -18,7 +18,7 @@ use Rattle.trust_closure.specs.Held.{Hoard, meaning_of, domains_of}
 use Rattle.trust_closure.specs.NetOf.{spots_of, spot_of_seed, IsShutBy, triple_by, IsNetOf, IsWiringOf}
 use Rattle.trust_closure.specs.Pairs.{Paired, IsPairing}
 use Rattle.trust_closure.specs.Refusals.{Room, IsRoomier}
-use Rattle.trust_closure.specs.Changes.{State}
+use Rattle.trust_closure.specs.Changes.{HeldAndRoom}
 use Rattle.trust_closure.specs.declared.indexed.Spare.{Spare}
 use Rattle.std.specs.Prelude.{[], ◌∷◌, ◌++◌, take, Result, MatchResult}
 use Rattle.trust_closure.specs.declared.outcome.Refused.{Refused}
@@ -80,15 +80,15 @@ pub record HasRoom (h : Hoard) (p : Paired) (w : Wired) (room : Spare) : Type 0 
   pub few : length p.firsts + room.receipts < 2 ^ 32
 
 -- What one closure keeps, beside the room.
-pub record IsKept (h : Hoard) (p : Paired) (w : Wired) (spare : Spare) : Type 0 where
+pub record IsIndexedClosure (h : Hoard) (p : Paired) (w : Wired) (spare : Spare) : Type 0 where
   pub indexed : IsIndexed h p w
   pub room : HasRoom h p w spare
 
 abbrev pub room_of : Spare → Room
 room_of s = record { receipts = s.receipts; offers = s.offers }
 
-abbrev pub state_of : Hoard → Spare → State
-state_of h s = record { meaning = meaning_of h; room = room_of s }
+abbrev pub closure_state : Hoard → Spare → HeldAndRoom
+closure_state h s = record { meaning = meaning_of h; room = room_of s }
 
 -- Nothing but the room has changed, and that has grown or stayed.
 pub record Reserves (h new : Hoard) (p q : Paired) (w v : Wired) (room more : Spare) : Type 0 where
@@ -96,20 +96,20 @@ pub record Reserves (h new : Hoard) (p q : Paired) (w v : Wired) (room more : Sp
   pub arrived : new.arrived ≡ h.arrived
   pub net : v.net ≡ w.net
   pub marked : v.marked ≡ w.marked
-  pub kept : IsKept new q v more
+  pub kept : IsIndexedClosure new q v more
   pub roomier : IsRoomier (room_of room) (room_of more)
 
 -- What a caller sees: the meaning and the room, the receipts in order of arrival, the index, and
 -- how many edges the last close looked at.
 pub record Indexed : Type 0 where
-  pub state : State
+  pub state : HeldAndRoom
   pub arrived : List Receipt
   pub wired : Wired
   pub turns : ℕ
 
 abbrev pub indexed_of : Hoard → Wired → Spare → ℕ → Indexed
 indexed_of h w s turns = record {
-  state = state_of h s;
+  state = closure_state h s;
   arrived = h.arrived;
   wired = w;
   turns = turns;

@@ -6,7 +6,7 @@ use Rattle.receipt_core.specs.Receipt.{Receipt, receipt_cmp, distrust_cmp, pair_
 use Rattle.receipt_core.specs.Rising.{with_items}
 use Rattle.receipt_core.specs.Acceptance.{IsFitting, Meaning}
 use Rattle.trust_closure.specs.Refusals.{IsRoomier, IsOfConfig, IsOfUnknownDomain, IsOfWrongEndpoint, all_receipts, all_records}
-use Rattle.trust_closure.specs.Changes.{State}
+use Rattle.trust_closure.specs.Changes.{HeldAndRoom}
 use Rattle.trust_closure.specs.declared.error.TakeError.{TakeError}
 use Rattle.trust_closure.specs.declared.error.TakeError.TheVariants.{UnknownDomain, WrongEndpoint, Full, NoMemory, ConfigDiffers}
 use Rattle.trust_closure.specs.declared.copies.Share.{Share}
@@ -53,7 +53,7 @@ pub record AreKnown (m : Meaning) (records : List Distrust) : Type 0 where
   pub few : length (with_items distrust_cmp records m.records) ≤ 4096
 
 -- These fit, there may be so many more, and there is room for them.
-pub record AreWelcome (old : State) (receipts : List Receipt) : Type 0 where
+pub record FitWithinRoom (old : HeldAndRoom) (receipts : List Receipt) : Type 0 where
   pub fitting : (r : Receipt) → Contains receipts r → IsFitting old.meaning.config r
   pub few : length old.meaning.held + length receipts ≤ 65536
   pub room : IsRoomier (record { receipts = length receipts; offers = offers_count receipts }) old.room

@@ -11,7 +11,7 @@ use Rattle.trust_closure.specs.Held.{Hoard, meaning_of}
 use Rattle.trust_closure.specs.NetOf.{IsShutBy}
 use Rattle.trust_closure.specs.Indexed.{IsBefore}
 use Rattle.trust_closure.specs.Pairs.{Paired, IsPairing}
-use Rattle.trust_closure.specs.Changes.{State}
+use Rattle.trust_closure.specs.Changes.{HeldAndRoom}
 
 -- These are the offers of the configured documents.
 abbrev pub AreSeedOffers : List Seed → List Triple → Type 0
@@ -67,7 +67,7 @@ pub record IsSet (h : Hoard) (p : Paired) (seed_offers : List Triple) (released 
   pub size : length released ≡ length h.arrived
 
 -- Besides, the flags of receipts and of different documents are those of what is accepted.
-pub record IsSettled (h : Hoard) (p : Paired) (seed_offers : List Triple) (released : List Bool) : Type 0 where
+pub record HasPlainFlags (h : Hoard) (p : Paired) (seed_offers : List Triple) (released : List Bool) : Type 0 where
   pub set : IsSet h p seed_offers released
   pub settled : AreReleased (meaning_of h) h.arrived released
   pub flags : (number : ℕ) → (is_raised (flags_of p.counts) number ≡ true)
@@ -78,7 +78,7 @@ pub record WasSettled (new : Hoard) (p : Paired) (seed_offers : List Triple) (re
   pub old : Hoard
   pub more : List Distrust
   pub before : IsBefore old more new
-  pub settled : IsSettled old p seed_offers released
+  pub settled : HasPlainFlags old p seed_offers released
 
 -- There is room for so many receipts more.
 pub record HasSpare (h : Hoard) (p : Paired) (flags capacity spare : ℕ) : Type 0 where
@@ -88,12 +88,12 @@ pub record HasSpare (h : Hoard) (p : Paired) (flags capacity spare : ℕ) : Type
   pub few : length p.firsts + spare < 2 ^ 32
 
 -- What one closure keeps, beside the room.
-pub record IsKept (h : Hoard) (p : Paired) (seed_offers : List Triple) (released : List Bool) (capacity spare : ℕ) : Type 0 where
-  pub settled : IsSettled h p seed_offers released
+pub record IsPlainClosure (h : Hoard) (p : Paired) (seed_offers : List Triple) (released : List Bool) (capacity spare : ℕ) : Type 0 where
+  pub settled : HasPlainFlags h p seed_offers released
   pub room : HasSpare h p (length released) capacity spare
 
 -- The meaning, and the room: offers take none.
-abbrev pub plain_state : Hoard → ℕ → State
+abbrev pub plain_state : Hoard → ℕ → HeldAndRoom
 plain_state h spare = record { meaning = meaning_of h; room = record { receipts = spare; offers = 2 ^ 64 - 1 } }
 
 -- Nothing but the capacity has changed.

@@ -43,7 +43,7 @@ pub record IsPast (old : List Record) (r : Record) (new : List Record) : Type 0 
   pub full : 4096 ≤ length old
   pub now : new ≡ old
 
-abbrev pub Adds : List Record → Record → List Record → Addition → Type 0
-Adds old r new Added = IsAdded old r new
-Adds old r new There = Contains old r × (new ≡ old)
-Adds old r new Full = IsPast old r new
+abbrev pub InsertsRecord : List Record → Record → List Record → Addition → Type 0
+InsertsRecord old r new Added = IsAdded old r new
+InsertsRecord old r new There = Contains old r × (new ≡ old)
+InsertsRecord old r new Full = IsPast old r new

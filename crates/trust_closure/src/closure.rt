@@ -25,10 +25,10 @@ pub trait Closure: Drop {
     ghost use Rattle.receipt_core.specs.Acceptance.{Meaning, IsMeaning, IsMember};
     ghost use Rattle.trust_closure.specs.Views.{IsAcceptedList, IsPendingCount, document_of, receipts_in};
     ghost use Rattle.trust_closure.specs.Refusals.{Room, IsRoomier};
-    ghost use Rattle.trust_closure.specs.Changes.{State, empty_of, Takes, TakesDistrust, Merges};
+    ghost use Rattle.trust_closure.specs.Changes.{HeldAndRoom, empty_of, Takes, TakesDistrust, Merges};
 
     // The configuration, the receipts and the records of distrust, and how much more there is memory for.
-    ghost state: { Self → State };
+    ghost state: { Self → HeldAndRoom };
 
     /// A closure of the configuration that holds no receipt and no record of distrust. It makes room for all records.
     ///

@@ -3,7 +3,7 @@ ghost use Rattle.std.specs.Prelude.{◌≡◌, ℕ, ◌+◌, ◌<◌, ◌≤◌,
 ghost use Rattle.fed_config.specs.Configuration.{IsConfiguration};
 ghost use Rattle.receipt_core.specs.Receipt.{IsReceipt, with_receipt};
 ghost use Rattle.receipt_core.specs.Acceptance.{IsFitting, IsMeaning};
-ghost use Rattle.trust_closure.specs.Held.{Hoard, meaning_of, IsAbsent, Stands, Repels, Misfits, AddsOrRefuses, told};
+ghost use Rattle.trust_closure.specs.Held.{Hoard, meaning_of, IsAbsent, Stands, Repels, Misfits, AddsOrRefuses, addition_result};
 ghost use Rattle.trust_closure.specs.Views.{receipts_in};
 
 use crate::closure::NoMemory;
@@ -242,7 +242,7 @@ pub(crate) fn fit(config: &Config, receipt: &Receipt) -> Result<(), TakeError>
 }
 
 fn answer_of(addition: Addition) -> Result<Addition, TakeError>
-    ensures { result ≡ told addition }
+    ensures { result ≡ addition_result addition }
 {
     match addition {
         Addition::Full => Err(TakeError::Full),

@@ -4,7 +4,7 @@ ghost use Rattle.receipt_core.specs.Receipt.{pair_of, offers_of, with_receipt};
 ghost use Rattle.trust_closure.specs.Changes.{Takes};
 ghost use Rattle.trust_closure.specs.Refusals.{IsRoomier};
 ghost use Rattle.trust_closure.specs.Held.{meaning_of};
-ghost use Rattle.trust_closure.specs.Indexed.{IsKept, Reserves, ArrivesLast, room_of, state_of};
+ghost use Rattle.trust_closure.specs.Indexed.{IsIndexedClosure, Reserves, ArrivesLast, room_of, closure_state};
 
 use crate::error::TakeError;
 use crate::grow::add;
@@ -33,9 +33,9 @@ pub(crate) fn take_into(
     spare: &mut Spare,
     receipt: Receipt,
 ) -> Result<Taken, Refused>
-    requires { IsKept held.old pairs.old wiring.old spare.old }
-    ensures kept { IsKept held.new pairs.new wiring.new spare.new }
-    ensures takes { Takes (state_of held.old spare.old) receipt (state_of held.new spare.new) result }
+    requires { IsIndexedClosure held.old pairs.old wiring.old spare.old }
+    ensures kept { IsIndexedClosure held.new pairs.new wiring.new spare.new }
+    ensures takes { Takes (closure_state held.old spare.old) receipt (closure_state held.new spare.new) result }
     ensures arrived { ArrivesLast held.old.arrived receipt held.new.arrived result }
     ensures marked { take (length wiring.old.marked) wiring.new.marked ≡ wiring.old.marked }
 {
@@ -68,7 +68,7 @@ pub(crate) fn reserve(
     receipts: usize,
     offers: usize,
 ) -> Result<(), AllocError>
-    requires { IsKept held.old pairs.old wiring.old spare.old }
+    requires { IsIndexedClosure held.old pairs.old wiring.old spare.old }
     ensures reserves { Reserves held.old held.new pairs.old pairs.new wiring.old wiring.new spare.old spare.new }
     ensures ok { OnOk result (IsRoomier (record { receipts = receipts; offers = offers }) (room_of spare.new)) }
     ensures within { IsRoomier (record { receipts = receipts; offers = offers }) (room_of spare.old) → IsOk result }

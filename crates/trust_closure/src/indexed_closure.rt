@@ -41,13 +41,13 @@ pub struct IndexedClosure {
 }
 
 impl Model for IndexedClosure {
-    ghost use Rattle.trust_closure.specs.Indexed.{Indexed, IsKept, indexed_of};
+    ghost use Rattle.trust_closure.specs.Indexed.{Indexed, IsIndexedClosure, indexed_of};
 
     ghost Value = { Indexed };
 
     ghost view = { λ c. indexed_of c.held c.wiring c.spare c.turns };
 
-    ghost invariant = { λ c. IsKept c.held c.pairs c.wiring c.spare };
+    ghost invariant = { λ c. IsIndexedClosure c.held c.pairs c.wiring c.spare };
 }
 
 impl IndexedClosure {

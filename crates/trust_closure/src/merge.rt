@@ -5,7 +5,7 @@ ghost use Rattle.receipt_core.specs.Receipt.{receipt_cmp, distrust_cmp};
 ghost use Rattle.receipt_core.specs.Rising.{with_items};
 ghost use Rattle.trust_closure.specs.Changes.{Merges};
 ghost use Rattle.trust_closure.specs.Held.{meaning_of};
-ghost use Rattle.trust_closure.specs.Merge.{AreWelcome, AreKnown};
+ghost use Rattle.trust_closure.specs.Merge.{FitWithinRoom, AreKnown};
 ghost use Rattle.trust_closure.specs.Work.{AreOld};
 
 use crate::closure::NoMemory;
@@ -21,10 +21,10 @@ pub(crate) trait Mergeable {
     ghost use Rattle.trust_closure.specs.Held.{meaning_of};
     ghost use Rattle.trust_closure.specs.Refusals.{IsRoomier};
     ghost use Rattle.trust_closure.specs.Merge.{AreKnown};
-    ghost use Rattle.trust_closure.specs.Changes.{State, Takes};
+    ghost use Rattle.trust_closure.specs.Changes.{HeldAndRoom, Takes};
     ghost use Rattle.trust_closure.specs.Work.{AreOld};
 
-    ghost state: { Self → State };
+    ghost state: { Self → HeldAndRoom };
 
     // How many edges the last close looked at, and that it would be so many if these records were
     // held besides.
@@ -107,7 +107,7 @@ pub(crate) fn hold_all(held: &mut Held, records: Distrusts<'_>) -> bool
 
 /// Takes receipts that fit, and for which there is room.
 fn take_all<C: Mergeable>(closure: &mut C, receipts: Vec<Receipt>)
-    requires { AreWelcome (C.state closure.old) receipts.items }
+    requires { FitWithinRoom (C.state closure.old) receipts.items }
     ensures meaning { (C.state closure.new).meaning ≡ record (C.state closure.old).meaning
         { held = with_items receipt_cmp receipts.items (C.state closure.old).meaning.held } }
     ensures turns { C.turns closure.new ≡ C.turns closure.old }

@@ -9,7 +9,7 @@ ghost use Rattle.trust_closure.specs.Held.{Hoard, meaning_of, IsAbsent};
 ghost use Rattle.trust_closure.specs.Indexed.{IsBefore};
 ghost use Rattle.trust_closure.specs.Nodes.{is_raised};
 ghost use Rattle.receipt_core.specs.declared.distrust.Distrust.{Distrust};
-ghost use Rattle.trust_closure.specs.Plain.{AreSeedOffers, IsSet, IsSettled, WasSettled, AreSound, AreReleased, HasSpare, IsKept, plain_state, IsRoomierPaired};
+ghost use Rattle.trust_closure.specs.Plain.{AreSeedOffers, IsSet, HasPlainFlags, WasSettled, AreSound, AreReleased, HasSpare, IsPlainClosure, plain_state, IsRoomierPaired};
 
 use crate::error::TakeError;
 use crate::flags::lower_all;
@@ -37,8 +37,8 @@ pub(crate) fn take_into(
     spare: &mut usize,
     receipt: Receipt,
 ) -> Result<Taken, Refused>
-    requires { IsKept held.old pairs.old seed_offers.now released.old.items (vec_capacity released.old) spare.old }
-    ensures kept { IsKept held.new pairs.new seed_offers.now released.new.items (vec_capacity released.new) spare.new }
+    requires { IsPlainClosure held.old pairs.old seed_offers.now released.old.items (vec_capacity released.old) spare.old }
+    ensures kept { IsPlainClosure held.new pairs.new seed_offers.now released.new.items (vec_capacity released.new) spare.new }
     ensures takes { Takes (plain_state held.old spare.old) receipt (plain_state held.new spare.new) result }
 {
     let place = match held.standing(&receipt) {
@@ -68,8 +68,8 @@ pub(crate) fn reserve(
     spare: &mut usize,
     receipts: usize,
 ) -> Result<(), AllocError>
-    requires { IsKept held.old pairs.old seed_offers.now released.old.items (vec_capacity released.old) spare.old }
-    ensures kept { IsKept held.new pairs.new seed_offers.now released.new.items (vec_capacity released.new) spare.new }
+    requires { IsPlainClosure held.old pairs.old seed_offers.now released.old.items (vec_capacity released.old) spare.old }
+    ensures kept { IsPlainClosure held.new pairs.new seed_offers.now released.new.items (vec_capacity released.new) spare.new }
     ensures meaning { meaning_of held.new ≡ meaning_of held.old }
     ensures roomier { spare.old ≤ spare.new }
     ensures ok { OnOk result (receipts ≤ spare.new) }
@@ -89,13 +89,13 @@ pub(crate) fn add(
     place: usize,
     receipt: Receipt,
 ) -> usize
-    requires settled { IsSettled held.old pairs.old seed_offers.now released.old.items }
+    requires settled { HasPlainFlags held.old pairs.old seed_offers.now released.old.items }
     requires absent { IsAbsent (meaning_of held.old) receipt place }
     requires held_room { length held.old.arrived < held.old.capacity }
     requires pairs_room { length pairs.old.firsts < pairs.old.capacity }
     requires released_room { length released.old.items < vec_capacity released.old }
     requires few { length pairs.old.firsts < 2 ^ 32 }
-    ensures settled { IsSettled held.new pairs.new seed_offers.now released.new.items }
+    ensures settled { HasPlainFlags held.new pairs.new seed_offers.now released.new.items }
     ensures held { held.new ≡ record held.old { arrived = held.old.arrived ++ receipt ∷ []; held = with_receipt receipt held.old.held } }
     ensures gain { IsGain (meaning_of held.old) (meaning_of held.new) result }
     ensures firsts { length pairs.new.firsts ≡ length pairs.old.firsts + 1 }
@@ -120,7 +120,7 @@ fn place_receipt(
     place: usize,
     receipt: Receipt,
 )
-    requires settled { IsSettled held.old pairs.old seed_offers.now released.old.items }
+    requires settled { HasPlainFlags held.old pairs.old seed_offers.now released.old.items }
     requires absent { IsAbsent (meaning_of held.old) receipt place }
     requires held_room { length held.old.arrived < held.old.capacity }
     requires pairs_room { length pairs.old.firsts < pairs.old.capacity }
@@ -154,8 +154,8 @@ pub(crate) fn lose(
     domain: &TrustDomain,
     key: KeyId,
 ) -> Result<Distrusted, TakeError>
-    requires settled { IsSettled held.old pairs.old seed_offers.now released.old.items }
-    ensures settled { IsSettled held.new pairs.new seed_offers.now released.new.items }
+    requires settled { HasPlainFlags held.old pairs.old seed_offers.now released.old.items }
+    ensures settled { HasPlainFlags held.new pairs.new seed_offers.now released.new.items }
     ensures meaning { TakesDistrust (meaning_of held.old) (record { domain = domain.now; key = key }) (meaning_of held.new) result }
     ensures arrived { held.new.arrived ≡ held.old.arrived }
     ensures held_capacity { held.new.capacity ≡ held.old.capacity }
@@ -182,9 +182,9 @@ pub(crate) fn lose_all(
     released: &mut Vec<bool>,
     records: Distrusts<'_>,
 )
-    requires settled { IsSettled held.old pairs.old seed_offers.now released.old.items }
+    requires settled { HasPlainFlags held.old pairs.old seed_offers.now released.old.items }
     requires known { AreKnown (meaning_of held.old) records }
-    ensures settled { IsSettled held.new pairs.new seed_offers.now released.new.items }
+    ensures settled { HasPlainFlags held.new pairs.new seed_offers.now released.new.items }
     ensures meaning { meaning_of held.new ≡ record (meaning_of held.old)
         { records = with_items distrust_cmp records.entry (meaning_of held.old).records } }
     ensures arrived { held.new.arrived ≡ held.old.arrived }
@@ -202,9 +202,9 @@ pub(crate) fn lose_all(
 /// many documents of domains were accepted and are not now.
 fn fall(held: &Held, pairs: &mut Pairs, seed_offers: &[Triple], released: &mut Vec<bool>) -> usize
     requires before { WasSettled held.now pairs.old seed_offers.now released.old.items }
-    ensures settled { IsSettled held.now pairs.new seed_offers.now released.new.items }
+    ensures settled { HasPlainFlags held.now pairs.new seed_offers.now released.new.items }
     ensures loss { (old : Hoard) (more : List Distrust) → IsBefore old more held.now
-        → IsSettled old pairs.old seed_offers.now released.old.items
+        → HasPlainFlags old pairs.old seed_offers.now released.old.items
         → IsGain (meaning_of held.now) (meaning_of old) result }
     ensures firsts { pairs.new.firsts ≡ pairs.old.firsts }
     ensures capacity { pairs.new.capacity ≡ pairs.old.capacity }

@@ -36,14 +36,14 @@ pub struct PlainClosure {
 
 impl Model for PlainClosure {
     ghost use Rattle.std.specs.Prelude.{vec_capacity};
-    ghost use Rattle.trust_closure.specs.Changes.{State};
-    ghost use Rattle.trust_closure.specs.Plain.{IsKept, plain_state};
+    ghost use Rattle.trust_closure.specs.Changes.{HeldAndRoom};
+    ghost use Rattle.trust_closure.specs.Plain.{IsPlainClosure, plain_state};
 
-    ghost Value = { State };
+    ghost Value = { HeldAndRoom };
 
     ghost view = { λ c. plain_state c.held c.spare };
 
-    ghost invariant = { λ c. IsKept c.held c.pairs c.seed_offers.items c.released.items (vec_capacity c.released) c.spare };
+    ghost invariant = { λ c. IsPlainClosure c.held c.pairs c.seed_offers.items c.released.items (vec_capacity c.released) c.spare };
 }
 
 impl PlainClosure {

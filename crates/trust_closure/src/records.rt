@@ -1,7 +1,7 @@
 //! The records of distrust that a closure keeps.
 ghost use Rattle.std.specs.Prelude.{◌≡◌, ◌+◌, ◌≤◌, ◌↔◌, [], length, Contains, IfOk, IsTrue};
 ghost use Rattle.std.specs.List.Sorted.{IsStrictlySortedBy};
-ghost use Rattle.trust_closure.specs.Records.{Adds, record_cmp};
+ghost use Rattle.trust_closure.specs.Records.{InsertsRecord, record_cmp};
 
 use crate::record::Record;
 use std::alloc::{AllocError, Global};
@@ -75,7 +75,7 @@ impl Records {
 
     /// Takes no memory.
     pub(crate) fn add(&mut self, entry: Record) -> Addition
-        ensures { Adds self.old entry self.new result }
+        ensures { InsertsRecord self.old entry self.new result }
     {
         match self.items.binary_search(&entry) {
             Ok(_) => Addition::There,

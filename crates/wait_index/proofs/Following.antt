@@ -7,7 +7,7 @@ use Rattle.wait_index.specs.Edge.{from_at, to_at, IsEdge}
 use Rattle.wait_index.specs.Inside.Links.{IsLink, IsLast}
 use Rattle.wait_index.specs.Inside.Listing.{holds, IsListing}
 use Rattle.wait_index.specs.Net.{Net, is_closed, step}
-use Rattle.wait_index.specs.Inside.Tally.{Tally, is_marked_in, is_touched_in, is_open_in, support_in, waits_of, Leaves, Opens, Settles, Supports}
+use Rattle.wait_index.specs.Inside.Tally.{Tally, is_marked_in, is_touched_in, is_open_in, support_in, waits_of, Leaves, Opens, SettlesLabel, Supports}
 use Rattle.wait_index.specs.Inside.Step.{is_before, IsSteady, IsCounted, IsOpened, Follows, Spreads}
 use Rattle.wait_index.proofs.Counts.{bit-true, bit-false, count_below-le, count_below-add, count_below-same, count_below-some}
 use Rattle.wait_index.proofs.Links.{IsLink-last, count_owned, count_owned-step, count_owned_and, count_owned_and-step}
@@ -187,7 +187,7 @@ Leaves-opened net label t new o others = record {
 pub Settles-follows : (net : Net) (label cursor node link : ℕ) (t new : Tally) → label < length net.closed → cursor ≤ length t.marked → IsSteady net t → IsCounted net t cursor node link → IsListing new.marked new.places
     → (0 < support_in t label → (i : ℕ) × (m : ℕ) × IsEdge net.offers i m label × (is_marked_in t m ≡ true))
     → ((k : ℕ) → k < length net.closed → k ≢ label → 0 < support_in t k → is_closed net k ≡ false → (is_open_in t k ≡ true) ⊎ (is_touched_in t k ≡ true))
-    → Settles net label t new → Follows net new cursor node link
+    → SettlesLabel net label t new → Follows net new cursor node link
 Settles-follows net label cursor node link t new within l h c listing offered others s =
     elim s [
       | inl o ↦ subst (λ x. Follows net x cursor node link) (sym o.same) (record { steady = h; counted = c; opened = Leaves-opened net label t new o others })
@@ -212,7 +212,7 @@ Spreads-trans a b c h k = record {
   visits = omega (arith, h.visits, k.visits);
 }
 
-pub Settles-spreads : (net : Net) (label : ℕ) (t new : Tally) → Settles net label t new → Spreads t new
+pub Settles-spreads : (net : Net) (label : ℕ) (t new : Tally) → SettlesLabel net label t new → Spreads t new
 Settles-spreads net label t new s =
     elim s [
       | inl o ↦ subst (λ x. Spreads t x) (sym o.same) (Spreads-refl t)
@@ -397,7 +397,7 @@ Follows-offered net cursor t h l a s =
 abbrev pub with_untouched : Tally → List ℕ → ℕ → Tally
 with_untouched t touched label = record t { touched = touched; touched_places = set t.touched_places label 0 }
 
-pub Restore-step : (net : Net) (cursor label : ℕ) (touched : List ℕ) (t new : Tally) → Follows net t cursor 0 0 → label < length net.closed → cursor ≤ length t.marked → IsListing new.marked new.places → Settles net label (with_untouched t touched label) new → Follows net new cursor 0 0
+pub Restore-step : (net : Net) (cursor label : ℕ) (touched : List ℕ) (t new : Tally) → Follows net t cursor 0 0 → label < length net.closed → cursor ≤ length t.marked → IsListing new.marked new.places → SettlesLabel net label (with_untouched t touched label) new → Follows net new cursor 0 0
 Restore-step net cursor label touched t new h within l listing s =
     Settles-follows net label cursor 0 0 (with_untouched t touched label) new within l
     (record {

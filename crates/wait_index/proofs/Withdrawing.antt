@@ -6,7 +6,7 @@ use Rattle.wait_index.specs.Inside.Count.{count_below}
 use Rattle.wait_index.specs.Edge.{from_at, to_at, IsEdge}
 use Rattle.wait_index.specs.Inside.Links.{IsLink, IsLast}
 use Rattle.wait_index.specs.Net.{Net}
-use Rattle.wait_index.specs.Inside.Tally.{Tally, HasSizes, is_touched_in, is_open_in, support_in, offers_of, offers_between, Withdraws, WithdrawsAll}
+use Rattle.wait_index.specs.Inside.Tally.{Tally, HasSizes, is_touched_in, is_open_in, support_in, offer_count_of, offers_between, Withdraws, WithdrawsAll}
 use Rattle.wait_index.specs.Inside.Fall.{CanFall}
 use Rattle.wait_index.proofs.Counts.{bit-true, bit-false, count_below-at}
 use Rattle.wait_index.proofs.Links.{IsLink-last, count_owned, count_owned-step, count_owned_and, count_owned_and-step}
@@ -27,7 +27,7 @@ pub record WithdrawsFrom (net : Net) (node link : ℕ) (old now : Tally) : Type 
   pub all : (i : ℕ) → i < length net.offers → link ≤ i → from_at net.offers i ≡ node → is_open_in old (to_at net.offers i) ≡ true → is_touched_in now (to_at net.offers i) ≡ true
   pub only : (l : ℕ) → is_touched_in now l ≡ true → (is_touched_in old l ≡ true) ⊎ ((is_open_in old l ≡ true) × ((i : ℕ) × IsEdge net.offers i node l))
   pub size : length now.touched_places ≡ length old.touched_places
-  pub visits : now.visits + offers_of net node ≡ old.visits + count_below (λ i. eqb (from_at net.offers i) node) link
+  pub visits : now.visits + offer_count_of net node ≡ old.visits + count_below (λ i. eqb (from_at net.offers i) node) link
 
 pub WithdrawsFrom-start : (net : Net) (node link : ℕ) (t : Tally) → CanFall net t node → IsLast net.offers node (length net.offers) link → WithdrawsFrom net node link t t
 WithdrawsFrom-start net node link t c h = record {

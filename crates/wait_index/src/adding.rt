@@ -3,7 +3,7 @@ ghost use Rattle.std.specs.Prelude.{◌≡◌, ℕ, ◌+◌, ◌^◌, ◌<◌, �
 ghost use Rattle.wait_index.specs.Inside.Capacity.{graph_capacity};
 ghost use Rattle.wait_index.specs.Inside.Fall.{IsSettled};
 ghost use Rattle.wait_index.specs.Net.{with_node, with_label, with_offer, with_wait, with_root, has_wait};
-ghost use Rattle.wait_index.specs.Inside.Tally.{net_of, tally_of, capacity_of, HasSizes, is_marked_in, is_open_in, support_in, Supports, FollowsWait};
+ghost use Rattle.wait_index.specs.Inside.Tally.{net_of, tally_of, marks_capacity, HasSizes, is_marked_in, is_open_in, support_in, Supports, FollowsWait};
 
 use crate::graph::Graph;
 use crate::marks::Marks;
@@ -18,7 +18,7 @@ impl Marks {
         ensures settled { IsSettled (net_of graph.new) (tally_of self.new) }
         ensures front { take (length self.old.marked.items.items) self.new.marked.items.items ≡ self.old.marked.items.items }
         ensures graph_room { graph_capacity graph.new ≡ graph_capacity graph.old }
-        ensures room { capacity_of self.new ≡ capacity_of self.old }
+        ensures room { marks_capacity self.new ≡ marks_capacity self.old }
     {
         graph.add_root(node);
         let cursor = self.marked.items.len();
@@ -37,7 +37,7 @@ impl Marks {
         ensures settled { IsSettled (net_of graph.new) (tally_of self.new) }
         ensures front { take (length self.old.marked.items.items) self.new.marked.items.items ≡ self.old.marked.items.items }
         ensures graph_room { graph_capacity graph.new ≡ graph_capacity graph.old }
-        ensures room { capacity_of self.new ≡ capacity_of self.old }
+        ensures room { marks_capacity self.new ≡ marks_capacity self.old }
     {
         graph.add_offer(node, label);
         let cursor = self.marked.items.len();
@@ -54,7 +54,7 @@ impl Marks {
         requires support { support_in (tally_of self.old) label + 1 < 2 ^ 64 }
         ensures followed { ((is_marked_in (tally_of self.old) node ≡ true) × Supports (net_of graph.now) label (tally_of self.old) (tally_of self.new))
             ⊎ ((is_marked_in (tally_of self.old) node ≡ false) × (tally_of self.new ≡ tally_of self.old)) }
-        ensures room { capacity_of self.new ≡ capacity_of self.old }
+        ensures room { marks_capacity self.new ≡ marks_capacity self.old }
     {
         if self.marked.holds(node) {
             self.follow_offer(graph, label);
@@ -73,7 +73,7 @@ impl Marks {
         ensures settled { IsSettled (net_of graph.new) (tally_of self.new) }
         ensures front { take (length self.old.marked.items.items) self.new.marked.items.items ≡ self.old.marked.items.items }
         ensures graph_room { graph_capacity graph.new ≡ graph_capacity graph.old }
-        ensures room { capacity_of self.new ≡ capacity_of self.old }
+        ensures room { marks_capacity self.new ≡ marks_capacity self.old }
     {
         graph.add_wait(label, node);
         let cursor = self.marked.items.len();
@@ -87,7 +87,7 @@ impl Marks {
         requires node { node < length self.old.marked.places.items }
         requires visits { self.old.visits + 1 < 2 ^ 64 }
         ensures followed { FollowsWait label node (tally_of self.old) (tally_of self.new) }
-        ensures room { capacity_of self.new ≡ capacity_of self.old }
+        ensures room { marks_capacity self.new ≡ marks_capacity self.old }
     {
         if self.opened[label] {
             self.visits += 1;

@@ -5,7 +5,7 @@ ghost use Rattle.wait_index.specs.Inside.Capacity.{graph_capacity};
 ghost use Rattle.wait_index.specs.Inside.Fall.{CanFall, HasFallen, IsFalling, IsSettled, ListsFallen, with_fallen};
 ghost use Rattle.wait_index.specs.Net.{with_all_closed, ClosesIn, HasReachOf, TellsFallen, edges_at};
 ghost use Rattle.wait_index.specs.Inside.Step.{Follows};
-ghost use Rattle.wait_index.specs.Inside.Tally.{net_of, tally_of, capacity_of, HasSizes, is_marked_in, is_open_in, Falls, Touches, TouchesAll, Withdraws, WithdrawsAll};
+ghost use Rattle.wait_index.specs.Inside.Tally.{net_of, tally_of, marks_capacity, HasSizes, is_marked_in, is_open_in, Falls, Touches, TouchesAll, Withdraws, WithdrawsAll};
 
 use crate::graph::Graph;
 use crate::last_close::LastClose;
@@ -32,7 +32,7 @@ impl Marks {
         ensures fallen { TellsFallen (net_of graph.old) labels.now last.new.fallen.items last.new.kept self.new.marked.items.items }
         ensures many { length last.new.fallen.items + last.new.kept ≡ length self.old.marked.items.items }
         ensures graph_room { graph_capacity graph.new ≡ graph_capacity graph.old }
-        ensures room { capacity_of self.new ≡ capacity_of self.old }
+        ensures room { marks_capacity self.new ≡ marks_capacity self.old }
         ensures last_room { vec_capacity last.new.fallen ≡ vec_capacity last.old.fallen }
     {
         last.begin(self.marked.items.len());
@@ -55,7 +55,7 @@ impl Marks {
         requires labels { All (λ label. label < length self.old.opened.items) labels.now }
         requires touched { length self.old.touched.places.items ≡ length self.old.opened.items }
         ensures touched { TouchesAll labels.now (tally_of self.old) (tally_of self.new) }
-        ensures room { capacity_of self.new ≡ capacity_of self.old }
+        ensures room { marks_capacity self.new ≡ marks_capacity self.old }
     {
         for label in labels {
             self.touch(label.index());
@@ -67,7 +67,7 @@ impl Marks {
         requires label { label < length self.old.opened.items }
         requires places { length self.old.touched.places.items ≡ length self.old.opened.items }
         ensures touched { Touches label (tally_of self.old) (tally_of self.new) }
-        ensures room { capacity_of self.new ≡ capacity_of self.old }
+        ensures room { marks_capacity self.new ≡ marks_capacity self.old }
     {
         if self.opened[label] && !self.touched.holds(label) {
             self.touched.insert(label);
@@ -81,7 +81,7 @@ impl Marks {
         ensures settled { IsSettled (net_of graph.now) (tally_of self.new) }
         ensures front { take (length self.old.marked.items.items) self.new.marked.items.items ≡ self.old.marked.items.items }
         ensures visits { self.old.visits ≤ self.new.visits }
-        ensures room { capacity_of self.new ≡ capacity_of self.old }
+        ensures room { marks_capacity self.new ≡ marks_capacity self.old }
     {
         let cursor = self.marked.items.len();
         self.restore(graph);
@@ -97,7 +97,7 @@ impl Marks {
         ensures fallen { HasFallen (net_of graph.now) closing (tally_of self.new) }
         ensures listed { ListsFallen (net_of graph.now) (tally_of self.new) last.new.fallen.items }
         ensures many { length last.new.fallen.items + length self.new.marked.items.items ≡ length last.old.fallen.items + length self.old.marked.items.items }
-        ensures capacity { capacity_of self.new ≡ capacity_of self.old }
+        ensures capacity { marks_capacity self.new ≡ marks_capacity self.old }
         ensures last_room { vec_capacity last.new.fallen ≡ vec_capacity last.old.fallen }
     {
         let mut index = 0;
@@ -119,7 +119,7 @@ impl Marks {
         ensures front { take (length self.old.touched.items.items) self.new.touched.items.items ≡ self.old.touched.items.items }
         ensures listed { ListsFallen (net_of graph.now) (tally_of self.new) last.new.fallen.items }
         ensures many { length last.new.fallen.items + length self.new.marked.items.items ≡ length last.old.fallen.items + length self.old.marked.items.items }
-        ensures capacity { capacity_of self.new ≡ capacity_of self.old }
+        ensures capacity { marks_capacity self.new ≡ marks_capacity self.old }
         ensures last_room { vec_capacity last.new.fallen ≡ vec_capacity last.old.fallen }
     {
         let label = self.touched.items[index].index();
@@ -141,7 +141,7 @@ impl Marks {
         requires last_room { length last.old.fallen.items < vec_capacity last.old.fallen }
         ensures falls { Falls (net_of graph.now) node (tally_of self.old) (tally_of self.new) }
         ensures listed { last.new.fallen.items ≡ with_fallen (net_of graph.now) node last.old.fallen.items }
-        ensures capacity { capacity_of self.new ≡ capacity_of self.old }
+        ensures capacity { marks_capacity self.new ≡ marks_capacity self.old }
         ensures last_room { vec_capacity last.new.fallen ≡ vec_capacity last.old.fallen }
     {
         if !graph.roots[node] {
@@ -156,7 +156,7 @@ impl Marks {
         requires can { CanFall (net_of graph.now) (tally_of self.old) node }
         requires node { node < length graph.now.roots.items }
         ensures withdrawn { WithdrawsAll (net_of graph.now) node (tally_of self.old) (tally_of self.new) }
-        ensures capacity { capacity_of self.new ≡ capacity_of self.old }
+        ensures capacity { marks_capacity self.new ≡ marks_capacity self.old }
     {
         let mut link = graph.offers.newest[node];
         'offers: while link > 0 {
@@ -175,7 +175,7 @@ impl Marks {
         requires opened { length self.old.opened.items ≡ length self.old.support.items }
         requires touched { length self.old.touched.places.items ≡ length self.old.support.items }
         ensures withdrawn { Withdraws label (tally_of self.old) (tally_of self.new) }
-        ensures capacity { capacity_of self.new ≡ capacity_of self.old }
+        ensures capacity { marks_capacity self.new ≡ marks_capacity self.old }
     {
         self.visits -= 1;
         self.support[label] -= 1;
@@ -190,7 +190,7 @@ impl Marks {
         ensures untouched { self.new.touched.items.items ≡ [] }
         ensures front { take (length self.old.marked.items.items) self.new.marked.items.items ≡ self.old.marked.items.items }
         ensures visits { self.old.visits ≤ self.new.visits }
-        ensures capacity { capacity_of self.new ≡ capacity_of self.old }
+        ensures capacity { marks_capacity self.new ≡ marks_capacity self.old }
     {
         'labels: while !self.touched.items.is_empty() {
             let label = self.touched.take_last();

@@ -2,7 +2,7 @@
 ghost use Rattle.std.specs.Prelude.{◌≡◌, ℕ, ◌+◌, ◌^◌, ◌<◌, ◌≤◌, true, false, [], ◌∷◌, ◌++◌, length, slice_index, min, vec_capacity, OnOk, IsOk};
 ghost use Rattle.wait_index.specs.Inside.Capacity.{GrowsMarks, HasMarksRoom};
 ghost use Rattle.wait_index.specs.Inside.Step.{Follows, Spreads};
-ghost use Rattle.wait_index.specs.Inside.Tally.{net_of, tally_of, capacity_of, HasSizes, MarksNode, Releases, Settles, Supports};
+ghost use Rattle.wait_index.specs.Inside.Tally.{net_of, tally_of, marks_capacity, HasSizes, MarksNode, Releases, SettlesLabel, Supports};
 
 use crate::graph::Graph;
 use crate::label_set::LabelSet;
@@ -56,24 +56,24 @@ impl Marks {
 
     /// Adds a node that is not marked.
     pub(crate) fn add_node(&mut self)
-        requires { length self.old.marked.places.items < (capacity_of self.old).nodes }
+        requires { length self.old.marked.places.items < (marks_capacity self.old).nodes }
         ensures tally { tally_of self.new ≡ record (tally_of self.old) { places = self.old.marked.places.items ++ 0 ∷ [] } }
-        ensures capacity { capacity_of self.new ≡ capacity_of self.old }
+        ensures capacity { marks_capacity self.new ≡ marks_capacity self.old }
     {
         self.marked.add_node();
     }
 
     /// Adds a label that is not open.
     pub(crate) fn add_label(&mut self)
-        requires support { length self.old.support.items < (capacity_of self.old).labels }
-        requires opened { length self.old.opened.items < (capacity_of self.old).labels }
-        requires touched { length self.old.touched.places.items < (capacity_of self.old).labels }
+        requires support { length self.old.support.items < (marks_capacity self.old).labels }
+        requires opened { length self.old.opened.items < (marks_capacity self.old).labels }
+        requires touched { length self.old.touched.places.items < (marks_capacity self.old).labels }
         ensures tally { tally_of self.new ≡ record (tally_of self.old) {
           support = self.old.support.items ++ 0 ∷ [];
           opened = self.old.opened.items ++ false ∷ [];
           touched_places = self.old.touched.places.items ++ 0 ∷ [];
         } }
-        ensures capacity { capacity_of self.new ≡ capacity_of self.old }
+        ensures capacity { marks_capacity self.new ≡ marks_capacity self.old }
     {
         self.support.push_reserved(0);
         self.opened.push_reserved(false);
@@ -88,7 +88,7 @@ impl Marks {
         requires few { length graph.now.offers.edges.items + length graph.now.waits.edges.items < 2 ^ 63 }
         ensures follows { Follows (net_of graph.now) (tally_of self.new) (length self.new.marked.items.items) 0 0 }
         ensures spreads { Spreads (tally_of self.old) (tally_of self.new) }
-        ensures capacity { capacity_of self.new ≡ capacity_of self.old }
+        ensures capacity { marks_capacity self.new ≡ marks_capacity self.old }
     {
         let mut cursor = cursor;
         'nodes: while cursor < self.marked.items.len() {
@@ -104,7 +104,7 @@ impl Marks {
         requires few { length graph.now.offers.edges.items + length graph.now.waits.edges.items < 2 ^ 63 }
         ensures follows { Follows (net_of graph.now) (tally_of self.new) (cursor + 1) 0 0 }
         ensures spreads { Spreads (tally_of self.old) (tally_of self.new) }
-        ensures capacity { capacity_of self.new ≡ capacity_of self.old }
+        ensures capacity { marks_capacity self.new ≡ marks_capacity self.old }
     {
         let node = self.marked.items[cursor].index();
         let mut link = graph.offers.newest[node];
@@ -122,7 +122,7 @@ impl Marks {
         requires visits { self.old.visits + 1 + length graph.now.waits.edges.items < 2 ^ 64 }
         requires support { slice_index self.old.support.items label + 1 < 2 ^ 64 }
         ensures supported { Supports (net_of graph.now) label (tally_of self.old) (tally_of self.new) }
-        ensures capacity { capacity_of self.new ≡ capacity_of self.old }
+        ensures capacity { marks_capacity self.new ≡ marks_capacity self.old }
     {
         self.visits += 1;
         self.support[label] += 1;
@@ -134,8 +134,8 @@ impl Marks {
         requires sizes { HasSizes (net_of graph.now) (tally_of self.old) }
         requires label { label < length graph.now.closed.items }
         requires visits { self.old.visits + length graph.now.waits.edges.items < 2 ^ 64 }
-        ensures settled { Settles (net_of graph.now) label (tally_of self.old) (tally_of self.new) }
-        ensures capacity { capacity_of self.new ≡ capacity_of self.old }
+        ensures settled { SettlesLabel (net_of graph.now) label (tally_of self.old) (tally_of self.new) }
+        ensures capacity { marks_capacity self.new ≡ marks_capacity self.old }
     {
         if self.support[label] > 0 && !graph.closed[label] && !self.opened[label] {
             self.opened[label] = true;
@@ -149,7 +149,7 @@ impl Marks {
         requires label { label < length graph.now.closed.items }
         requires visits { self.old.visits + length graph.now.waits.edges.items < 2 ^ 64 }
         ensures released { Releases (net_of graph.now) label (tally_of self.old) (tally_of self.new) }
-        ensures capacity { capacity_of self.new ≡ capacity_of self.old }
+        ensures capacity { marks_capacity self.new ≡ marks_capacity self.old }
     {
         let mut link = graph.waits.newest[label];
         'waits: while link > 0 {
@@ -164,7 +164,7 @@ impl Marks {
     pub(crate) fn mark(&mut self, node: usize)
         requires { node < length self.old.marked.places.items }
         ensures marked { MarksNode node (tally_of self.old) (tally_of self.new) }
-        ensures capacity { capacity_of self.new ≡ capacity_of self.old }
+        ensures capacity { marks_capacity self.new ≡ marks_capacity self.old }
     {
         if !self.marked.holds(node) {
             self.marked.insert(node);

@@ -30,11 +30,11 @@ impl Model for Reach {
 
     ghost Value = { Index };
 
-    ghost use Rattle.wait_index.specs.Inside.Keep.{index_of, IsKept};
+    ghost use Rattle.wait_index.specs.Inside.Keep.{index_of, IsStoredIndex};
 
     ghost view = { λ r. index_of r.graph r.marks r.room r.last };
 
-    ghost invariant = { λ r. IsKept r.graph r.marks r.room r.last };
+    ghost invariant = { λ r. IsStoredIndex r.graph r.marks r.room r.last };
 }
 
 impl Reach {

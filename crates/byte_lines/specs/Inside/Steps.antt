@@ -27,14 +27,14 @@ pub record TakesFound {S : Type 0} (remaining : S → Option (List ℕ)) (budget
   pub falls : IfOk result (λ found. (found ≡ End → ⊥) → left_of budget new after < left_of budget old before)
 
 -- a text without a line feed that is longer than a line may be was passed
-pub record Passes (old new : List ℕ) : Type 0 where
+pub record SkipsText (old new : List ℕ) : Type 0 where
   pub text : List ℕ
   pub plain : HasNoFeed text
   pub long : 8388608 < length text
   pub parts : old ≡ text ++ new
 
-abbrev pub Gathers : LineBuf → LineBuf → Result Gathered AllocError → Type 0
-Gathers old new (Ok Part) = (kept new ≡ kept old) × (ahead_of new.ahead ≡ []) × (new.is_given ≡ false)
-Gathers old new (Ok Line) = (kept old ≡ new.line.items ++ (10 ∷ kept new)) × (new.is_given ≡ true)
-Gathers old new (Ok TooMuch) = Passes (kept old) (ahead_of new.ahead) × (new.line.items ≡ []) × (new.is_given ≡ false)
-Gathers old new (Err e) = (kept new ≡ kept old)
+abbrev pub GathersLine : LineBuf → LineBuf → Result Gathered AllocError → Type 0
+GathersLine old new (Ok Part) = (kept new ≡ kept old) × (ahead_of new.ahead ≡ []) × (new.is_given ≡ false)
+GathersLine old new (Ok Line) = (kept old ≡ new.line.items ++ (10 ∷ kept new)) × (new.is_given ≡ true)
+GathersLine old new (Ok TooMuch) = SkipsText (kept old) (ahead_of new.ahead) × (new.line.items ≡ []) × (new.is_given ≡ false)
+GathersLine old new (Err e) = (kept new ≡ kept old)

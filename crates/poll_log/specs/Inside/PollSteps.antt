@@ -2,7 +2,7 @@
 use Rattle.std.specs.Prelude.{◌≡◌, ℕ, ◌==◌, ◌++◌, ◌∷◌, List, Bool, not, Option, Some, None, ⊤, slice_get, Result, Ok, Err, length}
 use Rattle.std.specs.List.{AllPass, AllZip}
 use Rattle.byte_lines.specs.Lines.{Lines, lines_of}
-use Rattle.poll_log.specs.Polling.{Adds, Poll, Standing, domains_of, log_of}
+use Rattle.poll_log.specs.Polling.{RecordsPoll, Poll, Standing, polled_domains, log_of}
 use Rattle.poll_log.specs.PollLines.{HasMoment, SaysPoll, Tells, TellsNoMoment, TellsNothing, ToldPoll, poll_of}
 use Rattle.poll_log.specs.declared.lines.Parts.{Parts}
 use Rattle.poll_log.specs.declared.error.PollError.{PollError}
@@ -27,14 +27,14 @@ pub record TellsParts (domains : List (List ℕ)) (text : List ℕ) (parts : Par
 -- the poll that the line says was recorded
 pub record AddsLine (old : List Standing) (text : List ℕ) (new : List Standing) : Type 0 where
   pub told : ToldPoll
-  pub tells : Tells (domains_of old) text told
+  pub tells : Tells (polled_domains old) text told
   pub moment : HasMoment told
-  pub adds : Adds old (poll_of told) new
+  pub adds : RecordsPoll old (poll_of told) new
 
 abbrev pub RecordsLine : List Standing → List ℕ → ℕ → List Standing → Result (Unit {0}) PollError → Type 0
 RecordsLine old text number new (Ok done) = AddsLine old text new
-RecordsLine old text number new (Err (BadLine n)) = (n ≡ number) × TellsNothing (domains_of old) text
-RecordsLine old text number new (Err (BadMoment n)) = (n ≡ number) × TellsNoMoment (domains_of old) text
+RecordsLine old text number new (Err (BadLine n)) = (n ≡ number) × TellsNothing (polled_domains old) text
+RecordsLine old text number new (Err (BadMoment n)) = (n ≡ number) × TellsNoMoment (polled_domains old) text
 RecordsLine old text number new (Err NoRelationship) = ⊥
 RecordsLine old text number new (Err PastRange) = ⊥
 RecordsLine old text number new (Err NoMemory) = ⊥

@@ -3,14 +3,14 @@ use Rattle.std.specs.Prelude.{◌≡◌, ℕ, ◌+◌, min, ℤ, Bool, if◌then
 use Rattle.std.specs.Option.{option_map}
 use Rattle.jiff.specs.Types.{Timestamp}
 use Rattle.spiffe_name.specs.TrustDomain.{IsDomainText}
-use Rattle.poll_log.specs.Polling.{Standing, domains_of}
+use Rattle.poll_log.specs.Polling.{Standing, polled_domains}
 use Rattle.poll_log.specs.declared.log.Standing as held
 
 abbrev pub nanos_of : Timestamp → ℤ
 nanos_of t = t.nanosecond
 
-abbrev pub kept : held.Standing → Standing
-kept s = record { domain = s.domain; last = option_map nanos_of s.last; failures = s.failures }
+abbrev pub kept_standing : held.Standing → Standing
+kept_standing s = record { domain = s.domain; last = option_map nanos_of s.last; failures = s.failures }
 
 -- what is kept after one more poll
 abbrev pub after : Standing → ℤ → Bool → Standing
@@ -26,4 +26,4 @@ IsIn domains domain (Some place) = slice_get domains place ≡ Some domain
 
 -- where the log keeps the domain, if it does
 abbrev pub IsPlaceOf : List Standing → List ℕ → Option ℕ → Type 0
-IsPlaceOf log domain place = IsIn (domains_of log) domain place
+IsPlaceOf log domain place = IsIn (polled_domains log) domain place

@@ -3,7 +3,7 @@ use Rattle.std.specs.Prelude.{◌≡◌, ℕ, ◌+◌, ◌<◌, ◌≤◌, ◌^�
 use Rattle.wait_index.specs.declared.graph.Graph.{Graph}
 use Rattle.wait_index.specs.declared.marks.Marks.{Marks}
 use Rattle.wait_index.specs.Inside.Room.{owners_room, edges_room}
-use Rattle.wait_index.specs.Inside.Tally.{net_of, tally_of, capacity_of}
+use Rattle.wait_index.specs.Inside.Tally.{net_of, tally_of, marks_capacity}
 
 -- how many nodes, labels and edges of each kind there is room for in all
 pub record GraphCapacity : Type 0 where
@@ -34,12 +34,12 @@ pub record HasGraphRoom (g : Graph) (more_nodes more_labels more_edges : ℕ) : 
 -- the same marks, and no less room
 pub record GrowsMarks (old new : Marks) : Type 0 where
   pub tally : tally_of new ≡ tally_of old
-  pub nodes : (capacity_of old).nodes ≤ (capacity_of new).nodes
-  pub labels : (capacity_of old).labels ≤ (capacity_of new).labels
+  pub nodes : (marks_capacity old).nodes ≤ (marks_capacity new).nodes
+  pub labels : (marks_capacity old).labels ≤ (marks_capacity new).labels
 
 -- There is room for so many nodes and labels more.
 pub record HasMarksRoom (m : Marks) (more_nodes more_labels : ℕ) : Type 0 where
-  pub nodes : length m.marked.places.items + more_nodes ≤ (capacity_of m).nodes
+  pub nodes : length m.marked.places.items + more_nodes ≤ (marks_capacity m).nodes
   pub support : length m.support.items + more_labels ≤ vec_capacity m.support
   pub opened : length m.opened.items + more_labels ≤ vec_capacity m.opened
   pub touched : length m.touched.places.items + more_labels ≤ min (vec_capacity m.touched.items) (vec_capacity m.touched.places)

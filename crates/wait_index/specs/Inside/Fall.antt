@@ -4,7 +4,7 @@ use Rattle.wait_index.specs.Inside.Count.{count_below}
 use Rattle.wait_index.specs.Edge.{from_at, to_at}
 use Rattle.wait_index.specs.Inside.Listing.{IsListing}
 use Rattle.wait_index.specs.Net.{Net, is_root, is_closed, IsReached, IsOpen, IsTakenBack}
-use Rattle.wait_index.specs.Inside.Tally.{Tally, HasSizes, is_marked_in, is_touched_in, is_open_in, support_in, offers_of, offers_between}
+use Rattle.wait_index.specs.Inside.Tally.{Tally, HasSizes, is_marked_in, is_touched_in, is_open_in, support_in, offer_count_of, offers_between}
 use Rattle.wait_index.specs.Inside.Step.{IsOpened, Follows}
 
 -- the wait edge is followed: its label is open, or is the one whose edges are taken back, and the edge is below the link
@@ -44,7 +44,7 @@ pub record IsFalling (net : Net) (closing : List ℕ) (t : Tally) (index label l
 -- the offer edges of a marked node are among those that are counted
 pub record CanFall (net : Net) (t : Tally) (node : ℕ) : Type 0 where
   pub sizes : HasSizes net t
-  pub visits : offers_of net node ≤ t.visits
+  pub visits : offer_count_of net node ≤ t.visits
   pub support : (l : ℕ) → l < length net.closed → offers_between net node l ≤ support_in t l
 
 -- all edges that can be followed are

@@ -7,19 +7,19 @@ use Rattle.wait_index.specs.declared.room.Room.{Room}
 use Rattle.wait_index.specs.Inside.Capacity.{graph_capacity}
 use Rattle.wait_index.specs.Inside.Fall.{IsSettled}
 use Rattle.wait_index.specs.Index.{Index}
-use Rattle.wait_index.specs.Inside.Tally.{net_of, tally_of, capacity_of}
+use Rattle.wait_index.specs.Inside.Tally.{net_of, tally_of, marks_capacity}
 
 abbrev pub index_of : Graph → Marks → Room → LastClose → Index
 index_of graph marks room last = record { net = net_of graph; marked = marks.marked.items.items; room = room; last = record { fallen = last.fallen.items; kept = last.kept } }
 
 -- All edges that can be followed are, the turns of two passes over the edges fit a word, and the vectors have the room.
-pub record IsKept (graph : Graph) (marks : Marks) (room : Room) (last : LastClose) : Type 0 where
+pub record IsStoredIndex (graph : Graph) (marks : Marks) (room : Room) (last : LastClose) : Type 0 where
   pub settled : IsSettled (net_of graph) (tally_of marks)
   pub few : length graph.offers.edges.items + length graph.waits.edges.items + room.edges < 2 ^ 63
   pub nodes : length graph.roots.items + room.nodes ≤ (graph_capacity graph).nodes
-  pub marked_nodes : length graph.roots.items + room.nodes ≤ (capacity_of marks).nodes
+  pub marked_nodes : length graph.roots.items + room.nodes ≤ (marks_capacity marks).nodes
   pub labels : length graph.closed.items + room.labels ≤ (graph_capacity graph).labels
-  pub open_labels : length graph.closed.items + room.labels ≤ (capacity_of marks).labels
+  pub open_labels : length graph.closed.items + room.labels ≤ (marks_capacity marks).labels
   pub offers : length graph.offers.edges.items + room.edges ≤ (graph_capacity graph).offers
   pub waits : length graph.waits.edges.items + room.edges ≤ (graph_capacity graph).waits
   pub fallen : length last.fallen.items ≤ length graph.roots.items

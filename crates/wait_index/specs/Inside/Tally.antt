@@ -29,8 +29,8 @@ pub record Capacity : Type 0 where
   pub nodes : ℕ
   pub labels : ℕ
 
-abbrev pub capacity_of : Marks → Capacity
-capacity_of m = record { nodes = min (vec_capacity m.marked.items) (vec_capacity m.marked.places); labels = min (min (vec_capacity m.support) (vec_capacity m.opened)) (min (vec_capacity m.touched.items) (vec_capacity m.touched.places)) }
+abbrev pub marks_capacity : Marks → Capacity
+marks_capacity m = record { nodes = min (vec_capacity m.marked.items) (vec_capacity m.marked.places); labels = min (min (vec_capacity m.support) (vec_capacity m.opened)) (min (vec_capacity m.touched.items) (vec_capacity m.touched.places)) }
 
 -- one entry for each node, and one for each label
 pub record HasSizes (net : Net) (t : Tally) : Type 0 where
@@ -55,8 +55,8 @@ support_in t label = slice_index t.support label
 abbrev pub waits_of : Net → ℕ → ℕ
 waits_of net label = count_below (λ i. from_at net.waits i == label) (length net.waits)
 
-abbrev pub offers_of : Net → ℕ → ℕ
-offers_of net node = count_below (λ i. from_at net.offers i == node) (length net.offers)
+abbrev pub offer_count_of : Net → ℕ → ℕ
+offer_count_of net node = count_below (λ i. from_at net.offers i == node) (length net.offers)
 
 -- how many offer edges the node has to the label
 abbrev pub offers_between : Net → ℕ → ℕ → ℕ
@@ -101,12 +101,12 @@ pub record Opens (net : Net) (label : ℕ) (old new : Tally) : Type 0 where
   pub releases : Releases net label (record old { opened = slice_set old.opened label true }) new
 
 -- the label is opened where a followed edge leads to it and it is neither closed nor open
-abbrev pub Settles : Net → ℕ → Tally → Tally → Type 0
-Settles net label old new = Leaves net label old new ⊎ Opens net label old new
+abbrev pub SettlesLabel : Net → ℕ → Tally → Tally → Type 0
+SettlesLabel net label old new = Leaves net label old new ⊎ Opens net label old new
 
 -- one offer edge to the label is followed
 abbrev pub Supports : Net → ℕ → Tally → Tally → Type 0
-Supports net label old new = Settles net label (record old { support = slice_set old.support label (support_in old label + 1); visits = old.visits + 1 }) new
+Supports net label old new = SettlesLabel net label (record old { support = slice_set old.support label (support_in old label + 1); visits = old.visits + 1 }) new
 
 -- where the label is open, its wait edges are to be looked at
 pub record Touches (label : ℕ) (old new : Tally) : Type 0 where
@@ -146,7 +146,7 @@ pub record WithdrawsAll (net : Net) (node : ℕ) (old new : Tally) : Type 0 wher
   pub all : (i : ℕ) → i < length net.offers → from_at net.offers i ≡ node → is_open_in old (to_at net.offers i) ≡ true → is_touched_in new (to_at net.offers i) ≡ true
   pub only : (l : ℕ) → is_touched_in new l ≡ true → (is_touched_in old l ≡ true) ⊎ ((is_open_in old l ≡ true) × ((i : ℕ) × IsEdge net.offers i node l))
   pub size : length new.touched_places ≡ length old.touched_places
-  pub visits : new.visits + offers_of net node ≡ old.visits
+  pub visits : new.visits + offer_count_of net node ≡ old.visits
 
 -- the node is no longer marked, and nothing else changes
 pub record UnmarksNode (node : ℕ) (old new : Tally) : Type 0 where

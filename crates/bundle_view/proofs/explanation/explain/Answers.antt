@@ -6,7 +6,7 @@ use Rattle.std.proofs.lemmas.Option.{slice_get_within}
 use Rattle.fed_config.specs.Configuration.{Configuration}
 use Rattle.receipt_core.specs.Acceptance.{pair_of_seed}
 use Rattle.trust_closure.specs.Views.{document_of}
-use Rattle.bundle_view.specs.Search.{AreLinked, IsBackFrom}
+use Rattle.bundle_view.specs.Search.{AreLinkedSteps, IsBackFrom}
 use Rattle.bundle_view.specs.Explain.{IsShortest}
 use Rattle.bundle_view.proofs.TrailFacts.{linked}
 use Rattle.bundle_view.proofs.ExplainFacts.{shortest_seed, none_leads, shortest_found, searched_moved}
@@ -22,7 +22,7 @@ returns-then-is_configured-clause-ok g c =
 pub chain_to-requires-clause-linked : goal.chain_to-requires-clause-linked
 chain_to-requires-clause-linked g c =
     let found = searched_moved _ _ _ _ c.search.new.steps.items _ _ (Some c.in-Some.last) refl refl c.in-Some.is c.in_ok-last.ensures in
-    subst AreLinked (sym c.as_slice-in-Some.ensures.value) (linked _ _ _ found.searched.stand)
+    subst AreLinkedSteps (sym c.as_slice-in-Some.ensures.value) (linked _ _ _ found.searched.stand)
 
 pub chain_to-requires-clause-within : goal.chain_to-requires-clause-within
 chain_to-requires-clause-within g c =

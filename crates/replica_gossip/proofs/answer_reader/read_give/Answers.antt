@@ -5,7 +5,7 @@ use Rattle.replica_sync.specs.Session.{Reply}
 use Rattle.replica_sync.proofs.SnapshotFacts.{refused_by}
 use Rattle.replica_gossip.specs.Messages.{reply_text}
 use Rattle.replica_gossip.specs.Answers.{IsAnswer, RefusesGive}
-use Rattle.replica_gossip.specs.Gathering.{content_of}
+use Rattle.replica_gossip.specs.Gathering.{answer_content}
 use Rattle.replica_gossip.proofs.GatherFacts.{fails-behind, whole-answer, whole-reply}
 use Rattle.replica_gossip.proofs.answer_reader.read_give.Goals as goal
 
@@ -23,7 +23,7 @@ returns-clause-valid g c =
     let old = stream_of g.R.Source.remaining c.args.lines.now c.args.source.now in
     let middle = stream_of g.R.Source.remaining c.next_head.new.lines c.next_head.new.source in
     let new = stream_of g.R.Source.remaining c.read_content.new.lines c.read_content.new.source in
-    subst IsAnswer (sym c.give_of.ensures) (whole-answer old middle new c.in_ok-head.head (content_of c.in_ok-content.content) c.in_ok-head.ensures.ok c.in_ok-content.ensures.ok)
+    subst IsAnswer (sym c.give_of.ensures) (whole-answer old middle new c.in_ok-head.head (answer_content c.in_ok-content.content) c.in_ok-head.ensures.ok c.in_ok-content.ensures.ok)
 
 pub returns-clause-ok : goal.returns-clause-ok
 returns-clause-ok g c =
@@ -31,4 +31,4 @@ returns-clause-ok g c =
     let middle = stream_of g.R.Source.remaining c.next_head.new.lines c.next_head.new.source in
     let new = stream_of g.R.Source.remaining c.read_content.new.lines c.read_content.new.source in
     subst (λ (r : Reply). Consumes old new (reply_text r)) (sym c.give_of.ensures)
-    (whole-reply old middle new c.in_ok-head.head (content_of c.in_ok-content.content) c.in_ok-head.ensures.ok c.in_ok-content.ensures.ok)
+    (whole-reply old middle new c.in_ok-head.head (answer_content c.in_ok-content.content) c.in_ok-head.ensures.ok c.in_ok-content.ensures.ok)

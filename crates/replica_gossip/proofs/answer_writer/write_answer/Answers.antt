@@ -3,7 +3,7 @@ use Rattle.std.specs.List.{flat_map}
 use Rattle.std.specs.Io.KnownBytes.{Appends}
 use Rattle.byte_lines.specs.Device.{AppendsBeginning}
 use Rattle.replica_sync.specs.Snapshots.{ended}
-use Rattle.replica_gossip.specs.Messages.{Writes, told_of, told_text, record_text, receipt_text}
+use Rattle.replica_gossip.specs.Messages.{WritesText, told_of, told_text, record_text, receipt_text}
 use Rattle.replica_gossip.proofs.Written.{begins-first, begins-second, writes-err, writes-then}
 use Rattle.replica_gossip.proofs.answer_writer.write_answer.Goals as goal
 
@@ -39,4 +39,4 @@ returns-clause-written g c =
     writes-then old one new c.write_receipts.result head _ (subst (Appends old one) is c.in_ok-write_all.ensures.ok)
     (writes-then one two new c.write_receipts.result (flat_map record_text c.args.answer.content.records) (flat_map receipt_text c.args.answer.content.held)
     (subst (λ records. Appends one two (flat_map record_text records)) c.into_parts-distrusts.ensures.records c.in_ok-write_records.ensures.written)
-    (subst (λ rs. Writes two new c.write_receipts.result (flat_map receipt_text rs)) c.into_parts-distrusts.ensures.receipts c.write_receipts.ensures.written))
+    (subst (λ rs. WritesText two new c.write_receipts.result (flat_map receipt_text rs)) c.into_parts-distrusts.ensures.receipts c.write_receipts.ensures.written))

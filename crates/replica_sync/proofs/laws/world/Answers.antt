@@ -5,7 +5,7 @@ use Rattle.receipt_core.specs.Sets.{Always}
 use Rattle.receipt_core.proofs.LineFacts.{one_receipt, one_distrust}
 use Rattle.receipt_core.proofs.RisingFacts.{AreSets-from_total}
 use Rattle.replica_sync.specs.World.{rules_of, run}
-use Rattle.replica_sync.specs.State.{meaning_of}
+use Rattle.replica_sync.specs.State.{meaning_of_state}
 use Rattle.replica_sync.proofs.Joins.{Laws, joins-of}
 use Rattle.replica_sync.proofs.Whole.{now-comes, saved-comes, means, members-closed, members-least, grows, restarts-saved, saved-last, never-saved, exchanged, agreed}
 use Rattle.replica_sync.proofs.laws.world.Goals as goal
@@ -27,10 +27,10 @@ pub returns-clause-means : goal.returns-clause-means
 returns-clause-means c = means joins
 
 pub returns-clause-closed : goal.returns-clause-closed
-returns-clause-closed c config n events i = members-closed (meaning_of config ((run (rules_of config n) events).now i))
+returns-clause-closed c config n events i = members-closed (meaning_of_state config ((run (rules_of config n) events).now i))
 
 pub returns-clause-least : goal.returns-clause-least
-returns-clause-least c config n events i = members-least (meaning_of config ((run (rules_of config n) events).now i))
+returns-clause-least c config n events i = members-least (meaning_of_state config ((run (rules_of config n) events).now i))
 
 pub returns-clause-grows : goal.returns-clause-grows
 returns-clause-grows c config n = grows joins (rules_of config n)

@@ -1,6 +1,6 @@
 use Rattle.std.proofs.Common.{◌≡◌, List, ℕ, ◌∙◌, ap, sym, subst}
 use Rattle.receipt_core.specs.Order.{receipt_total, distrust_total}
-use Rattle.replica_sync.specs.Entries.{TakesText}
+use Rattle.replica_sync.specs.Entries.{TakesEntryText}
 use Rattle.replica_sync.specs.Snapshots.{wanted_of, held_lines, last_of, last_line}
 use Rattle.replica_sync.specs.Reading.{IsFurther}
 use Rattle.replica_sync.proofs.HeldFacts.{further, last_pushed}
@@ -12,8 +12,8 @@ returns-clause-judges g c =
     let new = (g.C.Closure.state c.take_line.new.closure).meaning in
     let last : c.as_slice.result.now ≡ last_line old = c.as_slice.ensures.value ∙ c.requires.last in
     further receipt_total distrust_total c.lines.ensures.records c.lines.ensures.record_first c.args.format old new c.args.text.now c.in_ok-take_line.field-0 c.config-config.ensures.valid c.requires.told
-    (subst (λ (l : List ℕ). TakesText (wanted_of c.args.format) old l c.args.text.now new c.in_ok-take_line.field-0) last
-    (subst (λ w. TakesText w old c.as_slice.result.now c.args.text.now new c.in_ok-take_line.field-0) c.wanted.ensures c.in_ok-take_line.ensures))
+    (subst (λ (l : List ℕ). TakesEntryText (wanted_of c.args.format) old l c.args.text.now new c.in_ok-take_line.field-0) last
+    (subst (λ w. TakesEntryText w old c.as_slice.result.now c.args.text.now new c.in_ok-take_line.field-0) c.wanted.ensures c.in_ok-take_line.ensures))
 
 pub returns-clause-last : goal.returns-clause-last
 returns-clause-last g c = λ more.
@@ -22,6 +22,6 @@ returns-clause-last g c = λ more.
     let last : c.as_slice.result.now ≡ last_line old = c.as_slice.ensures.value ∙ c.requires.last in
     let joins : IsFurther c.args.format old c.args.text.now new =
     further receipt_total distrust_total c.lines.ensures.records c.lines.ensures.record_first c.args.format old new c.args.text.now c.in_ok-take_line.field-0 c.config-config.ensures.valid c.requires.told
-    (subst (λ (l : List ℕ). TakesText (wanted_of c.args.format) old l c.args.text.now new c.in_ok-take_line.field-0) last
-    (subst (λ w. TakesText w old c.as_slice.result.now c.args.text.now new c.in_ok-take_line.field-0) c.wanted.ensures c.in_ok-take_line.ensures)) in
+    (subst (λ (l : List ℕ). TakesEntryText (wanted_of c.args.format) old l c.args.text.now new c.in_ok-take_line.field-0) last
+    (subst (λ w. TakesEntryText w old c.as_slice.result.now c.args.text.now new c.in_ok-take_line.field-0) c.wanted.ensures c.in_ok-take_line.ensures)) in
     c.in_ok-set_last.ensures ∙ sym (ap last_of joins.lines ∙ last_pushed (held_lines old) c.args.text.now)

@@ -1,14 +1,14 @@
 use Rattle.std.proofs.Common.{◌≡◌, ◌∙◌, sym, ap, subst, None}
 use Rattle.std.specs.Option.{option_copied}
 use Rattle.std.specs.Cmp.Lexicographic.{same_text}
-use Rattle.fed_config.specs.Configuration.{IsFound}
+use Rattle.fed_config.specs.Configuration.{IsRelationshipOf}
 use Rattle.spiffe_name.specs.SpiffeId.{Id, IsId}
 use Rattle.spiffe_name.proofs.Ids.{one_value}
 use Rattle.trust_closure.proofs.held.fit.Goals as goal
 
 pub returns-in_default-clause-fits : goal.returns-in_default-clause-fits
 returns-in_default-clause-fits c = λ x has e.
-    let none : IsFound c.args.config.now c.domain.result.now None = subst (λ o. IsFound c.args.config.now c.domain.result.now (option_copied o)) c.in_default.is c.relationship.ensures in
+    let none : IsRelationshipOf c.args.config.now c.domain.result.now None = subst (λ o. IsRelationshipOf c.args.config.now c.domain.result.now (option_copied o)) c.in_default.is c.relationship.ensures in
     none x has (e ∙ sym c.domain.ensures.domain)
 
 pub returns-then-eq-clause-fits : goal.returns-then-eq-clause-fits

@@ -4,7 +4,7 @@ use Rattle.std.specs.Vec.Iter.{into_iter_items}
 use Rattle.receipt_core.specs.Receipt.{Receipt, receipt_cmp}
 use Rattle.receipt_core.specs.Rising.{with_items}
 use Rattle.trust_closure.specs.Held.{meaning_of}
-use Rattle.trust_closure.specs.Merge.{AreWelcome}
+use Rattle.trust_closure.specs.Merge.{FitWithinRoom}
 use Rattle.trust_closure.proofs.JoinFacts.{IsJoining-start, IsJoining-next, IsJoining-end, none_left}
 use Rattle.trust_closure.proofs.merge.take_all.Goals as goal
 
@@ -13,7 +13,7 @@ loop-receipt-init g c =
     let given = c.into_iter-receipt-iterator.ensures.into_iter_gives in
     record {
       joining = IsJoining-start (g.C.Mergeable.state c.args.closure.now) (into_iter_items c.into_iter-receipt-iterator.result)
-          (subst (AreWelcome (g.C.Mergeable.state c.args.closure.now)) (sym given.0) c.requires);
+          (subst (FitWithinRoom (g.C.Mergeable.state c.args.closure.now)) (sym given.0) c.requires);
       turns = refl;
       size = given.1 ∙ c.args.receipts.ok.0 ∙ sym (ap length given.0);
     }

@@ -3,7 +3,7 @@ use Rattle.std.proofs.Common.{◌≡◌, ◌∙◌, ◌-◌, length, arith, ap}
 use Rattle.fed_config.specs.Configuration.{Configuration}
 use Rattle.trust_closure.specs.Flags.{raised_count}
 use Rattle.trust_closure.specs.NodeCounts.{flags_of}
-use Rattle.trust_closure.specs.Plain.{IsSettled}
+use Rattle.trust_closure.specs.Plain.{HasPlainFlags}
 use Rattle.std.proofs.lemmas.List.{length_push}
 use Rattle.trust_closure.proofs.IndexFacts.{count-push}
 use Rattle.trust_closure.proofs.Carrying.{firsts-lowered, raised-as, settled-from, gain-added}
@@ -41,7 +41,7 @@ overflow_sub-result c =
     c.deref.result.now rel low.firsts p1.firsts
     (ap length (c.seeds.ensures ∙ ap (λ (a : Configuration). a.seeds) c.config.ensures.config))
     c.deref.ensures.value c.clear-before.ensures.firsts c.raise_had-after.ensures.raised in
-    let settled : IsSettled new q offers rel = settled-from new p1 q offers rel1 rel
+    let settled : HasPlainFlags new q offers rel = settled-from new p1 q offers rel1 rel
     c.place_receipt.ensures.set c.settle.ensures.size c.settle.ensures.released
     (c.raise_had-after.ensures.numbers ∙ c.clear-before.ensures.numbers) list size raised in
     let gain = gain-added h new p q offers old rel c.args.receipt c.place_receipt.ensures.firsts.0 c.requires.settled c.requires.absent.is c.place_receipt.ensures.held settled
@@ -71,7 +71,7 @@ returns-clause-settled c =
     c.deref.result.now rel low.firsts p1.firsts
     (ap length (c.seeds.ensures ∙ ap (λ (a : Configuration). a.seeds) c.config.ensures.config))
     c.deref.ensures.value c.clear-before.ensures.firsts c.raise_had-after.ensures.raised in
-    let settled : IsSettled new q offers rel = settled-from new p1 q offers rel1 rel
+    let settled : HasPlainFlags new q offers rel = settled-from new p1 q offers rel1 rel
     c.place_receipt.ensures.set c.settle.ensures.size c.settle.ensures.released
     (c.raise_had-after.ensures.numbers ∙ c.clear-before.ensures.numbers) list size raised in
     settled
@@ -94,7 +94,7 @@ returns-clause-gain c =
     c.deref.result.now rel low.firsts p1.firsts
     (ap length (c.seeds.ensures ∙ ap (λ (a : Configuration). a.seeds) c.config.ensures.config))
     c.deref.ensures.value c.clear-before.ensures.firsts c.raise_had-after.ensures.raised in
-    let settled : IsSettled new q offers rel = settled-from new p1 q offers rel1 rel
+    let settled : HasPlainFlags new q offers rel = settled-from new p1 q offers rel1 rel
     c.place_receipt.ensures.set c.settle.ensures.size c.settle.ensures.released
     (c.raise_had-after.ensures.numbers ∙ c.clear-before.ensures.numbers) list size raised in
     let gain = gain-added h new p q offers old rel c.args.receipt c.place_receipt.ensures.firsts.0 c.requires.settled c.requires.absent.is c.place_receipt.ensures.held settled

@@ -2,7 +2,7 @@
 use Rattle.std.proofs.Common.{◌∙◌, ◌-◌, length, arith, ap}
 use Rattle.fed_config.specs.Configuration.{Configuration}
 use Rattle.trust_closure.specs.NodeCounts.{flags_of}
-use Rattle.trust_closure.specs.Plain.{IsSettled}
+use Rattle.trust_closure.specs.Plain.{HasPlainFlags}
 use Rattle.trust_closure.proofs.Carrying.{firsts-lowered, raised-as, settled-from, set-closed, loss-fallen}
 use Rattle.trust_closure.proofs.plain.fall.Goals as goal
 
@@ -55,7 +55,7 @@ overflow_sub-result c =
     c.deref.result.now rel low.firsts p.firsts
     (ap length (c.seeds.ensures ∙ ap (λ (a : Configuration). a.seeds) c.config.ensures.config))
     c.deref.ensures.value c.clear-before.ensures.firsts c.raise_had-after.ensures.raised in
-    let settled : IsSettled new q offers rel = settled-from new p q offers rel1 rel set
+    let settled : HasPlainFlags new q offers rel = settled-from new p q offers rel1 rel set
     c.settle.ensures.size c.settle.ensures.released
     (c.raise_had-after.ensures.numbers ∙ c.clear-before.ensures.numbers) list size raised in
     let loss = loss-fallen b.old new b.more p q offers old rel b.settled b.before settled list
@@ -81,7 +81,7 @@ returns-clause-settled c =
     c.deref.result.now rel low.firsts p.firsts
     (ap length (c.seeds.ensures ∙ ap (λ (a : Configuration). a.seeds) c.config.ensures.config))
     c.deref.ensures.value c.clear-before.ensures.firsts c.raise_had-after.ensures.raised in
-    let settled : IsSettled new q offers rel = settled-from new p q offers rel1 rel set
+    let settled : HasPlainFlags new q offers rel = settled-from new p q offers rel1 rel set
     c.settle.ensures.size c.settle.ensures.released
     (c.raise_had-after.ensures.numbers ∙ c.clear-before.ensures.numbers) list size raised in
     settled
@@ -105,7 +105,7 @@ returns-clause-loss c was xs before is =
     c.deref.result.now rel low.firsts p.firsts
     (ap length (c.seeds.ensures ∙ ap (λ (a : Configuration). a.seeds) c.config.ensures.config))
     c.deref.ensures.value c.clear-before.ensures.firsts c.raise_had-after.ensures.raised in
-    let settled : IsSettled new q offers rel = settled-from new p q offers rel1 rel set
+    let settled : HasPlainFlags new q offers rel = settled-from new p q offers rel1 rel set
     c.settle.ensures.size c.settle.ensures.released
     (c.raise_had-after.ensures.numbers ∙ c.clear-before.ensures.numbers) list size raised in
     let loss = loss-fallen was new xs p q offers old rel is before settled list size in

@@ -5,7 +5,7 @@ use Rattle.std.proofs.lemmas.List.{length_push, take_all}
 use Rattle.fed_config.specs.Configuration.{HasDomain}
 use Rattle.receipt_core.specs.declared.triple.Triple.{Triple}
 use Rattle.receipt_core.specs.Receipt.{pair_of, offers_of}
-use Rattle.label_net.specs.Spots.{Spot, bare}
+use Rattle.label_net.specs.Spots.{Spot, bare_spot}
 use Rattle.trust_closure.specs.NetOf.{IsWiringOf, spot_of_receipt}
 use Rattle.trust_closure.proofs.Wirings.{wiring-node, node-number, fitting-domain, fitting-endpoint, offers-domain, front-trans}
 use Rattle.trust_closure.proofs.wire.add_receipt.Goals as goal
@@ -35,7 +35,7 @@ pub returns-clause-wired : goal.returns-clause-wired
 returns-clause-wired c domains spots d h =
     let at : c.add_node-node.result ≡ length spots = c.add_node-node.ensures.node.number ∙ node-number domains c.args.held.now.records spots c.args.wiring.now h in
     let node = wiring-node domains d.rising c.args.held.now.records spots c.args.wiring.now c.add_node-node.new.self c.add_node-node.result h c.add_node-node.ensures.node in
-    let waits = c.await_triple.ensures.wired domains spots bare d at refl node in
+    let waits = c.await_triple.ensures.wired domains spots bare_spot d at refl node in
     let offers = c.offer_triples.ensures.wired domains spots (record { rooted = false; offers = []; awaits = Some c.need.result.now }) d at waits in
     let same : record { rooted = false; offers = [] ++ c.offers.result.now; awaits = Some c.need.result.now } ≡ spot_of_receipt c.args.receipt.now =
     ap (λ (os : List Triple). let s : Spot Triple = record { rooted = false; offers = os; awaits = Some c.need.result.now } in s) c.offers.ensures

@@ -8,7 +8,7 @@ use Rattle.spiffe_name.specs.TrustDomain.{IsDomainText}
 use Rattle.fed_config.specs.EndpointUrl.{IsParsed}
 use Rattle.fed_config.specs.Configuration.{relationship_cmp}
 use Rattle.fed_config.specs.Entries.{seed_text}
-use Rattle.fed_config.specs.Reading.{IsProfile, SaysNames, SaysDomain, SaysUrl, SaysDocument}
+use Rattle.fed_config.specs.Reading.{IsProfile, SaysNames, SaysDomain, SaysUrl, SaysSeedDocument}
 use Rattle.fed_config.specs.declared.error.ConfigError.TheVariants.{BadName, BadUrl, BadSeed}
 use Rattle.fed_config.proofs.ZipFacts.{each_map}
 use Rattle.fed_config.proofs.ReadFacts.{written, exits, zip_at_slice, each_at_slice, map_length, bad_url, bad_profile, double, bad_seed, too_many, are_seeds, are_sets, finish}
@@ -30,13 +30,13 @@ pub returns-in_err-documents : goal.returns-in_err-documents
 returns-in_err-documents c = let p = err_from_is_err_and c.from_residual-in_err-documents.result c.from_residual-in_err-documents.ensures.1 in rw (p.1, p.2) (exits (written c.args.entries.now.relationships.items c.args.entries.now.seeds.items) BadSeed _ _ c.in_err-documents.ensures (λ none. bad_seed c.args.entries.now.relationships.items c.args.entries.now.seeds.items c.in_ok-names.names.items c.in_ok-domains.domains.items (zip_at_slice SaysNames c.as_slice.result.now c.args.entries.now.relationships.items c.in_ok-names.names.items c.as_slice.ensures.value c.in_ok-names.ensures) (zip_at_slice (λ e d. SaysDomain (seed_text e) d) c.as_slice-2.result.now c.args.entries.now.seeds.items c.in_ok-domains.domains.items c.as_slice-2.ensures.value c.in_ok-domains.ensures) c.in_ok-urls.urls.items (zip_at_slice SaysUrl c.as_slice-3.result.now c.args.entries.now.relationships.items c.in_ok-urls.urls.items c.as_slice-3.ensures.value c.in_ok-urls.ensures) (subst (AllByRecursion (λ t. IsProfile t.profile)) c.as_slice-4.ensures.value (c.if-not-have_profile.ensures.0 refl)) c.in_ok-relationships.relationships.items c.in_ok-relationships.ensures c.sort_relationships.new.relationships.items c.sort_relationships.ensures.permutation (subst (IsStrictlySortedBy relationship_cmp) c.as_slice-5.ensures.value (c.if-not-are_single.ensures.0 refl)) (λ h. none (each_at_slice (λ e. (b : Bundle) × Means (seed_text e).bundle b × Fits b) c.as_slice-6.result.now c.args.entries.now.seeds.items c.as_slice-6.ensures.value (each_map (λ t. (b : Bundle) × Means t.bundle b × Fits b) seed_text c.args.entries.now.seeds.items h)))))
 
 pub returns-then-not-are_few : goal.returns-then-not-are_few
-returns-then-not-are_few c = too_many c.args.entries.now.relationships.items c.args.entries.now.seeds.items c.in_ok-names.names.items c.in_ok-domains.domains.items (zip_at_slice SaysNames c.as_slice.result.now c.args.entries.now.relationships.items c.in_ok-names.names.items c.as_slice.ensures.value c.in_ok-names.ensures) (zip_at_slice (λ e d. SaysDomain (seed_text e) d) c.as_slice-2.result.now c.args.entries.now.seeds.items c.in_ok-domains.domains.items c.as_slice-2.ensures.value c.in_ok-domains.ensures) c.in_ok-urls.urls.items (zip_at_slice SaysUrl c.as_slice-3.result.now c.args.entries.now.relationships.items c.in_ok-urls.urls.items c.as_slice-3.ensures.value c.in_ok-urls.ensures) (subst (AllByRecursion (λ t. IsProfile t.profile)) c.as_slice-4.ensures.value (c.if-not-have_profile.ensures.0 refl)) c.in_ok-relationships.relationships.items c.in_ok-relationships.ensures c.sort_relationships.new.relationships.items c.sort_relationships.ensures.permutation (subst (IsStrictlySortedBy relationship_cmp) c.as_slice-5.ensures.value (c.if-not-are_single.ensures.0 refl)) c.in_ok-documents.documents.items (zip_at_slice (λ e b. SaysDocument (seed_text e) b) c.as_slice-6.result.now c.args.entries.now.seeds.items c.in_ok-documents.documents.items c.as_slice-6.ensures.value c.in_ok-documents.ensures) (λ h. let told = c.if-not-are_few.ensures.1 (h.relationships, subst (λ n. n ≤ 4096) (map_length seed_text c.args.entries.now.seeds.items) h.seeds) in cc)
+returns-then-not-are_few c = too_many c.args.entries.now.relationships.items c.args.entries.now.seeds.items c.in_ok-names.names.items c.in_ok-domains.domains.items (zip_at_slice SaysNames c.as_slice.result.now c.args.entries.now.relationships.items c.in_ok-names.names.items c.as_slice.ensures.value c.in_ok-names.ensures) (zip_at_slice (λ e d. SaysDomain (seed_text e) d) c.as_slice-2.result.now c.args.entries.now.seeds.items c.in_ok-domains.domains.items c.as_slice-2.ensures.value c.in_ok-domains.ensures) c.in_ok-urls.urls.items (zip_at_slice SaysUrl c.as_slice-3.result.now c.args.entries.now.relationships.items c.in_ok-urls.urls.items c.as_slice-3.ensures.value c.in_ok-urls.ensures) (subst (AllByRecursion (λ t. IsProfile t.profile)) c.as_slice-4.ensures.value (c.if-not-have_profile.ensures.0 refl)) c.in_ok-relationships.relationships.items c.in_ok-relationships.ensures c.sort_relationships.new.relationships.items c.sort_relationships.ensures.permutation (subst (IsStrictlySortedBy relationship_cmp) c.as_slice-5.ensures.value (c.if-not-are_single.ensures.0 refl)) c.in_ok-documents.documents.items (zip_at_slice (λ e b. SaysSeedDocument (seed_text e) b) c.as_slice-6.result.now c.args.entries.now.seeds.items c.in_ok-documents.documents.items c.as_slice-6.ensures.value c.in_ok-documents.ensures) (λ h. let told = c.if-not-are_few.ensures.1 (h.relationships, subst (λ n. n ≤ 4096) (map_length seed_text c.args.entries.now.seeds.items) h.seeds) in cc)
 
 pub sort_seeds-requires : goal.sort_seeds-requires
-sort_seeds-requires c = are_seeds c.args.entries.now.relationships.items c.args.entries.now.seeds.items c.in_ok-names.names.items c.in_ok-domains.domains.items (zip_at_slice SaysNames c.as_slice.result.now c.args.entries.now.relationships.items c.in_ok-names.names.items c.as_slice.ensures.value c.in_ok-names.ensures) (zip_at_slice (λ e d. SaysDomain (seed_text e) d) c.as_slice-2.result.now c.args.entries.now.seeds.items c.in_ok-domains.domains.items c.as_slice-2.ensures.value c.in_ok-domains.ensures) c.in_ok-urls.urls.items (zip_at_slice SaysUrl c.as_slice-3.result.now c.args.entries.now.relationships.items c.in_ok-urls.urls.items c.as_slice-3.ensures.value c.in_ok-urls.ensures) (subst (AllByRecursion (λ t. IsProfile t.profile)) c.as_slice-4.ensures.value (c.if-not-have_profile.ensures.0 refl)) c.in_ok-relationships.relationships.items c.in_ok-relationships.ensures c.sort_relationships.new.relationships.items c.sort_relationships.ensures.permutation (subst (IsStrictlySortedBy relationship_cmp) c.as_slice-5.ensures.value (c.if-not-are_single.ensures.0 refl)) c.in_ok-documents.documents.items (zip_at_slice (λ e b. SaysDocument (seed_text e) b) c.as_slice-6.result.now c.args.entries.now.seeds.items c.in_ok-documents.documents.items c.as_slice-6.ensures.value c.in_ok-documents.ensures) (c.if-not-are_few.ensures.0 refl).0 (c.if-not-are_few.ensures.0 refl).1 c.in_ok-seeds.seeds.items c.in_ok-seeds.ensures
+sort_seeds-requires c = are_seeds c.args.entries.now.relationships.items c.args.entries.now.seeds.items c.in_ok-names.names.items c.in_ok-domains.domains.items (zip_at_slice SaysNames c.as_slice.result.now c.args.entries.now.relationships.items c.in_ok-names.names.items c.as_slice.ensures.value c.in_ok-names.ensures) (zip_at_slice (λ e d. SaysDomain (seed_text e) d) c.as_slice-2.result.now c.args.entries.now.seeds.items c.in_ok-domains.domains.items c.as_slice-2.ensures.value c.in_ok-domains.ensures) c.in_ok-urls.urls.items (zip_at_slice SaysUrl c.as_slice-3.result.now c.args.entries.now.relationships.items c.in_ok-urls.urls.items c.as_slice-3.ensures.value c.in_ok-urls.ensures) (subst (AllByRecursion (λ t. IsProfile t.profile)) c.as_slice-4.ensures.value (c.if-not-have_profile.ensures.0 refl)) c.in_ok-relationships.relationships.items c.in_ok-relationships.ensures c.sort_relationships.new.relationships.items c.sort_relationships.ensures.permutation (subst (IsStrictlySortedBy relationship_cmp) c.as_slice-5.ensures.value (c.if-not-are_single.ensures.0 refl)) c.in_ok-documents.documents.items (zip_at_slice (λ e b. SaysSeedDocument (seed_text e) b) c.as_slice-6.result.now c.args.entries.now.seeds.items c.in_ok-documents.documents.items c.as_slice-6.ensures.value c.in_ok-documents.ensures) (c.if-not-are_few.ensures.0 refl).0 (c.if-not-are_few.ensures.0 refl).1 c.in_ok-seeds.seeds.items c.in_ok-seeds.ensures
 
 pub of_sets-requires : goal.of_sets-requires
-of_sets-requires c = are_sets c.args.entries.now.relationships.items c.args.entries.now.seeds.items c.in_ok-names.names.items c.in_ok-domains.domains.items (zip_at_slice SaysNames c.as_slice.result.now c.args.entries.now.relationships.items c.in_ok-names.names.items c.as_slice.ensures.value c.in_ok-names.ensures) (zip_at_slice (λ e d. SaysDomain (seed_text e) d) c.as_slice-2.result.now c.args.entries.now.seeds.items c.in_ok-domains.domains.items c.as_slice-2.ensures.value c.in_ok-domains.ensures) c.in_ok-urls.urls.items (zip_at_slice SaysUrl c.as_slice-3.result.now c.args.entries.now.relationships.items c.in_ok-urls.urls.items c.as_slice-3.ensures.value c.in_ok-urls.ensures) (subst (AllByRecursion (λ t. IsProfile t.profile)) c.as_slice-4.ensures.value (c.if-not-have_profile.ensures.0 refl)) c.in_ok-relationships.relationships.items c.in_ok-relationships.ensures c.sort_relationships.new.relationships.items c.sort_relationships.ensures.permutation (subst (IsStrictlySortedBy relationship_cmp) c.as_slice-5.ensures.value (c.if-not-are_single.ensures.0 refl)) c.in_ok-documents.documents.items (zip_at_slice (λ e b. SaysDocument (seed_text e) b) c.as_slice-6.result.now c.args.entries.now.seeds.items c.in_ok-documents.documents.items c.as_slice-6.ensures.value c.in_ok-documents.ensures) (c.if-not-are_few.ensures.0 refl).0 (c.if-not-are_few.ensures.0 refl).1 c.in_ok-seeds.seeds.items c.in_ok-seeds.ensures c.sort_seeds.new.seeds.items c.sort_seeds.ensures.set c.sort_seeds.ensures.bound
+of_sets-requires c = are_sets c.args.entries.now.relationships.items c.args.entries.now.seeds.items c.in_ok-names.names.items c.in_ok-domains.domains.items (zip_at_slice SaysNames c.as_slice.result.now c.args.entries.now.relationships.items c.in_ok-names.names.items c.as_slice.ensures.value c.in_ok-names.ensures) (zip_at_slice (λ e d. SaysDomain (seed_text e) d) c.as_slice-2.result.now c.args.entries.now.seeds.items c.in_ok-domains.domains.items c.as_slice-2.ensures.value c.in_ok-domains.ensures) c.in_ok-urls.urls.items (zip_at_slice SaysUrl c.as_slice-3.result.now c.args.entries.now.relationships.items c.in_ok-urls.urls.items c.as_slice-3.ensures.value c.in_ok-urls.ensures) (subst (AllByRecursion (λ t. IsProfile t.profile)) c.as_slice-4.ensures.value (c.if-not-have_profile.ensures.0 refl)) c.in_ok-relationships.relationships.items c.in_ok-relationships.ensures c.sort_relationships.new.relationships.items c.sort_relationships.ensures.permutation (subst (IsStrictlySortedBy relationship_cmp) c.as_slice-5.ensures.value (c.if-not-are_single.ensures.0 refl)) c.in_ok-documents.documents.items (zip_at_slice (λ e b. SaysSeedDocument (seed_text e) b) c.as_slice-6.result.now c.args.entries.now.seeds.items c.in_ok-documents.documents.items c.as_slice-6.ensures.value c.in_ok-documents.ensures) (c.if-not-are_few.ensures.0 refl).0 (c.if-not-are_few.ensures.0 refl).1 c.in_ok-seeds.seeds.items c.in_ok-seeds.ensures c.sort_seeds.new.seeds.items c.sort_seeds.ensures.set c.sort_seeds.ensures.bound
 
 pub returns : goal.returns
-returns c = finish c.args.entries.now.relationships.items c.args.entries.now.seeds.items c.in_ok-names.names.items c.in_ok-domains.domains.items (zip_at_slice SaysNames c.as_slice.result.now c.args.entries.now.relationships.items c.in_ok-names.names.items c.as_slice.ensures.value c.in_ok-names.ensures) (zip_at_slice (λ e d. SaysDomain (seed_text e) d) c.as_slice-2.result.now c.args.entries.now.seeds.items c.in_ok-domains.domains.items c.as_slice-2.ensures.value c.in_ok-domains.ensures) c.in_ok-urls.urls.items (zip_at_slice SaysUrl c.as_slice-3.result.now c.args.entries.now.relationships.items c.in_ok-urls.urls.items c.as_slice-3.ensures.value c.in_ok-urls.ensures) (subst (AllByRecursion (λ t. IsProfile t.profile)) c.as_slice-4.ensures.value (c.if-not-have_profile.ensures.0 refl)) c.in_ok-relationships.relationships.items c.in_ok-relationships.ensures c.sort_relationships.new.relationships.items c.sort_relationships.ensures.permutation (subst (IsStrictlySortedBy relationship_cmp) c.as_slice-5.ensures.value (c.if-not-are_single.ensures.0 refl)) c.in_ok-documents.documents.items (zip_at_slice (λ e b. SaysDocument (seed_text e) b) c.as_slice-6.result.now c.args.entries.now.seeds.items c.in_ok-documents.documents.items c.as_slice-6.ensures.value c.in_ok-documents.ensures) (c.if-not-are_few.ensures.0 refl).0 (c.if-not-are_few.ensures.0 refl).1 c.in_ok-seeds.seeds.items c.in_ok-seeds.ensures c.sort_seeds.new.seeds.items c.sort_seeds.ensures.set c.sort_seeds.ensures.bound c.of_sets.result c.of_sets.ensures
+returns c = finish c.args.entries.now.relationships.items c.args.entries.now.seeds.items c.in_ok-names.names.items c.in_ok-domains.domains.items (zip_at_slice SaysNames c.as_slice.result.now c.args.entries.now.relationships.items c.in_ok-names.names.items c.as_slice.ensures.value c.in_ok-names.ensures) (zip_at_slice (λ e d. SaysDomain (seed_text e) d) c.as_slice-2.result.now c.args.entries.now.seeds.items c.in_ok-domains.domains.items c.as_slice-2.ensures.value c.in_ok-domains.ensures) c.in_ok-urls.urls.items (zip_at_slice SaysUrl c.as_slice-3.result.now c.args.entries.now.relationships.items c.in_ok-urls.urls.items c.as_slice-3.ensures.value c.in_ok-urls.ensures) (subst (AllByRecursion (λ t. IsProfile t.profile)) c.as_slice-4.ensures.value (c.if-not-have_profile.ensures.0 refl)) c.in_ok-relationships.relationships.items c.in_ok-relationships.ensures c.sort_relationships.new.relationships.items c.sort_relationships.ensures.permutation (subst (IsStrictlySortedBy relationship_cmp) c.as_slice-5.ensures.value (c.if-not-are_single.ensures.0 refl)) c.in_ok-documents.documents.items (zip_at_slice (λ e b. SaysSeedDocument (seed_text e) b) c.as_slice-6.result.now c.args.entries.now.seeds.items c.in_ok-documents.documents.items c.as_slice-6.ensures.value c.in_ok-documents.ensures) (c.if-not-are_few.ensures.0 refl).0 (c.if-not-are_few.ensures.0 refl).1 c.in_ok-seeds.seeds.items c.in_ok-seeds.ensures c.sort_seeds.new.seeds.items c.sort_seeds.ensures.set c.sort_seeds.ensures.bound c.of_sets.result c.of_sets.ensures

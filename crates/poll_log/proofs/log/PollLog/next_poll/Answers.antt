@@ -1,8 +1,8 @@
 use Rattle.std.proofs.Common.{◌≡◌, ◌∙◌, ◌<◌, refl, Err, None, Some, length, subst, sym, ap, arith}
 use Rattle.std.specs.List.{slice_get, Contains}
 use Rattle.std.proofs.lemmas.List.{length-map}
-use Rattle.poll_log.specs.Polling.{IsLog, IsNext, domains_of, standing_in}
-use Rattle.poll_log.specs.Inside.Standings.{kept}
+use Rattle.poll_log.specs.Polling.{IsLog, IsNext, polled_domains, standing_in}
+use Rattle.poll_log.specs.Inside.Standings.{kept_standing}
 use Rattle.poll_log.specs.declared.error.PollError.TheVariants.{NoRelationship}
 use Rattle.poll_log.proofs.PollFacts.{standing_in-held, standing_in-none, within_log}
 use Rattle.poll_log.proofs.log.PollLog.next_poll.Goals as goal
@@ -10,10 +10,10 @@ use Rattle.poll_log.proofs.log.PollLog.next_poll.Goals as goal
 pub returns-in-Some : goal.returns-in-Some
 returns-in-Some c =
     let same : c.as_bytes.result.now ≡ c.args.domain.now = c.as_bytes.ensures.value ∙ c.as_str.ensures.text in
-    let at : slice_get (domains_of c.args.self.now) c.in-Some.place ≡ Some c.args.domain.now = c.in-Some.ensures.place ∙ ap Some same in
+    let at : slice_get (polled_domains c.args.self.now) c.in-Some.place ≡ Some c.args.domain.now = c.in-Some.ensures.place ∙ ap Some same in
     let is : IsLog c.args.self.now = subst IsLog c.self.view_is c.self.invariant in
     let size = ap length c.self.view_is in
-    let within : c.in-Some.place < length c.self.inside.standings.items = omega (arith, size, length-map c.self.inside.standings.items kept, within_log c.args.self.now c.in-Some.place c.args.domain.now at) in
+    let within : c.in-Some.place < length c.self.inside.standings.items = omega (arith, size, length-map c.self.inside.standings.items kept_standing, within_log c.args.self.now c.in-Some.place c.args.domain.now at) in
     subst (λ s. IsNext c.args.hint s c.next_poll.result)
     (sym (standing_in-held c.self.inside.standings.items c.args.self.now c.args.domain.now c.in-Some.place c.index.result.now c.self.view_is is at c.index.ensures within))
     c.next_poll.ensures
@@ -22,5 +22,5 @@ pub returns-in-None : goal.returns-in-None
 returns-in-None c =
     let same : c.as_bytes.result.now ≡ c.args.domain.now = c.as_bytes.ensures.value ∙ c.as_str.ensures.text in
     let none : standing_in c.args.self.now c.args.domain.now ≡ None =
-    standing_in-none c.args.self.now c.args.domain.now (λ has. c.in-None.ensures.place (subst (Contains (domains_of c.args.self.now)) (sym same) has)) in
+    standing_in-none c.args.self.now c.args.domain.now (λ has. c.in-None.ensures.place (subst (Contains (polled_domains c.args.self.now)) (sym same) has)) in
     subst (λ s. IsNext c.args.hint s (Err NoRelationship)) (sym none) refl

@@ -3,7 +3,7 @@ use Rattle.receipt_core.specs.declared.distrust.Distrust.{Distrust}
 use Rattle.receipt_core.specs.Receipt.{IsDigest}
 use Rattle.sorted_order.specs.Stock.{in_order}
 use Rattle.trust_closure.specs.Records.{distrust_by}
-use Rattle.trust_closure.specs.Held.{Hoard, meaning_of, told, AddsOrRefuses, domains_of}
+use Rattle.trust_closure.specs.Held.{Hoard, meaning_of, addition_result, AddsOrRefuses, domains_of}
 use Rattle.trust_closure.proofs.ConfigFacts.{place_few, place_below, place_is, hoard_add, told_adds, meaning_with}
 use Rattle.trust_closure.proofs.held.Held.add_record.Goals as goal
 
@@ -29,6 +29,6 @@ returns-clause-meaning c =
     let same : distrust_by (domains_of c.self.inside.config) c.record_of.result ≡ record { domain = c.args.domain.now; key = c.args.key } = λ i. record { domain = domains i; key = record { 0 = keys i } } in
     let answer = c.answer_of.ensures in
     subst (λ r. AddsOrRefuses (meaning_of c.args.self.now) (record { domain = c.args.domain.now; key = c.args.key }) (meaning_with c.self.inside.config (in_order c.self.inside.receipts) c.add.new.self) r) (sym answer)
-    (subst (λ (h : Hoard). AddsOrRefuses (meaning_of h) (record { domain = c.args.domain.now; key = c.args.key }) (meaning_with c.self.inside.config (in_order c.self.inside.receipts) c.add.new.self) (told c.add.result)) c.self.view_is
-    (subst (λ (d : Distrust). AddsOrRefuses (meaning_with c.self.inside.config (in_order c.self.inside.receipts) c.self.inside.records) d (meaning_with c.self.inside.config (in_order c.self.inside.receipts) c.add.new.self) (told c.add.result)) same
+    (subst (λ (h : Hoard). AddsOrRefuses (meaning_of h) (record { domain = c.args.domain.now; key = c.args.key }) (meaning_with c.self.inside.config (in_order c.self.inside.receipts) c.add.new.self) (addition_result c.add.result)) c.self.view_is
+    (subst (λ (d : Distrust). AddsOrRefuses (meaning_with c.self.inside.config (in_order c.self.inside.receipts) c.self.inside.records) d (meaning_with c.self.inside.config (in_order c.self.inside.receipts) c.add.new.self) (addition_result c.add.result)) same
     (told_adds c.self.inside.config (in_order c.self.inside.receipts) c.self.inside.records c.add.new.self c.record_of.result below c.self.invariant.within c.add.result c.add.ensures)))

@@ -3,7 +3,7 @@ use Rattle.std.proofs.Common.{◌≡◌, ◌∙◌, [], List, Bool, length, arit
 use Rattle.fed_config.specs.Configuration.{Configuration}
 use Rattle.receipt_core.specs.Acceptance.{Meaning}
 use Rattle.trust_closure.specs.NodeCounts.{flags_of}
-use Rattle.trust_closure.specs.Plain.{IsSettled}
+use Rattle.trust_closure.specs.Plain.{HasPlainFlags}
 use Rattle.trust_closure.proofs.Carrying.{firsts-within, raised-as, settled-from}
 use Rattle.trust_closure.proofs.SownFacts.{sown-set, none-released}
 use Rattle.trust_closure.proofs.plain_closure.PlainClosure.new.Goals as goal
@@ -29,7 +29,7 @@ invariant_of-result c =
     (length h.config.seeds) c.deref.result.now [] p.firsts p.firsts (ap length seeds)
     (c.deref.ensures.value ∙ c.new-released.ensures.items) refl c.raise_had.ensures.raised in
     record {
-      settled = subst (λ (fs : List Bool). IsSettled h q offers fs) (sym c.new-released.ensures.items)
+      settled = subst (λ (fs : List Bool). HasPlainFlags h q offers fs) (sym c.new-released.ensures.items)
           (settled-from h p q offers [] [] set refl (none-released h [] arrived) c.raise_had.ensures.numbers c.raise_had.ensures.firsts c.raise_had.ensures.size raised);
       room = record {
         held = omega (arith, ap length arrived);

@@ -1,5 +1,5 @@
 use Rattle.std.proofs.Common.{◌≡◌, ◌-◌, ◌≤◌, length}
-use Rattle.wait_index.specs.Inside.Tally.{net_of, tally_of, capacity_of}
+use Rattle.wait_index.specs.Inside.Tally.{net_of, tally_of, marks_capacity}
 use Rattle.wait_index.specs.Inside.Step.{Follows, Spreads}
 use Rattle.wait_index.proofs.marks.Marks.follow_all.Given as goal
 
@@ -8,7 +8,7 @@ invariant-nodes l = record {
   follows : Follows (net_of l.graph) (tally_of l.self) l.cursor 0 0;
   within : l.cursor ≤ length l.self.marked.items.items;
   spreads : Spreads (tally_of l.initial.self) (tally_of l.self);
-  capacity : capacity_of l.self ≡ capacity_of l.initial.self;
+  capacity : marks_capacity l.self ≡ marks_capacity l.initial.self;
 }
 
 abbrev pub decreases-nodes : goal.decreases-nodes

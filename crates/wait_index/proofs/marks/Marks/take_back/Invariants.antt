@@ -1,6 +1,6 @@
 use Rattle.std.proofs.Common.{◌≡◌, ◌-◌, ◌≤◌, ◌+◌, length}
 use Rattle.std.specs.Prelude.{vec_capacity}
-use Rattle.wait_index.specs.Inside.Tally.{net_of, tally_of, capacity_of}
+use Rattle.wait_index.specs.Inside.Tally.{net_of, tally_of, marks_capacity}
 use Rattle.wait_index.specs.Inside.Fall.{IsFalling, ListsFallen}
 use Rattle.wait_index.proofs.marks.Marks.take_back.Given as goal
 
@@ -11,7 +11,7 @@ invariant-labels g l = record {
   listed : ListsFallen (net_of l.graph) (tally_of l.self) l.last.fallen.items;
   many : length l.last.fallen.items + length l.self.marked.items.items ≡ length l.initial.last.fallen.items + length l.initial.self.marked.items.items;
   last_room : vec_capacity l.last.fallen ≡ vec_capacity l.initial.last.fallen;
-  capacity : capacity_of l.self ≡ capacity_of l.initial.self;
+  capacity : marks_capacity l.self ≡ marks_capacity l.initial.self;
 }
 
 abbrev pub decreases-labels : goal.decreases-labels
