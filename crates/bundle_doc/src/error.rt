@@ -5,7 +5,7 @@ ghost use Rattle.std.specs.Prelude.{◌≡◌};
 use std::alloc::{AllocError, AllocFailed};
 use thiserror::Error;
 
-/// Why something is no document. Of several causes the first of this list is answered. Want of
+/// Why something is no document. Of several causes the first of this list is returned. Want of
 /// memory can come in place of each that is found out after memory was first wanted: of a text
 /// behind `TooLong`, of a JSON value behind `BadRefreshHint`.
 #[derive(Clone, Copy, Debug, PartialEq, Eq, Error)]

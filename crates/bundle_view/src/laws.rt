@@ -43,7 +43,7 @@ pub fn explanations()
 {}
 
 /// What is observed is determined: there is one receipt of a verdict and of bytes, and one cause for which they are
-/// refused, beside want of memory. A receipt that there is is refused for the store's sake alone.
+/// refused, beside lack of memory. A receipt that exists is refused only because of what the store holds.
 pub fn one_observation()
     ensures receipt { (m : Meaning) (domain bytes : List ℕ) (verdict : Verdict) (documents : List Bundle) (r s : Receipt) → IsConfiguration m.config → IsAcceptedList m verdict.endpoint.domain documents
         → IsObservation m domain bytes verdict r → IsObservation m domain bytes verdict s → r ≡ s }

@@ -127,7 +127,7 @@ fn is_record(of: &TrustDomain, distrusted: &KeyId, domain: &TrustDomain, key: &K
     distrusted == key && of.as_str() == domain.as_str()
 }
 
-/// Takes the receipt, and answers a copy of it, which is made before: so nothing is refused once it is taken.
+/// Takes the receipt, and returns a copy of it, which is made before: so nothing is refused once it is taken.
 fn keep<C: Closure>(
     alloc: Global,
     closure: &mut C,

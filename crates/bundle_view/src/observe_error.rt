@@ -9,7 +9,7 @@ use std::alloc::AllocError;
 use thiserror::Error;
 use trust_closure::TakeError;
 
-/// Why nothing is observed. Of several causes the first of this list is answered. Want of memory, which is
+/// Why nothing is observed. Of several causes the first of this list is returned. Lack of memory, which is
 /// `Take(NoMemory)` wherever it is met, can come in place of each that is found out behind `Document(TooLong)`.
 #[derive(Clone, Copy, Debug, PartialEq, Eq, Error)]
 pub enum ObserveError {
@@ -26,7 +26,7 @@ pub enum ObserveError {
     /// there.
     #[error("O4 KeyNotInCurrent")]
     KeyNotInCurrent,
-    /// The bytes are no document; never for want of memory.
+    /// The bytes are no document; never for lack of memory.
     #[error("O5 Document {0}")]
     Document(DocError),
     /// The receipt is not taken: the store is full, or memory ran out.

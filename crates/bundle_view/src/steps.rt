@@ -32,7 +32,7 @@ impl<'a> Model for Step<'a> {
     ghost view = { λ s. record { receipt = s.receipt.now; before = s.before; length = s.length } };
 }
 
-/// Goes from the configured documents on until a step is of the document, and answers the place of that step, or none
+/// Goes from the configured documents on until a step is of the document, and returns the place of that step, or none
 /// where there is none.
 pub(crate) fn search<'a>(
     alloc: Global,

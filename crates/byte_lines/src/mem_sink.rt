@@ -7,7 +7,7 @@ use crate::error::Fault;
 use crate::sink::Sink;
 use std::alloc::{AllocError, Global};
 
-/// A sink in memory with room for so many bytes, made at the start. Of bytes that pass its room it
+/// A sink in memory with room for this many bytes, made at the start. Of bytes that pass its room it
 /// takes what fits, and a write into a full one fails.
 #[derive(Drop)]
 pub struct MemSink {

@@ -67,7 +67,7 @@ impl Source for MemSource {
     }
 }
 
-// Copies as many bytes as both have room for, and answers how many.
+// Copies as many bytes as both have room for, and returns how many.
 fn copy_beginning(from: &[u8], to: &mut [u8]) -> usize
     ensures count { result ≡ min (length from.now) (length to.old) }
     ensures copied { to.new ≡ take result from.now ++ drop result to.old }

@@ -45,7 +45,7 @@ impl ReadAhead {
         Ok(())
     }
 
-    // Reads once where nothing is held, and answers whether anything is then.
+    // Reads once where nothing is held, and returns whether anything is then.
     pub(crate) fn fill<R: Source>(&mut self, source: &mut R) -> Result<bool, Fault>
         requires { 0 < chunk_room self.old }
         ensures room { chunk_room self.new ≡ chunk_room self.old }

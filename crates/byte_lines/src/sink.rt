@@ -16,7 +16,7 @@ pub trait Sink {
     // Whether a write failed.
     ghost has_failed: { Self → Bool };
 
-    /// Takes a beginning of `bytes`, and answers its length, which is at least 1 for bytes that are
+    /// Takes a beginning of `bytes`, and returns its length, which is at least 1 for bytes that are
     /// not empty. A fault takes nothing.
     fn write(&mut self, bytes: &[u8]) -> Result<usize, Fault>
         ensures bound { WritesAtMost result bytes.now }

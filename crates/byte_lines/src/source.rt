@@ -14,13 +14,13 @@ pub trait Source {
     // The bytes that are still to come, where the source can tell them.
     ghost remaining: { Self → Option (List ℕ) };
 
-    // At most so many bytes still come.
+    // At most this many bytes still come.
     ghost budget: { Self → ℕ };
 
     // Whether a read failed.
     ghost has_failed: { Self → Bool };
 
-    /// Puts the next bytes at the start of `buffer`, and answers how many. Of a buffer that is not
+    /// Puts the next bytes at the start of `buffer`, and returns how many. Of a buffer that is not
     /// empty 0 means that the source is at its end. After a fault nothing is said of what remains.
     fn read(&mut self, buffer: &mut [u8]) -> Result<usize, Fault>
         ensures bound { ReadsAtMost result buffer.new }

@@ -99,7 +99,7 @@ impl Span {
     }
 }
 
-/// Answers that came one after another, of which equal ones are told together.
+/// Answers that came one after another, of which equal ones are shown together.
 #[derive(Clone, Copy)]
 struct Run {
     answer: Option<Answer>,

@@ -102,7 +102,7 @@ fn source_of(alloc: Global, lines: &[u8], size: usize) -> Result<MemSource, Allo
     Ok(MemSource::new(Vec::from_slice(alloc, lines)?, places))
 }
 
-/// The places in so many bytes at which pieces of this size end.
+/// The places in this many bytes at which pieces of this size end.
 fn cuts(alloc: Global, length: usize, size: usize) -> Result<Vec<usize>, AllocError> {
     let mut cuts = Vec::new(alloc);
     let mut place = 0usize;
@@ -140,7 +140,7 @@ fn say_moment(
     }
 }
 
-/// `fuse CONFIG READS = LINES`: what comes of the lines where the source fails after so many reads
+/// `fuse CONFIG READS = LINES`: what comes of the lines where the source fails after this many reads
 /// of 7 bytes.
 pub(crate) fn fuse(
     alloc: Global,

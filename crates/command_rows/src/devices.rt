@@ -12,18 +12,18 @@ const MAX_LINES_BYTES: usize = 4_000;
 /// How much the devices give and take.
 #[derive(Clone, Copy)]
 pub(crate) struct Limits {
-    /// The input comes in pieces of so many bytes.
+    /// The input comes in pieces of this many bytes.
     pub(crate) piece: usize,
-    /// The input fails behind so many reads.
+    /// The input fails behind this many reads.
     pub(crate) reads: u64,
     /// The bytes that fit where a command writes, and a session where it sends.
     pub(crate) room: usize,
-    /// The bytes that fit where is told what comes besides.
+    /// The bytes that fit where complaints go.
     pub(crate) told: usize,
 }
 
 impl Limits {
-    /// Devices that do not fail, with the input in pieces of so many bytes.
+    /// Devices that do not fail, with the input in pieces of this many bytes.
     pub(crate) fn in_pieces(piece: usize) -> Limits {
         Limits {
             piece,
@@ -147,7 +147,7 @@ fn show_line(
     answer.push_str("\n")
 }
 
-/// The input in pieces of so many bytes.
+/// The input in pieces of this many bytes.
 fn in_pieces(alloc: Global, input: &[u8], size: usize) -> Result<MemSource, AllocError> {
     let places = cuts(alloc, input.len(), size)?;
     Ok(MemSource::new(Vec::from_slice(alloc, input)?, places))

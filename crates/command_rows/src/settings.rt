@@ -9,11 +9,11 @@ use trust_closure::{Closure, IndexedClosure, PlainClosure};
 /// Which device fails.
 #[derive(Clone, Copy)]
 pub(crate) enum Trial {
-    /// The output, or what a session sends, has room for so many bytes.
+    /// The output, or what a session sends, has room for this many bytes.
     Full,
-    /// The input fails behind so many reads of 100 bytes.
+    /// The input fails behind this many reads of 100 bytes.
     Broken,
-    /// What is told besides has room for so many bytes.
+    /// Complaints have room for this many bytes.
     Untold,
 }
 

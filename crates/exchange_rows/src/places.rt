@@ -12,7 +12,7 @@ use trust_closure::Closure;
 pub(crate) enum Device {
     /// The text ends there.
     Cut,
-    /// The source fails after so many reads.
+    /// The source fails after this many reads.
     Reads,
     /// The sink is full there.
     Room,

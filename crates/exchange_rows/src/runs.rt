@@ -20,7 +20,7 @@ impl Runs {
     }
 
     /// Takes what came at the next place. Where that differs from what came before, the places
-    /// before are told.
+    /// before are reported.
     pub(crate) fn add(
         &mut self,
         place: usize,

@@ -5,8 +5,8 @@ ghost use Rattle.fed_config.specs.declared.error.ConfigError.TheVariants.{NoMemo
 use std::alloc::{AllocError, AllocFailed};
 use thiserror::Error;
 
-/// Why bytes are no configuration. Of several causes the first of this list is answered, wherever they stand, but for
-/// want of memory, which may come at any time.
+/// Why bytes are no configuration. Of several causes the first of this list is returned, wherever they stand, but for
+/// lack of memory, which may come at any time.
 #[derive(Clone, Copy, Debug, PartialEq, Eq, Error)]
 pub enum ConfigError {
     /// The bytes are no JSON text (RFC 8259), or they nest deeper than 127 levels.

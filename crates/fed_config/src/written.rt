@@ -130,7 +130,7 @@ fn seed_entry(value: &Value) -> Option<SeedEntry<'_>>
     })
 }
 
-/// Whether the value is an object with so many members.
+/// Whether the value is an object with this many members.
 fn has_count(value: &Value, count: usize) -> bool
     ensures { IsTrue result ↔ HasCount (view value.now) count }
 {

@@ -12,7 +12,7 @@ use byte_lines::{Fault, Sink, write_all};
 use spiffe_name::TrustDomain;
 use trust_closure::Closure;
 
-/// Writes the canonical text of the domain's current document as a line, and answers whether there is one. Where there
+/// Writes the canonical text of the domain's current document as a line, and returns whether there is one. Where there
 /// is none, as for a domain that the configuration does not have, nothing is written. It takes no memory.
 ///
 /// # Errors

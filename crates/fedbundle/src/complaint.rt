@@ -1,4 +1,4 @@
-//! What is told of a line without a receipt that fits.
+//! What is reported of a line without a receipt that fits.
 ghost use Rattle.std.specs.Prelude.{◌≡◌, true, OnOk, IsErr};
 ghost use Rattle.std.specs.Io.KnownBytes.{Appends};
 ghost use Rattle.byte_lines.specs.Device.{AppendsBeginning};

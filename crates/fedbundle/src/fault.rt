@@ -38,7 +38,7 @@ fn write_line<W: Sink>(text: &[u8], sink: &mut W) -> Result<(), Fault>
 /// The most bytes of an error's text.
 const MAX_FAULT_BYTES: usize = 240;
 
-/// An error's text in a fixed place, since want of memory has to be told too.
+/// An error's text in a fixed place, since lack of memory has to be reported too.
 #[derive(Drop)]
 struct FaultText {
     bytes: [u8; MAX_FAULT_BYTES],

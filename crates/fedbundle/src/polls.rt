@@ -22,7 +22,7 @@ use trust_closure::Closure;
 /// written before the whole text is made.
 ///
 /// # Errors
-/// `Poll` where the first bad line is told, where the source failed or where memory ran out while the lines were read, and
+/// `Poll` where the first bad line is reported, where the source failed or where memory ran out while the lines were read, and
 /// `NoMemory` where memory ran out for the text: then nothing was written. `Io` where the sink failed, which then holds a
 /// beginning of the text.
 pub fn run_polls<C: Closure, R: Source, W: Sink>(

@@ -119,7 +119,7 @@ fn told<T: Drop>(answer: io::Result<T>) -> Result<T, SyncError> {
     }
 }
 
-// Of all faults of the system want of memory alone has a name of its own.
+// Of all faults of the system lack of memory alone has a name of its own.
 fn fault_of(error: &io::Error) -> SyncError {
     match error.kind() {
         io::ErrorKind::OutOfMemory => SyncError::NoMemory,

@@ -91,7 +91,7 @@ impl Write for Way<'_> {
     }
 }
 
-// Of all faults of the system want of memory alone has a name of its own.
+// Of all faults of the system lack of memory alone has a name of its own.
 fn fault_of(error: &io::Error) -> CommandError {
     match error.kind() {
         ErrorKind::OutOfMemory => CommandError::Sync(SyncError::NoMemory),

@@ -9,7 +9,7 @@ use fedbundle::{CommandError, run_pull, run_serve, save_state, write_served};
 use std::net::TcpListener;
 use trust_closure::IndexedClosure;
 
-/// Serves so many sessions, one after another, with what the state file holds at the start. The fault of a session is told
+/// Serves this many sessions, one after another, with what the state file holds at the start. The fault of a session is reported
 /// at its end, and the answer is the greatest exit status of all.
 pub(crate) fn serve(
     rt: &HostRuntime,
@@ -83,7 +83,7 @@ fn pull_over(
     run_pull(rt.alloc(), closure, &mut source, &mut peer, &mut output(rt))
 }
 
-// The state is written before a fault of the session is told.
+// The state is written before a fault of the session is reported.
 fn kept(
     rt: &HostRuntime,
     closure: &IndexedClosure,
@@ -95,7 +95,7 @@ fn kept(
     status_of(rt, saved.map_err(CommandError::Sync)).max(ended)
 }
 
-// The exit status of what was done, where a fault is told.
+// The exit status of what was done, where a fault is reported.
 fn status_of(rt: &HostRuntime, done: Result<(), CommandError>) -> u8 {
     match done {
         Ok(()) => 0,

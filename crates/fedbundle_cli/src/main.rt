@@ -22,7 +22,7 @@ fn main(rt: HostRuntime) -> ExitCode {
     ExitCode::from(ended)
 }
 
-// Tells on standard error why the program stops, and answers its exit status.
+// Tells on standard error why the program stops, and returns its exit status.
 fn tell(rt: &HostRuntime, stop: &Stop) -> u8 {
     let (ended, told) = match stop {
         Stop::Words(error) if error.use_stderr() => (2, error.print(rt).is_ok()),
@@ -38,7 +38,7 @@ fn tell(rt: &HostRuntime, stop: &Stop) -> u8 {
     if told { ended } else { ended.max(3) }
 }
 
-// Shows help or the version on standard output, and answers the exit status.
+// Shows help or the version on standard output, and returns the exit status.
 fn show(rt: &HostRuntime, shown: &clap::Error) -> u8 {
     if shown.print(rt).is_ok() {
         0

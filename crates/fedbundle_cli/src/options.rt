@@ -49,7 +49,7 @@ pub(crate) fn key(text: &str) -> Result<KeyId, Stop> {
     }
 }
 
-/// The moment of so many Unix seconds.
+/// The moment of this many Unix seconds.
 pub(crate) fn moment(text: &str) -> Result<Timestamp, Stop> {
     let Some(seconds) = read_seconds(text.as_bytes()) else {
         return Err(Stop::BadMoment);

@@ -46,7 +46,7 @@ impl From<WordsError> for Stop {
     }
 }
 
-/// Tells of a refusal on standard error, and answers the exit status that it has, or 3 where that is greater and
+/// Tells of a refusal on standard error, and returns the exit status that it has, or 3 where that is greater and
 /// standard error failed.
 pub(crate) fn tell_fault(rt: &HostRuntime, error: &CommandError) -> u8 {
     let told = write_fault(error, &mut FromWrite::new(rt.stderr())).is_ok();

@@ -5,7 +5,7 @@ use row_script::Answers;
 use spiffe_name::TrustDomain;
 use std::alloc::{AllocError, Global};
 
-// The most relationships that are told, and the most seeds.
+// The most relationships that are shown, and the most seeds.
 const MOST_TOLD: usize = 3;
 
 /// Tells the configuration that the bytes say, or why they are none.

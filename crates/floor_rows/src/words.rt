@@ -1,4 +1,4 @@
-//! Lines that are told.
+//! Lines that are shown.
 use row_script::Answers;
 use std::alloc::{AllocError, Global};
 use std::fmt::Display;

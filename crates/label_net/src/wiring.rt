@@ -55,7 +55,7 @@ impl Wiring {
         }
     }
 
-    /// Makes room for so many nodes and so many edges more, each of which may come with a new label.
+    /// Makes room for this many more nodes and edges, each of which may come with a new label.
     ///
     /// # Errors
     /// Memory ran out. Only the room may have grown.
@@ -118,7 +118,7 @@ impl Wiring {
         self.reach.add_wait(number, node);
     }
 
-    /// Closes the labels of a key in a domain, of whatever document, all at once, and answers the
+    /// Closes the labels of a key in a domain, of whatever document, all at once, and returns the
     /// turns, each of which looked at one edge. It takes no memory.
     pub fn close_key(&mut self, domain: u32, key: KeyId) -> usize
         ensures closes { Closes self.old (IsOfKey domain key) self.new result }
@@ -130,7 +130,7 @@ impl Wiring {
         self.reach.close_labels(&self.closing)
     }
 
-    /// Closes the labels that are meant, all at once, and answers the turns, each of which looked
+    /// Closes the labels that are meant, all at once, and returns the turns, each of which looked
     /// at one edge. It takes no memory.
     pub fn close_where<T: LabelTest>(&mut self, test: &T) -> usize
         ensures closes { Closes self.old (T.IsMeant test.now) self.new result }
@@ -206,7 +206,7 @@ fn add_label(reach: &mut Reach, closed: bool) -> LabelNo
     }
 }
 
-/// Makes room in the list for so many labels and so many more, and forgets what it had.
+/// Makes room in the list for this many labels and so many more, and forgets what it had.
 fn reserve_list(list: &mut Vec<LabelNo>, labels: usize, more: usize) -> Result<(), AllocError>
     ensures grows { vec_capacity list.old ≤ vec_capacity list.new }
     ensures ok { OnOk result (labels + more ≤ vec_capacity list.new) }

@@ -22,7 +22,7 @@ use std::alloc::Global;
 /// A line feed (byte 10) ends each line.
 ///
 /// # Errors
-/// The first bad line is answered.
+/// The first bad line is reported.
 /// - [`PollError::BadLine`]: the line is none of these, or no line feed ends it,
 /// - [`PollError::BadMoment`]: it is one, but its moment is outside the range of moments,
 /// - [`PollError::NoMemory`]: memory ran out,

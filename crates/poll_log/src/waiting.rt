@@ -28,7 +28,7 @@ pub fn interval(hint: Option<u64>) -> u64
     }
 }
 
-/// Seconds from the last poll to the next, after so many failures in a row: without any the interval, and else 30, doubled
+/// Seconds from the last poll to the next, after this many failures in a row: without any the interval, and else 30, doubled
 /// by each failure after the first, but never more than the interval. Of the failures 12 count.
 pub fn wait(hint: Option<u64>, failures: u32) -> u64
     ensures value { result ≡ wait_of hint failures }

@@ -27,7 +27,7 @@ impl Distrust {
     /// # Errors
     /// - [`LineError::TooLong`]: it has more than 8,388,608 bytes,
     /// - [`LineError::NotCanonical`]: it is no record's line,
-    /// - [`LineError::NoMemory`]: memory ran out, which is answered only within the bound of records' lines.
+    /// - [`LineError::NoMemory`]: memory ran out, which is returned only within the bound of records' lines.
     pub fn read_line(alloc: Global, bytes: &[u8]) -> Result<Distrust, LineError>
         ensures { MatchResult result (IsRecord bytes.now) (RefusesRecord bytes.now) }
     {

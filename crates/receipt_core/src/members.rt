@@ -136,7 +136,7 @@ fn document_of(alloc: Global, value: &Value) -> Result<Option<Document>, AllocEr
     }
 }
 
-// Want of memory, apart from what the value itself is refused for.
+// Lack of memory, apart from what the value itself is refused for.
 fn told(error: DocError) -> Result<(), AllocError>
     ensures { OnOk result (error ≡ DocError.NoMemory → ⊥) }
 {

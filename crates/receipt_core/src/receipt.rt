@@ -89,14 +89,14 @@ impl Receipt {
     /// # Errors
     /// - [`LineError::TooLong`]: it has more than 8,388,608 bytes,
     /// - [`LineError::NotCanonical`]: it is no receipt's line,
-    /// - [`LineError::NoMemory`]: memory ran out, which is answered only within the bound of receipts' lines.
+    /// - [`LineError::NoMemory`]: memory ran out, which is returned only within the bound of receipts' lines.
     pub fn read_line(alloc: Global, bytes: &[u8]) -> Result<Receipt, LineError>
         ensures { MatchResult result (IsLine bytes.now) (RefusesReceiptLine bytes.now) }
     {
         read_receipt(alloc, bytes)
     }
 
-    /// Reads a line by its parts, with no JSON tree between, as [`Receipt::read_line`] does first. Where it answers None
+    /// Reads a line by its parts, with no JSON tree between, as [`Receipt::read_line`] does first. Where it returns None
     /// that call has to decide.
     ///
     /// # Errors

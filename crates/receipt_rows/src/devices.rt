@@ -104,7 +104,7 @@ fn show(script: &Script, name: &str, bytes: &[u8], answer: &mut String) -> Resul
     answer.push_str("\n")
 }
 
-/// Tells what a source in pieces of one byte gives that fails after so many reads.
+/// Tells what a source in pieces of one byte gives that fails after this many reads.
 pub(crate) fn fail_reads(
     alloc: Global,
     script: &Script,
@@ -194,7 +194,7 @@ fn tell_outcome(
     }
 }
 
-/// Tells how three pieces are written to a sink that fails after so many writes.
+/// Tells how three pieces are written to a sink that fails after this many writes.
 pub(crate) fn fail_writes(
     alloc: Global,
     script: &Script,

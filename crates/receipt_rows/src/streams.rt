@@ -6,7 +6,7 @@ use receipt_core::Receipt;
 use row_script::{Answers, Script};
 use std::alloc::{AllocError, Global};
 
-/// What is told of a line.
+/// What is shown of a line.
 #[derive(Clone, Copy)]
 enum Telling {
     /// Its text.
@@ -162,7 +162,7 @@ fn tell_lines<R: Source>(
     Ok(())
 }
 
-// Tells what the source has next, and answers whether more may come.
+// Tells what the source has next, and returns whether more may come.
 fn tell_next<R: Source>(
     alloc: Global,
     script: &Script,
@@ -277,7 +277,7 @@ fn add_beginning(
     runs.add(beginning.len(), told.as_str(), answer)
 }
 
-/// Tells the lines of a stream in pieces of one byte that fails after so many reads.
+/// Tells the lines of a stream in pieces of one byte that fails after this many reads.
 pub(crate) fn fail_after(
     alloc: Global,
     script: &Script,

@@ -1,4 +1,4 @@
-//! The words of a row's head, and lines that are told.
+//! The words of a row's head, and lines that are shown.
 use receipt_core::{Fault, LineError, NextLineError, ReadUpToError};
 use std::alloc::AllocError;
 use std::fmt::Display;

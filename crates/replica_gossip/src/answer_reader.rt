@@ -86,7 +86,7 @@ fn read_content<R: Source>(
     Ok(content)
 }
 
-// Reads the next line, and answers whether one was wanted.
+// Reads the next line, and returns whether one was wanted.
 fn read_next<R: Source>(
     alloc: Global,
     head: &Head,

@@ -15,7 +15,7 @@ ghost use Rattle.replica_gossip.specs.Answers.{IsAnswer, RefusesGive};
 ghost use Rattle.replica_gossip.specs.Pulling.{PullsAll, PullsUpTo};
 
 /// What a stream asks is one, and a question that a line can ask is read. Only a source that fails,
-/// or want of memory, may keep it from being read.
+/// or lack of memory, may keep it from being read.
 ///
 /// - `one`: of two questions that it begins with, both are the same, and so is what follows them.
 /// - `read`: where it begins with a question, of the configuration if one is wanted, it has no
@@ -32,7 +32,7 @@ pub fn questions()
 {}
 
 /// What a stream answers is one, and an answer that is there to its last byte is read. Only a source
-/// that fails, or want of memory, may keep it from being read.
+/// that fails, or lack of memory, may keep it from being read.
 ///
 /// - `one`: of two answers that it begins with, both are the same, and so is what follows them.
 /// - `read`: where it begins with a whole answer, it has no fault before that answer's end.
@@ -46,13 +46,13 @@ pub fn answers()
         → Consumes (Some bytes) left (reply_text a) → RefusesGive (Some bytes) new e → ⊥ }
 {}
 
-/// No session is both carried out and ended by a fault of its stream, and what it does is told by
-/// the bytes that are read. Only a device that fails, want of memory, or a line whose receipt or
+/// No session is both carried out and ended by a fault of its stream, and what it does is determined by
+/// the bytes that are read. Only a device that fails, lack of memory, or a line whose receipt or
 /// record the replica cannot hold, ends it otherwise.
 ///
 /// - `served`: a stream that is wholly questions of the configuration has no fault, behind whichever
 ///   of them.
-/// - `served_once`: it is so many questions, and no other number of them.
+/// - `served_once`: it is this many questions, and no other number of them.
 /// - `pulled`: a stream that begins with answers about all buckets has no fault in them, but that
 ///   what a line says is refused.
 /// - `pulled_once`: what is held after them is one.

@@ -69,7 +69,7 @@ fn take_lines<C: Closure, R: Source>(
     Ok(())
 }
 
-// Which line comes next, where so many are still to come, and how many then are.
+// Which line comes next, where this many are still to come, and how many then are.
 fn next_of(due: Head) -> (Wanted, Head)
     requires { (0 < due.distrusts) ⊎ (0 < due.count) }
     ensures { IsNextOf due.count due.distrusts result.0 result.1.count result.1.distrusts }

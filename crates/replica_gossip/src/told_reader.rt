@@ -149,7 +149,7 @@ fn guess(text: &[u8]) -> ToldLine
     }
 }
 
-// The number of records, where one is told, and what follows.
+// The number of records, where one is given, and what follows.
 fn records_behind(text: &[u8]) -> (Option<u64>, &[u8])
     ensures few { IfSome result.0 (λ n. n < 2 ^ 64) }
     ensures right { (distrusts : Option ℕ) (more : List ℕ) → IfSome distrusts (λ n. n < 2 ^ 64) → text.now ≡ distrusts_part distrusts ++ (codes ",\"format\":" ++ more) → (result.0 ≡ distrusts) × (result.1.now ≡ codes ",\"format\":" ++ more) }
@@ -163,7 +163,7 @@ fn records_behind(text: &[u8]) -> (Option<u64>, &[u8])
     }
 }
 
-// Whether the bucket is one of so many, and the number of records is told, but for the first format.
+// Whether the bucket is below the number of buckets, and the number of records is given, but for the first format.
 fn is_told(told: &ToldLine) -> bool
     requires { HasWords (header_by told.now) }
     ensures { IsTrue result ↔ IsGiveHeader (header_by told.now) }

@@ -14,14 +14,14 @@ use receipt_core::Receipt;
 use std::alloc::AllocError;
 use trust_closure::{Closure, TakeError};
 
-/// Takes all of an answer, or nothing, and answers how many receipts were not held. Its work is that of its takes; where
+/// Takes all of an answer, or nothing, and returns how many receipts were not held. Its work is that of its takes; where
 /// its lines may pass a limit, each is also compared with those before it.
 ///
 /// # Errors
 /// What is held stays. Of these the first that holds:
 /// - [`SyncError::ConfigDiffers`]: the answer is of a configuration with another digest,
 /// - [`SyncError::Refused`]: a record or a receipt is not of the configuration, or is one too many. Lines are counted from
-///   1, the answer's first line: records come before receipts, and of several lines the first is told,
+///   1, the answer's first line: records come before receipts, and of several lines the first is reported,
 /// - [`SyncError::NoMemory`]: memory ran out. Never where all receipts and their offers are within [`Closure::room`].
 pub fn absorb<C: Closure>(closure: &mut C, give: Give) -> Result<usize, SyncError>
     ensures { MatchResult result (HasAbsorbed (C.state closure.old).meaning give (C.state closure.new).meaning)
@@ -92,7 +92,7 @@ fn offers_of_all(receipts: &[Receipt]) -> Option<usize>
     Some(offers)
 }
 
-// Takes all of what is welcome, for which there is room, and answers how many receipts were not held.
+// Takes all of what is welcome, for which there is room, and returns how many receipts were not held.
 fn take_whole<C: Closure>(closure: &mut C, give: Give) -> usize
     requires welcome { AreWelcome (C.state closure.old).meaning (entries_of give.content) }
     requires room { IsRoomier (room_for give.content.held) (C.state closure.old).room }

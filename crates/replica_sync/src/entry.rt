@@ -68,7 +68,7 @@ pub fn next_entry(
     }
 }
 
-/// Takes what a line says, and answers how many receipts are held now and were not.
+/// Takes what a line says, and returns how many receipts are held now and were not.
 fn take_entry<C: Closure>(closure: &mut C, entry: Entry) -> Result<u64, TakeError>
     ensures { MatchResult result (TakesEntry (C.state closure.old).meaning entry (C.state closure.new).meaning)
         (HasRefusedEntry (C.state closure.old).meaning entry (C.state closure.new).meaning) }

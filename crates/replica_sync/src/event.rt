@@ -1,7 +1,7 @@
 //! What happens to replicas.
 use receipt_core::{Distrust, Receipt};
 
-/// What can happen in a world of replicas that have one configuration. A replica is told by its number, a message by
+/// What can happen in a world of replicas that have one configuration. A replica is named by its number, a message by
 /// its place among all that were sent, both from 0.
 #[derive(Debug, Drop)]
 pub enum Event {

@@ -18,7 +18,7 @@ struct Header<'a> {
     version: u64,
 }
 
-/// Reads the first line, and answers its format.
+/// Reads the first line, and returns its format.
 pub(crate) fn read_first<R: Source>(
     config: &Config,
     lines: &mut LineBuf,

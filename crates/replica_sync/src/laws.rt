@@ -60,7 +60,7 @@ pub fn world()
 {}
 
 /// What a stream says is one: it is the text of one set at most, and none that a replica of a valid configuration reads
-/// has a fault. Only a source that fails, or want of memory, may keep it from being read.
+/// has a fault. Only a source that fails, or lack of memory, may keep it from being read.
 ///
 /// - `one`: of two sets whose text it is, both are the same.
 /// - `read`: it has no fault where it is the text of a set.

@@ -91,7 +91,7 @@ pub(crate) fn answer_at(sent: &[Message], place: usize) -> Option<&Content>
     }
 }
 
-/// The first so many of the items, or all where there are fewer.
+/// The first of the items, as many as asked for, or all where there are fewer.
 pub(crate) fn first<T>(items: &[T], count: usize) -> &[T]
     ensures { result.now ≡ take count items.now }
 {

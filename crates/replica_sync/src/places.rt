@@ -1,4 +1,4 @@
-//! Places for more records and receipts, of which so many may be held.
+//! Places for more records and receipts, of which this many may be held.
 ghost use Rattle.std.specs.Prelude.{◌≡◌, ◌<◌, ◌↔◌, IsTrue, MatchOption, Contains, length};
 ghost use Rattle.std.specs.List.{AllByRecursion};
 ghost use Rattle.receipt_core.specs.Receipt.{IsReceipt, receipt_cmp, distrust_cmp};
@@ -11,7 +11,7 @@ use spiffe_name::TrustDomain;
 use trust_closure::Closure;
 
 /// How many places are free for the others once this record is held too, which is the first of those left, where the
-/// records before it are held and so many places are free. `None` where there is none for it. What is held is searched
+/// records before it are held and this many places are free. `None` where there is none for it. What is held is searched
 /// only where not all that are left have a place.
 pub(crate) fn place_for_record<C: Closure>(
     closure: &C,

@@ -99,7 +99,7 @@ pub(crate) fn ask<C: Closure>(
     Ok(())
 }
 
-// What the closure asks about the bucket. Nothing but want of memory keeps it from asking.
+// What the closure asks about the bucket. Nothing but lack of memory keeps it from asking.
 fn question<C: Closure>(alloc: Global, closure: &C, bucket: u8) -> Result<Have, NoMemory>
     ensures { IfOk result (λ h. h ≡ question_of (C.state closure.now).meaning bucket) }
 {

@@ -54,7 +54,7 @@ pub fn read_snapshot<C: Closure, R: Source>(
     Ok(closure)
 }
 
-// Reads up to the last line, and answers the number of the line that would follow it.
+// Reads up to the last line, and returns the number of the line that would follow it.
 fn read_held<C: Closure, R: Source>(
     alloc: Global,
     format: Format,
@@ -75,7 +75,7 @@ fn read_held<C: Closure, R: Source>(
     Ok(number + 1)
 }
 
-// Reads the line with this number, where `last` is the one before, and answers whether it was not the last one.
+// Reads the line with this number, where `last` is the one before, and returns whether it was not the last one.
 fn read_next<C: Closure, R: Source>(
     alloc: Global,
     format: Format,

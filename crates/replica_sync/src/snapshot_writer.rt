@@ -43,7 +43,7 @@ pub fn write_snapshot<C: Closure, W: Sink>(
     Ok(())
 }
 
-// Writes the lines of the records of distrust, and answers how many there are.
+// Writes the lines of the records of distrust, and returns how many there are.
 fn put_records<C: Closure, W: Sink>(
     alloc: Global,
     closure: &C,

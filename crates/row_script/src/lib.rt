@@ -9,7 +9,7 @@
 //! | | |
 //! |---|---|
 //! | `${NAME}` | the text of that name |
-//! | `${NAME*COUNT}` | that text so many times |
+//! | `${NAME*COUNT}` | that text this many times |
 //! | `${NAME 5..9}` | that text for each number from 5 to 9, which stands there for each `%` |
 //! | `${hex 0aff}` | the bytes that these digits say |
 //! | `${lf}` | a line feed |

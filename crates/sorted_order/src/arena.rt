@@ -60,7 +60,7 @@ impl<T> Arena<T> {
         (self.items.capacity() - self.len()).min(self.order.room())
     }
 
-    /// Makes room for so many items more.
+    /// Makes room for this many more items.
     ///
     /// # Errors
     /// Memory ran out, or there cannot be so much room, which is for fewer than 2^32 items. All

@@ -133,7 +133,7 @@ fn split(blocks: &mut Vec<Block>, spare: &mut Vec<Block>, block: usize)
     let _ = blocks.insert(block + 1, second);
 }
 
-/// Makes spare blocks until there are so many blocks in all, the first of them for the sequence if
+/// Makes spare blocks until there are this many blocks in all, the first of them for the sequence if
 /// that has none.
 pub(crate) fn add_blocks(
     blocks: &mut Vec<Block>,

@@ -80,7 +80,7 @@ impl Order {
         HALF * blocks.saturating_sub(1) - self.len()
     }
 
-    /// Makes room for so many numbers more. Where there is not so much room, it at least doubles
+    /// Makes room for this many more numbers. Where there is not so much room, it at least doubles
     /// what there is room for in all, so far as there can be room: for fewer than 2^32 numbers.
     ///
     /// # Errors

@@ -83,7 +83,7 @@ pub(crate) fn sum_up(blocks: &[Block], sums: &mut [usize])
     }
 }
 
-/// Makes room for the sums of so many blocks.
+/// Makes room for the sums of this many blocks.
 pub(crate) fn add_groups(
     blocks: &[Block],
     sums: &mut Vec<usize>,

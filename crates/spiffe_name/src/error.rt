@@ -33,7 +33,7 @@ pub enum NameError {
 impl NameError {
     ghost use Rattle.spiffe_name.specs.NameError.{place_of, moved};
 
-    /// The same cause in a longer text, in which so many bytes stand before.
+    /// The same cause in a longer text, in which this many bytes stand before.
     pub(crate) fn behind(self, bytes: usize) -> NameError
         requires { bytes + place_of self < 2 ^ 64 }
         ensures { result ≡ moved bytes self }

@@ -5,7 +5,7 @@ ghost use Rattle.spiffe_name.specs.TrustDomain.{IsDomainText, RefusesDomain};
 ghost use Rattle.spiffe_name.specs.SpiffeId.{Id, IsId, RefusesId};
 ghost use Rattle.spiffe_name.specs.declared.error.NameError.{NameError};
 
-/// A text is refused for one cause at most. Since want of memory stands for a text that is a name,
+/// A text is refused for one cause at most. Since lack of memory stands for a text that is a name,
 /// no name is refused for another cause.
 pub fn one_cause()
     ensures domain { (text : List ℕ) (one other : NameError) → RefusesDomain text one

@@ -53,7 +53,7 @@ pub trait Closure: Drop {
     fn take(&mut self, receipt: Receipt) -> Result<Taken, Refused>
         ensures { Takes (state self.old) receipt (state self.new) result };
 
-    /// Takes all receipts and all records of distrust of another closure, or none, and answers how many receipts were
+    /// Takes all receipts and all records of distrust of another closure, or none, and returns how many receipts were
     /// not held.
     ///
     /// # Errors
@@ -106,7 +106,7 @@ pub trait Closure: Drop {
     fn pending_count(&self) -> usize
         ensures { IsPendingCount (state self.now).meaning result };
 
-    /// Makes room for so many receipts more, which have so many offers together.
+    /// Makes room for this many more receipts, with this many offers together.
     ///
     /// # Errors
     /// Memory ran out. What is held stays, and there is as much room as before, or more.
@@ -119,7 +119,7 @@ pub trait Closure: Drop {
         ensures within { IsRoomier (record { receipts = receipts; offers = offers }) (state self.old).room → IsOk result };
 
     /// For how many receipts more there is room, and for how many offers of them. Within it, a receipt is never refused
-    /// for want of memory.
+    /// for lack of memory.
     fn room(&self) -> (usize, usize)
         ensures receipts { result.0 ≡ (state self.now).room.receipts }
         ensures offers { result.1 ≡ (state self.now).room.offers };

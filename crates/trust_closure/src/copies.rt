@@ -26,7 +26,7 @@ pub(crate) struct Share {
 /// Copies what the one does not hold of the receipts that the other holds.
 ///
 /// # Errors
-/// As [`crate::Closure::merge`] tells. No receipt is copied before all causes but want of memory are ruled out.
+/// As [`crate::Closure::merge`] tells. No receipt is copied before all causes but lack of memory are ruled out.
 pub(crate) fn share_of(held: &Held, other: &Held) -> Result<Share, TakeError>
     ensures { MatchResult result (IsShare (meaning_of held.now) (meaning_of other.now)) (RefusesMerge (meaning_of held.now) (meaning_of other.now)) }
 {
@@ -72,7 +72,7 @@ fn knows_all(config: &Config, records: Distrusts<'_>) -> bool
     true
 }
 
-/// Whether each receipt fits: an unknown domain is told before another endpoint.
+/// Whether each receipt fits: an unknown domain is reported before another endpoint.
 fn fit_all(config: &Config, receipts: Receipts<'_>) -> Result<(), TakeError>
     ensures { MatchResult result (λ _. (r : Receipt) → Contains receipts.entry r → IsFitting config.now r) (MisfitsOne config.now receipts.entry) }
 {

@@ -5,7 +5,7 @@ ghost use Rattle.trust_closure.specs.NodeCounts.{flags_of, count_at, nodes_with,
 
 use wait_index::NodeNo;
 
-/// Adds one for each of the nodes to the count of its document, and answers how many counts were 0
+/// Adds one for each of the nodes to the count of its document, and returns how many counts were 0
 /// and are not now.
 pub(crate) fn raise_all(counts: &mut [u32], firsts: &[u32], nodes: &[NodeNo]) -> usize
     requires nodes { All (λ n. n < length firsts.now) nodes.now }
@@ -22,7 +22,7 @@ pub(crate) fn raise_all(counts: &mut [u32], firsts: &[u32], nodes: &[NodeNo]) ->
     count
 }
 
-/// Adds one to a count, and answers 1 where it was 0, and else 0.
+/// Adds one to a count, and returns 1 where it was 0, and else 0.
 fn raise(counts: &mut [u32], number: usize) -> usize
     requires number { number < length counts.old }
     requires few { count_at counts.old number + 1 < 2 ^ 32 }
@@ -38,7 +38,7 @@ fn raise(counts: &mut [u32], number: usize) -> usize
     1
 }
 
-/// Takes one for each of the nodes off the count of its document, and answers how many counts were
+/// Takes one for each of the nodes off the count of its document, and returns how many counts were
 /// not 0 and are now.
 pub(crate) fn lower_all(counts: &mut [u32], firsts: &[u32], nodes: &[NodeNo]) -> usize
     requires nodes { All (λ n. n < length firsts.now) nodes.now }
@@ -56,7 +56,7 @@ pub(crate) fn lower_all(counts: &mut [u32], firsts: &[u32], nodes: &[NodeNo]) ->
     count
 }
 
-/// Takes one off a count that is not 0, and answers 1 where it is 0 now, and else 0.
+/// Takes one off a count that is not 0, and returns 1 where it is 0 now, and else 0.
 fn lower(counts: &mut [u32], number: usize) -> usize
     requires number { number < length counts.old }
     requires counted { 0 < count_at counts.old number }
@@ -72,7 +72,7 @@ fn lower(counts: &mut [u32], number: usize) -> usize
     1
 }
 
-/// Sets all counts to 0, and answers how many were not.
+/// Sets all counts to 0, and returns how many were not.
 pub(crate) fn clear(counts: &mut [u32]) -> usize
     ensures size { length counts.new ≡ length counts.old }
     ensures cleared { (number : ℕ) → count_at counts.new number ≡ 0 }

@@ -1,7 +1,7 @@
 //! Why a closure takes nothing.
 use thiserror::Error;
 
-/// Why a closure refuses. Of several causes the first of this list is answered; `ConfigDiffers` comes before all
+/// Why a closure refuses. Of several causes the first of this list is returned; `ConfigDiffers` comes before all
 /// others, and `NoMemory` only where no other cause stands.
 #[derive(Clone, Copy, Debug, PartialEq, Eq, Error)]
 pub enum TakeError {

@@ -3,7 +3,7 @@ ghost use Rattle.std.specs.Prelude.{◌≡◌, ℕ, false, length};
 ghost use Rattle.trust_closure.specs.Nodes.{is_raised};
 ghost use Rattle.trust_closure.specs.Flags.{raised_count};
 
-/// Lowers all flags, and answers how many were raised.
+/// Lowers all flags, and returns how many were raised.
 pub(crate) fn lower_all(flags: &mut [bool]) -> usize
     ensures size { length flags.new ≡ length flags.old }
     ensures lowered { (number : ℕ) → is_raised flags.new number ≡ false }

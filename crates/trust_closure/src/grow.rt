@@ -25,7 +25,7 @@ use label_net::Wiring;
 use receipt_core::Receipt;
 use spiffe_name::TrustDomain;
 
-/// Holds a receipt that is absent, at its place, and answers how many documents of domains are accepted now and were not
+/// Holds a receipt that is absent, at its place, and returns how many documents of domains are accepted now and were not
 /// before. There is room for it: it takes no memory, and looks at its own edges and at what is marked from now on.
 pub(crate) fn add(
     held: &mut Held,
@@ -195,7 +195,7 @@ pub(crate) fn lose_all(
     }
 }
 
-/// Closes the labels of all keys that are distrusted, and answers how many edges that looked at.
+/// Closes the labels of all keys that are distrusted, and returns how many edges that looked at.
 fn close_all(held: &Held, pairs: &mut Pairs, wiring: &mut Wiring) -> usize
     requires before { (more : List Distrust) × WasIndexed held.now more pairs.old wiring.old }
     ensures indexed { IsIndexed held.now pairs.new wiring.new }

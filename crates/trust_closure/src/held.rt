@@ -99,7 +99,7 @@ impl Held {
         }
     }
 
-    /// Makes room for so many receipts more.
+    /// Makes room for this many more receipts.
     pub(crate) fn try_reserve(&mut self, receipts: usize) -> Result<(), NoMemory>
         ensures same { self.new ≡ record self.old { capacity = self.new.capacity } }
         ensures capacity { self.old.capacity ≤ self.new.capacity }

@@ -59,7 +59,7 @@ pub(crate) fn take_into(
     }
 }
 
-/// Makes room for so many receipts more, which have so many offers together.
+/// Makes room for this many more receipts, with this many offers together.
 pub(crate) fn reserve(
     held: &mut Held,
     pairs: &mut Pairs,

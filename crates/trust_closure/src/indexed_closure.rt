@@ -104,7 +104,7 @@ impl IndexedClosure {
         )
     }
 
-    /// Takes all receipts and all records of distrust of another closure, or none, and answers how many receipts were
+    /// Takes all receipts and all records of distrust of another closure, or none, and returns how many receipts were
     /// not held.
     ///
     /// # Errors
@@ -193,7 +193,7 @@ impl IndexedClosure {
         nodes - self.wiring.reach().marked().len()
     }
 
-    /// Makes room for so many receipts more, which have so many offers together.
+    /// Makes room for this many more receipts, with this many offers together.
     pub fn try_reserve(&mut self, receipts: usize, offers: usize) -> Result<(), NoMemory>
         ensures meaning { self.new.state.meaning ≡ self.old.state.meaning }
         ensures room { IsRoomier self.old.state.room self.new.state.room }

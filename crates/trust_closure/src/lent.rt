@@ -104,7 +104,7 @@ impl<'a> Accepted<'a> {
 }
 
 impl<'a> Distrusts<'a> {
-    /// Those records, whose domains are told by their numbers.
+    /// Those records, whose domains are named by their numbers.
     pub(crate) fn new(domains: &'a [TrustDomain], records: &'a [Record]) -> Self
         requires { AreWithin (length domains.now) records.now }
         ensures { result ≡ distrusts_of domains.now records.now }

@@ -26,7 +26,7 @@ pub(crate) trait Mergeable {
 
     ghost state: { Self → HeldAndRoom };
 
-    // How many edges the last close looked at, and that it would be so many if these records were
+    // How many edges the last close looked at, and that it would be this many if these records were
     // held besides.
     ghost turns: { Self → ℕ };
 
@@ -62,7 +62,7 @@ pub(crate) trait Mergeable {
         ensures turns { turns self.new ≡ turns self.old };
 }
 
-/// Takes all receipts and all records of distrust of another closure, or none, and answers how many receipts were not
+/// Takes all receipts and all records of distrust of another closure, or none, and returns how many receipts were not
 /// held. All memory is there before the first of them is taken.
 ///
 /// # Errors

@@ -126,7 +126,7 @@ impl Pairs {
         self.firsts.len()
     }
 
-    /// Makes room for so many nodes more.
+    /// Makes room for this many more nodes.
     pub(crate) fn try_reserve(&mut self, nodes: usize) -> Result<(), AllocError>
         requires counts { length self.old.counts ≡ length self.old.firsts }
         requires numbers { length self.old.numbers ≤ length self.old.firsts }
@@ -174,7 +174,7 @@ impl Pairs {
         self.counts.push_reserved(0);
     }
 
-    /// Adds one for each of these nodes to the count of its document, and answers how many
+    /// Adds one for each of these nodes to the count of its document, and returns how many
     /// documents are accepted now and were not before.
     pub(crate) fn raise(&mut self, nodes: &[NodeNo]) -> usize
         requires nodes { All (λ n. n < length self.old.firsts) nodes.now }
@@ -190,7 +190,7 @@ impl Pairs {
         raise_all(&mut self.counts, &self.firsts, nodes)
     }
 
-    /// Takes one for each of these nodes off the count of its document, and answers how many
+    /// Takes one for each of these nodes off the count of its document, and returns how many
     /// documents were accepted and are not now.
     pub(crate) fn lower(&mut self, nodes: &[NodeNo]) -> usize
         requires nodes { All (λ n. n < length self.old.firsts) nodes.now }
@@ -207,7 +207,7 @@ impl Pairs {
         lower_all(&mut self.counts, &self.firsts, nodes)
     }
 
-    /// Sets all counts to 0, and answers how many documents were accepted.
+    /// Sets all counts to 0, and returns how many documents were accepted.
     pub(crate) fn clear(&mut self) -> usize
         ensures numbers { self.new.numbers ≡ self.old.numbers }
         ensures firsts { self.new.firsts ≡ self.old.firsts }

@@ -59,7 +59,7 @@ pub(crate) fn take_into(
     }
 }
 
-/// Makes room for so many receipts more.
+/// Makes room for this many more receipts.
 pub(crate) fn reserve(
     held: &mut Held,
     pairs: &mut Pairs,
@@ -79,7 +79,7 @@ pub(crate) fn reserve(
     grow(held, pairs, released, spare, receipts)
 }
 
-/// Holds a receipt that is absent, at its place, and answers how many documents of domains are accepted now and were not
+/// Holds a receipt that is absent, at its place, and returns how many documents of domains are accepted now and were not
 /// before. There is room for it.
 pub(crate) fn add(
     held: &mut Held,
@@ -198,7 +198,7 @@ pub(crate) fn lose_all(
     fall(held, pairs, seed_offers, released);
 }
 
-/// Lowers all flags, raises anew those that stand without records that are new, and answers how
+/// Lowers all flags, raises anew those that stand without records that are new, and returns how
 /// many documents of domains were accepted and are not now.
 fn fall(held: &Held, pairs: &mut Pairs, seed_offers: &[Triple], released: &mut Vec<bool>) -> usize
     requires before { WasSettled held.now pairs.old seed_offers.now released.old.items }
@@ -240,7 +240,7 @@ fn settle(held: &Held, seed_offers: &[Triple], released: &mut Vec<bool>)
     spread(held, seed_offers, released);
 }
 
-/// Grows all that a receipt more needs, by so many receipts.
+/// Grows all that a receipt more needs, by this many receipts.
 fn grow(
     held: &mut Held,
     pairs: &mut Pairs,

@@ -100,7 +100,7 @@ impl PlainClosure {
         )
     }
 
-    /// Takes all receipts and all records of distrust of another closure, or none, and answers how many receipts were
+    /// Takes all receipts and all records of distrust of another closure, or none, and returns how many receipts were
     /// not held.
     ///
     /// # Errors
@@ -185,7 +185,7 @@ impl PlainClosure {
         self.released.len() - count_raised(&self.released)
     }
 
-    /// Makes room for so many receipts more, which have so many offers together.
+    /// Makes room for this many more receipts, with this many offers together.
     ///
     /// # Errors
     /// Memory ran out. What is held stays, and there is as much room as before, or more.

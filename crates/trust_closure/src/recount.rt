@@ -9,7 +9,7 @@ use crate::pairs::Pairs;
 use wait_index::{NodeNo, Reach};
 
 /// Takes the nodes that the last close unmarked off the counts, adds those that it marked again,
-/// and answers how many documents were accepted and are not now. It looks at no other node.
+/// and returns how many documents were accepted and are not now. It looks at no other node.
 pub(crate) fn recount(pairs: &mut Pairs, reach: &Reach) -> usize
     requires before { WasCounted pairs.old reach.now }
     requires firsts { All (λ f. f < length pairs.old.counts) pairs.old.firsts }
@@ -29,7 +29,7 @@ pub(crate) fn recount(pairs: &mut Pairs, reach: &Reach) -> usize
     fell - back
 }
 
-/// The nodes behind so many first ones.
+/// The nodes behind this many first ones.
 fn behind(nodes: &[NodeNo], count: usize) -> &[NodeNo]
     requires { count ≤ length nodes.now }
     ensures { result.now ≡ drop count nodes.now }

@@ -27,7 +27,7 @@ pub(crate) fn spread(held: &Held, seed_offers: &[Triple], released: &mut [bool])
     while round(held, seed_offers, released) > 0 {}
 }
 
-/// Raises the flags of receipts for which a document that is had vouches, in order of arrival, and answers how many.
+/// Raises the flags of receipts for which a document that is had vouches, in order of arrival, and returns how many.
 fn round(held: &Held, seed_offers: &[Triple], released: &mut [bool]) -> usize
     requires offers { AreSeedOffers held.now.config.seeds seed_offers.now }
     requires size { length released.old ≡ length held.now.arrived }
@@ -99,7 +99,7 @@ fn has_triple(triples: &[Triple], sought: &Triple) -> bool
     triples.contains(sought)
 }
 
-/// Adds one for each document that is had to its count, and answers how many different ones those
+/// Adds one for each document that is had to its count, and returns how many different ones those
 /// are. All counts were 0.
 pub(crate) fn raise_had(pairs: &mut Pairs, seeds: usize, released: &[bool]) -> usize
     requires size { length pairs.old.firsts ≡ seeds + length released.now }

@@ -13,7 +13,7 @@ use crate::marks::Marks;
 use crate::number::LabelNo;
 
 impl Marks {
-    /// Closes the labels, and answers how many turns that took, where a turn looks at one edge.
+    /// Closes the labels, and returns how many turns that took, where a turn looks at one edge.
     pub(crate) fn close(
         &mut self,
         graph: &mut Graph,

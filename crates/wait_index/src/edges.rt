@@ -37,7 +37,7 @@ impl Edges {
         }
     }
 
-    /// Makes room for so many owners and edges more.
+    /// Makes room for this many more owners and edges.
     pub(crate) fn try_reserve(&mut self, owners: usize, edges: usize) -> Result<(), AllocError>
         ensures grows { GrowsEdges self.old self.new }
         ensures ok { OnOk result (HasEdgesRoom self.new owners edges) }

@@ -35,7 +35,7 @@ impl Graph {
         }
     }
 
-    /// Makes room for so many nodes, labels and edges of each kind more. There are at most
+    /// Makes room for this many more nodes, labels and edges of each kind. There are at most
     /// `MOST_EDGES` edges.
     pub(crate) fn try_reserve(
         &mut self,

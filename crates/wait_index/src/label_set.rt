@@ -28,7 +28,7 @@ impl LabelSet {
         }
     }
 
-    /// Makes room for so many labels more.
+    /// Makes room for this many more labels.
     pub(crate) fn try_reserve(&mut self, labels: usize) -> Result<(), AllocError>
         ensures grows { GrowsLabels self.old self.new }
         ensures ok { OnOk result (HasLabelsRoom self.new labels) }

@@ -23,7 +23,7 @@ impl LastClose {
         }
     }
 
-    /// Makes room for so many nodes in all.
+    /// Makes room for this many nodes in all.
     pub(crate) fn try_reserve(&mut self, nodes: usize) -> Result<(), AllocError>
         requires { length self.old.fallen.items ≤ nodes }
         ensures fallen { self.new.fallen.items ≡ self.old.fallen.items }
@@ -35,7 +35,7 @@ impl LastClose {
         self.fallen.try_reserve(more)
     }
 
-    /// A close begins, which finds so many nodes marked.
+    /// A close begins, which finds this many nodes marked.
     pub(crate) fn begin(&mut self, marked: usize)
         ensures fallen { self.new.fallen.items ≡ [] }
         ensures kept { self.new.kept ≡ marked }

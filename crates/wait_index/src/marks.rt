@@ -42,7 +42,7 @@ impl Marks {
         }
     }
 
-    /// Makes room for so many nodes and labels more.
+    /// Makes room for this many more nodes and labels.
     pub(crate) fn try_reserve(&mut self, nodes: usize, labels: usize) -> Result<(), AllocError>
         ensures grows { GrowsMarks self.old self.new }
         ensures ok { OnOk result (HasMarksRoom self.new nodes labels) }

@@ -28,7 +28,7 @@ impl NodeSet {
         }
     }
 
-    /// Makes room for so many nodes more.
+    /// Makes room for this many more nodes.
     pub(crate) fn try_reserve(&mut self, nodes: usize) -> Result<(), AllocError>
         ensures grows { GrowsNodes self.old self.new }
         ensures ok { OnOk result (HasNodesRoom self.new nodes) }

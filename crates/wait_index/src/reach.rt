@@ -60,7 +60,7 @@ impl Reach {
         }
     }
 
-    /// Makes room for so many nodes, labels and edges more.
+    /// Makes room for this many more nodes, labels and edges.
     ///
     /// # Errors
     ///
@@ -191,7 +191,7 @@ impl Reach {
         self.marks.add_root(&mut self.graph, node.index());
     }
 
-    /// Closes the label for good, and answers its turns, as [`close_labels`](Reach::close_labels)
+    /// Closes the label for good, and returns its turns, as [`close_labels`](Reach::close_labels)
     /// does.
     pub fn close_label(&mut self, label: LabelNo) -> usize
         requires { label < length self.old.net.closed }
@@ -212,7 +212,7 @@ impl Reach {
         self.close_labels(&[label])
     }
 
-    /// Closes the labels for good, and answers the turns, each of which looked at one edge: one for
+    /// Closes the labels for good, and returns the turns, each of which looked at one edge: one for
     /// each edge that rests on the labels, taken back, and one for each that is followed again,
     /// since it is reached otherwise. Where none of them was open that is 0, and the marked nodes
     /// stay as they are. Else their order may change. The labels may repeat, and may be closed
