@@ -1,12 +1,15 @@
--- What a bundle document says (SPIFFE Trust Domain and Bundle, section 4), and the one text that stands for it.
-use Rattle.std.specs.Prelude.{◌≡◌, ℕ, ◌^◌, ◌<◌, ◌≤◌, ◌↔◌, ◌⊎◌, ◌++◌, List, [], ◌∷◌, length, map, Any, codes, Option, Some, None, IfSome, Bool}
+-- What a bundle document says (SPIFFE Trust Domain and Bundle, section 4), and the one text that
+-- stands for it.
+use Rattle.std.specs.Prelude.{◌≡◌, ℕ, ◌^◌, ◌<◌, ◌≤◌, ◌↔◌, ◌⊎◌, ◌++◌, List, [], ◌∷◌, length, map}
+use Rattle.std.specs.Prelude.{Any, codes, Option, Some, None, IfSome, Bool}
 use Rattle.std.specs.Str.{bytes_eq}
 use Rattle.std.specs.declared.cmp.Ordering.{Ordering}
 use Rattle.std.specs.Ordering.{nat_cmp}
 use Rattle.std.specs.Cmp.Lexicographic.{slice_cmp}
 use Rattle.std.specs.List.{AllByRecursion}
 use Rattle.std.specs.List.Sorted.{IsStrictlySortedBy}
-use Rattle.serde_json.specs.Data.{Data, null, number, unsigned, array, object, Items, no_items, item, Members, no_members, member}
+use Rattle.serde_json.specs.Data.{Data, null, number, unsigned, array, object, Items, no_items}
+use Rattle.serde_json.specs.Data.{item, Members, no_members, member}
 use Rattle.serde_json.specs.Find.{get}
 use Rattle.serde_json.specs.View.{items_of}
 use Rattle.serde_json.specs.Written.{compact_text}
@@ -16,8 +19,8 @@ use Rattle.jwk_set.specs.Element.{IsElement, IsAuthority, tree_of, key_id_of}
 use Rattle.jwk_set.specs.declared.authority.KeyId.{KeyId}
 use Rattle.jwk_set.specs.declared.authority.Authority.{Authority}
 
--- A document's meaning: a set of authorities, a rank (its sequence number) and a refresh hint in seconds. The set is
--- kept as the list of its members that rises by their texts.
+-- A document's meaning: a set of authorities, a rank (its sequence number) and a refresh hint in
+-- seconds. The set is kept as the list of its members that rises by their texts.
 pub record Bundle : Type 0 where
   pub authorities : List Authority
   pub rank : Option ℕ
@@ -55,8 +58,9 @@ HasNumberMember tree name (Some n) = get name tree ≡ Some (number (unsigned n)
 abbrev pub HasKeys : Data → Items → Type 0
 HasKeys tree keys = get (codes "keys") tree ≡ Some (array keys)
 
--- The object means the bundle (RFC 7517, section 5; SPIFFE Trust Domain and Bundle, section 4.1): its authorities are
--- all that the elements of `keys` say, and no other. All members that are not named here count for nothing.
+-- The object means the bundle (RFC 7517, section 5; SPIFFE Trust Domain and Bundle, section 4.1):
+-- its authorities are all that the elements of `keys` say, and no other. All members that are not
+-- named here count for nothing.
 pub record Means (tree : Data) (b : Bundle) : Type 0 where
   pub keys : Items
   pub has_keys : HasKeys tree keys
@@ -80,7 +84,10 @@ with_number name (Some n) others = member name (number (unsigned n)) others
 
 -- the object that says just the bundle, its names and elements in order
 abbrev pub document_tree : Bundle → Data
-document_tree b = object (member (codes "keys") (array (trees b.authorities)) (with_number (codes "spiffe_refresh_hint") b.hint (with_number (codes "spiffe_sequence") b.rank no_members)))
+document_tree b = object
+    (member (codes "keys") (array (trees b.authorities))
+    (with_number (codes "spiffe_refresh_hint") b.hint
+    (with_number (codes "spiffe_sequence") b.rank no_members)))
 
 abbrev pub canonical_text : Bundle → List ℕ
 canonical_text b = compact_text (document_tree b)

@@ -27,8 +27,10 @@ pub record ReadsAuthority (text : List ℕ) (a : Authority) (rest : List ℕ) : 
   pub whole : text ≡ authority_text a ++ rest
   pub form : IsAuthority a
 
--- the text is the authority's own, perhaps behind a comma, and the rest; and the authority is above the last one
-pub record ReadsNext (text : List ℕ) (later : Bool) (last : List ℕ) (a : Authority) (own rest : List ℕ) : Type 0 where
+-- the text is the authority's own, perhaps behind a comma, and the rest; and the authority is above
+-- the last one
+pub record ReadsNext (text : List ℕ) (later : Bool) (last : List ℕ) (a : Authority)
+    (own rest : List ℕ) : Type 0 where
   pub whole : text ≡ comma_if later ++ (authority_text a ++ rest)
   pub form : IsAuthority a
   pub own_is : own ≡ authority_text a
@@ -47,6 +49,7 @@ pub record ReadsNumbers (text : List ℕ) (hint rank : Option ℕ) : Type 0 wher
   pub rank_fits : FitsWord rank
 
 -- the text is the canonical one of a bundle of these parts
-pub record ReadsBundle (text : List ℕ) (authorities : List Authority) (hint rank : Option ℕ) : Type 0 where
+pub record ReadsBundle (text : List ℕ) (authorities : List Authority)
+    (hint rank : Option ℕ) : Type 0 where
   pub whole : text ≡ canonical_text (record { authorities = authorities; rank = rank; hint = hint })
   pub is : IsBundle (record { authorities = authorities; rank = rank; hint = hint })

@@ -1,5 +1,6 @@
 -- The authorities of a document under their texts, while it is read.
-use Rattle.std.specs.Prelude.{◌≡◌, ℕ, ◌++◌, ◌↔◌, ◌⊎◌, List, [], false, map, Option, Some, None, IfSome, ◌<◌, ◌≤◌, ◌^◌, String, length, string_bytes, codes, decimal}
+use Rattle.std.specs.Prelude.{◌≡◌, ℕ, ◌++◌, ◌↔◌, ◌⊎◌, List, [], false, map, Option, Some, None}
+use Rattle.std.specs.Prelude.{IfSome, ◌<◌, ◌≤◌, ◌^◌, String, length, string_bytes, codes, decimal}
 use Rattle.std.specs.declared.alloc.Global.{Global}
 use Rattle.std.specs.List.{AllByRecursion}
 use Rattle.serde_json.specs.Data.{Data, Items, Members, number, unsigned, put}
@@ -7,7 +8,8 @@ use Rattle.serde_json.specs.Written.{items_text}
 use Rattle.jwk_set.specs.Json.{IsJson}
 use Rattle.jwk_set.specs.Element.{IsElement, IsAuthority}
 use Rattle.jwk_set.specs.declared.authority.Authority.{Authority}
-use Rattle.bundle_doc.specs.Bundle.{Bundle, Has, HasKeys, HasNumberMember, Says, IsBundle, authority_text, document_limit, trees}
+use Rattle.bundle_doc.specs.Bundle.{Bundle, Has, HasKeys, HasNumberMember, Says, IsBundle}
+use Rattle.bundle_doc.specs.Bundle.{authority_text, document_limit, trees}
 
 abbrev pub Entry : Type 0
 Entry = String Global × Authority
@@ -25,7 +27,8 @@ authorities_of es = map (λ e. e.1) es
 -- what the element says was added, and nothing else
 pub record AddsElement (old new : List Entry) (element : Data) : Type 0 where
   pub entries : AreEntries old → AreEntries new
-  pub authorities : AreEntries old → (a : Authority) → Has (authorities_of new) a ↔ (IsElement element a ⊎ Has (authorities_of old) a)
+  pub authorities : AreEntries old → (a : Authority)
+      → Has (authorities_of new) a ↔ (IsElement element a ⊎ Has (authorities_of old) a)
 
 -- the entries are those that the elements say
 pub record IsGathered (elements : Items) (es : List Entry) : Type 0 where
@@ -71,7 +74,8 @@ number_part label (Some n) = label ++ decimal n
 
 -- the canonical text behind `keys`
 abbrev pub numbers_text : Option ℕ → Option ℕ → List ℕ
-numbers_text hint rank = number_part (codes ",\"spiffe_refresh_hint\":") hint ++ (number_part (codes ",\"spiffe_sequence\":") rank ++ codes "}")
+numbers_text hint rank = number_part (codes ",\"spiffe_refresh_hint\":") hint
+    ++ (number_part (codes ",\"spiffe_sequence\":") rank ++ codes "}")
 
 -- the member is put in where there is a number
 abbrev pub put_some : List ℕ → Option ℕ → Members → Members

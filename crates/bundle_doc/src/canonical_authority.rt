@@ -168,8 +168,8 @@ pub(crate) fn after<'a>(text: &'a str, label: &str) -> Result<&'a str, GivesUp>
     }
 }
 
-/// The text of a JSON string up to the label, which begins with the string's quotation mark, and what follows the label.
-/// It gives up at an escape.
+/// The text of a JSON string up to the label, which begins with the string's quotation mark, and
+/// what follows the label. It gives up at an escape.
 fn text_before<'a>(text: &'a str, label: &str) -> Result<(&'a str, &'a str), GivesUp>
     ensures { IfOk result (λ r. ReadsText text.now r.0.now label.now r.1.now) }
 {
@@ -189,7 +189,8 @@ fn split_plain(text: &str) -> (&str, &str)
 }
 
 fn first_stop(text: &[u8]) -> Option<usize>
-    ensures { MatchOption result (AllPass is_unescaped text.now) (FirstFails is_unescaped text.now) }
+    ensures { MatchOption result (AllPass is_unescaped text.now)
+        (FirstFails is_unescaped text.now) }
 {
     text.iter().position(|byte| !is_unescaped(*byte))
 }

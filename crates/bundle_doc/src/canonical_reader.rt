@@ -22,7 +22,8 @@ pub(crate) struct Parts {
 
 /// The parts of a canonical text, where it is one that this reader takes.
 pub(crate) fn read_parts(alloc: Global, text: &str) -> Result<Option<Parts>, AllocError>
-    ensures { IfOk result (λ o. IfSome o (λ p. ReadsBundle text.now p.authorities.items p.hint p.rank)) }
+    ensures { IfOk result (λ o. IfSome o
+        (λ p. ReadsBundle text.now p.authorities.items p.hint p.rank)) }
 {
     match read_bundle(alloc, text) {
         Ok(parts) => Ok(Some(parts)),

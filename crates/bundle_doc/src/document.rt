@@ -1,7 +1,8 @@
 //! A bundle document: its authorities, rank and hint, and the one text that stands for them.
 ghost use Rattle.std.specs.Prelude.{◌≡◌, ◌↔◌, IsTrue, IfOk, IfSome, MatchResult};
 ghost use Rattle.serde_json.specs.View.{view};
-ghost use Rattle.bundle_doc.specs.Bundle.{Fits, HasKeyId, IsBundle, IsDocument, IsStoredDocument, Means, canonical_text, doc_id_of, document_tree};
+ghost use Rattle.bundle_doc.specs.Bundle.{Fits, HasKeyId, IsBundle, IsDocument, IsStoredDocument};
+ghost use Rattle.bundle_doc.specs.Bundle.{Means, canonical_text, doc_id_of, document_tree};
 ghost use Rattle.bundle_doc.specs.Entries.{AreEntries, FitsWord, IsBundleOf};
 ghost use Rattle.bundle_doc.specs.Refusal.{IsBuildFault, RefusesBytes, RefusesTree};
 
@@ -61,9 +62,15 @@ impl Model for Document {
 
     ghost Value = { Bundle };
 
-    ghost view = { λ a. record { authorities = a.authorities.items; rank = a.rank; hint = a.hint } };
+    ghost view = { λ a. record {
+      authorities = a.authorities.items;
+      rank = a.rank;
+      hint = a.hint;
+    } };
 
-    ghost invariant = { λ a. IsStoredDocument (record { authorities = a.authorities.items; rank = a.rank; hint = a.hint }) (string_bytes a.canonical) };
+    ghost invariant = { λ a. IsStoredDocument
+        (record { authorities = a.authorities.items; rank = a.rank; hint = a.hint })
+        (string_bytes a.canonical) };
 }
 
 impl Document {

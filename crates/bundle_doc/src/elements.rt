@@ -6,7 +6,8 @@ ghost use Rattle.serde_json.specs.View.{view, items_view};
 ghost use Rattle.serde_json.specs.Written.{comma_if};
 ghost use Rattle.jwk_set.specs.Forms.{FindsMember};
 ghost use Rattle.bundle_doc.specs.Bundle.{HasKeys, text_cmp};
-ghost use Rattle.bundle_doc.specs.Entries.{AddsElement, AreEntries, IsGathered, authorities_of, keys_text};
+ghost use Rattle.bundle_doc.specs.Entries.{AddsElement, AreEntries, IsGathered, authorities_of};
+ghost use Rattle.bundle_doc.specs.Entries.{keys_text};
 
 use jwk_set::{Authority, read_element};
 use serde_json::Value;
@@ -18,7 +19,8 @@ const FIXED_BYTES: usize = 100;
 
 /// The elements of `keys`, where it is an array.
 pub(crate) fn elements_of(value: &Value) -> Option<&Vec<Value>>
-    ensures { FindsMember (option_map (λ v. items_view v.now.items) result) (HasKeys (view value.now)) }
+    ensures { FindsMember (option_map (λ v. items_view v.now.items) result)
+        (HasKeys (view value.now)) }
 {
     value.get("keys")?.as_array()
 }

@@ -27,14 +27,16 @@ pub record Differ (documents : List Bundle) : Type 0 where
   pub differ : one.authorities ≡ other.authorities → ⊥
 
 abbrev pub Agree : List Bundle → Type 0
-Agree documents = (d e : Bundle) → Contains documents d → Contains documents e → d.authorities ≡ e.authorities
+Agree documents = (d e : Bundle) → Contains documents d → Contains documents e
+    → d.authorities ≡ e.authorities
 
 abbrev pub IsOfKind : List Bundle → ConflictKind → Type 0
 IsOfKind documents Keys = Differ documents
 IsOfKind documents HintOnly = Agree documents
 
--- Of the documents with the property they are all those with the sequence number, each once, and two or more. They are
--- in their order, which for documents of one rank is that of their canonical texts.
+-- Of the documents with the property they are all those with the sequence number, each once, and
+-- two or more. They are in their order, which for documents of one rank is that of their canonical
+-- texts.
 pub record IsClash (P : Bundle → Type 0) (c : Clash) : Type 0 where
   pub rising : IsStrictlySortedBy document_cmp c.documents
   pub exactly : (d : Bundle) → Contains c.documents d ↔ (P d × (d.rank ≡ Some c.sequence))
@@ -67,10 +69,21 @@ abbrev pub id_in : List ℕ → Bundle → DocId
 id_in domain d = record { 0 = doc_id_of domain d }
 
 abbrev pub reported_conflict : List ℕ → Clash → ReportedConflict
-reported_conflict domain c = record { domain = domain; sequence = c.sequence; kind = c.kind; documents = map (id_in domain) c.documents }
+reported_conflict domain
+    c = record {
+      domain = domain;
+      sequence = c.sequence;
+      kind = c.kind;
+      documents = map (id_in domain) c.documents;
+    }
 
 abbrev pub reported_by : Conflict → ReportedConflict
-reported_by c = record { domain = c.domain; sequence = c.sequence; kind = c.kind; documents = c.documents.items }
+reported_by c = record {
+  domain = c.domain;
+  sequence = c.sequence;
+  kind = c.kind;
+  documents = c.documents.items;
+}
 
 -- the conflicts of one domain
 pub record OfDomain : Type 0 where

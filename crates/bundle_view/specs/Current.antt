@@ -5,8 +5,8 @@ use Rattle.bundle_doc.specs.Bundle.{Bundle}
 use Rattle.receipt_core.specs.Acceptance.{Meaning, IsMember}
 use Rattle.trust_closure.specs.Views.{document_cmp, document_of}
 
--- It is accepted, and no accepted document of the domain is greater by rank and then by canonical text; an absent rank
--- is below 0.
+-- It is accepted, and no accepted document of the domain is greater by rank and then by canonical
+-- text; an absent rank is below 0.
 pub record IsGreatest (m : Meaning) (domain : List ℕ) (d : Bundle) : Type 0 where
   pub accepted : IsMember m (document_of domain d)
   pub greatest : (e : Bundle) → IsMember m (document_of domain e) → document_cmp d e ≡ Less → ⊥

@@ -1,5 +1,5 @@
--- What is observed: the bytes that an endpoint served, and the verdict of TLS on that endpoint (SPIFFE Federation,
--- section 5.2, profile https_spiffe)
+-- What is observed: the bytes that an endpoint served, and the verdict of TLS on that endpoint
+-- (SPIFFE Federation, section 5.2, profile https_spiffe)
 use Rattle.std.specs.Prelude.{◌≡◌, ℕ, ◌≤◌, ◌⊎◌, List, length, Contains, Some, None}
 use Rattle.spiffe_name.specs.SpiffeId.{Id}
 use Rattle.bundle_doc.specs.Bundle.{Bundle, IsDocument, HasKeyId, document_limit}
@@ -19,7 +19,11 @@ use Rattle.bundle_view.specs.Conflicts.{id_in}
 use Rattle.bundle_view.specs.Current.{IsCurrent}
 use Rattle.bundle_view.specs.declared.observation.Verdict.{Verdict}
 use Rattle.bundle_view.specs.declared.observe_error.ObserveError.{ObserveError}
-use Rattle.bundle_view.specs.declared.observe_error.ObserveError.TheVariants.{NoRelationship, WrongEndpoint, NoVoucherBundle, KeyNotInCurrent, Document, Take}
+use Rattle.bundle_view.specs.declared.observe_error.ObserveError.TheVariants.{NoRelationship}
+use Rattle.bundle_view.specs.declared.observe_error.ObserveError.TheVariants.{WrongEndpoint}
+use Rattle.bundle_view.specs.declared.observe_error.ObserveError.TheVariants.{NoVoucherBundle}
+use Rattle.bundle_view.specs.declared.observe_error.ObserveError.TheVariants.{KeyNotInCurrent}
+use Rattle.bundle_view.specs.declared.observe_error.ObserveError.TheVariants.{Document, Take}
 
 -- ---- the verdict
 
@@ -39,21 +43,23 @@ pub record HasOtherEndpoint (c : Configuration) (domain : List ℕ) (endpoint : 
 abbrev pub distrust_in : Verdict → Distrust
 distrust_in verdict = record { domain = verdict.endpoint.domain; key = verdict.key }
 
--- The endpoint is that of the relationship; of its trust domain this document is the current one, an X.509 authority of
--- it has the key, and the key is not distrusted there.
-pub record IsAuthentic (m : Meaning) (domain : List ℕ) (verdict : Verdict) (voucher : Bundle) : Type 0 where
+-- The endpoint is that of the relationship; of its trust domain this document is the current one,
+-- an X.509 authority of it has the key, and the key is not distrusted there.
+pub record IsAuthentic (m : Meaning) (domain : List ℕ) (verdict : Verdict)
+    (voucher : Bundle) : Type 0 where
   pub endpoint : IsEndpointOf m.config domain verdict.endpoint
   pub current : IsCurrent m verdict.endpoint.domain (Some voucher)
   pub key : HasKeyId voucher.authorities verdict.key
   pub trusted : Contains m.records (distrust_in verdict) → ⊥
 
--- The endpoint is that of the relationship, and this is the current document of its trust domain; but no X.509 authority
--- of it has the key, or the key is distrusted there.
+-- The endpoint is that of the relationship, and this is the current document of its trust domain;
+-- but no X.509 authority of it has the key, or the key is distrusted there.
 pub record HasForeignKey (m : Meaning) (domain : List ℕ) (verdict : Verdict) : Type 0 where
   pub endpoint : IsEndpointOf m.config domain verdict.endpoint
   pub voucher : Bundle
   pub current : IsCurrent m verdict.endpoint.domain (Some voucher)
-  pub foreign : (HasKeyId voucher.authorities verdict.key → ⊥) ⊎ Contains m.records (distrust_in verdict)
+  pub foreign : (HasKeyId voucher.authorities verdict.key → ⊥)
+      ⊎ Contains m.records (distrust_in verdict)
 
 -- Some document makes it authentic.
 abbrev pub IsVouchedFor : Meaning → List ℕ → Verdict → Type 0
@@ -63,11 +69,18 @@ IsVouchedFor m domain verdict = (voucher : Bundle) × IsAuthentic m domain verdi
 
 abbrev pub receipt_of : List ℕ → Verdict → Bundle → Bundle → Receipt
 receipt_of domain verdict voucher document =
-    record { domain = domain; endpoint = verdict.endpoint; document = document; voucher = id_in verdict.endpoint.domain voucher; key = verdict.key }
+    record {
+      domain = domain;
+      endpoint = verdict.endpoint;
+      document = document;
+      voucher = id_in verdict.endpoint.domain voucher;
+      key = verdict.key;
+    }
 
--- It says: this document of the domain, which the bytes give, was served by this endpoint, which showed this key of the
--- current document of its trust domain.
-pub record IsObservation (m : Meaning) (domain bytes : List ℕ) (verdict : Verdict) (r : Receipt) : Type 0 where
+-- It says: this document of the domain, which the bytes give, was served by this endpoint, which
+-- showed this key of the current document of its trust domain.
+pub record IsObservation (m : Meaning) (domain bytes : List ℕ) (verdict : Verdict)
+    (r : Receipt) : Type 0 where
   pub voucher : Bundle
   pub authentic : IsAuthentic m domain verdict voucher
   pub document : Bundle
@@ -75,7 +88,8 @@ pub record IsObservation (m : Meaning) (domain bytes : List ℕ) (verdict : Verd
   pub is : r ≡ receipt_of domain verdict voucher document
 
 -- The receipt, whose voucher is the current document of before, is held, and its document accepted.
-pub record HasObserved (old : Meaning) (domain bytes : List ℕ) (verdict : Verdict) (new : Meaning) (r : Receipt) : Type 0 where
+pub record HasObserved (old : Meaning) (domain bytes : List ℕ) (verdict : Verdict) (new : Meaning)
+    (r : Receipt) : Type 0 where
   pub observation : IsObservation old domain bytes verdict r
   pub meaning : new ≡ record old { held = with_receipt r old.held }
   pub held : Contains new.held r
@@ -91,14 +105,18 @@ RefusesEndpoint c domain endpoint e = ⊥
 
 -- what the verdict is refused for
 abbrev pub RefusesVerdict : Meaning → List ℕ → Verdict → ObserveError → Type 0
-RefusesVerdict m domain verdict NoVoucherBundle = IsEndpointOf m.config domain verdict.endpoint × IsCurrent m verdict.endpoint.domain None
+RefusesVerdict m domain verdict NoVoucherBundle = IsEndpointOf m.config domain verdict.endpoint
+    × IsCurrent m verdict.endpoint.domain None
 RefusesVerdict m domain verdict KeyNotInCurrent = HasForeignKey m domain verdict
 RefusesVerdict m domain verdict e = RefusesEndpoint m.config domain verdict.endpoint e
 
--- The receipt is new, and 65,536 are held; or memory was wanted, for the tree of all bytes that are within the limit.
+-- The receipt is new, and 65,536 are held; or memory was wanted, for the tree of all bytes that are
+-- within the limit.
 abbrev pub RefusesTaking : Meaning → List ℕ → List ℕ → Verdict → TakeError → Type 0
-RefusesTaking m domain bytes verdict Full = (r : Receipt) × IsObservation m domain bytes verdict r × IsOneTooMany m r
-RefusesTaking m domain bytes verdict NoMemory = IsVouchedFor m domain verdict × (length bytes ≤ document_limit)
+RefusesTaking m domain bytes verdict Full = (r : Receipt) × IsObservation m domain bytes verdict r
+    × IsOneTooMany m r
+RefusesTaking m domain bytes verdict NoMemory = IsVouchedFor m domain verdict
+    × (length bytes ≤ document_limit)
 RefusesTaking m domain bytes verdict e = ⊥
 
 -- want of memory is the same wherever it is met
@@ -107,11 +125,13 @@ of_document NoMemoryToRead = Take NoMemory
 of_document e = Document e
 
 abbrev pub RefusesObservation : Meaning → List ℕ → List ℕ → Verdict → ObserveError → Type 0
-RefusesObservation m domain bytes verdict (Document e) = IsVouchedFor m domain verdict × (e ≡ NoMemoryToRead → ⊥) × RefusesBytes bytes e
+RefusesObservation m domain bytes verdict (Document e) = IsVouchedFor m domain verdict
+    × (e ≡ NoMemoryToRead → ⊥) × RefusesBytes bytes e
 RefusesObservation m domain bytes verdict (Take e) = RefusesTaking m domain bytes verdict e
 RefusesObservation m domain bytes verdict e = RefusesVerdict m domain verdict e
 
 -- Nothing is observed, and nothing lost.
-pub record HasNotObserved (old : HeldAndRoom) (domain bytes : List ℕ) (verdict : Verdict) (new : HeldAndRoom) (why : ObserveError) : Type 0 where
+pub record HasNotObserved (old : HeldAndRoom) (domain bytes : List ℕ) (verdict : Verdict)
+    (new : HeldAndRoom) (why : ObserveError) : Type 0 where
   pub cause : RefusesObservation old.meaning domain bytes verdict why
   pub unchanged : IsUnchanged old new

@@ -28,13 +28,15 @@ pub record IsVoucher (m : Meaning) (domain : List ℕ) (verdict : Verdict) (id :
   pub is : id ≡ id_in verdict.endpoint.domain voucher
 
 -- The receipt was taken, and comes back.
-pub record HasKept (old : HeldAndRoom) (r : Receipt) (new : HeldAndRoom) (copy : Receipt) : Type 0 where
+pub record HasKept (old : HeldAndRoom) (r : Receipt) (new : HeldAndRoom)
+    (copy : Receipt) : Type 0 where
   pub same : copy ≡ r
   pub taken : Taken
   pub took : Took old r new taken
 
 -- It was not, or there was no memory to copy it.
-pub record HasNotKept (old : HeldAndRoom) (r : Receipt) (new : HeldAndRoom) (why : ObserveError) : Type 0 where
+pub record HasNotKept (old : HeldAndRoom) (r : Receipt) (new : HeldAndRoom)
+    (why : ObserveError) : Type 0 where
   pub error : TakeError
   pub is : why ≡ Take error
   pub cause : (error ≡ NoMemory) ⊎ RefusesReceipt old.meaning old.room r error

@@ -1,5 +1,7 @@
--- What a replica reports: a text that its configuration, its receipts and its records of distrust determine
-use Rattle.std.specs.Prelude.{◌≡◌, ℕ, List, ◌++◌, map, filter, flat_map, length, codes, decimal, Bool, Contains, Option, Some, None}
+-- What a replica reports: a text that its configuration, its receipts and its records of distrust
+-- determine
+use Rattle.std.specs.Prelude.{◌≡◌, ℕ, List, ◌++◌, map, filter, flat_map, length, codes, decimal}
+use Rattle.std.specs.Prelude.{Bool, Contains, Option, Some, None}
 use Rattle.std.specs.Str.{bytes_eq}
 use Rattle.std.specs.Io.KnownBytes.{Appends}
 use Rattle.hex.specs.Hex.{encode_lower}
@@ -23,7 +25,8 @@ sequence_text (Some n) = decimal n
 
 -- an id in lower-case hexadecimal
 abbrev pub document_text : List ℕ → Bundle → List ℕ
-document_text domain d = encode_lower (doc_id_of domain d) ++ (codes " sequence " ++ sequence_text d.rank)
+document_text domain d = encode_lower (doc_id_of domain d)
+    ++ (codes " sequence " ++ sequence_text d.rank)
 
 abbrev pub current_line : List ℕ → Option Bundle → List ℕ
 current_line domain None = codes "  current none\n"
@@ -31,7 +34,9 @@ current_line domain (Some d) = codes "  current " ++ (document_text domain d ++ 
 
 -- all authorities count, also those for JWT-SVIDs
 abbrev pub accepted_line : List ℕ → Bundle → List ℕ
-accepted_line domain d = codes "  accepted " ++ (document_text domain d ++ (codes " authorities " ++ (decimal (length d.authorities) ++ codes "\n")))
+accepted_line domain d = codes "  accepted "
+    ++ (document_text domain d
+    ++ (codes " authorities " ++ (decimal (length d.authorities) ++ codes "\n")))
 
 abbrev pub kind_text : ConflictKind → List ℕ
 kind_text Keys = codes " keys"
@@ -41,7 +46,8 @@ abbrev pub id_text : DocId → List ℕ
 id_text id = codes " " ++ encode_lower id.0
 
 abbrev pub conflict_line : ReportedConflict → List ℕ
-conflict_line c = codes "  conflict " ++ (decimal c.sequence ++ (kind_text c.kind ++ (flat_map id_text c.documents ++ codes "\n")))
+conflict_line c = codes "  conflict "
+    ++ (decimal c.sequence ++ (kind_text c.kind ++ (flat_map id_text c.documents ++ codes "\n")))
 
 abbrev pub distrust_line : Distrust → List ℕ
 distrust_line x = codes "  distrust " ++ (encode_lower x.key.0 ++ codes "\n")
@@ -63,8 +69,11 @@ records_of domain records = filter (is_of domain) records
 
 abbrev pub section_text : List Distrust → Section → List ℕ
 section_text records s =
-    codes "domain " ++ (s.domain ++ (codes "\n" ++ (current_line s.domain s.current ++ (flat_map (accepted_line s.domain) s.accepted
-    ++ (flat_map conflict_line (map (reported_conflict s.domain) s.conflicts) ++ flat_map distrust_line (records_of s.domain records))))))
+    codes "domain " ++ (s.domain
+    ++ (codes "\n" ++ (current_line s.domain s.current
+    ++ (flat_map (accepted_line s.domain) s.accepted
+    ++ (flat_map conflict_line (map (reported_conflict s.domain) s.conflicts)
+    ++ flat_map distrust_line (records_of s.domain records))))))
 
 -- What it says of a domain is so.
 pub record IsSection (m : Meaning) (s : Section) : Type 0 where
@@ -76,7 +85,9 @@ pub record IsSection (m : Meaning) (s : Section) : Type 0 where
 
 abbrev pub head_text : Meaning → ℕ → List ℕ
 head_text m pending =
-    codes "config " ++ (encode_lower (config_id_of m.config) ++ (codes "\nreceipts " ++ (decimal (length m.held) ++ (codes " pending " ++ (decimal pending ++ codes "\n")))))
+    codes "config " ++ (encode_lower (config_id_of m.config)
+    ++ (codes "\nreceipts "
+    ++ (decimal (length m.held) ++ (codes " pending " ++ (decimal pending ++ codes "\n")))))
 
 abbrev pub report_text : Meaning → ℕ → List Section → List ℕ
 report_text m pending sections = head_text m pending ++ flat_map (section_text m.records) sections

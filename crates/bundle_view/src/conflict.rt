@@ -1,5 +1,6 @@
 //! Where the accepted documents of a domain contradict each other.
-ghost use Rattle.std.specs.Prelude.{◌≡◌, ◌<◌, ◌≤◌, ◌++◌, ◌↔◌, List, map, length, IsTrue, IfOk, OnOk, Contains};
+ghost use Rattle.std.specs.Prelude.{◌≡◌, ◌<◌, ◌≤◌, ◌++◌, ◌↔◌, List, map, length, IsTrue, IfOk};
+ghost use Rattle.std.specs.Prelude.{OnOk, Contains};
 ghost use Rattle.std.specs.List.Sorted.{IsStrictlySortedBy};
 ghost use Rattle.trust_closure.specs.Views.{document_cmp};
 ghost use Rattle.bundle_view.specs.Conflicts.{AreAllConflicts, IsOfKind, id_in, reported_by};
@@ -21,8 +22,9 @@ pub enum ConflictKind {
     HintOnly,
 }
 
-/// Two or more accepted documents of a domain that have the same sequence number, though a server is to change it with
-/// each change of its bundle (SPIFFE Trust Domain and Bundle, section 4.1.1). A document without one is in no conflict.
+/// Two or more accepted documents of a domain that have the same sequence number, though a server
+/// is to change it with each change of its bundle (SPIFFE Trust Domain and Bundle, section 4.1.1).
+/// A document without one is in no conflict.
 #[derive(Debug, Drop)]
 pub struct Conflict {
     /// The domain.
@@ -31,18 +33,21 @@ pub struct Conflict {
     pub sequence: u64,
     /// In what the documents differ.
     pub kind: ConflictKind,
-    /// The ids of all accepted documents of the domain with the sequence number, in the order of their canonical texts.
+    /// The ids of all accepted documents of the domain with the sequence number, in the order of
+    /// their canonical texts.
     pub documents: Vec<DocId>,
 }
 
 /// All conflicts, rising by domain and then by sequence number.
 ///
-/// The work grows with the number of accepted documents and the bytes of those that are in conflict.
+/// The work grows with the number of accepted documents and the bytes of those that are in
+/// conflict.
 ///
 /// # Errors
 /// Memory ran out.
 pub fn conflicts<C: Closure>(alloc: Global, closure: &C) -> Result<Vec<Conflict>, NoMemory>
-    ensures { IfOk result (λ found. AreAllConflicts (C.state closure.now).meaning (map reported_by found.items)) }
+    ensures { IfOk result (λ found. AreAllConflicts (C.state closure.now).meaning
+        (map reported_by found.items)) }
 {
     let mut found = Vec::new(alloc);
     for domain in closure.config().domains() {
@@ -60,7 +65,8 @@ pub(crate) fn add_conflicts(
     found: &mut Vec<Conflict>,
 ) -> Result<(), AllocError>
     requires { IsStrictlySortedBy document_cmp documents.now }
-    ensures { OnOk result (AddsClashes domain.now documents.now (map reported_by found.old.items) (map reported_by found.new.items)) }
+    ensures { OnOk result (AddsClashes domain.now documents.now (map reported_by found.old.items)
+        (map reported_by found.new.items)) }
 {
     let mut start = 0;
     'groups: while start < documents.len() {
@@ -85,7 +91,8 @@ fn group_len(documents: &[Listed]) -> usize
     len
 }
 
-/// Adds the conflict of the documents, which rise and have one rank, if they are two or more and the rank is present.
+/// Adds the conflict of the documents, which rise and have one rank, if they are two or more and
+/// the rank is present.
 fn add_conflict(
     alloc: Global,
     domain: &TrustDomain,
@@ -93,7 +100,8 @@ fn add_conflict(
     found: &mut Vec<Conflict>,
 ) -> Result<(), AllocError>
     requires { IsGroup group.now }
-    ensures { OnOk result (AddsClashes domain.now group.now (map reported_by found.old.items) (map reported_by found.new.items)) }
+    ensures { OnOk result (AddsClashes domain.now group.now (map reported_by found.old.items)
+        (map reported_by found.new.items)) }
 {
     let Some(sequence) = group[0].document().rank() else {
         return Ok(());

@@ -6,9 +6,10 @@ use bundle_doc::Document;
 use spiffe_name::TrustDomain;
 use trust_closure::Closure;
 
-/// The current document of the domain: of its accepted documents the one with the greatest rank, where an absent one is
-/// below 0, and of one rank the one with the greatest canonical text, by its bytes. `None` exactly where none of the
-/// domain is accepted, so also for a domain that the configuration does not have.
+/// The current document of the domain: of its accepted documents the one with the greatest rank,
+/// where an absent one is below 0, and of one rank the one with the greatest canonical text, by its
+/// bytes. `None` exactly where none of the domain is accepted, so also for a domain that the
+/// configuration does not have.
 ///
 /// It takes no memory. The work grows with the number of accepted documents of the domain.
 pub fn current<'a, C: Closure>(closure: &'a C, domain: &TrustDomain) -> Option<&'a Document>

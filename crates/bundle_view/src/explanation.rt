@@ -14,17 +14,19 @@ use spiffe_name::TrustDomain;
 use std::alloc::Global;
 use trust_closure::{Closure, NoMemory};
 
-/// Why the document is accepted as one of this domain: a chain of held receipts that leads to it from a configured
-/// document, each vouched for by the document before it (SPIFFE Federation, section 5.2, profile `https_spiffe`). No chain
-/// of held receipts that leads to it has fewer; of several shortest ones it is any. It is empty for a configured
-/// document, and `None` for one that is not accepted. One that is not empty is a chain to
-/// [`check_chain`](receipt_core::check_chain) with the closure's configuration and records of distrust.
+/// Why the document is accepted as one of this domain: a chain of held receipts that leads to it
+/// from a configured document, each vouched for by the document before it (SPIFFE Federation,
+/// section 5.2, profile `https_spiffe`). No chain of held receipts that leads to it has fewer; of
+/// several shortest ones it is any. It is empty for a configured document, and `None` for one that
+/// is not accepted. One that is not empty is a chain to [`check_chain`](receipt_core::check_chain)
+/// with the closure's configuration and records of distrust.
 ///
 /// # Memory and work
-/// No clause speaks of these. The work grows with the receipts and with what their documents offer, times the logarithm of
-/// how many receipts there are, and not with the length of the chain times these. A configured document takes no memory;
-/// any other some 50 bytes for each receipt that is held, 16 bytes for each record of distrust, what one configured
-/// document offers, and a copy of each receipt of the chain.
+/// No clause speaks of these. The work grows with the receipts and with what their documents offer,
+/// times the logarithm of how many receipts there are, and not with the length of the chain times
+/// these. A configured document takes no memory; any other some 50 bytes for each receipt that is
+/// held, 16 bytes for each record of distrust, what one configured document offers, and a copy of
+/// each receipt of the chain.
 ///
 /// # Errors
 /// Memory ran out, which is never answered for a configured document.
@@ -34,9 +36,14 @@ pub fn explain<C: Closure>(
     domain: &TrustDomain,
     document: &Document,
 ) -> Result<Option<Vec<Receipt>>, NoMemory>
-    ensures ok { IfOk result (λ explained. MatchOption explained (IsMember (C.state closure.now).meaning (document_of domain.now document.now) → ⊥)
-        (λ chain. IsShortest (C.state closure.now).meaning (document_of domain.now document.now) chain.items)) }
-    ensures memory { OnErr result ((s : Seed) → Contains (C.state closure.now).meaning.config.seeds s → pair_of_seed s ≡ document_of domain.now document.now → ⊥) }
+    ensures ok { IfOk result
+        (λ explained. MatchOption explained
+        (IsMember (C.state closure.now).meaning (document_of domain.now document.now) → ⊥)
+        (λ chain. IsShortest (C.state closure.now).meaning (document_of domain.now document.now)
+        chain.items)) }
+    ensures memory { OnErr result
+        ((s : Seed) → Contains (C.state closure.now).meaning.config.seeds s
+        → pair_of_seed s ≡ document_of domain.now document.now → ⊥) }
 {
     let seeds = closure.config().seeds();
     if is_configured(seeds, domain, document) {
@@ -59,7 +66,8 @@ pub fn explain<C: Closure>(
 
 /// Whether the document is configured for the domain.
 fn is_configured(seeds: &[Seed], domain: &TrustDomain, document: &Document) -> bool
-    ensures { IsTrue result ↔ Any (λ s. pair_of_seed s ≡ document_of domain.now document.now) seeds.now }
+    ensures { IsTrue result
+        ↔ Any (λ s. pair_of_seed s ≡ document_of domain.now document.now) seeds.now }
 {
     seeds.iter().any(|seed| is_seed_of(seed, domain, document))
 }

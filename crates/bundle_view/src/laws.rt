@@ -1,5 +1,5 @@
-//! What holds of every report. A call that needs a law calls its function, which does nothing, and cites what it
-//! ensures.
+//! What holds of every report. A call that needs a law calls its function, which does nothing, and
+//! cites what it ensures.
 ghost use Rattle.std.specs.Prelude.{◌≡◌, ◌++◌, ◌∷◌, [], ◌<◌, ℕ, List, Option, length, Contains};
 ghost use Rattle.fed_config.specs.declared.seed.Seed.{Seed};
 ghost use Rattle.receipt_core.specs.Receipt.{Receipt, Pair, pair_of};
@@ -9,7 +9,8 @@ ghost use Rattle.bundle_doc.specs.Bundle.{Bundle};
 ghost use Rattle.receipt_core.specs.Acceptance.{Meaning, IsMember, pair_of_seed};
 ghost use Rattle.trust_closure.specs.Views.{IsAcceptedList};
 ghost use Rattle.bundle_view.specs.Current.{IsCurrent};
-ghost use Rattle.bundle_view.specs.Conflicts.{Clash, AreConflicts, ReportedConflict, AreAllConflicts};
+ghost use Rattle.bundle_view.specs.Conflicts.{Clash, AreConflicts, ReportedConflict};
+ghost use Rattle.bundle_view.specs.Conflicts.{AreAllConflicts};
 ghost use Rattle.bundle_view.specs.Report.{IsReport};
 ghost use Rattle.trust_closure.specs.declared.error.TakeError.TheVariants.{Full, NoMemory};
 ghost use Rattle.bundle_view.specs.Observe.{IsObservation, RefusesObservation};
@@ -20,35 +21,51 @@ ghost use Rattle.fed_config.specs.Configuration.{Configuration, IsConfiguration}
 
 pub use poll_log::laws::one_log;
 
-/// The configuration, the receipts and the records of distrust determine the whole report, and each part of it: there is
-/// one report, one list of conflicts, and one current document of a domain.
+/// The configuration, the receipts and the records of distrust determine the whole report, and each
+/// part of it: there is one report, one list of conflicts, and one current document of a domain.
 pub fn one_view()
     ensures report { (m : Meaning) (s t : List ℕ) → IsReport m s → IsReport m t → s ≡ t }
-    ensures conflicts { (m : Meaning) (cs ds : List ReportedConflict) → AreAllConflicts m cs → AreAllConflicts m ds → cs ≡ ds }
-    ensures current { (m : Meaning) (domain : List ℕ) (documents : List Bundle) (a b : Option Bundle) → IsAcceptedList m domain documents
+    ensures conflicts { (m : Meaning) (cs ds : List ReportedConflict) → AreAllConflicts m cs
+        → AreAllConflicts m ds → cs ≡ ds }
+    ensures current { (m : Meaning) (domain : List ℕ) (documents : List Bundle)
+        (a b : Option Bundle) → IsAcceptedList m domain documents
         → IsCurrent m domain a → IsCurrent m domain b → a ≡ b }
 {
     trust_closure::laws::one_number();
 }
 
-/// What explains a document is a chain to anybody who has the configuration and the records of distrust, unless it is
-/// empty; it ends in the document; only an accepted document has one, only a configured one an empty one, and all that
-/// explain one document have the same length.
+/// What explains a document is a chain to anybody who has the configuration and the records of
+/// distrust, unless it is empty; it ends in the document; only an accepted document has one, only a
+/// configured one an empty one, and all that explain one document have the same length.
 pub fn explanations()
-    ensures chain { (m : Meaning) (p : Pair) (chain : List Receipt) → IsShortest m p chain → 0 < length chain → IsChain m.config m.records chain }
-    ensures end { (m : Meaning) (p : Pair) (front : List Receipt) (last : Receipt) → IsShortest m p (front ++ last ∷ []) → pair_of last ≡ p }
-    ensures accepted { (m : Meaning) (p : Pair) (chain : List Receipt) → IsShortest m p chain → IsMember m p }
-    ensures configured { (m : Meaning) (s : Seed) (chain : List Receipt) → Contains m.config.seeds s → IsShortest m (pair_of_seed s) chain → chain ≡ [] }
-    ensures one_length { (m : Meaning) (p : Pair) (chain other : List Receipt) → IsShortest m p chain → IsShortest m p other → length chain ≡ length other }
+    ensures chain { (m : Meaning) (p : Pair) (chain : List Receipt) → IsShortest m p chain
+        → 0 < length chain → IsChain m.config m.records chain }
+    ensures end { (m : Meaning) (p : Pair) (front : List Receipt) (last : Receipt)
+        → IsShortest m p (front ++ last ∷ []) → pair_of last ≡ p }
+    ensures accepted { (m : Meaning) (p : Pair) (chain : List Receipt) → IsShortest m p chain
+        → IsMember m p }
+    ensures configured { (m : Meaning) (s : Seed) (chain : List Receipt) → Contains m.config.seeds s
+        → IsShortest m (pair_of_seed s) chain → chain ≡ [] }
+    ensures one_length { (m : Meaning) (p : Pair) (chain other : List Receipt)
+        → IsShortest m p chain → IsShortest m p other → length chain ≡ length other }
 {}
 
-/// What is observed is determined: there is one receipt of a verdict and of bytes, and one cause for which they are
-/// refused, beside lack of memory. A receipt that exists is refused only because of what the store holds.
+/// What is observed is determined: there is one receipt of a verdict and of bytes, and one cause
+/// for which they are refused, beside lack of memory. A receipt that exists is refused only because
+/// of what the store holds.
 pub fn one_observation()
-    ensures receipt { (m : Meaning) (domain bytes : List ℕ) (verdict : Verdict) (documents : List Bundle) (r s : Receipt) → IsConfiguration m.config → IsAcceptedList m verdict.endpoint.domain documents
+    ensures receipt { (m : Meaning) (domain bytes : List ℕ) (verdict : Verdict)
+        (documents : List Bundle) (r s : Receipt) → IsConfiguration m.config
+        → IsAcceptedList m verdict.endpoint.domain documents
         → IsObservation m domain bytes verdict r → IsObservation m domain bytes verdict s → r ≡ s }
-    ensures cause { (m : Meaning) (domain bytes : List ℕ) (verdict : Verdict) (documents : List Bundle) (d e : ObserveError) → IsConfiguration m.config → IsAcceptedList m verdict.endpoint.domain documents
-        → RefusesObservation m domain bytes verdict d → RefusesObservation m domain bytes verdict e → (d ≡ Take NoMemory → ⊥) → (e ≡ Take NoMemory → ⊥) → d ≡ e }
-    ensures store { (m : Meaning) (domain bytes : List ℕ) (verdict : Verdict) (documents : List Bundle) (r : Receipt) (e : ObserveError) → IsConfiguration m.config → IsAcceptedList m verdict.endpoint.domain documents
-        → IsObservation m domain bytes verdict r → RefusesObservation m domain bytes verdict e → (e ≡ Take Full → ⊥) → (e ≡ Take NoMemory → ⊥) → ⊥ }
+    ensures cause { (m : Meaning) (domain bytes : List ℕ) (verdict : Verdict)
+        (documents : List Bundle) (d e : ObserveError) → IsConfiguration m.config
+        → IsAcceptedList m verdict.endpoint.domain documents
+        → RefusesObservation m domain bytes verdict d → RefusesObservation m domain bytes verdict e
+        → (d ≡ Take NoMemory → ⊥) → (e ≡ Take NoMemory → ⊥) → d ≡ e }
+    ensures store { (m : Meaning) (domain bytes : List ℕ) (verdict : Verdict)
+        (documents : List Bundle) (r : Receipt) (e : ObserveError) → IsConfiguration m.config
+        → IsAcceptedList m verdict.endpoint.domain documents
+        → IsObservation m domain bytes verdict r → RefusesObservation m domain bytes verdict e
+        → (e ≡ Take Full → ⊥) → (e ≡ Take NoMemory → ⊥) → ⊥ }
 {}

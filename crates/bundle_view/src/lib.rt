@@ -1,5 +1,5 @@
-//! What a replica shows of what it accepts: the current documents, conflicts between documents, the report, why a document
-//! is accepted, and what is observed.
+//! What a replica shows of what it accepts: the current documents, conflicts between documents, the
+//! report, why a document is accepted, and what is observed.
 #![tactic(auto)]
 
 mod conflict;

@@ -36,7 +36,8 @@ pub(crate) fn list_accepted<'a, C: Closure>(
     closure: &'a C,
     domain: &TrustDomain,
 ) -> Result<Vec<Listed<'a>>, AllocError>
-    ensures { IfOk result (λ documents. IsAcceptedList (C.state closure.now).meaning domain.now documents.items) }
+    ensures { IfOk result (λ documents. IsAcceptedList (C.state closure.now).meaning domain.now
+        documents.items) }
 {
     let mut documents = Vec::new(alloc);
     for document in closure.accepted(domain) {

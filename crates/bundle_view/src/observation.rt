@@ -3,7 +3,8 @@ ghost use Rattle.std.specs.Prelude.{◌≡◌, ◌↔◌, IsTrue, MatchResult, C
 ghost use Rattle.fed_config.specs.Configuration.{IsConfiguration};
 ghost use Rattle.receipt_core.specs.Acceptance.{IsMeaning};
 ghost use Rattle.receipt_core.specs.Receipt.{IsReceipt};
-ghost use Rattle.bundle_view.specs.Observe.{HasNotObserved, HasObserved, IsEndpointOf, RefusesEndpoint, RefusesVerdict};
+ghost use Rattle.bundle_view.specs.Observe.{HasNotObserved, HasObserved, IsEndpointOf};
+ghost use Rattle.bundle_view.specs.Observe.{RefusesEndpoint, RefusesVerdict};
 ghost use Rattle.bundle_view.specs.Observing.{HasKept, HasNotKept, IsVoucher, distrust};
 
 use crate::current_document::current;
@@ -16,8 +17,8 @@ use spiffe_name::{SpiffeId, TrustDomain};
 use std::alloc::Global;
 use trust_closure::Closure;
 
-/// What TLS found out of the endpoint that served a bundle, by validating its X.509-SVID (SPIFFE X.509-SVID, section 5).
-/// It is believed.
+/// What TLS found out of the endpoint that served a bundle, by validating its X.509-SVID (SPIFFE
+/// X.509-SVID, section 5). It is believed.
 #[derive(Debug, Drop)]
 pub struct Verdict {
     /// The SPIFFE ID of the endpoint.
@@ -26,24 +27,26 @@ pub struct Verdict {
     pub key: KeyId,
 }
 
-/// Takes the receipt of a bundle that was fetched: the bytes as a document of the domain, served by the verdict's
-/// endpoint, with the current document of the endpoint's trust domain as voucher and the verdict's key (SPIFFE
-/// Federation, section 5.2, profile `https_spiffe`). Answers that receipt, which is held from now on, as it may have
-/// been before. Its document is accepted, and may be the current one of its domain, even of the endpoint's: the voucher
-/// is the document that was current before.
+/// Takes the receipt of a bundle that was fetched: the bytes as a document of the domain, served by
+/// the verdict's endpoint, with the current document of the endpoint's trust domain as voucher and
+/// the verdict's key (SPIFFE Federation, section 5.2, profile `https_spiffe`). Answers that
+/// receipt, which is held from now on, as it may have been before. Its document is accepted, and
+/// may be the current one of its domain, even of the endpoint's: the voucher is the document that
+/// was current before.
 ///
 /// # Errors
 /// What is held stays. Of these the first that holds:
 /// - [`ObserveError::NoRelationship`]: the configuration has no relationship with the domain,
 /// - [`ObserveError::WrongEndpoint`]: that relationship has another endpoint than the verdict,
 /// - [`ObserveError::NoVoucherBundle`]: no document of the endpoint's trust domain is accepted,
-/// - [`ObserveError::KeyNotInCurrent`]: no X.509 authority of its current document has the verdict's key, or the key is
-///   distrusted there,
-/// - [`ObserveError::Document`]: the bytes are no document, for the cause of [`Document::read`] that is in it,
+/// - [`ObserveError::KeyNotInCurrent`]: no X.509 authority of its current document has the
+///   verdict's key, or the key is distrusted there,
+/// - [`ObserveError::Document`]: the bytes are no document, for the cause of [`Document::read`]
+///   that is in it,
 /// - [`ObserveError::Take`] with `Full`: the receipt is not held, and 65,536 are.
 ///
-/// Where memory ran out it is [`ObserveError::Take`] with `NoMemory`, which never comes where the verdict is refused or
-/// the bytes are too many.
+/// Where memory ran out it is [`ObserveError::Take`] with `NoMemory`, which never comes where the
+/// verdict is refused or the bytes are too many.
 pub fn observe<C: Closure>(
     alloc: Global,
     closure: &mut C,
@@ -52,8 +55,10 @@ pub fn observe<C: Closure>(
     verdict: &Verdict,
 ) -> Result<Receipt, ObserveError>
     ensures { MatchResult result
-        (HasObserved (C.state closure.old).meaning domain.now bytes.now verdict.now (C.state closure.new).meaning)
-        (HasNotObserved (C.state closure.old) domain.now bytes.now verdict.now (C.state closure.new)) }
+        (HasObserved (C.state closure.old).meaning domain.now bytes.now verdict.now
+        (C.state closure.new).meaning)
+        (HasNotObserved (C.state closure.old) domain.now bytes.now verdict.now
+        (C.state closure.new)) }
 {
     let voucher = find_voucher(closure, domain, verdict)?;
     let document = Document::read(alloc, bytes)?;
@@ -68,14 +73,15 @@ pub fn observe<C: Closure>(
     keep(alloc, closure, receipt)
 }
 
-/// The id of the current document of the endpoint's trust domain, where the verdict is one that the configuration asks
-/// for, and the key is that of an X.509 authority of this document and trusted.
+/// The id of the current document of the endpoint's trust domain, where the verdict is one that the
+/// configuration asks for, and the key is that of an X.509 authority of this document and trusted.
 fn find_voucher<C: Closure>(
     closure: &C,
     domain: &TrustDomain,
     verdict: &Verdict,
 ) -> Result<DocId, ObserveError>
-    ensures { MatchResult result (IsVoucher (C.state closure.now).meaning domain.now verdict.now) (RefusesVerdict (C.state closure.now).meaning domain.now verdict.now) }
+    ensures { MatchResult result (IsVoucher (C.state closure.now).meaning domain.now verdict.now)
+        (RefusesVerdict (C.state closure.now).meaning domain.now verdict.now) }
 {
     check_endpoint(closure.config(), domain, &verdict.endpoint)?;
     let home = verdict.endpoint.domain();
@@ -97,7 +103,8 @@ fn check_endpoint(
     domain: &TrustDomain,
     endpoint: &SpiffeId,
 ) -> Result<(), ObserveError>
-    ensures { MatchResult result (λ _. IsEndpointOf config.now domain.now endpoint.now) (RefusesEndpoint config.now domain.now endpoint.now) }
+    ensures { MatchResult result (λ _. IsEndpointOf config.now domain.now endpoint.now)
+        (RefusesEndpoint config.now domain.now endpoint.now) }
 {
     let Some(relationship) = config.relationship(domain) else {
         return Err(ObserveError::NoRelationship);
@@ -111,7 +118,9 @@ fn check_endpoint(
 
 /// Whether the key is distrusted in the domain.
 fn is_distrusted<C: Closure>(closure: &C, domain: &TrustDomain, key: &KeyId) -> bool
-    ensures { IsTrue result ↔ Contains (C.state closure.now).meaning.records (record { domain = domain.now; key = key.now }) }
+    ensures { IsTrue result
+        ↔ Contains (C.state closure.now).meaning.records
+        (record { domain = domain.now; key = key.now }) }
 {
     for (of, distrusted) in closure.distrusts() {
         if is_record(of, distrusted, domain, key) {
@@ -127,13 +136,15 @@ fn is_record(of: &TrustDomain, distrusted: &KeyId, domain: &TrustDomain, key: &K
     distrusted == key && of.as_str() == domain.as_str()
 }
 
-/// Takes the receipt, and returns a copy of it, which is made before: so nothing is refused once it is taken.
+/// Takes the receipt, and returns a copy of it, which is made before: so nothing is refused once it
+/// is taken.
 fn keep<C: Closure>(
     alloc: Global,
     closure: &mut C,
     receipt: Receipt,
 ) -> Result<Receipt, ObserveError>
-    ensures kept { MatchResult result (HasKept (C.state closure.old) receipt (C.state closure.new)) (HasNotKept (C.state closure.old) receipt (C.state closure.new)) }
+    ensures kept { MatchResult result (HasKept (C.state closure.old) receipt (C.state closure.new))
+        (HasNotKept (C.state closure.old) receipt (C.state closure.new)) }
     ensures form { IsReceipt receipt }
     ensures valid { IsMeaning (C.state closure.old).meaning }
     ensures configuration { IsConfiguration (C.state closure.old).meaning.config }

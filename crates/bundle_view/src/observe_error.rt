@@ -9,8 +9,9 @@ use std::alloc::AllocError;
 use thiserror::Error;
 use trust_closure::TakeError;
 
-/// Why nothing is observed. Of several causes the first of this list is returned. Lack of memory, which is
-/// `Take(NoMemory)` wherever it is met, can come in place of each that is found out behind `Document(TooLong)`.
+/// Why nothing is observed. Of several causes the first of this list is returned. Lack of memory,
+/// which is `Take(NoMemory)` wherever it is met, can come in place of each that is found out behind
+/// `Document(TooLong)`.
 #[derive(Clone, Copy, Debug, PartialEq, Eq, Error)]
 pub enum ObserveError {
     /// The configuration has no relationship with the domain.
@@ -22,8 +23,8 @@ pub enum ObserveError {
     /// No document of the endpoint's trust domain is accepted.
     #[error("O3 NoVoucherBundle")]
     NoVoucherBundle,
-    /// The key is that of no X.509 authority of the current document of the endpoint's trust domain, or it is distrusted
-    /// there.
+    /// The key is that of no X.509 authority of the current document of the endpoint's trust
+    /// domain, or it is distrusted there.
     #[error("O4 KeyNotInCurrent")]
     KeyNotInCurrent,
     /// The bytes are no document; never for lack of memory.

@@ -1,7 +1,11 @@
 //! The report: what a replica accepts, as a text.
-ghost use Rattle.std.specs.Prelude.{◌≡◌, ◌++◌, true, List, map, length, IfOk, OnOk, Err, codes, flat_map, option_copied};
+ghost use Rattle.std.specs.Prelude.{◌≡◌, ◌++◌, true, List, map, length, IfOk, OnOk, Err, codes};
+ghost use Rattle.std.specs.Prelude.{flat_map, option_copied};
 ghost use Rattle.bundle_view.specs.Conflicts.{reported_by};
-ghost use Rattle.bundle_view.specs.Report.{IsReport, WritesReport, BeginsReport, accepted_line, conflict_line, current_line, distrust_line, document_text, head_text, id_text, kind_text, records_of, sequence_text};
+ghost use Rattle.bundle_view.specs.Report.{IsReport, WritesReport, BeginsReport, accepted_line};
+ghost use Rattle.bundle_view.specs.Report.{conflict_line, current_line, distrust_line};
+ghost use Rattle.bundle_view.specs.Report.{document_text, head_text, id_text, kind_text};
+ghost use Rattle.bundle_view.specs.Report.{records_of, sequence_text};
 ghost use Rattle.bundle_view.specs.Sections.{AddsSection, HasReportHead};
 ghost use Rattle.bundle_view.specs.declared.error.ReportError.TheVariants.{Io, NoMemory};
 
@@ -15,10 +19,11 @@ use spiffe_name::TrustDomain;
 use std::alloc::{AllocError, Global};
 use trust_closure::Closure;
 
-/// Writes the report: a line `config` with the configuration's digest; a line with the numbers of receipts and of pending
-/// ones; and for each domain of the configuration, rising, a line `domain`, one for its current document, one for each
-/// accepted document, one for each conflict and one for each distrusted key. So the text depends on the configuration,
-/// the set of receipts and the set of records of distrust alone.
+/// Writes the report: a line `config` with the configuration's digest; a line with the numbers of
+/// receipts and of pending ones; and for each domain of the configuration, rising, a line `domain`,
+/// one for its current document, one for each accepted document, one for each conflict and one for
+/// each distrusted key. So the text depends on the configuration, the set of receipts and the set
+/// of records of distrust alone.
 ///
 /// All memory is had before the first byte is written.
 ///
@@ -30,8 +35,11 @@ pub fn write_report<C: Closure, W: Sink>(
     closure: &C,
     sink: &mut W,
 ) -> Result<(), ReportError>
-    ensures ok { OnOk result (WritesReport (C.state closure.now).meaning (W.contents sink.old) (W.contents sink.new)) }
-    ensures io { result ≡ Err Io → (W.has_failed sink.new ≡ true) × BeginsReport (C.state closure.now).meaning (W.contents sink.old) (W.contents sink.new) }
+    ensures ok { OnOk result
+        (WritesReport (C.state closure.now).meaning (W.contents sink.old) (W.contents sink.new)) }
+    ensures io { result ≡ Err Io
+        → (W.has_failed sink.new ≡ true)
+        × BeginsReport (C.state closure.now).meaning (W.contents sink.old) (W.contents sink.new) }
     ensures memory { result ≡ Err NoMemory → sink.new ≡ sink.old }
 {
     let text = render(alloc, closure)?;
@@ -51,7 +59,8 @@ fn render<C: Closure>(alloc: Global, closure: &C) -> Result<Vec<u8>, AllocError>
 }
 
 fn push_head<C: Closure>(out: &mut Vec<u8>, closure: &C) -> Result<(), AllocError>
-    ensures { OnOk result (HasReportHead (C.state closure.now).meaning out.old.items out.new.items) }
+    ensures { OnOk result (HasReportHead (C.state closure.now).meaning out.old.items
+        out.new.items) }
 {
     out.extend_from_slice(b"config ")?;
     push_digits(out, &closure.config().digest().0)?;
@@ -69,7 +78,8 @@ fn push_section<C: Closure>(
     closure: &C,
     domain: &TrustDomain,
 ) -> Result<(), AllocError>
-    ensures { OnOk result (AddsSection (C.state closure.now).meaning domain.now out.old.items out.new.items) }
+    ensures { OnOk result (AddsSection (C.state closure.now).meaning domain.now out.old.items
+        out.new.items) }
 {
     let documents = list_accepted(alloc, closure, domain)?;
     let mut conflicts = Vec::new(alloc);
@@ -83,7 +93,8 @@ fn push_section<C: Closure>(
 }
 
 fn push_domain(out: &mut Vec<u8>, domain: &TrustDomain) -> Result<(), AllocError>
-    ensures { OnOk result (out.new.items ≡ out.old.items ++ (codes "domain " ++ (domain.now ++ codes "\n"))) }
+    ensures { OnOk result (out.new.items
+        ≡ out.old.items ++ (codes "domain " ++ (domain.now ++ codes "\n"))) }
 {
     out.extend_from_slice(b"domain ")?;
     out.extend_from_slice(domain.as_str().as_bytes())?;
@@ -95,7 +106,8 @@ fn push_current(
     domain: &TrustDomain,
     document: Option<&Document>,
 ) -> Result<(), AllocError>
-    ensures { OnOk result (out.new.items ≡ out.old.items ++ current_line domain.now (option_copied document.entry)) }
+    ensures { OnOk result (out.new.items
+        ≡ out.old.items ++ current_line domain.now (option_copied document.entry)) }
 {
     match document {
         Some(document) => {
@@ -112,7 +124,8 @@ fn push_accepted(
     domain: &TrustDomain,
     documents: &[Listed],
 ) -> Result<(), AllocError>
-    ensures { OnOk result (out.new.items ≡ out.old.items ++ flat_map (accepted_line domain.now) documents.now) }
+    ensures { OnOk result (out.new.items
+        ≡ out.old.items ++ flat_map (accepted_line domain.now) documents.now) }
 {
     for listed in documents {
         push_accepted_line(out, domain, listed.document())?;
@@ -152,7 +165,8 @@ fn push_document(
 }
 
 fn push_conflicts(out: &mut Vec<u8>, conflicts: &[Conflict]) -> Result<(), AllocError>
-    ensures { OnOk result (out.new.items ≡ out.old.items ++ flat_map conflict_line (map reported_by conflicts.now)) }
+    ensures { OnOk result (out.new.items
+        ≡ out.old.items ++ flat_map conflict_line (map reported_by conflicts.now)) }
 {
     for conflict in conflicts {
         push_conflict(out, conflict)?;
@@ -161,7 +175,8 @@ fn push_conflicts(out: &mut Vec<u8>, conflicts: &[Conflict]) -> Result<(), Alloc
 }
 
 fn push_conflict(out: &mut Vec<u8>, conflict: &Conflict) -> Result<(), AllocError>
-    ensures { OnOk result (out.new.items ≡ out.old.items ++ conflict_line (reported_by conflict.now)) }
+    ensures { OnOk result (out.new.items
+        ≡ out.old.items ++ conflict_line (reported_by conflict.now)) }
 {
     out.extend_from_slice(b"  conflict ")?;
     push_number(out, conflict.sequence)?;
@@ -194,7 +209,9 @@ fn push_distrusts<C: Closure>(
     closure: &C,
     domain: &TrustDomain,
 ) -> Result<(), AllocError>
-    ensures { OnOk result (out.new.items ≡ out.old.items ++ flat_map distrust_line (records_of domain.now (C.state closure.now).meaning.records)) }
+    ensures { OnOk result (out.new.items
+        ≡ out.old.items ++ flat_map distrust_line
+        (records_of domain.now (C.state closure.now).meaning.records)) }
 {
     for (of, key) in closure.distrusts() {
         if of.as_str() == domain.as_str() {

@@ -1,11 +1,14 @@
 //! The search for a shortest chain: steps from receipt to receipt, in rising length.
-ghost use Rattle.std.specs.Prelude.{◌≡◌, ◌↔◌, ◌+◌, ◌<◌, ◌≤◌, ◌∷◌, [], Some, IsTrue, IfOk, OnOk, length, slice_get, slice_set, replicate, reverse, true, false};
+ghost use Rattle.std.specs.Prelude.{◌≡◌, ◌↔◌, ◌+◌, ◌<◌, ◌≤◌, ◌∷◌, [], Some, IsTrue, IfOk, OnOk};
+ghost use Rattle.std.specs.Prelude.{length, slice_get, slice_set, replicate, reverse, true, false};
 ghost use Rattle.std.specs.List.Sorted.{IsSortedByKey};
 ghost use Rattle.receipt_core.specs.Receipt.{need_of, pair_of, offers_of, triple_cmp};
 ghost use Rattle.trust_closure.specs.Nodes.{is_raised};
 ghost use Rattle.trust_closure.specs.Flags.{raised_count};
 ghost use Rattle.trust_closure.specs.Views.{document_of};
-ghost use Rattle.bundle_view.specs.Search.{AreFollowed, AreLinkedSteps, AreStrides, AreVisited, FollowsOffers, HasSearched, IsBackFrom, IsSearchBegun, IsEdgeDue, Stride};
+ghost use Rattle.bundle_view.specs.Search.{AreFollowed, AreLinkedSteps, AreStrides, AreVisited};
+ghost use Rattle.bundle_view.specs.Search.{FollowsOffers, HasSearched, IsBackFrom, IsSearchBegun};
+ghost use Rattle.bundle_view.specs.Search.{IsEdgeDue, Stride};
 
 use crate::waiting::Waiting;
 use bundle_doc::Document;
@@ -15,8 +18,8 @@ use spiffe_name::TrustDomain;
 use std::alloc::{AllocError, Global};
 use std::marker::Model;
 
-/// A receipt that was come to: the place of the step that led to it, where that was none of a configured document, and
-/// how many receipts the chain to it has.
+/// A receipt that was come to: the place of the step that led to it, where that was none of a
+/// configured document, and how many receipts the chain to it has.
 #[derive(Drop)]
 pub(crate) struct Step<'a> {
     receipt: &'a Receipt,
@@ -32,8 +35,8 @@ impl<'a> Model for Step<'a> {
     ghost view = { λ s. record { receipt = s.receipt.now; before = s.before; length = s.length } };
 }
 
-/// Goes from the configured documents on until a step is of the document, and returns the place of that step, or none
-/// where there is none.
+/// Goes from the configured documents on until a step is of the document, and returns the place of
+/// that step, or none where there is none.
 pub(crate) fn search<'a>(
     alloc: Global,
     seeds: &[Seed],
@@ -45,7 +48,8 @@ pub(crate) fn search<'a>(
     requires sorted { IsSortedByKey need_of triple_cmp waiting.now }
     requires few { length waiting.now ≤ 65536 }
     requires empty { steps.old.items ≡ [] }
-    ensures { IfOk result (HasSearched seeds.now waiting.now steps.new.items (document_of domain.now document.now)) }
+    ensures { IfOk result (HasSearched seeds.now waiting.now steps.new.items
+        (document_of domain.now document.now)) }
 {
     let mut visited = lowered(alloc, waiting.len())?;
     go_on(
@@ -66,7 +70,8 @@ fn lowered(alloc: Global, count: usize) -> Result<Vec<bool>, AllocError>
     vec![in alloc; false; count]
 }
 
-/// The receipts from the step at the place back to a configured document, in the order of their chain.
+/// The receipts from the step at the place back to a configured document, in the order of their
+/// chain.
 pub(crate) fn chain_to(
     alloc: Global,
     steps: &[Step],
@@ -102,7 +107,8 @@ fn go_on<'a>(
     requires few { length waiting.now ≤ 65536 }
     requires visits { AreVisited waiting.now visited.old steps.old.items 1 }
     requires empty { steps.old.items ≡ [] }
-    ensures { IfOk result (HasSearched seeds.now waiting.now steps.new.items (document_of domain.now document.now)) }
+    ensures { IfOk result (HasSearched seeds.now waiting.now steps.new.items
+        (document_of domain.now document.now)) }
 {
     follow_seeds(alloc, seeds, waiting, visited, steps)?;
     let mut place = 0;
@@ -154,9 +160,11 @@ fn follow_step<'a>(
     requires sorted { IsSortedByKey need_of triple_cmp waiting.now }
     requires few { length waiting.now ≤ 65536 }
     requires within { place < length steps.old.items }
-    requires visits { (s : Stride) → slice_get steps.old.items place ≡ Some s → AreVisited waiting.now visited.old steps.old.items (s.length + 1) }
+    requires visits { (s : Stride) → slice_get steps.old.items place ≡ Some s
+        → AreVisited waiting.now visited.old steps.old.items (s.length + 1) }
     ensures { (s : Stride) → slice_get steps.old.items place ≡ Some s
-        → OnOk result (FollowsOffers waiting.now (offers_of (pair_of s.receipt)) (Some place) (s.length + 1) steps.old.items visited.new steps.new.items) }
+        → OnOk result (FollowsOffers waiting.now (offers_of (pair_of s.receipt)) (Some place)
+        (s.length + 1) steps.old.items visited.new steps.new.items) }
 {
     let step = &steps[place];
     let (receipt, chain_len) = (step.receipt, step.length + 1);
@@ -182,7 +190,8 @@ fn follow<'a>(
     requires sorted { IsSortedByKey need_of triple_cmp waiting.now }
     requires early { chain_len ≤ length steps.old.items + 1 }
     requires visits { AreVisited waiting.now visited.old steps.old.items chain_len }
-    ensures { OnOk result (FollowsOffers waiting.now offers.now before chain_len steps.old.items visited.new steps.new.items) }
+    ensures { OnOk result (FollowsOffers waiting.now offers.now before chain_len steps.old.items
+        visited.new steps.new.items) }
 {
     for offer in offers {
         follow_offer(waiting, visited, steps, offer, before, chain_len)?;
@@ -190,8 +199,8 @@ fn follow<'a>(
     Ok(())
 }
 
-/// Adds a step for each receipt that needs this, unless they were come to before: all that need the same are come to
-/// together.
+/// Adds a step for each receipt that needs this, unless they were come to before: all that need the
+/// same are come to together.
 fn follow_offer<'a>(
     waiting: &[Waiting<'a>],
     visited: &mut [bool],
@@ -203,7 +212,8 @@ fn follow_offer<'a>(
     requires sorted { IsSortedByKey need_of triple_cmp waiting.now }
     requires early { chain_len ≤ length steps.old.items + 1 }
     requires visits { AreVisited waiting.now visited.old steps.old.items chain_len }
-    ensures { OnOk result (FollowsOffers waiting.now (offer.now ∷ []) before chain_len steps.old.items visited.new steps.new.items) }
+    ensures { OnOk result (FollowsOffers waiting.now (offer.now ∷ []) before chain_len
+        steps.old.items visited.new steps.new.items) }
 {
     let mut place = waiting.partition_point(|receipt| receipt.is_before(offer));
     'receipts: while is_due(waiting, visited, offer, place) {

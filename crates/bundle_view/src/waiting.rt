@@ -79,7 +79,8 @@ impl<'a> Distrusted<'a> {
     }
 }
 
-/// The held receipts whose key is not distrusted in the endpoint's trust domain, rising by what they need.
+/// The held receipts whose key is not distrusted in the endpoint's trust domain, rising by what
+/// they need.
 pub(crate) fn list_waiting<'a, C: Closure>(
     alloc: Global,
     closure: &'a C,
@@ -127,7 +128,8 @@ fn list_trusted<'a, C: Closure>(
 /// Whether a record names the key in the domain.
 fn is_distrusted(records: &[Distrusted], need: &Triple) -> bool
     requires { IsStrictlySortedBy distrust_cmp records.now }
-    ensures { IsTrue result ↔ Contains records.now (record { domain = need.now.domain; key = need.now.key }) }
+    ensures { IsTrue result
+        ↔ Contains records.now (record { domain = need.now.domain; key = need.now.key }) }
 {
     records
         .binary_search_by(|distrusted| distrusted.compare(&need.domain, need.key))

@@ -1,12 +1,15 @@
--- The lines of a stream of bytes: a list of lines, each ended by a line feed, and a rest without one.
-use Rattle.std.specs.Prelude.{◌≢◌, ◌<◌, ℕ, Bool, ◌==◌, ◌++◌, true, false, ⊤, List, [], ◌∷◌, length, Option, Some, None, All}
+-- The lines of a stream of bytes: a list of lines, each ended by a line feed, and a rest without
+-- one.
+use Rattle.std.specs.Prelude.{◌≢◌, ◌<◌, ℕ, Bool, ◌==◌, ◌++◌, true, false, ⊤, List, [], ◌∷◌, length}
+use Rattle.std.specs.Prelude.{Option, Some, None, All}
 use Rattle.std.specs.Io.KnownBytes.{Consumes}
 
 pub record Lines : Type 0 where
   pub whole : List (List ℕ)
   pub rest : List ℕ
 
--- a byte that is no line feed goes to the front of the first line, or of the rest where there is no line
+-- a byte that is no line feed goes to the front of the first line, or of the rest where there is no
+-- line
 abbrev pub before : ℕ → List (List ℕ) → List ℕ → Lines
 before b [] rest = record { whole = []; rest = b ∷ rest }
 before b (text ∷ others) rest = record { whole = (b ∷ text) ∷ others; rest = rest }
@@ -23,7 +26,8 @@ lines_of (b ∷ bytes) = with_byte (b == 10) b (lines_of bytes)
 abbrev pub HasNoFeed : List ℕ → Type 0
 HasNoFeed bytes = All (λ b. b ≢ 10) bytes
 
--- `text`, which has no line feed, is the first line of the stream `old`, and `new` is what follows its line feed
+-- `text`, which has no line feed, is the first line of the stream `old`, and `new` is what follows
+-- its line feed
 abbrev pub HasLine : Option (List ℕ) → Option (List ℕ) → List ℕ → Type 0
 HasLine old new text = HasNoFeed text × Consumes old new (text ++ (10 ∷ []))
 

@@ -1,6 +1,8 @@
--- What a call over a `LineBuf` says of the stream: the bytes that the buffer keeps, followed by those that the source
--- still has. Where the source cannot tell them, nothing is said of the stream.
-use Rattle.std.specs.Prelude.{◌≡◌, ℕ, ◌+◌, ◌<◌, ◌≤◌, ◌++◌, List, [], length, if◌then◌else◌, Option, Result, IfOk, IsErrOf}
+-- What a call over a `LineBuf` says of the stream: the bytes that the buffer keeps, followed by
+-- those that the source still has. Where the source cannot tell them, nothing is said of the
+-- stream.
+use Rattle.std.specs.Prelude.{◌≡◌, ℕ, ◌+◌, ◌<◌, ◌≤◌, ◌++◌, List, [], length, if◌then◌else◌, Option}
+use Rattle.std.specs.Prelude.{Result, IfOk, IsErrOf}
 use Rattle.std.specs.Io.KnownBytes.{Keeps, IsAtEnd, prepend_known}
 use Rattle.byte_lines.specs.Lines.{HasLine, HasNoLine, HasMore}
 use Rattle.byte_lines.specs.Inside.Ahead.{ahead_of}
@@ -29,12 +31,16 @@ FindsLine old new Cut = HasNoLine old × HasMore old × IsAtEnd new
 FindsLine old new End = IsAtEnd old × IsAtEnd new
 
 -- what a call of `next_line` does to a buffer and its source
-pub record TakesLine {S : Type 0} (remaining : S → Option (List ℕ)) (budget : S → ℕ) (old : LineBuf) (before : S) (new : LineBuf) (after : S) (result : Result Line DeviceError) : Type 0 where
+pub record TakesLine {S : Type 0} (remaining : S → Option (List ℕ)) (budget : S → ℕ) (old : LineBuf)
+    (before : S) (new : LineBuf) (after : S) (result : Result Line DeviceError) : Type 0 where
   -- the line is the first of the stream, and the stream loses it
-  pub finds : IfOk result (FindsLine (stream_of remaining old before) (stream_of remaining new after))
+  pub finds : IfOk result
+      (FindsLine (stream_of remaining old before) (stream_of remaining new after))
   -- want of memory loses no byte
-  pub keeps : IsErrOf result NoMemory → Keeps (stream_of remaining old before) (stream_of remaining new after)
+  pub keeps : IsErrOf result NoMemory
+      → Keeps (stream_of remaining old before) (stream_of remaining new after)
   -- the stream never grows
   pub spends : left_of budget new after ≤ left_of budget old before
   -- and it shrinks wherever it has not come to its end
-  pub falls : IfOk result (λ line. (line ≡ End → ⊥) → left_of budget new after < left_of budget old before)
+  pub falls : IfOk result
+      (λ line. (line ≡ End → ⊥) → left_of budget new after < left_of budget old before)

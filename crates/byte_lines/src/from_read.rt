@@ -1,5 +1,6 @@
 //! A source made of a reader of std.
-ghost use Rattle.std.specs.Prelude.{◌≡◌, ◌+◌, ◌-◌, ◌^◌, ◌≤◌, false, is_err, IsErr, IfOk, OnErr, OkIff, MatchResult};
+ghost use Rattle.std.specs.Prelude.{◌≡◌, ◌+◌, ◌-◌, ◌^◌, ◌≤◌, false, is_err, IsErr, IfOk, OnErr};
+ghost use Rattle.std.specs.Prelude.{OkIff, MatchResult};
 ghost use Rattle.std.proofs.Common.{rules};
 
 use crate::error::Fault;

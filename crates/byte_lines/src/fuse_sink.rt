@@ -48,13 +48,16 @@ impl<W: Sink> Sink for FuseSink<W> {
     fn write(&mut self, bytes: &[u8]) -> Result<usize, Fault>
         ensures bound { WritesAtMost result bytes.now }
         ensures progress { IfOk result (λ n. 0 < length bytes.now → 0 < n) }
-        ensures appends { WriteAppends (W.contents (sink_of self.old)) (W.contents (sink_of self.new)) result bytes.now }
+        ensures appends { WriteAppends (W.contents (sink_of self.old))
+            (W.contents (sink_of self.new)) result bytes.now }
         ensures fault { (sink_blew self.new || W.has_failed (sink_of self.new)) ≡ is_err result }
-        ensures lasting { OnOk result ((sink_blew self.old || W.has_failed (sink_of self.old)) ≡ false) }
+        ensures lasting { OnOk result
+            ((sink_blew self.old || W.has_failed (sink_of self.old)) ≡ false) }
 
         // It blows at the write after the last one that it passes on.
         ensures blows { sink_blew self.new ≡ (sink_blew self.old || (writes_left self.old == 0)) }
-        ensures counts { sink_blew self.new ≡ false → writes_left self.new + 1 ≡ writes_left self.old }
+        ensures counts { sink_blew self.new ≡ false
+            → writes_left self.new + 1 ≡ writes_left self.old }
     {
         if self.blown || self.calls_left == 0 {
             self.blown = true;

@@ -1,5 +1,6 @@
 //! A source that fails after a number of reads, with which a fault in mid-stream is tried.
-ghost use Rattle.std.specs.Prelude.{◌≡◌, ◌==◌, ◌||◌, ◌+◌, ◌<◌, ◌≤◌, false, length, take, is_err, IfOk, OnOk};
+ghost use Rattle.std.specs.Prelude.{◌≡◌, ◌==◌, ◌||◌, ◌+◌, ◌<◌, ◌≤◌, false, length, take, is_err};
+ghost use Rattle.std.specs.Prelude.{IfOk, OnOk};
 ghost use Rattle.std.specs.Io.{ReadsAtMost};
 ghost use Rattle.std.specs.Io.KnownBytes.{Consumes, IsAtEnd};
 
@@ -51,13 +52,16 @@ impl<S: Source> Source for FuseSource<S> {
         ensures spends { IfOk result
             (λ n. S.budget (source_of self.new) + n ≤ S.budget (source_of self.old)) }
         ensures budget_falls { S.budget (source_of self.new) ≤ S.budget (source_of self.old) }
-        ensures fault { (source_blew self.new || S.has_failed (source_of self.new)) ≡ is_err result }
+        ensures fault { (source_blew self.new || S.has_failed (source_of self.new))
+            ≡ is_err result }
         ensures lasting { OnOk result
             ((source_blew self.old || S.has_failed (source_of self.old)) ≡ false) }
 
         // It blows at the read after the last one that it passes on.
-        ensures blows { source_blew self.new ≡ (source_blew self.old || (reads_left self.old == 0)) }
-        ensures counts { source_blew self.new ≡ false → reads_left self.new + 1 ≡ reads_left self.old }
+        ensures blows { source_blew self.new
+            ≡ (source_blew self.old || (reads_left self.old == 0)) }
+        ensures counts { source_blew self.new ≡ false
+            → reads_left self.new + 1 ≡ reads_left self.old }
     {
         if self.blown || self.calls_left == 0 {
             self.blown = true;

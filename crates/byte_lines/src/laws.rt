@@ -1,26 +1,31 @@
-//! What follows from the definitions alone. A call that needs a law calls its function, which does nothing, and cites
-//! what it ensures.
+//! What follows from the definitions alone. A call that needs a law calls its function, which does
+//! nothing, and cites what it ensures.
 ghost use Rattle.std.specs.Prelude.{◌≡◌, [], ◌∷◌, ◌++◌, ℕ, List, Option};
 ghost use Rattle.std.specs.Io.KnownBytes.{Appends};
 ghost use Rattle.byte_lines.specs.Device.{AppendsBeginning};
 ghost use Rattle.byte_lines.specs.Lines.{HasNoFeed, lines_of, with_line};
 
-/// One piece after another is both together, and a beginning of the first, or the first and a beginning of
-/// the second, is a beginning of both.
+/// One piece after another is both together, and a beginning of the first, or the first and a
+/// beginning of the second, is a beginning of both.
 pub fn pieces()
     ensures none { (old : Option (List ℕ)) → Appends old old [] }
-    ensures both { (old between new : Option (List ℕ)) (first second : List ℕ) → Appends old between first
+    ensures both { (old between new : Option (List ℕ)) (first second : List ℕ)
+        → Appends old between first
         → Appends between new second → Appends old new (first ++ second) }
-    ensures in_first { (old new : Option (List ℕ)) (first second : List ℕ) → AppendsBeginning old new first
+    ensures in_first { (old new : Option (List ℕ)) (first second : List ℕ)
+        → AppendsBeginning old new first
         → AppendsBeginning old new (first ++ second) }
-    ensures in_second { (old between new : Option (List ℕ)) (first second : List ℕ) → Appends old between first
+    ensures in_second { (old between new : Option (List ℕ)) (first second : List ℕ)
+        → Appends old between first
         → AppendsBeginning between new second → AppendsBeginning old new (first ++ second) }
 {}
 
-/// The lines of bytes, as they are taken from a stream: a text without a line feed that one follows is the first line,
-/// before the lines of what comes after it, and a text without any line feed is the rest.
+/// The lines of bytes, as they are taken from a stream: a text without a line feed that one follows
+/// is the first line, before the lines of what comes after it, and a text without any line feed is
+/// the rest.
 pub fn streams()
     ensures line { (text after : List ℕ) → HasNoFeed text
         → lines_of ((text ++ (10 ∷ [])) ++ after) ≡ with_line text (lines_of after) }
-    ensures rest { (text : List ℕ) → HasNoFeed text → lines_of text ≡ record { whole = []; rest = text } }
+    ensures rest { (text : List ℕ) → HasNoFeed text
+        → lines_of text ≡ record { whole = []; rest = text } }
 {}

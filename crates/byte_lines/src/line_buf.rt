@@ -1,5 +1,7 @@
 //! Lines of a source.
-ghost use Rattle.std.specs.Prelude.{◌≡◌, ◌+◌, ◌-◌, ◌<◌, ◌≤◌, ◌||◌, ◌++◌, ◌∷◌, ℕ, List, true, false, [], length, take, drop, is_err, IfOk, OnOk, OnErr, IsErrOf, vec_len};
+ghost use Rattle.std.specs.Prelude.{◌≡◌, ◌+◌, ◌-◌, ◌<◌, ◌≤◌, ◌||◌, ◌++◌, ◌∷◌, ℕ, List, true, false};
+ghost use Rattle.std.specs.Prelude.{[], length, take, drop, is_err, IfOk, OnOk, OnErr, IsErrOf};
+ghost use Rattle.std.specs.Prelude.{vec_len};
 ghost use Rattle.std.specs.Borrow.{sem};
 ghost use Rattle.std.specs.Io.BufRead.{Rests};
 ghost use Rattle.std.specs.Io.KnownBytes.{Keeps, Consumes, IsAtEnd};
@@ -57,8 +59,8 @@ impl LineBuf {
         }
     }
 
-    /// The next line of what is kept followed by what the source still has. Each byte is copied once,
-    /// and of a line that is too long nothing is kept while the rest of it is passed.
+    /// The next line of what is kept followed by what the source still has. Each byte is copied
+    /// once, and of a line that is too long nothing is kept while the rest of it is passed.
     ///
     /// # Errors
     ///
@@ -67,7 +69,8 @@ impl LineBuf {
     pub fn next_line<R: Source>(&mut self, source: &mut R) -> Result<Line<'_>, DeviceError>
         ensures* takes { sem 𝓛 (Rests the_row self.entry (λ new.
             TakesLine R.remaining R.budget self.old source.old new source.new result)) }
-        ensures fault { R.has_failed source.new ≡ (is_source_fault result || R.has_failed source.old) }
+        ensures fault { R.has_failed source.new
+            ≡ (is_source_fault result || R.has_failed source.old) }
     {
         match self.advance(source)? {
             Found::Text => Ok(Line::Text(self.line.as_slice())),
@@ -79,8 +82,10 @@ impl LineBuf {
 
     // The same without the line itself, which is then the one that was given.
     fn advance<R: Source>(&mut self, source: &mut R) -> Result<Found, DeviceError>
-        ensures takes { TakesFound R.remaining R.budget self.old source.old self.new source.new result }
-        ensures fault { R.has_failed source.new ≡ (is_source_fault result || R.has_failed source.old) }
+        ensures takes { TakesFound R.remaining R.budget self.old source.old self.new source.new
+            result }
+        ensures fault { R.has_failed source.new
+            ≡ (is_source_fault result || R.has_failed source.old) }
     {
         self.begin()?;
         'pieces: while self.ahead.fill(source)? {

@@ -1,5 +1,6 @@
 //! A sink into memory.
-ghost use Rattle.std.specs.Prelude.{◌≡◌, [], ◌-◌, ◌<◌, ◌≤◌, min, length, false, is_err, IfOk, OnOk, OnErr, vec_len, vec_capacity, Some};
+ghost use Rattle.std.specs.Prelude.{◌≡◌, [], ◌-◌, ◌<◌, ◌≤◌, min, length, false, is_err, IfOk, OnOk};
+ghost use Rattle.std.specs.Prelude.{OnErr, vec_len, vec_capacity, Some};
 ghost use Rattle.std.specs.Io.{WritesAtMost};
 ghost use Rattle.std.specs.Io.KnownBytes.{WriteAppends};
 
@@ -7,8 +8,8 @@ use crate::error::Fault;
 use crate::sink::Sink;
 use std::alloc::{AllocError, Global};
 
-/// A sink in memory with room for this many bytes, made at the start. Of bytes that pass its room it
-/// takes what fits, and a write into a full one fails.
+/// A sink in memory with room for this many bytes, made at the start. Of bytes that pass its room
+/// it takes what fits, and a write into a full one fails.
 #[derive(Drop)]
 pub struct MemSink {
     bytes: Vec<u8>,
@@ -53,13 +54,15 @@ impl Sink for MemSink {
     fn write(&mut self, bytes: &[u8]) -> Result<usize, Fault>
         ensures bound { WritesAtMost result bytes.now }
         ensures progress { IfOk result (λ n. 0 < length bytes.now → 0 < n) }
-        ensures appends { WriteAppends (Some (written_bytes self.old)) (Some (written_bytes self.new)) result bytes.now }
+        ensures appends { WriteAppends (Some (written_bytes self.old))
+            (Some (written_bytes self.new)) result bytes.now }
         ensures fault { overran self.new ≡ is_err result }
         ensures lasting { OnOk result (overran self.old ≡ false) }
 
         // It takes what fits, and fails only where it was full and there were bytes to write.
         ensures fitting { IfOk result
-            (λ n. n ≡ min (length bytes.now) (sink_room self.old - length (written_bytes self.old))) }
+            (λ n. n ≡ min (length bytes.now)
+            (sink_room self.old - length (written_bytes self.old))) }
         ensures full { OnErr result (overran self.old ≡ false →
             (0 < length bytes.now) × (length (written_bytes self.old) ≡ sink_room self.old)) }
         ensures room { sink_room self.new ≡ sink_room self.old }

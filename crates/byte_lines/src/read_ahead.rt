@@ -1,5 +1,6 @@
 //! A chunk of the bytes of a source, read ahead of the lines in them.
-ghost use Rattle.std.specs.Prelude.{◌≡◌, ◌+◌, ◌<◌, ◌≤◌, ◌||◌, ℕ, List, true, false, [], length, take, drop, is_err, IfOk, OnOk, vec_len};
+ghost use Rattle.std.specs.Prelude.{◌≡◌, ◌+◌, ◌<◌, ◌≤◌, ◌||◌, ℕ, List, true, false, [], length};
+ghost use Rattle.std.specs.Prelude.{take, drop, is_err, IfOk, OnOk, vec_len};
 ghost use Rattle.std.specs.Io.KnownBytes.{Keeps, Consumes, IsAtEnd, prepend_known};
 ghost use Rattle.byte_lines.specs.Lines.{HasLine, HasNoLine};
 
@@ -49,10 +50,12 @@ impl ReadAhead {
     pub(crate) fn fill<R: Source>(&mut self, source: &mut R) -> Result<bool, Fault>
         requires { 0 < chunk_room self.old }
         ensures room { chunk_room self.new ≡ chunk_room self.old }
-        ensures bytes { OnOk result (Keeps (prepend_known (ahead_of self.old) (R.remaining source.old))
+        ensures bytes { OnOk result
+            (Keeps (prepend_known (ahead_of self.old) (R.remaining source.old))
             (prepend_known (ahead_of self.new) (R.remaining source.new))) }
         ensures some { IfOk result (λ any. any ≡ true → 0 < length (ahead_of self.new)) }
-        ensures none { IfOk result (λ any. any ≡ false → (ahead_of self.new ≡ []) × IsAtEnd (R.remaining source.new)) }
+        ensures none { IfOk result
+            (λ any. any ≡ false → (ahead_of self.new ≡ []) × IsAtEnd (R.remaining source.new)) }
         ensures spends { length (ahead_of self.new) + R.budget source.new
             ≤ length (ahead_of self.old) + R.budget source.old }
         ensures fault { R.has_failed source.new ≡ (is_err result || R.has_failed source.old) }
@@ -127,7 +130,8 @@ fn read_over<R: Source>(source: &mut R, bytes: &mut Vec<u8>) -> Result<usize, Fa
     ensures bound { IfOk result (λ n. n ≤ vec_len bytes.new) }
     ensures consumes { IfOk result
         (λ n. Consumes (R.remaining source.old) (R.remaining source.new) (take n bytes.new.items)) }
-    ensures end { IfOk result (λ n. n ≡ 0 → 0 < vec_len bytes.old → IsAtEnd (R.remaining source.new)) }
+    ensures end { IfOk result
+        (λ n. n ≡ 0 → 0 < vec_len bytes.old → IsAtEnd (R.remaining source.new)) }
     ensures spends { IfOk result (λ n. R.budget source.new + n ≤ R.budget source.old) }
     ensures budget_falls { R.budget source.new ≤ R.budget source.old }
     ensures fault { R.has_failed source.new ≡ is_err result }

@@ -1,5 +1,7 @@
 //! Where bytes come from.
-ghost use Rattle.std.specs.Prelude.{◌≡◌, ℕ, ◌+◌, ◌^◌, ◌<◌, ◌≤◌, ◌||◌, ◌++◌, List, Bool, true, false, length, take, is_err, Option, IfOk, OnOk, IsErrOf, vec_len};
+ghost use Rattle.std.specs.Prelude.{◌≡◌, ℕ, ◌+◌, ◌^◌, ◌<◌, ◌≤◌, ◌||◌, ◌++◌, List, Bool, true};
+ghost use Rattle.std.specs.Prelude.{false, length, take, is_err, Option, IfOk, OnOk, IsErrOf};
+ghost use Rattle.std.specs.Prelude.{vec_len};
 ghost use Rattle.std.specs.Io.{ReadsAtMost};
 ghost use Rattle.std.specs.Io.KnownBytes.{Consumes, IsAtEnd};
 ghost use Rattle.byte_lines.specs.Device.{TakesUpTo, is_source_fault};
@@ -64,14 +66,14 @@ impl<S: Source> Source for &mut S {
 /// The most bytes that one read asks for.
 const CHUNK_SIZE: usize = 65_536;
 
-/// Reads until `limit` bytes are held or the source is at its end, whichever comes first. Fewer than
-/// `limit` bytes mean that the end was reached; of `limit` bytes nothing is known of the end.
+/// Reads until `limit` bytes are held or the source is at its end, whichever comes first. Fewer
+/// than `limit` bytes mean that the end was reached; of `limit` bytes nothing is known of the end.
 ///
 /// It takes memory for one chunk of at most 65,536 bytes, and for the bytes themselves, whose room
 /// grows as a `Vec` does when it is extended: so by the source's bytes and never by `limit` alone.
 ///
-/// `Io` is answered where the source failed, and `NoMemory` where the allocator refused. After either
-/// the bytes that were read are lost, and nothing is said of what remains.
+/// `Io` is answered where the source failed, and `NoMemory` where the allocator refused. After
+/// either the bytes that were read are lost, and nothing is said of what remains.
 pub fn read_up_to<R: Source>(
     alloc: Global,
     source: &mut R,
@@ -81,7 +83,8 @@ pub fn read_up_to<R: Source>(
     ensures bytes { IfOk result
         (λ taken. TakesUpTo (R.remaining source.old) (R.remaining source.new) limit taken.items) }
     ensures end { IfOk result (λ taken. vec_len taken < limit → IsAtEnd (R.remaining source.new)) }
-    ensures spends { IfOk result (λ taken. R.budget source.new + vec_len taken ≤ R.budget source.old) }
+    ensures spends { IfOk result
+        (λ taken. R.budget source.new + vec_len taken ≤ R.budget source.old) }
 
     ensures io { IsErrOf result DeviceError.Io → R.has_failed source.new ≡ true }
     ensures fault { R.has_failed source.new ≡ (is_source_fault result || R.has_failed source.old) }
@@ -97,7 +100,8 @@ pub fn read_up_to<R: Source>(
     Ok(taken)
 }
 
-// One read, by way of `chunk`, onto the end of `taken`, which stays within `limit`. Answers how many bytes came.
+// One read, by way of `chunk`, onto the end of `taken`, which stays within `limit`. Answers how
+// many bytes came.
 fn take_piece<R: Source>(
     source: &mut R,
     chunk: &mut [u8],
@@ -108,7 +112,8 @@ fn take_piece<R: Source>(
     requires room { 0 < length chunk.old }
     ensures within { vec_len taken.new ≤ limit }
     ensures grows { IfOk result (λ n. vec_len taken.new ≡ vec_len taken.old + n) }
-    ensures bytes { IfOk result (λ n. ((piece : List ℕ) × (taken.new.items ≡ taken.old.items ++ piece)
+    ensures bytes { IfOk result
+        (λ n. ((piece : List ℕ) × (taken.new.items ≡ taken.old.items ++ piece)
         × Consumes (R.remaining source.old) (R.remaining source.new) piece)) }
     ensures end { IfOk result (λ n. n ≡ 0 → IsAtEnd (R.remaining source.new)) }
     ensures spends { IfOk result (λ n. R.budget source.new + n ≤ R.budget source.old) }

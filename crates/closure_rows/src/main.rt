@@ -3,7 +3,8 @@
 //! what is observed, and polls.
 //!
 //! The script that comes on standard input has these rows. A row about a replica is given to one
-//! over the index and to one over rounds, and what comes of both is shown once where it is the same.
+//! over the index and to one over rounds, and what comes of both is shown once where it is the
+//! same.
 //!
 //! Rows that change the replica:
 //! - `replica both CONFIG`: a new one of the configuration of this name, or with `index` in place

@@ -1,5 +1,6 @@
 -- A configuration: what an operator tells a replica out of band (SPIFFE Federation, section 5).
-use Rattle.std.specs.Prelude.{◌≡◌, ℕ, ◌≤◌, ◌⊎◌, List, length, map, codes, Contains, Option, Some, None, slice_get}
+use Rattle.std.specs.Prelude.{◌≡◌, ℕ, ◌≤◌, ◌⊎◌, List, length, map, codes, Contains, Option, Some}
+use Rattle.std.specs.Prelude.{None, slice_get}
 use Rattle.std.specs.List.{AllByRecursion}
 use Rattle.std.specs.List.Sorted.{IsStrictlySortedBy}
 use Rattle.std.specs.declared.cmp.Ordering.{Ordering}
@@ -16,8 +17,8 @@ use Rattle.fed_config.specs.EndpointUrl.{IsEndpointUrl}
 use Rattle.fed_config.specs.declared.relationship.Relationship.{Relationship}
 use Rattle.fed_config.specs.declared.seed.Seed.{Seed}
 
--- A finite map of relationships, kept as the list that rises by their domains, and a finite set of seeds, kept as the
--- list that rises by domain and then by canonical text.
+-- A finite map of relationships, kept as the list that rises by their domains, and a finite set of
+-- seeds, kept as the list that rises by domain and then by canonical text.
 pub record Configuration : Type 0 where
   pub relationships : List Relationship
   pub seeds : List Seed
@@ -30,7 +31,8 @@ abbrev pub relationship_cmp : Relationship → Relationship → Ordering
 relationship_cmp a b = domain_cmp a.domain b.domain
 
 abbrev pub seed_cmp : Seed → Seed → Ordering
-seed_cmp a b = ordering_then (domain_cmp a.domain b.domain) (slice_cmp nat_cmp (canonical_text a.document) (canonical_text b.document))
+seed_cmp a b = ordering_then (domain_cmp a.domain b.domain)
+    (slice_cmp nat_cmp (canonical_text a.document) (canonical_text b.document))
 
 -- the domains that the configuration speaks of
 abbrev pub HasDomain : Configuration → List ℕ → Type 0
@@ -67,24 +69,33 @@ pub record IsConfiguration (c : Configuration) : Type 0 where
 -- where the domain stands among the configuration's domains, if it is one
 abbrev pub IsPlace : Configuration → List ℕ → Option ℕ → Type 0
 IsPlace c domain None = HasDomain c domain → ⊥
-IsPlace c domain (Some place) = (domains : List (List ℕ)) → AreDomains c domains → slice_get domains place ≡ Some domain
+IsPlace c domain (Some place) = (domains : List (List ℕ)) → AreDomains c domains
+    → slice_get domains place ≡ Some domain
 
 -- the relationship with the domain, if there is one
 abbrev pub IsRelationshipOf : Configuration → List ℕ → Option Relationship → Type 0
-IsRelationshipOf c domain None = (r : Relationship) → Contains c.relationships r → r.domain ≡ domain → ⊥
+IsRelationshipOf c domain None = (r : Relationship) → Contains c.relationships r → r.domain ≡ domain
+    → ⊥
 IsRelationshipOf c domain (Some r) = Contains c.relationships r × (r.domain ≡ domain)
 
 -- ---- the canonical text
 
 abbrev pub relationship_tree : Relationship → Data
-relationship_tree r = object (member (codes "domain") (string r.domain) (member (codes "endpoint") (string r.endpoint.text) (member (codes "profile") (string (codes "https_spiffe")) (member (codes "url") (string r.url) no_members))))
+relationship_tree r = object
+    (member (codes "domain") (string r.domain)
+    (member (codes "endpoint") (string r.endpoint.text)
+    (member (codes "profile") (string (codes "https_spiffe"))
+    (member (codes "url") (string r.url) no_members))))
 
 abbrev pub seed_tree : Seed → Data
-seed_tree s = object (member (codes "bundle") (document_tree s.document) (member (codes "domain") (string s.domain) no_members))
+seed_tree s = object (member (codes "bundle") (document_tree s.document)
+    (member (codes "domain") (string s.domain) no_members))
 
 -- the object that says just the configuration
 abbrev pub config_tree : Configuration → Data
-config_tree c = object (member (codes "relationships") (array (items_of (map relationship_tree c.relationships))) (member (codes "seeds") (array (items_of (map seed_tree c.seeds))) no_members))
+config_tree c = object (member (codes "relationships")
+    (array (items_of (map relationship_tree c.relationships)))
+    (member (codes "seeds") (array (items_of (map seed_tree c.seeds))) no_members))
 
 -- unfolded only where a configuration is written or read
 unfoldable pub config_text : Configuration → List ℕ
@@ -94,12 +105,14 @@ config_text c = compact_text (config_tree c)
 unfoldable pub config_id_of : Configuration → List ℕ
 config_id_of c = sha256 (config_text c)
 
--- each kept URL is within the limit of what is read: escaping may make it longer than the text that was read
+-- each kept URL is within the limit of what is read: escaping may make it longer than the text that
+-- was read
 abbrev pub HasShortUrls : Configuration → Type 0
 HasShortUrls c = AllByRecursion (λ r. length r.url ≤ 2048) c.relationships
 
 -- a configuration in memory: beside its domains and its id
-pub record IsStoredConfiguration (c : Configuration) (domains : List (List ℕ)) (id : List ℕ) : Type 0 where
+pub record IsStoredConfiguration (c : Configuration) (domains : List (List ℕ))
+    (id : List ℕ) : Type 0 where
   pub is : IsConfiguration c
   pub are_domains : AreDomains c domains
   pub digest : id ≡ config_id_of c

@@ -3,8 +3,8 @@ use Rattle.std.specs.Prelude.{◌≡◌, ℕ, ◌≤◌, List, [], length, codes
 use Rattle.url.specs.Parts.{Parts, IsValid, serialize}
 use Rattle.url.specs.Parser.{parse_url}
 
--- The text has at most 2,048 bytes. The URL Standard parses it to these parts: the scheme `https`, and neither a user
--- name nor a password.
+-- The text has at most 2,048 bytes. The URL Standard parses it to these parts: the scheme `https`,
+-- and neither a user name nor a password.
 pub record IsParsed (text : List ℕ) (parts : Parts) : Type 0 where
   pub limit : length text ≤ 2048
   pub parses : parse_url None text ≡ Ok parts
@@ -12,7 +12,8 @@ pub record IsParsed (text : List ℕ) (parts : Parts) : Type 0 where
   pub username : parts.username ≡ []
   pub password : parts.password ≡ []
 
--- the text is kept as it is serialized (URL Standard, section 4.5); the parts are those that a URL can have
+-- the text is kept as it is serialized (URL Standard, section 4.5); the parts are those that a URL
+-- can have
 pub record KeepsUrl (text url : List ℕ) : Type 0 where
   pub parts : Parts
   pub parsed : IsParsed text parts

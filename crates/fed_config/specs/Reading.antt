@@ -1,5 +1,6 @@
 -- What a text means as a configuration, and why it is none.
-use Rattle.std.specs.Prelude.{◌≡◌, ℕ, ◌<◌, ◌≤◌, ◌↔◌, ◌⊎◌, ⊤, List, [], ◌∷◌, length, codes, Contains, count_by, bytes_eq}
+use Rattle.std.specs.Prelude.{◌≡◌, ℕ, ◌<◌, ◌≤◌, ◌↔◌, ◌⊎◌, ⊤, List, [], ◌∷◌, length, codes, Contains}
+use Rattle.std.specs.Prelude.{count_by, bytes_eq}
 use Rattle.std.specs.Str.{IsUtf8}
 use Rattle.std.specs.List.{AllByRecursion, AllZip}
 use Rattle.std.specs.List.Sorted.{IsStrictlySortedBy}
@@ -14,12 +15,15 @@ use Rattle.bundle_doc.specs.declared.error.DocError.TheVariants as doc_error
 use Rattle.url.specs.Parts.{Parts}
 use Rattle.fed_config.specs.EndpointUrl.{IsParsed, KeepsUrl}
 use Rattle.fed_config.specs.Written.{RelationshipText, SeedText, Written, SaysWritten, IsText}
-use Rattle.fed_config.specs.Configuration.{Configuration, IsConfiguration, IsRelationship, IsSeed, AreDomains, relationship_cmp, seed_cmp}
+use Rattle.fed_config.specs.Configuration.{Configuration, IsConfiguration, IsRelationship, IsSeed}
+use Rattle.fed_config.specs.Configuration.{AreDomains, relationship_cmp, seed_cmp}
 use Rattle.fed_config.specs.declared.relationship.Relationship.{Relationship}
 use Rattle.fed_config.specs.declared.seed.Seed.{Seed}
 use Rattle.fed_config.specs.declared.names.Names.{Names}
 use Rattle.fed_config.specs.declared.error.ConfigError.{ConfigError}
-use Rattle.fed_config.specs.declared.error.ConfigError.TheVariants.{NotJson, Shape, BadName, BadUrl, BadProfile, DoubleRelationship, BadSeed, TooMany, NoMemory}
+use Rattle.fed_config.specs.declared.error.ConfigError.TheVariants.{NotJson, Shape, BadName, BadUrl}
+use Rattle.fed_config.specs.declared.error.ConfigError.TheVariants.{BadProfile, DoubleRelationship}
+use Rattle.fed_config.specs.declared.error.ConfigError.TheVariants.{BadSeed, TooMany, NoMemory}
 
 -- ---- the meaning
 
@@ -78,7 +82,8 @@ pub record HasName (t : RelationshipText) : Type 0 where
   pub endpoint : IsIdText t.endpoint endpoint_domain endpoint_path
 
 abbrev pub HasNames : Written → Type 0
-HasNames w = AllByRecursion HasName w.relationships × AllByRecursion (λ t. IsDomainText t.domain) w.seeds
+HasNames w = AllByRecursion HasName w.relationships
+    × AllByRecursion (λ t. IsDomainText t.domain) w.seeds
 
 abbrev pub HasUrls : Written → Type 0
 HasUrls w = AllByRecursion (λ t. (parts : Parts) × IsParsed t.url parts) w.relationships
@@ -93,7 +98,8 @@ HasDocuments w = AllByRecursion (λ t. (b : Bundle) × Means t.bundle b × Fits 
 pub record HasFew (w : Written) : Type 0 where
   pub relationships : length w.relationships ≤ 1024
   pub seeds : length w.seeds ≤ 4096
-  pub domains : (c : Configuration) (domains : List (List ℕ)) → IsMeant w c → AreDomains c domains → length domains ≤ 1024
+  pub domains : (c : Configuration) (domains : List (List ℕ)) → IsMeant w c → AreDomains c domains
+      → length domains ≤ 1024
 
 -- what is refused with this cause lacks this
 abbrev pub Passes : Written → ConfigError → Type 0
@@ -123,10 +129,12 @@ pub record RefusesWritten (w : Written) (e : ConfigError) : Type 0 where
 abbrev pub RefusesConfigText : List ℕ → ConfigError → Type 0
 RefusesConfigText bytes e = (w : Written) × IsText bytes w × RefusesWritten w e
 
--- Memory is first wanted for the value of a text that is not empty: that the bytes are UTF-8 is known before.
+-- Memory is first wanted for the value of a text that is not empty: that the bytes are UTF-8 is
+-- known before.
 abbrev pub RefusesConfigBytes : List ℕ → ConfigError → Type 0
 RefusesConfigBytes bytes NotJson = (tree : Data) → IsJson bytes tree → ⊥
-RefusesConfigBytes bytes Shape = (tree : Data) × IsJson bytes tree × ((w : Written) → SaysWritten tree w → ⊥)
+RefusesConfigBytes bytes Shape = (tree : Data) × IsJson bytes tree
+    × ((w : Written) → SaysWritten tree w → ⊥)
 RefusesConfigBytes bytes NoMemory = IsUtf8 bytes × (0 < length bytes)
 RefusesConfigBytes bytes e = RefusesConfigText bytes e
 

@@ -27,9 +27,11 @@ abbrev pub count_of : Members → ℕ
 count_of no_members = 0
 count_of (member name d others) = suc (count_of others)
 
--- The value is an object with so many members. With as many names that are found in it, these are all.
+-- The value is an object with so many members. With as many names that are found in it, these are
+-- all.
 abbrev pub HasCount : Data → ℕ → Type 0
-HasCount tree count = (members : Members) × (as_object tree ≡ Some members) × (count_of members ≡ count)
+HasCount tree count = (members : Members) × (as_object tree ≡ Some members)
+    × (count_of members ≡ count)
 
 -- an object with exactly these four members, all texts
 pub record SaysRelationshipText (tree : Data) (t : RelationshipText) : Type 0 where
@@ -49,7 +51,8 @@ pub record SaysSeedText (tree : Data) (t : SeedText) : Type 0 where
 abbrev pub HasArray : Data → List ℕ → List Data → Type 0
 HasArray tree name elements = get name tree ≡ Some (array (items_of elements))
 
--- an object with exactly these two members, both arrays, whose elements say these relationships and seeds
+-- an object with exactly these two members, both arrays, whose elements say these relationships and
+-- seeds
 pub record SaysWritten (tree : Data) (w : Written) : Type 0 where
   pub count : HasCount tree 2
   pub relationships : List Data

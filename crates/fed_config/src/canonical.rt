@@ -4,7 +4,8 @@ ghost use Rattle.json.specs.Print.{quoted};
 ghost use Rattle.serde_json.specs.View.{items_of, view};
 ghost use Rattle.serde_json.specs.Written.{comma_if, items_text};
 ghost use Rattle.sha2.specs.Sha256.{sha256};
-ghost use Rattle.fed_config.specs.Configuration.{config_text, config_id_of, relationship_tree, seed_tree};
+ghost use Rattle.fed_config.specs.Configuration.{config_text, config_id_of, relationship_tree};
+ghost use Rattle.fed_config.specs.Configuration.{seed_tree};
 ghost use Rattle.serde_json.specs.Written.{compact_text};
 
 use crate::id::ConfigId;
@@ -20,7 +21,8 @@ pub(crate) fn id_of(
     relationships: &[Relationship],
     seeds: &[Seed],
 ) -> Result<ConfigId, AllocError>
-    ensures { IfOk result (λ id. id.0 ≡ config_id_of (record { relationships = relationships.now; seeds = seeds.now })) }
+    ensures { IfOk result (λ id. id.0
+        ≡ config_id_of (record { relationships = relationships.now; seeds = seeds.now })) }
 {
     let text = text_of(alloc, relationships, seeds)?;
     Ok(ConfigId(digest_of(text.as_slice())))
@@ -40,7 +42,8 @@ fn text_of(
     relationships: &[Relationship],
     seeds: &[Seed],
 ) -> Result<Vec<u8>, AllocError>
-    ensures { IfOk result (λ v. v.items ≡ config_text (record { relationships = relationships.now; seeds = seeds.now })) }
+    ensures { IfOk result (λ v. v.items
+        ≡ config_text (record { relationships = relationships.now; seeds = seeds.now })) }
 {
     let mut out = Vec::new(alloc);
     out.extend_from_slice(b"{\"relationships\":[")?;
@@ -57,7 +60,8 @@ fn write_relationships(
     out: &mut Vec<u8>,
     relationships: &[Relationship],
 ) -> Result<(), AllocError>
-    ensures { OnOk result (out.new.items ≡ out.old.items ++ items_text false (items_of (map relationship_tree relationships.now))) }
+    ensures { OnOk result (out.new.items
+        ≡ out.old.items ++ items_text false (items_of (map relationship_tree relationships.now))) }
 {
     let mut later = false;
     for relationship in relationships {
@@ -71,7 +75,8 @@ fn write_relationships(
 
 /// Writes the seeds, and the bracket behind them.
 fn write_seeds(alloc: Global, out: &mut Vec<u8>, seeds: &[Seed]) -> Result<(), AllocError>
-    ensures { OnOk result (out.new.items ≡ out.old.items ++ items_text false (items_of (map seed_tree seeds.now))) }
+    ensures { OnOk result (out.new.items
+        ≡ out.old.items ++ items_text false (items_of (map seed_tree seeds.now))) }
 {
     let mut later = false;
     for seed in seeds {
@@ -97,7 +102,8 @@ fn write_relationship(
     out: &mut Vec<u8>,
     relationship: &Relationship,
 ) -> Result<(), AllocError>
-    ensures { OnOk result (out.new.items ≡ out.old.items ++ compact_text (relationship_tree relationship.now)) }
+    ensures { OnOk result (out.new.items
+        ≡ out.old.items ++ compact_text (relationship_tree relationship.now)) }
 {
     out.extend_from_slice(b"{\"domain\":")?;
     write_text(alloc, out, relationship.domain.as_str())?;

@@ -1,6 +1,7 @@
 //! Configurations, and what they are asked.
 ghost use Rattle.std.specs.Prelude.{◌≡◌, IfOk, option_copied};
-ghost use Rattle.fed_config.specs.Configuration.{AreDomains, IsConfiguration, IsRelationshipOf, IsPlace, config_id_of};
+ghost use Rattle.fed_config.specs.Configuration.{AreDomains, IsConfiguration, IsRelationshipOf};
+ghost use Rattle.fed_config.specs.Configuration.{IsPlace, config_id_of};
 
 use crate::id::ConfigId;
 use crate::relationship::Relationship;
@@ -9,12 +10,12 @@ use spiffe_name::TrustDomain;
 use std::alloc::{AllocError, Global};
 use std::marker::Model;
 
-/// What an operator tells a replica out of band (SPIFFE Federation, section 5): at most one relationship with each foreign
-/// trust domain, and seeds, which are bundles of trust domains.
+/// What an operator tells a replica out of band (SPIFFE Federation, section 5): at most one
+/// relationship with each foreign trust domain, and seeds, which are bundles of trust domains.
 ///
-/// A configuration is its meaning: two of them are equal exactly where they have the same relationships and seeds, in
-/// whatever order these were written and however often a seed was. Each has one canonical text, and that text's digest is
-/// its id.
+/// A configuration is its meaning: two of them are equal exactly where they have the same
+/// relationships and seeds, in whatever order these were written and however often a seed was. Each
+/// has one canonical text, and that text's digest is its id.
 #[derive(Debug, Drop)]
 pub struct Config {
     pub(crate) relationships: Vec<Relationship>,
@@ -30,12 +31,14 @@ impl Model for Config {
 
     ghost view = { λ a. record { relationships = a.relationships.items; seeds = a.seeds.items } };
 
-    ghost invariant = { λ a. IsStoredConfiguration (record { relationships = a.relationships.items; seeds = a.seeds.items }) a.domains.items a.id.0 };
+    ghost invariant = { λ a. IsStoredConfiguration
+        (record { relationships = a.relationships.items; seeds = a.seeds.items }) a.domains.items
+        a.id.0 };
 }
 
 impl Config {
-    /// The trust domains that the configuration speaks of, rising: those of its relationships, of their endpoints and
-    /// of its seeds. There are at most 1,024.
+    /// The trust domains that the configuration speaks of, rising: those of its relationships, of
+    /// their endpoints and of its seeds. There are at most 1,024.
     pub fn domains(&self) -> &[TrustDomain]
         ensures all { AreDomains self.now result.now }
         ensures form { IsConfiguration self.now }
@@ -70,8 +73,8 @@ impl Config {
         self.relationships.as_slice()
     }
 
-    /// The seeds, each once, rising by their trust domains and then by their documents' canonical texts. There are at
-    /// most 4,096.
+    /// The seeds, each once, rising by their trust domains and then by their documents' canonical
+    /// texts. There are at most 4,096.
     pub fn seeds(&self) -> &[Seed]
         ensures { result.now ≡ self.now.seeds }
     {

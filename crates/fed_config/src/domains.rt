@@ -14,7 +14,8 @@ pub(crate) fn domains_of(
     relationships: &[Relationship],
     seeds: &[Seed],
 ) -> Result<Vec<TrustDomain>, AllocError>
-    ensures { IfOk result (λ v. AreDomains (record { relationships = relationships.now; seeds = seeds.now }) v.items) }
+    ensures { IfOk result (λ v. AreDomains
+        (record { relationships = relationships.now; seeds = seeds.now }) v.items) }
 {
     let mut domains = gather(alloc, relationships, seeds)?;
     domains.sort_unstable();

@@ -5,20 +5,22 @@ ghost use Rattle.fed_config.specs.declared.error.ConfigError.TheVariants.{NoMemo
 use std::alloc::{AllocError, AllocFailed};
 use thiserror::Error;
 
-/// Why bytes are no configuration. Of several causes the first of this list is returned, wherever they stand, but for
-/// lack of memory, which may come at any time.
+/// Why bytes are no configuration. Of several causes the first of this list is returned, wherever
+/// they stand, but for lack of memory, which may come at any time.
 #[derive(Clone, Copy, Debug, PartialEq, Eq, Error)]
 pub enum ConfigError {
     /// The bytes are no JSON text (RFC 8259), or they nest deeper than 127 levels.
     #[error("C1 NotJson")]
     NotJson,
-    /// The value, a relationship or a seed is no object with exactly its members, or a member is not what it has to be.
+    /// The value, a relationship or a seed is no object with exactly its members, or a member is
+    /// not what it has to be.
     #[error("C2 Shape")]
     Shape,
     /// A `domain` does not name a trust domain, or what stands as an `endpoint` is no SPIFFE ID.
     #[error("C3 BadName")]
     BadName,
-    /// A `url` is no URL, has more than 2,048 bytes, another scheme than `https`, a user name or a password.
+    /// A `url` is no URL, has more than 2,048 bytes, another scheme than `https`, a user name or a
+    /// password.
     #[error("C4 BadUrl")]
     BadUrl,
     /// A `profile` is not `https_spiffe`.
@@ -30,7 +32,8 @@ pub enum ConfigError {
     /// A `bundle` is no document.
     #[error("C7 BadSeed")]
     BadSeed,
-    /// More than 1,024 relationships or 4,096 seeds are written, or there are more than 1,024 trust domains.
+    /// More than 1,024 relationships or 4,096 seeds are written, or there are more than 1,024 trust
+    /// domains.
     #[error("C8 TooMany")]
     TooMany,
     /// Memory ran out.

@@ -4,8 +4,8 @@ ghost use Rattle.hex.specs.Hex.{encode_lower};
 
 use std::{fmt, str};
 
-/// The id of a configuration: the SHA-256 (FIPS 180-4, section 6.2) of its canonical text. Equal configurations
-/// have one id. It prints as 64 lower-case hexadecimal digits.
+/// The id of a configuration: the SHA-256 (FIPS 180-4, section 6.2) of its canonical text. Equal
+/// configurations have one id. It prints as 64 lower-case hexadecimal digits.
 #[derive(Clone, Copy, Debug, PartialEq, Eq, PartialOrd, Ord, Hash)]
 pub struct ConfigId(pub [u8; 32]);
 

@@ -1,27 +1,36 @@
 //! What follows from the definitions alone, for the crates above. No call does any work.
 ghost use Rattle.std.specs.Prelude.{◌≡◌, ◌↔◌, ℕ, List};
-ghost use Rattle.fed_config.specs.Configuration.{Configuration, IsConfiguration, AreDomains, HasShortUrls, config_text};
+ghost use Rattle.fed_config.specs.Configuration.{Configuration, IsConfiguration, AreDomains};
+ghost use Rattle.fed_config.specs.Configuration.{HasShortUrls, config_text};
 ghost use Rattle.fed_config.specs.Reading.{IsConfig, RefusesConfigBytes};
 ghost use Rattle.fed_config.specs.declared.error.ConfigError.{ConfigError};
 ghost use Rattle.fed_config.specs.declared.error.ConfigError.TheVariants.{NoMemory};
 
-/// A text is a configuration of one meaning at most. What is refused, but for memory, is a configuration of none, and is
-/// refused for one cause. A configuration's domains have one rising list.
+/// A text is a configuration of one meaning at most. What is refused, but for memory, is a
+/// configuration of none, and is refused for one cause. A configuration's domains have one rising
+/// list.
 pub fn configurations()
-    ensures one { (bytes : List ℕ) (b c : Configuration) → IsConfig bytes b → IsConfig bytes c → b ≡ c }
-    ensures none { (bytes : List ℕ) (e : ConfigError) (c : Configuration) → RefusesConfigBytes bytes e → (e ≡ NoMemory → ⊥) → IsConfig bytes c → ⊥ }
-    ensures one_cause { (bytes : List ℕ) (d e : ConfigError) → RefusesConfigBytes bytes d → RefusesConfigBytes bytes e → (d ≡ NoMemory → ⊥) → (e ≡ NoMemory → ⊥) → d ≡ e }
-    ensures one_list { (c : Configuration) (domains others : List (List ℕ)) → AreDomains c domains → AreDomains c others → domains ≡ others }
+    ensures one { (bytes : List ℕ) (b c : Configuration) → IsConfig bytes b → IsConfig bytes c
+        → b ≡ c }
+    ensures none { (bytes : List ℕ) (e : ConfigError) (c : Configuration)
+        → RefusesConfigBytes bytes e → (e ≡ NoMemory → ⊥) → IsConfig bytes c → ⊥ }
+    ensures one_cause { (bytes : List ℕ) (d e : ConfigError) → RefusesConfigBytes bytes d
+        → RefusesConfigBytes bytes e → (d ≡ NoMemory → ⊥) → (e ≡ NoMemory → ⊥) → d ≡ e }
+    ensures one_list { (c : Configuration) (domains others : List (List ℕ)) → AreDomains c domains
+        → AreDomains c others → domains ≡ others }
 {
     spiffe_name::laws::one_reading();
     bundle_doc::laws::values();
 }
 
-/// Configurations are equal exactly where their canonical texts are. The canonical text, read as a configuration, is that
-/// configuration, where each of its URLs is within the limit of 2,048 bytes also as it is kept.
+/// Configurations are equal exactly where their canonical texts are. The canonical text, read as a
+/// configuration, is that configuration, where each of its URLs is within the limit of 2,048 bytes
+/// also as it is kept.
 pub fn canonical_texts()
-    ensures one_text { (b c : Configuration) → IsConfiguration b → IsConfiguration c → (b ≡ c) ↔ (config_text b ≡ config_text c) }
-    ensures reads_back { (c : Configuration) → IsConfiguration c → HasShortUrls c → IsConfig (config_text c) c }
+    ensures one_text { (b c : Configuration) → IsConfiguration b → IsConfiguration c
+        → (b ≡ c) ↔ (config_text b ≡ config_text c) }
+    ensures reads_back { (c : Configuration) → IsConfiguration c → HasShortUrls c
+        → IsConfig (config_text c) c }
 {
     jwk_set::laws::compact_texts();
     spiffe_name::laws::one_reading();

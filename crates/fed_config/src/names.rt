@@ -6,7 +6,9 @@ ghost use Rattle.url.specs.Parts.{Parts};
 ghost use Rattle.spiffe_name.specs.TrustDomain.{IsDomainText};
 ghost use Rattle.fed_config.specs.EndpointUrl.{IsParsed};
 ghost use Rattle.fed_config.specs.Entries.{seed_text};
-ghost use Rattle.fed_config.specs.Reading.{Fails, HasName, IsProfile, SaysNames, SaysDomain, SaysUrl, SaysSeedDocument, cause_of, joined_relationship, joined_seed};
+ghost use Rattle.fed_config.specs.Reading.{Fails, HasName, IsProfile, SaysNames, SaysDomain};
+ghost use Rattle.fed_config.specs.Reading.{SaysUrl, SaysSeedDocument, cause_of};
+ghost use Rattle.fed_config.specs.Reading.{joined_relationship, joined_seed};
 
 use crate::error::ConfigError;
 use crate::relationship::{EndpointUrl, Relationship};
@@ -46,8 +48,10 @@ pub(crate) fn read_domains(
     alloc: Global,
     entries: &[SeedEntry],
 ) -> Result<Vec<TrustDomain>, ConfigError>
-    ensures { MatchResult result (λ v. AllZip (λ e domain. SaysDomain (seed_text e) domain) entries.now v.items)
-        (Fails ConfigError.BadName (AllByRecursion (λ e. IsDomainText (seed_text e).domain) entries.now)) }
+    ensures { MatchResult result
+        (λ v. AllZip (λ e domain. SaysDomain (seed_text e) domain) entries.now v.items)
+        (Fails ConfigError.BadName
+        (AllByRecursion (λ e. IsDomainText (seed_text e).domain) entries.now)) }
 {
     let mut domains = Vec::with_capacity(alloc, entries.len())?;
     for entry in entries {
@@ -62,7 +66,8 @@ pub(crate) fn read_urls(
     entries: &[RelationshipEntry],
 ) -> Result<Vec<EndpointUrl>, ConfigError>
     ensures { MatchResult result (λ v. AllZip SaysUrl entries.now v.items)
-        (Fails ConfigError.BadUrl (AllByRecursion (λ t. (parts : Parts) × IsParsed t.url parts) entries.now)) }
+        (Fails ConfigError.BadUrl
+        (AllByRecursion (λ t. (parts : Parts) × IsParsed t.url parts) entries.now)) }
 {
     let mut urls = Vec::with_capacity(alloc, entries.len())?;
     for entry in entries {
@@ -88,8 +93,10 @@ pub(crate) fn read_documents(
     alloc: Global,
     entries: &[SeedEntry],
 ) -> Result<Vec<Document>, ConfigError>
-    ensures { MatchResult result (λ v. AllZip (λ e document. SaysSeedDocument (seed_text e) document) entries.now v.items)
-        (Fails ConfigError.BadSeed (AllByRecursion (λ e. (b : Bundle) × Means (seed_text e).bundle b × Fits b) entries.now)) }
+    ensures { MatchResult result
+        (λ v. AllZip (λ e document. SaysSeedDocument (seed_text e) document) entries.now v.items)
+        (Fails ConfigError.BadSeed
+        (AllByRecursion (λ e. (b : Bundle) × Means (seed_text e).bundle b × Fits b) entries.now)) }
 {
     let mut documents = Vec::with_capacity(alloc, entries.len())?;
     for entry in entries {
@@ -133,7 +140,8 @@ pub(crate) fn join_seeds(
 }
 
 fn names_of(alloc: Global, entry: &RelationshipEntry) -> Result<Names, ConfigError>
-    ensures { MatchResult result (SaysNames entry.now) (Fails ConfigError.BadName (HasName entry.now)) }
+    ensures { MatchResult result (SaysNames entry.now)
+        (Fails ConfigError.BadName (HasName entry.now)) }
 {
     let domain = domain_of(alloc, entry.domain)?;
     match SpiffeId::read(alloc, entry.endpoint) {
@@ -144,7 +152,8 @@ fn names_of(alloc: Global, entry: &RelationshipEntry) -> Result<Names, ConfigErr
 }
 
 fn domain_of(alloc: Global, text: &str) -> Result<TrustDomain, ConfigError>
-    ensures { MatchResult result (λ d. (d ≡ text.now) × IsDomainText text.now) (Fails ConfigError.BadName (IsDomainText text.now)) }
+    ensures { MatchResult result (λ d. (d ≡ text.now) × IsDomainText text.now)
+        (Fails ConfigError.BadName (IsDomainText text.now)) }
 {
     match TrustDomain::read(alloc, text) {
         Ok(domain) => Ok(domain),
@@ -154,7 +163,8 @@ fn domain_of(alloc: Global, text: &str) -> Result<TrustDomain, ConfigError>
 }
 
 fn url_of(alloc: Global, entry: &RelationshipEntry) -> Result<EndpointUrl, ConfigError>
-    ensures { MatchResult result (SaysUrl entry.now) (Fails ConfigError.BadUrl ((parts : Parts) × IsParsed entry.now.url parts)) }
+    ensures { MatchResult result (SaysUrl entry.now)
+        (Fails ConfigError.BadUrl ((parts : Parts) × IsParsed entry.now.url parts)) }
 {
     EndpointUrl::read(alloc, entry.url)
 }

@@ -2,7 +2,8 @@
 ghost use Rattle.std.specs.Prelude.{◌≡◌, ◌↔◌, ◌≤◌, IsTrue, MatchResult, length};
 ghost use Rattle.fed_config.specs.Configuration.{IsConfiguration};
 ghost use Rattle.fed_config.specs.Entries.{written_of};
-ghost use Rattle.fed_config.specs.Reading.{HasRisingLists, Fails, HasFewDomains, IsConfig, IsRead, RefusesConfigBytes, RefusesRead};
+ghost use Rattle.fed_config.specs.Reading.{HasRisingLists, Fails, HasFewDomains, IsConfig, IsRead};
+ghost use Rattle.fed_config.specs.Reading.{RefusesConfigBytes, RefusesRead};
 
 use crate::canonical::id_of;
 use crate::config::Config;
@@ -27,17 +28,19 @@ const MAX_DOMAINS: usize = 1_024;
 const MAX_SEEDS: usize = 4_096;
 
 impl Config {
-    /// The configuration that a JSON text (RFC 8259) says: of members with one name the last counts, and arrays and
-    /// objects may nest 127 levels deep.
+    /// The configuration that a JSON text (RFC 8259) says: of members with one name the last
+    /// counts, and arrays and objects may nest 127 levels deep.
     ///
-    /// Objects have the members named here and no other: the whole has the arrays `relationships` and `seeds`. In each
-    /// relationship there are four texts: in `domain` a trust domain name, in `endpoint` a SPIFFE ID, in `profile`
-    /// `https_spiffe`, and in `url` a URL of at most 2,048 bytes with the scheme `https`, which has neither a user name
-    /// nor a password. In each seed there are `bundle`, a document, and `domain`, a trust domain name.
+    /// Objects have the members named here and no other: the whole has the arrays `relationships`
+    /// and `seeds`. In each relationship there are four texts: in `domain` a trust domain name, in
+    /// `endpoint` a SPIFFE ID, in `profile` `https_spiffe`, and in `url` a URL of at most 2,048
+    /// bytes with the scheme `https`, which has neither a user name nor a password. In each seed
+    /// there are `bundle`, a document, and `domain`, a trust domain name.
     ///
     /// # Errors
-    /// The first of [`ConfigError`]'s causes that holds anywhere. Where memory ran out it is [`ConfigError::NoMemory`],
-    /// whatever else holds: memory is first wanted for the JSON value of bytes that are UTF-8 and not empty.
+    /// The first of [`ConfigError`]'s causes that holds anywhere. Where memory ran out it is
+    /// [`ConfigError::NoMemory`], whatever else holds: memory is first wanted for the JSON value of
+    /// bytes that are UTF-8 and not empty.
     pub fn read(alloc: Global, bytes: &[u8]) -> Result<Config, ConfigError>
         ensures { MatchResult result (IsConfig bytes.now) (RefusesConfigBytes bytes.now) }
     {
@@ -53,7 +56,8 @@ impl Config {
 
     /// The configuration of what is written.
     fn from_entries(alloc: Global, entries: &Entries) -> Result<Config, ConfigError>
-        ensures { MatchResult result (IsRead (written_of entries.now)) (RefusesRead (written_of entries.now)) }
+        ensures { MatchResult result (IsRead (written_of entries.now))
+            (RefusesRead (written_of entries.now)) }
     {
         let names = read_names(alloc, entries.relationships.as_slice())?;
         let domains = read_domains(alloc, entries.seeds.as_slice())?;
@@ -81,10 +85,13 @@ impl Config {
         relationships: Vec<Relationship>,
         seeds: Vec<Seed>,
     ) -> Result<Config, ConfigError>
-        requires { HasRisingLists (record { relationships = relationships.items; seeds = seeds.items }) }
+        requires { HasRisingLists
+            (record { relationships = relationships.items; seeds = seeds.items }) }
         ensures { MatchResult result
-            (λ c. (c ≡ record { relationships = relationships.items; seeds = seeds.items }) × IsConfiguration c)
-            (Fails ConfigError.TooMany (HasFewDomains (record { relationships = relationships.items; seeds = seeds.items }))) }
+            (λ c. (c ≡ record { relationships = relationships.items; seeds = seeds.items })
+            × IsConfiguration c)
+            (Fails ConfigError.TooMany
+            (HasFewDomains (record { relationships = relationships.items; seeds = seeds.items }))) }
     {
         let domains = domains_of(alloc, relationships.as_slice(), seeds.as_slice())?;
         if domains.len() > MAX_DOMAINS {
@@ -102,7 +109,9 @@ impl Config {
 
 /// Whether there are few enough relationships and seeds, as they are written.
 fn are_few(entries: &Entries) -> bool
-    ensures { IsTrue result ↔ ((length entries.now.relationships.items ≤ 1024) × (length entries.now.seeds.items ≤ 4096)) }
+    ensures { IsTrue result
+        ↔ ((length entries.now.relationships.items ≤ 1024)
+        × (length entries.now.seeds.items ≤ 4096)) }
 {
     if entries.relationships.len() > MAX_DOMAINS {
         return false;

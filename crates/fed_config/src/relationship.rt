@@ -13,8 +13,8 @@ use url::{ParseError, Url};
 /// The most bytes that the URL of an endpoint has as it is written.
 const MAX_URL_BYTES: usize = 2_048;
 
-/// The URL of a bundle endpoint (SPIFFE Federation, section 5.2), as the URL Standard serializes it (section 4.5): its
-/// scheme is `https`, and it has neither a user name nor a password.
+/// The URL of a bundle endpoint (SPIFFE Federation, section 5.2), as the URL Standard serializes it
+/// (section 4.5): its scheme is `https`, and it has neither a user name nor a password.
 #[derive(Debug, Drop)]
 pub struct EndpointUrl {
     text: String,
@@ -32,9 +32,11 @@ impl Model for EndpointUrl {
 }
 
 impl EndpointUrl {
-    /// Reads a URL of at most 2,048 bytes whose scheme is `https`, with neither a user name nor a password.
+    /// Reads a URL of at most 2,048 bytes whose scheme is `https`, with neither a user name nor a
+    /// password.
     pub(crate) fn read(alloc: Global, text: &str) -> Result<EndpointUrl, ConfigError>
-        ensures { MatchResult result (KeepsUrl text.now) (Fails ConfigError.BadUrl ((parts : Parts) × IsParsed text.now parts)) }
+        ensures { MatchResult result (KeepsUrl text.now)
+            (Fails ConfigError.BadUrl ((parts : Parts) × IsParsed text.now parts)) }
     {
         if text.len() > MAX_URL_BYTES {
             return Err(ConfigError::BadUrl);
@@ -81,7 +83,8 @@ impl EndpointUrl {
 pub struct Relationship {
     /// The trust domain whose bundle is fetched.
     pub domain: TrustDomain,
-    /// The SPIFFE ID with which the endpoint authenticates itself. Its trust domain may be `domain` or another.
+    /// The SPIFFE ID with which the endpoint authenticates itself. Its trust domain may be `domain`
+    /// or another.
     pub endpoint: SpiffeId,
     /// Where the bundle is served.
     pub url: EndpointUrl,
@@ -105,7 +108,8 @@ impl Relationship {
 
 /// Whether the scheme is `https`, without a user name and without a password.
 fn is_plain_https(url: &Url) -> bool
-    ensures { IsTrue result ↔ ((url.now.scheme ≡ codes "https") × (url.now.username ≡ []) × (url.now.password ≡ [])) }
+    ensures { IsTrue result
+        ↔ ((url.now.scheme ≡ codes "https") × (url.now.username ≡ []) × (url.now.password ≡ [])) }
 {
     if !is_https(url) {
         return false;

@@ -1,11 +1,13 @@
 //! What is written in a JSON value of a configuration's shape, before it is judged.
-ghost use Rattle.std.specs.Prelude.{◌≡◌, ◌↔◌, List, IsTrue, MatchResult, map, option_map, length, codes};
+ghost use Rattle.std.specs.Prelude.{◌≡◌, ◌↔◌, List, IsTrue, MatchResult, map, option_map, length};
+ghost use Rattle.std.specs.Prelude.{codes};
 ghost use Rattle.std.specs.List.{AllZip};
 ghost use Rattle.serde_json.specs.Data.{Data};
 ghost use Rattle.serde_json.specs.View.{view, items_view};
 ghost use Rattle.jwk_set.specs.Element.{HasText};
 ghost use Rattle.jwk_set.specs.Forms.{FindsMember};
-ghost use Rattle.fed_config.specs.Written.{HasCount, HasArray, RelationshipText, SeedText, Written, SaysRelationshipText, SaysSeedText, SaysWritten};
+ghost use Rattle.fed_config.specs.Written.{HasCount, HasArray, RelationshipText, SeedText, Written};
+ghost use Rattle.fed_config.specs.Written.{SaysRelationshipText, SaysSeedText, SaysWritten};
 ghost use Rattle.fed_config.specs.Entries.{seed_text, written_of};
 ghost use Rattle.fed_config.specs.Reading.{Fails};
 
@@ -28,7 +30,12 @@ impl<'a> Model for RelationshipEntry<'a> {
 
     ghost Value = { RelationshipText };
 
-    ghost view = { λ t. record { domain = t.domain.now; endpoint = t.endpoint.now; profile = t.profile.now; url = t.url.now } };
+    ghost view = { λ t. record {
+      domain = t.domain.now;
+      endpoint = t.endpoint.now;
+      profile = t.profile.now;
+      url = t.url.now;
+    } };
 }
 
 /// A seed's document as a value, and the text of its domain.
@@ -47,7 +54,8 @@ pub(crate) struct Entries<'a> {
 
 /// What is written in a value.
 pub(crate) fn read_entries<'a>(alloc: Global, value: &'a Value) -> Result<Entries<'a>, ConfigError>
-    ensures { MatchResult result (λ w. SaysWritten (view value.now) (written_of w)) (Fails ConfigError.Shape ((w : Written) × SaysWritten (view value.now) w)) }
+    ensures { MatchResult result (λ w. SaysWritten (view value.now) (written_of w))
+        (Fails ConfigError.Shape ((w : Written) × SaysWritten (view value.now) w)) }
 {
     if !has_count(value, 2) {
         return Err(ConfigError::Shape);
@@ -66,7 +74,8 @@ pub(crate) fn read_entries<'a>(alloc: Global, value: &'a Value) -> Result<Entrie
 
 /// The elements of a member that is an array.
 fn array_of<'a>(value: &'a Value, name: &str) -> Option<&'a Vec<Value>>
-    ensures { FindsMember (option_map (λ v. map view v.now.items) result) (HasArray (view value.now) name.now) }
+    ensures { FindsMember (option_map (λ v. map view v.now.items) result)
+        (HasArray (view value.now) name.now) }
 {
     value.get(name)?.as_array()
 }
@@ -75,8 +84,11 @@ fn read_relationships<'a>(
     alloc: Global,
     elements: &'a [Value],
 ) -> Result<Vec<RelationshipEntry<'a>>, ConfigError>
-    ensures { MatchResult result (λ v. AllZip (λ value t. SaysRelationshipText (view value) t) elements.now v.items)
-        (Fails ConfigError.Shape ((ts : List RelationshipText) × AllZip (λ value t. SaysRelationshipText (view value) t) elements.now ts)) }
+    ensures { MatchResult result
+        (λ v. AllZip (λ value t. SaysRelationshipText (view value) t) elements.now v.items)
+        (Fails ConfigError.Shape
+        ((ts : List RelationshipText)
+        × AllZip (λ value t. SaysRelationshipText (view value) t) elements.now ts)) }
 {
     let mut entries = Vec::with_capacity(alloc, elements.len())?;
     for element in elements {
@@ -89,8 +101,10 @@ fn read_relationships<'a>(
 }
 
 fn read_seeds<'a>(alloc: Global, elements: &'a [Value]) -> Result<Vec<SeedEntry<'a>>, ConfigError>
-    ensures { MatchResult result (λ v. AllZip (λ value e. SaysSeedText (view value) (seed_text e)) elements.now v.items)
-        (Fails ConfigError.Shape ((ts : List SeedText) × AllZip (λ value t. SaysSeedText (view value) t) elements.now ts)) }
+    ensures { MatchResult result
+        (λ v. AllZip (λ value e. SaysSeedText (view value) (seed_text e)) elements.now v.items)
+        (Fails ConfigError.Shape
+        ((ts : List SeedText) × AllZip (λ value t. SaysSeedText (view value) t) elements.now ts)) }
 {
     let mut entries = Vec::with_capacity(alloc, elements.len())?;
     for element in elements {

@@ -1,5 +1,6 @@
 -- What `canon` prints, and what a run of it does to its two devices.
-use Rattle.std.specs.Prelude.{◌≡◌, ℕ, ◌+◌, ◌++◌, ◌⊎◌, List, [], ◌∷◌, codes, Option, Some, None, Bool, true}
+use Rattle.std.specs.Prelude.{◌≡◌, ℕ, ◌+◌, ◌++◌, ◌⊎◌, List, [], ◌∷◌, codes, Option, Some, None}
+use Rattle.std.specs.Prelude.{Bool, true}
 use Rattle.std.specs.Io.KnownBytes.{Appends}
 use Rattle.hex.specs.Hex.{encode_lower}
 use Rattle.jwk_set.specs.declared.authority.Authority.{Authority}
@@ -27,14 +28,17 @@ key_lines (a ∷ others) = key_line (key_id_of a) ++ key_lines others
 
 -- the canonical text, the id and the id of each X.509 authority in order, each on a line of its own
 abbrev pub canon_text : List ℕ → Bundle → List ℕ
-canon_text domain b = canonical_text b ++ (10 ∷ [] ++ (digest_line (codes "id ") (doc_id_of domain b) ++ key_lines b.authorities))
+canon_text domain b = canonical_text b
+    ++ (10 ∷ [] ++ (digest_line (codes "id ") (doc_id_of domain b) ++ key_lines b.authorities))
 
--- the bytes that were read: all, where there are no more than a document may have, and else one byte more than that
+-- the bytes that were read: all, where there are no more than a document may have, and else one
+-- byte more than that
 abbrev pub Reads : Option (List ℕ) → Option (List ℕ) → List ℕ → Type 0
 Reads old new bytes = TakesUpTo old new (document_limit + 1) bytes
 
 -- The bytes read are a document, and its text was written and nothing else.
-pub record PrintsCanon (before after : Option (List ℕ)) (domain : List ℕ) (held holds : Option (List ℕ)) : Type 0 where
+pub record PrintsCanon (before after : Option (List ℕ)) (domain : List ℕ)
+    (held holds : Option (List ℕ)) : Type 0 where
   pub bytes : List ℕ
   pub read : Reads before after bytes
   pub document : Bundle
@@ -42,7 +46,8 @@ pub record PrintsCanon (before after : Option (List ℕ)) (domain : List ℕ) (h
   pub written : Appends held holds (canon_text domain document)
 
 -- The error is the cause for which the bytes read are refused, and nothing was written.
-pub record RefusesCanon (before after held holds : Option (List ℕ)) (error : CommandError) : Type 0 where
+pub record RefusesCanon (before after held holds : Option (List ℕ))
+    (error : CommandError) : Type 0 where
   pub bytes : List ℕ
   pub read : Reads before after bytes
   pub why : DocError
@@ -51,7 +56,8 @@ pub record RefusesCanon (before after held holds : Option (List ℕ)) (error : C
   pub unwritten : holds ≡ held
 
 -- The bytes read are a document, and the sink failed behind a beginning of its text.
-pub record CutsCanon (before after : Option (List ℕ)) (domain : List ℕ) (held holds : Option (List ℕ)) : Type 0 where
+pub record CutsCanon (before after : Option (List ℕ)) (domain : List ℕ)
+    (held holds : Option (List ℕ)) : Type 0 where
   pub bytes : List ℕ
   pub read : Reads before after bytes
   pub document : Bundle
@@ -59,5 +65,8 @@ pub record CutsCanon (before after : Option (List ℕ)) (domain : List ℕ) (hel
   pub beginning : AppendsBeginning held holds (canon_text domain document)
 
 -- The source failed before anything was written, or the sink failed.
-abbrev pub FailsCanon : Option (List ℕ) → Option (List ℕ) → List ℕ → Option (List ℕ) → Option (List ℕ) → Bool → Bool → Type 0
-FailsCanon before after domain held holds source_failed sink_failed = ((source_failed ≡ true) × (holds ≡ held)) ⊎ ((sink_failed ≡ true) × CutsCanon before after domain held holds)
+abbrev pub FailsCanon : Option (List ℕ) → Option (List ℕ) → List ℕ → Option (List ℕ)
+    → Option (List ℕ) → Bool → Bool → Type 0
+FailsCanon before after domain held holds source_failed
+    sink_failed = ((source_failed ≡ true) × (holds ≡ held))
+    ⊎ ((sink_failed ≡ true) × CutsCanon before after domain held holds)

@@ -11,7 +11,8 @@ use Rattle.fedbundle.specs.declared.error.CommandError.TheVariants.{Take}
 abbrev pub HoldsRecord : Meaning → Distrust → Meaning → Type 0
 HoldsRecord old x new = ((lost : ℕ) × HasDistrusted old x new lost) ⊎ HasRecordAlready old x new
 
-pub record RefusesDistrusting (old : Meaning) (x : Distrust) (new : Meaning) (error : CommandError) : Type 0 where
+pub record RefusesDistrusting (old : Meaning) (x : Distrust) (new : Meaning)
+    (error : CommandError) : Type 0 where
   pub why : TakeError
   pub is : error ≡ Take why
   pub refused : HasRefusedDistrust old x new why

@@ -1,5 +1,6 @@
 -- What taking the lines of a stream, one after another, has done so far.
-use Rattle.std.specs.Prelude.{◌≡◌, ℕ, ◌≤◌, ◌⊎◌, List, [], length, flat_map, Bool, true, Option, Some, None, Result, Ok, Err}
+use Rattle.std.specs.Prelude.{◌≡◌, ℕ, ◌≤◌, ◌⊎◌, List, [], length, flat_map, Bool, true, Option}
+use Rattle.std.specs.Prelude.{Some, None, Result, Ok, Err}
 use Rattle.std.specs.Io.KnownBytes.{Appends}
 use Rattle.fed_config.specs.Configuration.{Configuration}
 use Rattle.receipt_core.specs.Acceptance.{Meaning}
@@ -10,7 +11,8 @@ use Rattle.receipt_core.specs.Receipt.{Receipt}
 use Rattle.trust_closure.specs.Changes.{HeldAndRoom, Took}
 use Rattle.trust_closure.specs.Refusals.{IsOneTooMany}
 use Rattle.trust_closure.specs.declared.outcome.Taken.{Taken}
-use Rattle.fedbundle.specs.Stream.{AreTaken, OverfillStore, IsRefusedLine, Complaint, AreComplaints, complaint_text}
+use Rattle.fedbundle.specs.Stream.{AreTaken, OverfillStore, IsRefusedLine, Complaint, AreComplaints}
+use Rattle.fedbundle.specs.Stream.{complaint_text}
 use Rattle.fedbundle.specs.Run.{BeginsTelling}
 use Rattle.fedbundle.specs.declared.complaint.LineFault.{LineFault}
 use Rattle.fedbundle.specs.declared.run_error.RunError.{RunError}
@@ -26,7 +28,8 @@ pub record TakesReceiptText (old : HeldAndRoom) (text : List ℕ) (new : HeldAnd
   pub took : Took old receipt new taken
 
 -- It is refused, and nothing is taken.
-pub record RefusesReceiptText (old : HeldAndRoom) (text : List ℕ) (new : HeldAndRoom) (why : LineFault) : Type 0 where
+pub record RefusesReceiptText (old : HeldAndRoom) (text : List ℕ) (new : HeldAndRoom)
+    (why : LineFault) : Type 0 where
   pub refused : IsRefusedLine old.meaning.config text why
   pub same : new.meaning ≡ old.meaning
 
@@ -46,27 +49,34 @@ FailsText old text NoMemory = Unit {0}
 FailsText old text Io = ⊥
 
 -- The complaint was told, and nothing is taken.
-pub record ComplainsOf (old : HeldAndRoom) (text : List ℕ) (number : ℕ) (new : HeldAndRoom) (told tells : Option (List ℕ)) : Type 0 where
+pub record ComplainsOf (old : HeldAndRoom) (text : List ℕ) (number : ℕ) (new : HeldAndRoom)
+    (told tells : Option (List ℕ)) : Type 0 where
   pub why : LineFault
   pub refuses : RefusesReceiptText old text new why
   pub now : Appends told tells (complaint_text (record { number = number; why = why }))
 
 -- A beginning of the complaint was told.
-pub record BeginsTellingOf (old : HeldAndRoom) (text : List ℕ) (number : ℕ) (told tells : Option (List ℕ)) : Type 0 where
+pub record BeginsTellingOf (old : HeldAndRoom) (text : List ℕ) (number : ℕ)
+    (told tells : Option (List ℕ)) : Type 0 where
   pub why : LineFault
   pub refused : IsRefusedLine old.meaning.config text why
   pub begun : AppendsBeginning told tells (complaint_text (record { number = number; why = why }))
 
-abbrev pub TriesText : HeldAndRoom → List ℕ → ℕ → HeldAndRoom → Option (List ℕ) → Option (List ℕ) → Bool → Result ℕ RunError → Type 0
-TriesText old text number new told tells failed (Ok n) = (TakesReceiptText old text new × (tells ≡ told) × (n ≡ 0)) ⊎ (ComplainsOf old text number new told tells × (n ≡ 1))
+abbrev pub TriesText : HeldAndRoom → List ℕ → ℕ → HeldAndRoom → Option (List ℕ) → Option (List ℕ)
+    → Bool → Result ℕ RunError → Type 0
+TriesText old text number new told tells failed
+    (Ok n) = (TakesReceiptText old text new × (tells ≡ told) × (n ≡ 0))
+    ⊎ (ComplainsOf old text number new told tells × (n ≡ 1))
 TriesText old text number new told tells failed (Err Full) = IsTextTooMany old text × (tells ≡ told)
 TriesText old text number new told tells failed (Err NoMemory) = (tells ≡ told)
-TriesText old text number new told tells failed (Err Io) = (failed ≡ true) × BeginsTellingOf old text number told tells
+TriesText old text number new told tells failed (Err Io) = (failed ≡ true)
+    × BeginsTellingOf old text number told tells
 
 -- ---- all lines
 
 -- What is held is what is taken of the lines, and all complaints were told, n of them.
-pub record HasJudged (c : Configuration) (lines : Lines) (m : Meaning) (told tells : Option (List ℕ)) (n : ℕ) : Type 0 where
+pub record HasJudged (c : Configuration) (lines : Lines) (m : Meaning)
+    (told tells : Option (List ℕ)) (n : ℕ) : Type 0 where
   pub config : m.config ≡ c
   pub records : m.records ≡ []
   pub taken : AreTaken c lines.whole m.held
@@ -76,7 +86,9 @@ pub record HasJudged (c : Configuration) (lines : Lines) (m : Meaning) (told tel
   pub telling : Appends told tells (flat_map complaint_text complaints)
   pub counted : n ≡ length complaints
 
-abbrev pub StopsJudging : Configuration → Lines → Option (List ℕ) → Option (List ℕ) → RunError → Type 0
-StopsJudging c lines told tells Full = OverfillStore c lines.whole × BeginsTelling c lines told tells
+abbrev pub StopsJudging : Configuration → Lines → Option (List ℕ) → Option (List ℕ) → RunError
+    → Type 0
+StopsJudging c lines told tells Full = OverfillStore c lines.whole
+    × BeginsTelling c lines told tells
 StopsJudging c lines told tells NoMemory = BeginsTelling c lines told tells
 StopsJudging c lines told tells Io = BeginsTelling c lines told tells

@@ -5,15 +5,22 @@ use Rattle.bundle_doc.specs.declared.error.DocError.TheVariants.{NoMemory as NoM
 use Rattle.fed_config.specs.declared.error.ConfigError.TheVariants.{NoMemory as NoMemoryForConfig}
 use Rattle.trust_closure.specs.declared.error.TakeError.TheVariants.{NoMemory as NoMemoryToTake}
 use Rattle.bundle_view.specs.declared.observe_error.ObserveError.TheVariants.{Take as TakeFailed}
-use Rattle.poll_log.specs.declared.error.PollError.TheVariants.{NoMemory as NoMemoryToPoll, Io as PollIo}
+use Rattle.poll_log.specs.declared.error.PollError.TheVariants.{NoMemory as NoMemoryToPoll}
+use Rattle.poll_log.specs.declared.error.PollError.TheVariants.{Io as PollIo}
 use Rattle.replica_sync.specs.declared.error.SyncError.{SyncError}
-use Rattle.replica_sync.specs.declared.error.SyncError.TheVariants.{NoMemory as NoMemoryToSync, Io as SyncIo}
+use Rattle.replica_sync.specs.declared.error.SyncError.TheVariants.{NoMemory as NoMemoryToSync}
+use Rattle.replica_sync.specs.declared.error.SyncError.TheVariants.{Io as SyncIo}
 use Rattle.byte_lines.specs.declared.error.DeviceError.{DeviceError}
-use Rattle.byte_lines.specs.declared.error.DeviceError.TheVariants.{Io as SourceFailed, NoMemory as NoMemoryForBytes}
+use Rattle.byte_lines.specs.declared.error.DeviceError.TheVariants.{Io as SourceFailed}
+use Rattle.byte_lines.specs.declared.error.DeviceError.TheVariants.{NoMemory as NoMemoryForBytes}
 use Rattle.fedbundle.specs.declared.error.CommandError.{CommandError}
-use Rattle.fedbundle.specs.declared.error.CommandError.TheVariants.{Name, Document, Config, Take, Observe, Poll, Sync, Pull, Full, NoMemory, Io}
+use Rattle.fedbundle.specs.declared.error.CommandError.TheVariants.{Name, Document, Config, Take}
+use Rattle.fedbundle.specs.declared.error.CommandError.TheVariants.{Observe, Poll, Sync, Pull, Full}
+use Rattle.fedbundle.specs.declared.error.CommandError.TheVariants.{NoMemory, Io}
 use Rattle.fedbundle.specs.declared.run_error.RunError.{RunError}
-use Rattle.fedbundle.specs.declared.run_error.RunError.TheVariants.{Full as RunFull, NoMemory as RunNoMemory, Io as RunIo}
+use Rattle.fedbundle.specs.declared.run_error.RunError.TheVariants.{Full as RunFull}
+use Rattle.fedbundle.specs.declared.run_error.RunError.TheVariants.{NoMemory as RunNoMemory}
+use Rattle.fedbundle.specs.declared.run_error.RunError.TheVariants.{Io as RunIo}
 
 abbrev pub status_of_sync : SyncError → ℕ
 status_of_sync NoMemoryToSync = 4

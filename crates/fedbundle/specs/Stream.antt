@@ -1,5 +1,7 @@
--- What the lines of a stream come to under a configuration: the receipts that are taken, and what is told of the others.
-use Rattle.std.specs.Prelude.{◌≡◌, ℕ, ◌+◌, ◌<◌, ◌≤◌, ◌⊎◌, ◌++◌, List, length, codes, decimal, Contains, Some, slice_get}
+-- What the lines of a stream come to under a configuration: the receipts that are taken, and what
+-- is told of the others.
+use Rattle.std.specs.Prelude.{◌≡◌, ℕ, ◌+◌, ◌<◌, ◌≤◌, ◌⊎◌, ◌++◌, List, length, codes, decimal}
+use Rattle.std.specs.Prelude.{Contains, Some, slice_get}
 use Rattle.std.specs.declared.cmp.Ordering.{Ordering}
 use Rattle.std.specs.Ordering.{nat_cmp}
 use Rattle.std.specs.List.Sorted.{IsStrictlySortedBy}
@@ -10,7 +12,9 @@ use Rattle.byte_lines.specs.Lines.{Lines}
 use Rattle.receipt_core.specs.Receipt.{Receipt, IsReceipt, line, receipt_cmp}
 use Rattle.trust_closure.specs.Refusals.{IsOfUnknownDomain, IsOfWrongEndpoint}
 use Rattle.fedbundle.specs.declared.complaint.LineFault.{LineFault}
-use Rattle.fedbundle.specs.declared.complaint.LineFault.TheVariants.{NotCanonical, TooLong, UnknownDomain, WrongEndpoint, Cut}
+use Rattle.fedbundle.specs.declared.complaint.LineFault.TheVariants.{NotCanonical, TooLong}
+use Rattle.fedbundle.specs.declared.complaint.LineFault.TheVariants.{UnknownDomain, WrongEndpoint}
+use Rattle.fedbundle.specs.declared.complaint.LineFault.TheVariants.{Cut}
 
 -- ---- what is taken
 
@@ -21,7 +25,8 @@ pub record IsTaken (c : Configuration) (texts : List (List ℕ)) (r : Receipt) :
   pub stands : Contains texts (line r)
 
 -- all of them: a set, kept as the list that rises
-pub record AreTaken (c : Configuration) (texts : List (List ℕ)) (receipts : List Receipt) : Type 0 where
+pub record AreTaken (c : Configuration) (texts : List (List ℕ))
+    (receipts : List Receipt) : Type 0 where
   pub rising : IsStrictlySortedBy receipt_cmp receipts
   pub sound : (r : Receipt) → Contains receipts r → IsTaken c texts r
   pub complete : (r : Receipt) → IsTaken c texts r → Contains receipts r
@@ -68,16 +73,19 @@ abbrev pub complaint_cmp : Complaint → Complaint → Ordering
 complaint_cmp x y = nat_cmp x.number y.number
 
 -- all complaints of the lines and their rest, in order
-pub record AreComplaints (c : Configuration) (lines : Lines) (complaints : List Complaint) : Type 0 where
+pub record AreComplaints (c : Configuration) (lines : Lines)
+    (complaints : List Complaint) : Type 0 where
   pub rising : IsStrictlySortedBy complaint_cmp complaints
   pub sound : (x : Complaint) → Contains complaints x → IsComplaint c lines x
   pub complete : (x : Complaint) → IsComplaint c lines x → Contains complaints x
 
 -- the first of them, perhaps none and perhaps all
-pub record AreFirstComplaints (c : Configuration) (lines : Lines) (complaints : List Complaint) : Type 0 where
+pub record AreFirstComplaints (c : Configuration) (lines : Lines)
+    (complaints : List Complaint) : Type 0 where
   pub rising : IsStrictlySortedBy complaint_cmp complaints
   pub sound : (x : Complaint) → Contains complaints x → IsComplaint c lines x
-  pub before : (x y : Complaint) → Contains complaints x → IsComplaint c lines y → y.number < x.number → Contains complaints y
+  pub before : (x y : Complaint) → Contains complaints x → IsComplaint c lines y
+      → y.number < x.number → Contains complaints y
 
 abbrev pub why_text : LineFault → List ℕ
 why_text NotCanonical = codes ": not canonical\n"

@@ -1,11 +1,14 @@
 -- The words of the command line, as clap's definition of a command reads them.
 use Rattle.std.specs.Prelude.{◌≡◌, ℕ, true, List, [], ◌∷◌, map, fold, codes, Option, Some}
-use Rattle.clap.specs.Words.{App, Row, Rule, Text, first_of, new_app, new_rule, subcommand_of, with_rule, with_subcommand}
+use Rattle.clap.specs.Words.{App, Row, Rule, Text, first_of, new_app, new_rule, subcommand_of}
+use Rattle.clap.specs.Words.{with_rule, with_subcommand}
 use Rattle.clap.specs.declared.builder.action.ArgAction.TheVariants.{Set}
 use Rattle.fedbundle.specs.declared.command_name.CommandName.{CommandName}
 use Rattle.fedbundle.specs.declared.command_name.CommandName.TheVariants as command
 use Rattle.fedbundle.specs.declared.command_name.OptionName.{OptionName}
-use Rattle.fedbundle.specs.declared.command_name.OptionName.TheVariants.{Config, State, Domain, Endpoint, Key, Now, Listen, Sessions, Peer}
+use Rattle.fedbundle.specs.declared.command_name.OptionName.TheVariants.{Config, State, Domain}
+use Rattle.fedbundle.specs.declared.command_name.OptionName.TheVariants.{Endpoint, Key, Now, Listen}
+use Rattle.fedbundle.specs.declared.command_name.OptionName.TheVariants.{Sessions, Peer}
 
 abbrev pub option_text : OptionName → List ℕ
 option_text Config = codes "config"
@@ -43,13 +46,15 @@ options_of command.Serve = Config ∷ State ∷ Listen ∷ Sessions ∷ []
 options_of command.Pull = Config ∷ State ∷ Peer ∷ []
 
 abbrev pub all_names : List CommandName
-all_names = command.Canon ∷ command.Report ∷ command.Bundle ∷ command.Explain ∷ command.Observe ∷ command.Merge ∷ command.Polls ∷ command.Distrust ∷ command.Serve ∷ command.Pull ∷ []
+all_names = command.Canon ∷ command.Report ∷ command.Bundle ∷ command.Explain ∷ command.Observe
+    ∷ command.Merge ∷ command.Polls ∷ command.Distrust ∷ command.Serve ∷ command.Pull ∷ []
 
 -- ---- the command, as clap knows it
 
 -- an option with one text, which may be left out
 abbrev pub rule_of_option : OptionName → Rule
-rule_of_option option = record (new_rule (option_text option)) { long = Some (option_text option); action = Some Set; value_names = 1 }
+rule_of_option option = record (new_rule (option_text option))
+    { long = Some (option_text option); action = Some Set; value_names = 1 }
 
 abbrev pub with_option : App → OptionName → App
 with_option app option = with_rule app (rule_of_option option)
@@ -61,9 +66,11 @@ leaf name = fold with_option (new_app (name_text name)) (options_of name)
 abbrev pub with_name : App → CommandName → App
 with_name app name = with_subcommand app (leaf name).top
 
--- the command before it has its subcommands: its words begin behind the program's name, and it has a version
+-- the command before it has its subcommands: its words begin behind the program's name, and it has
+-- a version
 abbrev pub bare_app : App
-bare_app = let app = new_app (codes "fedbundle") in record app { top = record app.top { no_binary_name = true; has_version = true } }
+bare_app = let app = new_app (codes "fedbundle") in record app
+    { top = record app.top { no_binary_name = true; has_version = true } }
 
 abbrev pub the_command : App
 the_command = fold with_name bare_app all_names

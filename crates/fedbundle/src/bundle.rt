@@ -12,8 +12,9 @@ use byte_lines::{Fault, Sink, write_all};
 use spiffe_name::TrustDomain;
 use trust_closure::Closure;
 
-/// Writes the canonical text of the domain's current document as a line, and returns whether there is one. Where there
-/// is none, as for a domain that the configuration does not have, nothing is written. It takes no memory.
+/// Writes the canonical text of the domain's current document as a line, and returns whether there
+/// is one. Where there is none, as for a domain that the configuration does not have, nothing is
+/// written. It takes no memory.
 ///
 /// # Errors
 /// `Io` where the sink failed, which then holds a beginning of the line.
@@ -22,9 +23,12 @@ pub fn run_bundle<C: Closure, W: Sink>(
     domain: &TrustDomain,
     sink: &mut W,
 ) -> Result<bool, CommandError>
-    ensures ok { IfOk result (PrintsCurrent (C.state closure.now).meaning domain.now (W.contents sink.old) (W.contents sink.new)) }
+    ensures ok { IfOk result
+        (PrintsCurrent (C.state closure.now).meaning domain.now (W.contents sink.old)
+        (W.contents sink.new)) }
     ensures io { IfErr result (λ e. (e ≡ Io) × (W.has_failed sink.new ≡ true)
-        × BeginsCurrent (C.state closure.now).meaning domain.now (W.contents sink.old) (W.contents sink.new)) }
+        × BeginsCurrent (C.state closure.now).meaning domain.now (W.contents sink.old)
+        (W.contents sink.new)) }
 {
     match current(closure, domain) {
         Some(document) => {
@@ -36,8 +40,10 @@ pub fn run_bundle<C: Closure, W: Sink>(
 }
 
 fn write_document<W: Sink>(document: &Document, sink: &mut W) -> Result<(), Fault>
-    ensures ok { OnOk result (Appends (W.contents sink.old) (W.contents sink.new) (bundle_text document.now)) }
-    ensures beginning { AppendsBeginning (W.contents sink.old) (W.contents sink.new) (bundle_text document.now) }
+    ensures ok { OnOk result
+        (Appends (W.contents sink.old) (W.contents sink.new) (bundle_text document.now)) }
+    ensures beginning { AppendsBeginning (W.contents sink.old) (W.contents sink.new)
+        (bundle_text document.now) }
     ensures io { IsErr result → W.has_failed sink.new ≡ true }
 {
     byte_lines::laws::pieces();

@@ -1,6 +1,7 @@
 //! `canon`: a bundle document as it was fetched, printed in its canonical form with its ids.
 ghost use Rattle.std.specs.Prelude.{◌≡◌, ◌++◌, IfErr, IfOk, IsErrOf, OnOk};
-ghost use Rattle.fedbundle.specs.Canon.{FailsCanon, PrintsCanon, RefusesCanon, canon_text, digest_line, key_line, key_lines};
+ghost use Rattle.fedbundle.specs.Canon.{FailsCanon, PrintsCanon, RefusesCanon, canon_text};
+ghost use Rattle.fedbundle.specs.Canon.{digest_line, key_line, key_lines};
 ghost use Rattle.fedbundle.specs.declared.error.CommandError.TheVariants.{Io, NoMemory};
 ghost use Rattle.jwk_set.specs.Element.{key_id_of};
 
@@ -28,13 +29,18 @@ pub fn run_canon<R: Source, W: Sink>(
     source: &mut R,
     sink: &mut W,
 ) -> Result<(), CommandError>
-    ensures ok { OnOk result (PrintsCanon (R.remaining source.old) (R.remaining source.new) domain.now (W.contents sink.old) (W.contents sink.new)) }
+    ensures ok { OnOk result
+        (PrintsCanon (R.remaining source.old) (R.remaining source.new) domain.now
+        (W.contents sink.old) (W.contents sink.new)) }
 
     // Every error but these two is the cause for which the bytes are refused.
     ensures refused { IfErr result (λ e. (e ≡ Io → ⊥) → (e ≡ NoMemory → ⊥)
-        → RefusesCanon (R.remaining source.old) (R.remaining source.new) (W.contents sink.old) (W.contents sink.new) e) }
+        → RefusesCanon (R.remaining source.old) (R.remaining source.new) (W.contents sink.old)
+        (W.contents sink.new) e) }
     ensures io { IsErrOf result Io
-        → FailsCanon (R.remaining source.old) (R.remaining source.new) domain.now (W.contents sink.old) (W.contents sink.new) (R.has_failed source.new) (W.has_failed sink.new) }
+        → FailsCanon (R.remaining source.old) (R.remaining source.new) domain.now
+        (W.contents sink.old) (W.contents sink.new) (R.has_failed source.new)
+        (W.has_failed sink.new) }
     ensures memory { IsErrOf result NoMemory → W.contents sink.new ≡ W.contents sink.old }
 {
     let bytes = read_up_to(alloc, source, MAX_DOCUMENT_BYTES + 1)?;

@@ -27,8 +27,11 @@ pub(crate) enum LineFault {
 /// # Errors
 /// The sink failed, and holds a beginning of the line.
 pub(crate) fn complain<E: Sink>(sink: &mut E, number: u64, why: LineFault) -> Result<(), Fault>
-    ensures ok { OnOk result (Appends (E.contents sink.old) (E.contents sink.new) (complaint_text (record { number = number; why = why }))) }
-    ensures beginning { AppendsBeginning (E.contents sink.old) (E.contents sink.new) (complaint_text (record { number = number; why = why })) }
+    ensures ok { OnOk result
+        (Appends (E.contents sink.old) (E.contents sink.new)
+        (complaint_text (record { number = number; why = why }))) }
+    ensures beginning { AppendsBeginning (E.contents sink.old) (E.contents sink.new)
+        (complaint_text (record { number = number; why = why })) }
     ensures io { IsErr result → E.has_failed sink.new ≡ true }
 {
     byte_lines::laws::pieces();

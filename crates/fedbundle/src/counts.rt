@@ -9,8 +9,10 @@ use itoa::Buffer;
 
 /// Writes a line of the label and the number. It takes no memory.
 pub(crate) fn write_counted<W: Sink>(label: &[u8], count: u64, sink: &mut W) -> Result<(), Fault>
-    ensures ok { OnOk result (Appends (W.contents sink.old) (W.contents sink.new) (counted label.now count)) }
-    ensures beginning { AppendsBeginning (W.contents sink.old) (W.contents sink.new) (counted label.now count) }
+    ensures ok { OnOk result
+        (Appends (W.contents sink.old) (W.contents sink.new) (counted label.now count)) }
+    ensures beginning { AppendsBeginning (W.contents sink.old) (W.contents sink.new)
+        (counted label.now count) }
     ensures io { IsErr result → W.has_failed sink.new ≡ true }
 {
     byte_lines::laws::pieces();

@@ -10,16 +10,18 @@ use trust_closure::{Closure, Distrusted};
 /// Distrusts the key in the domain, where it may have been distrusted before. It takes no memory.
 ///
 /// # Errors
-/// `Take` with `UnknownDomain` where the domain is none of the configuration, or with `Full` where the record is not held
-/// and 4,096 are: then what is held is as it was.
+/// `Take` with `UnknownDomain` where the domain is none of the configuration, or with `Full` where
+/// the record is not held and 4,096 are: then what is held is as it was.
 pub fn run_distrust<C: Closure>(
     closure: &mut C,
     domain: &TrustDomain,
     key: KeyId,
 ) -> Result<(), CommandError>
     ensures { MatchResult result
-        (λ _. HoldsRecord (C.state closure.old).meaning (record { domain = domain.now; key = key }) (C.state closure.new).meaning)
-        (RefusesDistrusting (C.state closure.old).meaning (record { domain = domain.now; key = key }) (C.state closure.new).meaning) }
+        (λ _. HoldsRecord (C.state closure.old).meaning (record { domain = domain.now; key = key })
+        (C.state closure.new).meaning)
+        (RefusesDistrusting (C.state closure.old).meaning
+        (record { domain = domain.now; key = key }) (C.state closure.new).meaning) }
 {
     match closure.distrust(domain, key) {
         Ok(Distrusted::New { .. }) => Ok(()),

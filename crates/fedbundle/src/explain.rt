@@ -13,14 +13,15 @@ use spiffe_name::TrustDomain;
 use std::alloc::{AllocError, Global};
 use trust_closure::Closure;
 
-/// Reads a bundle document and writes why it is accepted as one of the domain: the lines of the receipts of a shortest
-/// chain from a configured document to it, none for a configured one. Answers whether it is accepted; where it is not,
-/// nothing is written. It reads at most one byte more than a document may have, and nothing is written before the whole
-/// text is made.
+/// Reads a bundle document and writes why it is accepted as one of the domain: the lines of the
+/// receipts of a shortest chain from a configured document to it, none for a configured one.
+/// Answers whether it is accepted; where it is not, nothing is written. It reads at most one byte
+/// more than a document may have, and nothing is written before the whole text is made.
 ///
 /// # Errors
-/// `Document` where the bytes are no document, `NoMemory` where memory ran out: then nothing was written. `Io` where the
-/// source failed, and nothing was written, or where the sink failed, which then holds a beginning of the lines.
+/// `Document` where the bytes are no document, `NoMemory` where memory ran out: then nothing was
+/// written. `Io` where the source failed, and nothing was written, or where the sink failed, which
+/// then holds a beginning of the lines.
 pub fn run_explain<C: Closure, R: Source, W: Sink>(
     alloc: Global,
     closure: &C,
@@ -28,13 +29,18 @@ pub fn run_explain<C: Closure, R: Source, W: Sink>(
     source: &mut R,
     sink: &mut W,
 ) -> Result<bool, CommandError>
-    ensures ok { IfOk result (Explains (R.remaining source.old) (R.remaining source.new) (C.state closure.now).meaning domain.now (W.contents sink.old) (W.contents sink.new)) }
+    ensures ok { IfOk result
+        (Explains (R.remaining source.old) (R.remaining source.new) (C.state closure.now).meaning
+        domain.now (W.contents sink.old) (W.contents sink.new)) }
 
     // Every error but these two is the cause for which the bytes are refused.
     ensures refused { IfErr result (λ e. (e ≡ Io → ⊥) → (e ≡ NoMemory → ⊥)
-        → RefusesCanon (R.remaining source.old) (R.remaining source.new) (W.contents sink.old) (W.contents sink.new) e) }
+        → RefusesCanon (R.remaining source.old) (R.remaining source.new) (W.contents sink.old)
+        (W.contents sink.new) e) }
     ensures io { IsErrOf result Io
-        → FailsExplanation (R.remaining source.old) (R.remaining source.new) (C.state closure.now).meaning domain.now (W.contents sink.old) (W.contents sink.new) (R.has_failed source.new) (W.has_failed sink.new) }
+        → FailsExplanation (R.remaining source.old) (R.remaining source.new)
+        (C.state closure.now).meaning domain.now (W.contents sink.old) (W.contents sink.new)
+        (R.has_failed source.new) (W.has_failed sink.new) }
     ensures memory { IsErrOf result NoMemory → W.contents sink.new ≡ W.contents sink.old }
 {
     let bytes = read_up_to(alloc, source, MAX_DOCUMENT_BYTES + 1)?;

@@ -25,8 +25,10 @@ pub fn write_fault<W: Sink>(error: &CommandError, sink: &mut W) -> Result<(), Co
 }
 
 fn write_line<W: Sink>(text: &[u8], sink: &mut W) -> Result<(), Fault>
-    ensures ok { OnOk result (Appends (W.contents sink.old) (W.contents sink.new) (fault_line text.now)) }
-    ensures beginning { AppendsBeginning (W.contents sink.old) (W.contents sink.new) (fault_line text.now) }
+    ensures ok { OnOk result
+        (Appends (W.contents sink.old) (W.contents sink.new) (fault_line text.now)) }
+    ensures beginning { AppendsBeginning (W.contents sink.old) (W.contents sink.new)
+        (fault_line text.now) }
     ensures io { IsErr result → W.has_failed sink.new ≡ true }
 {
     byte_lines::laws::pieces();

@@ -1,10 +1,12 @@
 //! The lines of a stream, taken one after another.
-ghost use Rattle.std.specs.Prelude.{◌≡◌, ◌⊎◌, ℕ, [], true, IfOk, IfErr, OnOk, IfSome, IsErrOf, MatchResult, List};
+ghost use Rattle.std.specs.Prelude.{◌≡◌, ◌⊎◌, ℕ, [], true, IfOk, IfErr, OnOk, IfSome, IsErrOf};
+ghost use Rattle.std.specs.Prelude.{MatchResult, List};
 ghost use Rattle.std.specs.Io.KnownBytes.{IsAtEnd};
 ghost use Rattle.fed_config.specs.Configuration.{IsConfiguration};
 ghost use Rattle.byte_lines.specs.Lines.{lines_of};
 ghost use Rattle.receipt_core.specs.Line.{IsLine};
-ghost use Rattle.fedbundle.specs.Judging.{JudgesText, FailsText, TriesText, HasJudged, StopsJudging};
+ghost use Rattle.fedbundle.specs.Judging.{JudgesText, FailsText, TriesText, HasJudged};
+ghost use Rattle.fedbundle.specs.Judging.{StopsJudging};
 ghost use Rattle.fedbundle.specs.declared.run_error.RunError.TheVariants.{Io};
 
 use crate::complaint::{LineFault, complain};
@@ -26,11 +28,14 @@ pub(crate) fn take_lines<C: Closure, R: Source, E: Sink>(
     requires receipts { (C.state closure.old).meaning.held ≡ [] }
     requires records { (C.state closure.old).meaning.records ≡ [] }
     ensures ok { IfOk result (λ n. IfSome (R.remaining source.old) (λ bytes.
-        HasJudged (C.state closure.old).meaning.config (lines_of bytes) (C.state closure.new).meaning (E.contents complaints.old) (E.contents complaints.new) n)) }
+        HasJudged (C.state closure.old).meaning.config (lines_of bytes)
+        (C.state closure.new).meaning (E.contents complaints.old) (E.contents complaints.new) n)) }
     ensures read { OnOk result (IsAtEnd (R.remaining source.new)) }
     ensures stops { IfErr result (λ e. IfSome (R.remaining source.old) (λ bytes.
-        StopsJudging (C.state closure.old).meaning.config (lines_of bytes) (E.contents complaints.old) (E.contents complaints.new) e)) }
-    ensures io { IsErrOf result Io → (R.has_failed source.new ≡ true) ⊎ (E.has_failed complaints.new ≡ true) }
+        StopsJudging (C.state closure.old).meaning.config (lines_of bytes)
+        (E.contents complaints.old) (E.contents complaints.new) e)) }
+    ensures io { IsErrOf result Io
+        → (R.has_failed source.new ≡ true) ⊎ (E.has_failed complaints.new ≡ true) }
 {
     let mut lines = LineBuf::new(alloc);
     let mut number = 0u64;
@@ -63,7 +68,9 @@ fn take_text<C: Closure, E: Sink>(
     number: u64,
     text: &[u8],
 ) -> Result<u64, RunError>
-    ensures { TriesText (C.state closure.old) text.now number (C.state closure.new) (E.contents complaints.old) (E.contents complaints.new) (E.has_failed complaints.new) result }
+    ensures { TriesText (C.state closure.old) text.now number (C.state closure.new)
+        (E.contents complaints.old) (E.contents complaints.new) (E.has_failed complaints.new)
+        result }
 {
     match judge(alloc, closure, text)? {
         Some(why) => {
@@ -79,7 +86,8 @@ fn judge<C: Closure>(
     closure: &mut C,
     text: &[u8],
 ) -> Result<Option<LineFault>, RunError>
-    ensures { MatchResult result (JudgesText (C.state closure.old) text.now (C.state closure.new)) (FailsText (C.state closure.old) text.now) }
+    ensures { MatchResult result (JudgesText (C.state closure.old) text.now (C.state closure.new))
+        (FailsText (C.state closure.old) text.now) }
 {
     match Receipt::read_line(alloc, text) {
         Ok(receipt) => take_receipt(closure, receipt),
@@ -94,7 +102,8 @@ fn take_receipt<C: Closure>(
     receipt: Receipt,
 ) -> Result<Option<LineFault>, RunError>
     ensures { (text : List ℕ) → IsLine text receipt
-        → MatchResult result (JudgesText (C.state closure.old) text (C.state closure.new)) (FailsText (C.state closure.old) text) }
+        → MatchResult result (JudgesText (C.state closure.old) text (C.state closure.new))
+        (FailsText (C.state closure.old) text) }
 {
     let refused = match closure.take(receipt) {
         Ok(_) => return Ok(None),

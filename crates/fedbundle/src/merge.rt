@@ -11,25 +11,30 @@ use replica_sync::read_snapshot;
 use std::alloc::Global;
 use trust_closure::Closure;
 
-/// Reads a snapshot, takes all of its receipts and records of distrust, and writes a line `new` with how many of the
-/// receipts were not held.
+/// Reads a snapshot, takes all of its receipts and records of distrust, and writes a line `new`
+/// with how many of the receipts were not held.
 ///
 /// # Errors
-/// `Sync` where the stream is no snapshot of this configuration, the source failed or memory ran out while it was read;
-/// `Take` where what it holds is not taken: then what is held is as it was, and nothing was written. `Io` where the sink
-/// failed: then it is taken, and a beginning of the line was written.
+/// `Sync` where the stream is no snapshot of this configuration, the source failed or memory ran
+/// out while it was read; `Take` where what it holds is not taken: then what is held is as it was,
+/// and nothing was written. `Io` where the sink failed: then it is taken, and a beginning of the
+/// line was written.
 pub fn run_merge<C: Closure, R: Source, W: Sink>(
     alloc: Global,
     closure: &mut C,
     source: &mut R,
     sink: &mut W,
 ) -> Result<(), CommandError>
-    ensures ok { OnOk result (Merged (R.remaining source.old) (C.state closure.old).meaning (C.state closure.new).meaning (W.contents sink.old) (W.contents sink.new)) }
+    ensures ok { OnOk result
+        (Merged (R.remaining source.old) (C.state closure.old).meaning (C.state closure.new).meaning
+        (W.contents sink.old) (W.contents sink.new)) }
     ensures ends { OnOk result (IsAtEnd (R.remaining source.new)) }
     ensures refused { IfErr result (λ e. (e ≡ Io → ⊥)
-        → RefusesMergeRun (R.remaining source.old) (C.state closure.old) (C.state closure.new) (W.contents sink.old) (W.contents sink.new) e) }
+        → RefusesMergeRun (R.remaining source.old) (C.state closure.old) (C.state closure.new)
+        (W.contents sink.old) (W.contents sink.new) e) }
     ensures io { IsErrOf result Io → (W.has_failed sink.new ≡ true)
-        × BeginsMerged (R.remaining source.old) (C.state closure.old).meaning (C.state closure.new).meaning (W.contents sink.old) (W.contents sink.new) }
+        × BeginsMerged (R.remaining source.old) (C.state closure.old).meaning
+        (C.state closure.new).meaning (W.contents sink.old) (W.contents sink.new) }
 {
     let other: C = read_snapshot(alloc, closure.config(), source)?;
     let count = closure.merge(&other)?;

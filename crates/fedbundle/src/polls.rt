@@ -2,7 +2,8 @@
 ghost use Rattle.std.specs.Prelude.{◌≡◌, ◌++◌, true, Contains, IfErr, IfOk, IsErrOf, OnOk};
 ghost use Rattle.std.specs.Io.KnownBytes.{IsAtEnd};
 ghost use Rattle.poll_log.specs.Polling.{polled_domains, polled, standing_in};
-ghost use Rattle.fedbundle.specs.Polls.{AddsNext, AddsPollLine, CutsPolls, IsHint, IsPollsText, PrintsPolls, RefusesLines, seconds_text};
+ghost use Rattle.fedbundle.specs.Polls.{AddsNext, AddsPollLine, CutsPolls, IsHint, IsPollsText};
+ghost use Rattle.fedbundle.specs.Polls.{PrintsPolls, RefusesLines, seconds_text};
 ghost use Rattle.fedbundle.specs.declared.error.CommandError.TheVariants.{Io, NoMemory};
 
 use crate::error::CommandError;
@@ -15,16 +16,17 @@ use spiffe_name::TrustDomain;
 use std::alloc::{AllocError, Global};
 use trust_closure::Closure;
 
-/// Reads the lines of the polls that were made, and writes for each relationship of the configuration, rising by domain,
-/// a line: the domain and then `due` where it is to be polled now, `past range` where its next poll is later than every
-/// moment, and else the moment of its next poll, in seconds since the Unix epoch, rounded toward zero. The refresh hint is
-/// that of the domain's current document (SPIFFE Trust Domain and Bundle, section 4.1.2). No clock is read, and nothing is
-/// written before the whole text is made.
+/// Reads the lines of the polls that were made, and writes for each relationship of the
+/// configuration, rising by domain, a line: the domain and then `due` where it is to be polled now,
+/// `past range` where its next poll is later than every moment, and else the moment of its next
+/// poll, in seconds since the Unix epoch, rounded toward zero. The refresh hint is that of the
+/// domain's current document (SPIFFE Trust Domain and Bundle, section 4.1.2). No clock is read, and
+/// nothing is written before the whole text is made.
 ///
 /// # Errors
-/// `Poll` where the first bad line is reported, where the source failed or where memory ran out while the lines were read, and
-/// `NoMemory` where memory ran out for the text: then nothing was written. `Io` where the sink failed, which then holds a
-/// beginning of the text.
+/// `Poll` where the first bad line is reported, where the source failed or where memory ran out
+/// while the lines were read, and `NoMemory` where memory ran out for the text: then nothing was
+/// written. `Io` where the sink failed, which then holds a beginning of the text.
 pub fn run_polls<C: Closure, R: Source, W: Sink>(
     alloc: Global,
     closure: &C,
@@ -32,14 +34,19 @@ pub fn run_polls<C: Closure, R: Source, W: Sink>(
     source: &mut R,
     sink: &mut W,
 ) -> Result<(), CommandError>
-    ensures ok { OnOk result (PrintsPolls (R.remaining source.old) (C.state closure.now).meaning now.nanosecond (W.contents sink.old) (W.contents sink.new)) }
+    ensures ok { OnOk result
+        (PrintsPolls (R.remaining source.old) (C.state closure.now).meaning now.nanosecond
+        (W.contents sink.old) (W.contents sink.new)) }
     ensures end { OnOk result (IsAtEnd (R.remaining source.new)) }
 
     // Every error but these two is the cause for which the lines have no log.
     ensures refused { IfErr result (λ e. (e ≡ Io → ⊥) → (e ≡ NoMemory → ⊥)
-        → RefusesLines (R.remaining source.old) (C.state closure.now).meaning (W.contents sink.old) (W.contents sink.new) (R.has_failed source.new) e) }
+        → RefusesLines (R.remaining source.old) (C.state closure.now).meaning (W.contents sink.old)
+        (W.contents sink.new) (R.has_failed source.new) e) }
     ensures io { IsErrOf result Io
-        → (W.has_failed sink.new ≡ true) × CutsPolls (R.remaining source.old) (C.state closure.now).meaning now.nanosecond (W.contents sink.old) (W.contents sink.new) }
+        → (W.has_failed sink.new ≡ true)
+        × CutsPolls (R.remaining source.old) (C.state closure.now).meaning now.nanosecond
+        (W.contents sink.old) (W.contents sink.new) }
     ensures memory { IsErrOf result NoMemory → W.contents sink.new ≡ W.contents sink.old }
 {
     let log = read_polls(alloc, closure.config(), source)?;
@@ -55,7 +62,8 @@ fn render<C: Closure>(
     now: Timestamp,
 ) -> Result<Vec<u8>, AllocError>
     requires { polled_domains log.now ≡ polled (C.state closure.now).meaning.config }
-    ensures { IfOk result (λ text. IsPollsText (C.state closure.now).meaning log.now now.nanosecond text.items) }
+    ensures { IfOk result (λ text. IsPollsText (C.state closure.now).meaning log.now now.nanosecond
+        text.items) }
 {
     let mut text = Vec::new(alloc);
     for relationship in closure.config().relationships() {
@@ -72,7 +80,8 @@ fn push_line<C: Closure>(
     now: Timestamp,
 ) -> Result<(), AllocError>
     requires { Contains (polled_domains log.now) domain.now }
-    ensures { OnOk result (AddsPollLine (C.state closure.now).meaning log.now now.nanosecond domain.now text.old.items text.new.items) }
+    ensures { OnOk result (AddsPollLine (C.state closure.now).meaning log.now now.nanosecond
+        domain.now text.old.items text.new.items) }
 {
     text.extend_from_slice(domain.as_str().as_bytes())?;
     text.extend_from_slice(b" ")?;
@@ -97,7 +106,8 @@ fn push_next(
     now: Timestamp,
 ) -> Result<(), AllocError>
     requires { Contains (polled_domains log.now) domain.now }
-    ensures { OnOk result (AddsNext hint (standing_in log.now domain.now) now.nanosecond text.old.items text.new.items) }
+    ensures { OnOk result (AddsNext hint (standing_in log.now domain.now) now.nanosecond
+        text.old.items text.new.items) }
 {
     if log.due(domain, hint, now) {
         return text.extend_from_slice(b"due");

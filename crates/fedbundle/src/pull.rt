@@ -12,12 +12,14 @@ use replica_gossip::pull;
 use std::alloc::Global;
 use trust_closure::Closure;
 
-/// Asks another replica about each bucket, takes what its answers have, and writes a line `new` with how many of the
-/// receipts were not held. The questions go to `peer`, and the answers come from the source.
+/// Asks another replica about each bucket, takes what its answers have, and writes a line `new`
+/// with how many of the receipts were not held. The questions go to `peer`, and the answers come
+/// from the source.
 ///
 /// # Errors
-/// `Pull`, as [`pull`] tells it: what the answers before the fault have is held, and nothing was written to the sink. `Io`
-/// where the sink failed: then all is held, and a beginning of the line was written.
+/// `Pull`, as [`pull`] tells it: what the answers before the fault have is held, and nothing was
+/// written to the sink. `Io` where the sink failed: then all is held, and a beginning of the line
+/// was written.
 pub fn run_pull<C: Closure, R: Source, P: Sink, W: Sink>(
     alloc: Global,
     closure: &mut C,
@@ -25,17 +27,22 @@ pub fn run_pull<C: Closure, R: Source, P: Sink, W: Sink>(
     peer: &mut P,
     sink: &mut W,
 ) -> Result<(), CommandError>
-    ensures ok { OnOk result (Pulled (C.state closure.old).meaning (R.remaining source.old) (P.contents peer.old) (C.state closure.new).meaning (P.contents peer.new)
+    ensures ok { OnOk result
+        (Pulled (C.state closure.old).meaning (R.remaining source.old) (P.contents peer.old)
+        (C.state closure.new).meaning (P.contents peer.new)
         (W.contents sink.old) (W.contents sink.new)) }
 
     // Every error but a failure of the sink is a fault of the session.
     ensures refused { IfErr result (λ e. (e ≡ Io → ⊥)
-        → PulledBefore (C.state closure.old).meaning (R.remaining source.old) (P.contents peer.old) (C.state closure.new).meaning (P.contents peer.new)
+        → PulledBefore (C.state closure.old).meaning (R.remaining source.old) (P.contents peer.old)
+        (C.state closure.new).meaning (P.contents peer.new)
         (W.contents sink.old) (W.contents sink.new) e) }
     ensures io { IsErrOf result Io → (W.has_failed sink.new ≡ true)
-        × BeginsPulled (C.state closure.old).meaning (R.remaining source.old) (P.contents peer.old) (C.state closure.new).meaning (P.contents peer.new)
+        × BeginsPulled (C.state closure.old).meaning (R.remaining source.old) (P.contents peer.old)
+        (C.state closure.new).meaning (P.contents peer.new)
         (W.contents sink.old) (W.contents sink.new) }
-    ensures failed { (fault : PullFault) → IsErrOf result (Pull fault) → fault.why ≡ DeviceFailed → (R.has_failed source.new ≡ true) ⊎ (P.has_failed peer.new ≡ true) }
+    ensures failed { (fault : PullFault) → IsErrOf result (Pull fault) → fault.why ≡ DeviceFailed
+        → (R.has_failed source.new ≡ true) ⊎ (P.has_failed peer.new ≡ true) }
 {
     let count = pull(alloc, closure, source, peer)?;
     write_counted(b"new ", count, sink)?;

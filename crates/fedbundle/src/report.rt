@@ -14,28 +14,32 @@ use fed_config::Config;
 use std::alloc::Global;
 use trust_closure::{Closure, IndexedClosure};
 
-/// Takes every receipt of the source's lines that fits the configuration, and then writes the report of what is accepted
-/// with these receipts and no record of distrust (`bundle_view::write_report`). Of each other line it tells on
-/// `complaints` by a line of its own, as `line 2: not canonical`, in order and as they come; lines are counted from 1.
-/// Answers how many it told of.
+/// Takes every receipt of the source's lines that fits the configuration, and then writes the
+/// report of what is accepted with these receipts and no record of distrust
+/// (`bundle_view::write_report`). Of each other line it tells on `complaints` by a line of its own,
+/// as `line 2: not canonical`, in order and as they come; lines are counted from 1. Answers how
+/// many it told of.
 ///
 /// | After the number | What stands in the stream |
 /// |---|---|
-/// | `not canonical` | a line of at most 8,388,608 bytes, without its line feed, that is no receipt's line |
+/// | `not canonical` | a line of at most 8,388,608 bytes, without its line feed, that is no
+/// receipt's line |
 /// | `too long` | a longer line |
 /// | `unknown domain` | a receipt with whose domain the configuration has no relationship |
 /// | `wrong endpoint` | a receipt whose endpoint is another than that of the relationship |
 /// | `cut` | after the last line, bytes that no line feed ends, whatever they are |
 ///
-/// The report depends on the configuration and on the set of receipts that fit alone: neither on the order of the lines,
-/// nor on repeated ones, nor on where the pieces end in which the bytes come. A receipt that is repeated needs no place.
+/// The report depends on the configuration and on the set of receipts that fit alone: neither on
+/// the order of the lines, nor on repeated ones, nor on where the pieces end in which the bytes
+/// come. A receipt that is repeated needs no place.
 ///
 /// # Errors
-/// After each the source may have been read in part, and `complaints` holds a beginning of what there was to tell.
+/// After each the source may have been read in part, and `complaints` holds a beginning of what
+/// there was to tell.
 /// - [`RunError::Full`]: more than 65,536 different receipts fit. Nothing was written on `sink`.
 /// - [`RunError::NoMemory`]: memory ran out. Nothing was written on `sink`.
-/// - [`RunError::Io`]: the source or `complaints` failed, and nothing was written on `sink`; or `sink` failed behind a
-///   beginning of the report.
+/// - [`RunError::Io`]: the source or `complaints` failed, and nothing was written on `sink`; or
+///   `sink` failed behind a beginning of the report.
 pub fn run_report<R: Source, W: Sink, E: Sink>(
     alloc: Global,
     config: &Config,
@@ -44,15 +48,20 @@ pub fn run_report<R: Source, W: Sink, E: Sink>(
     complaints: &mut E,
 ) -> Result<u64, RunError>
     ensures ok { IfOk result (λ n. IfSome (R.remaining source.old) (λ bytes.
-        Reports config.now (lines_of bytes) (W.contents sink.old) (W.contents sink.new) (E.contents complaints.old) (E.contents complaints.new) n)) }
+        Reports config.now (lines_of bytes) (W.contents sink.old) (W.contents sink.new)
+        (E.contents complaints.old) (E.contents complaints.new) n)) }
     ensures read { OnOk result (IsAtEnd (R.remaining source.new)) }
     ensures full { IsErrOf result Full → (W.contents sink.new ≡ W.contents sink.old)
-        × IfSome (R.remaining source.old) (λ bytes. OverfillStore config.now (lines_of bytes).whole) }
+        × IfSome (R.remaining source.old)
+        (λ bytes. OverfillStore config.now (lines_of bytes).whole) }
     ensures memory { IsErrOf result NoMemory → W.contents sink.new ≡ W.contents sink.old }
     ensures io { IsErrOf result Io
-        → FailsReport config.now (R.remaining source.old) (W.contents sink.old) (W.contents sink.new) (R.has_failed source.new) (W.has_failed sink.new) (E.has_failed complaints.new) }
+        → FailsReport config.now (R.remaining source.old) (W.contents sink.old)
+        (W.contents sink.new) (R.has_failed source.new) (W.has_failed sink.new)
+        (E.has_failed complaints.new) }
     ensures told { OnErr result (IfSome (R.remaining source.old) (λ bytes.
-        BeginsTelling config.now (lines_of bytes) (E.contents complaints.old) (E.contents complaints.new))) }
+        BeginsTelling config.now (lines_of bytes) (E.contents complaints.old)
+        (E.contents complaints.new))) }
 {
     run_report_with::<IndexedClosure, R, W, E>(alloc, config, source, sink, complaints)
 }
@@ -69,15 +78,20 @@ pub fn run_report_with<C: Closure, R: Source, W: Sink, E: Sink>(
     complaints: &mut E,
 ) -> Result<u64, RunError>
     ensures ok { IfOk result (λ n. IfSome (R.remaining source.old) (λ bytes.
-        Reports config.now (lines_of bytes) (W.contents sink.old) (W.contents sink.new) (E.contents complaints.old) (E.contents complaints.new) n)) }
+        Reports config.now (lines_of bytes) (W.contents sink.old) (W.contents sink.new)
+        (E.contents complaints.old) (E.contents complaints.new) n)) }
     ensures read { OnOk result (IsAtEnd (R.remaining source.new)) }
     ensures full { IsErrOf result Full → (W.contents sink.new ≡ W.contents sink.old)
-        × IfSome (R.remaining source.old) (λ bytes. OverfillStore config.now (lines_of bytes).whole) }
+        × IfSome (R.remaining source.old)
+        (λ bytes. OverfillStore config.now (lines_of bytes).whole) }
     ensures memory { IsErrOf result NoMemory → W.contents sink.new ≡ W.contents sink.old }
     ensures io { IsErrOf result Io
-        → FailsReport config.now (R.remaining source.old) (W.contents sink.old) (W.contents sink.new) (R.has_failed source.new) (W.has_failed sink.new) (E.has_failed complaints.new) }
+        → FailsReport config.now (R.remaining source.old) (W.contents sink.old)
+        (W.contents sink.new) (R.has_failed source.new) (W.has_failed sink.new)
+        (E.has_failed complaints.new) }
     ensures told { OnErr result (IfSome (R.remaining source.old) (λ bytes.
-        BeginsTelling config.now (lines_of bytes) (E.contents complaints.old) (E.contents complaints.new))) }
+        BeginsTelling config.now (lines_of bytes) (E.contents complaints.old)
+        (E.contents complaints.new))) }
 {
     // The prover learns here that each domain has one relationship.
     let _domains = config.domains();

@@ -13,20 +13,22 @@ use replica_gossip::serve_one;
 use std::alloc::Global;
 use trust_closure::Closure;
 
-/// Serves one session: answers the questions of the source, one after another, until it ends where a question would
-/// begin. Answers how many there were.
+/// Serves one session: answers the questions of the source, one after another, until it ends where
+/// a question would begin. Answers how many there were.
 ///
 /// # Errors
-/// `Sync`, as [`serve_one`] tells it. The questions before the fault are answered, and nothing else is written; where the
-/// sink failed or memory ran out, a beginning of that.
+/// `Sync`, as [`serve_one`] tells it. The questions before the fault are answered, and nothing else
+/// is written; where the sink failed or memory ran out, a beginning of that.
 pub fn run_serve<C: Closure, R: Source, W: Sink>(
     alloc: Global,
     closure: &C,
     source: &mut R,
     sink: &mut W,
 ) -> Result<u64, CommandError>
-    ensures serves { ServesSession (C.state closure.now).meaning (R.remaining source.old) (W.contents sink.old) (W.contents sink.new) result }
-    ensures io { IsErrOf result (Sync DeviceFailed) → (R.has_failed source.new ≡ true) ⊎ (W.has_failed sink.new ≡ true) }
+    ensures serves { ServesSession (C.state closure.now).meaning (R.remaining source.old)
+        (W.contents sink.old) (W.contents sink.new) result }
+    ensures io { IsErrOf result (Sync DeviceFailed)
+        → (R.has_failed source.new ≡ true) ⊎ (W.has_failed sink.new ≡ true) }
 {
     let count = serve_one(alloc, closure, source, sink)?;
     Ok(count)
@@ -37,7 +39,8 @@ pub fn run_serve<C: Closure, R: Source, W: Sink>(
 /// # Errors
 /// `Io` where the sink failed, which then holds a beginning of the line.
 pub fn write_served<W: Sink>(sessions: u64, sink: &mut W) -> Result<(), CommandError>
-    ensures ok { OnOk result (Appends (W.contents sink.old) (W.contents sink.new) (served_text sessions)) }
+    ensures ok { OnOk result
+        (Appends (W.contents sink.old) (W.contents sink.new) (served_text sessions)) }
     ensures io { IfErr result (λ e. (e ≡ Io) × (W.has_failed sink.new ≡ true)
         × AppendsBeginning (W.contents sink.old) (W.contents sink.new) (served_text sessions)) }
 {

@@ -1,7 +1,7 @@
 //! The state file: the snapshot of what a replica holds, kept between two commands.
 //!
-//! What a file holds is outside all contracts: these calls are proved only to be safe and to return, and shown by runs
-//! of the program.
+//! What a file holds is outside all contracts: these calls are proved only to be safe and to
+//! return, and shown by runs of the program.
 use byte_lines::{FromRead, FromWrite};
 use fed_config::Config;
 use replica_sync::{SyncError, read_snapshot, write_snapshot};
@@ -14,8 +14,9 @@ use trust_closure::Closure;
 /// The bytes that are gathered before they are written to the file.
 const BUFFER_BYTES: usize = 65_536;
 
-/// Keeps other commands that write the same state file waiting, until it is dropped or the process ends. It is an
-/// exclusive lock of the file named like the state file with `.lock` behind it, which stays where it is.
+/// Keeps other commands that write the same state file waiting, until it is dropped or the process
+/// ends. It is an exclusive lock of the file named like the state file with `.lock` behind it,
+/// which stays where it is.
 #[derive(Drop)]
 pub struct StateLock {
     _file: File,
@@ -39,11 +40,12 @@ pub fn lock_state<R: Files<File = File>>(
     Ok(StateLock { _file: file })
 }
 
-/// The closure whose snapshot stands in the file. A file that is not there stands for one that holds nothing.
+/// The closure whose snapshot stands in the file. A file that is not there stands for one that
+/// holds nothing.
 ///
 /// # Errors
-/// Those of [`read_snapshot`]. Where the file is there and cannot be opened, `NoMemory` if the system says that memory ran
-/// out, and else `Io`.
+/// Those of [`read_snapshot`]. Where the file is there and cannot be opened, `NoMemory` if the
+/// system says that memory ran out, and else `Io`.
 pub fn load_state<C: Closure, R: Files>(
     files: &R,
     alloc: Global,
@@ -57,10 +59,11 @@ pub fn load_state<C: Closure, R: Files>(
     }
 }
 
-/// Writes the closure's snapshot to the file named like the state file with `.new` behind it, has the system write that
-/// to the disk, gives it the state file's name, and has the system write the folder. So where a rename is one step, the
-/// state file is as it was or as it is to be, at any fault and wherever the process is killed. No clause says this: it is
-/// shown by refusing each call of the system, and by killing the program before and behind each.
+/// Writes the closure's snapshot to the file named like the state file with `.new` behind it, has
+/// the system write that to the disk, gives it the state file's name, and has the system write the
+/// folder. So where a rename is one step, the state file is as it was or as it is to be, at any
+/// fault and wherever the process is killed. No clause says this: it is shown by refusing each call
+/// of the system, and by killing the program before and behind each.
 ///
 /// # Errors
 /// - [`SyncError::Io`]: the system refused a step,
@@ -94,7 +97,8 @@ fn flushed<W: io::Write + Drop>(mut sink: FromWrite<BufWriter<W>>) -> Result<W, 
     }
 }
 
-// Has the system write the folder in which the file lies, so that the new name outlasts a loss of power.
+// Has the system write the folder in which the file lies, so that the new name outlasts a loss of
+// power.
 fn sync_folder<R: Files>(files: &R, path: &str) -> Result<(), SyncError> {
     let folder = match path.rfind('/') {
         Some(0) => "/",

@@ -29,15 +29,18 @@ pub enum WordsError {
     NoMemory,
 }
 
-/// Reads the words behind the program's name, as `clap` reads them for the command with these subcommands, each of
-/// whose options has one text: the subcommand, and the text of each of its options, all of which it wants.
+/// Reads the words behind the program's name, as `clap` reads them for the command with these
+/// subcommands, each of whose options has one text: the subcommand, and the text of each of its
+/// options, all of which it wants.
 ///
 /// # Errors
 /// - [`WordsError::Words`]: `clap` refuses the words, or they ask for help or for the version,
-/// - [`WordsError::Usage`]: `clap` takes the words, and the subcommand or an option of it is missing,
+/// - [`WordsError::Usage`]: `clap` takes the words, and the subcommand or an option of it is
+///   missing,
 /// - [`WordsError::NoMemory`]: memory ran out.
 pub fn read_words<'a>(alloc: Global, words: &'a [&'a str]) -> Result<Call<'a>, WordsError>
-    ensures { IfOk result (λ call. Calls (map (λ w. w.now) words.now) call.name (map (λ t. t.now) call.texts.items)) }
+    ensures { IfOk result (λ call. Calls (map (λ w. w.now) words.now) call.name
+        (map (λ t. t.now) call.texts.items)) }
 {
     let matches = command(alloc)?.try_get_matches_from(words)?;
     let Some((word, options)) = matches.subcommand() else {
@@ -96,7 +99,8 @@ fn subcommand<'a>(alloc: Global, name: CommandName) -> Result<Command<'a>, Alloc
     Ok(command)
 }
 
-// Help says what the subcommand needs, which clap does not know, since it takes no option for a required one.
+// Help says what the subcommand needs, which clap does not know, since it takes no option for a
+// required one.
 fn with_help<'a>(bare: Command<'a>, name: CommandName) -> Command<'a>
     ensures { app_of result ≡ app_of bare.entry }
 {
@@ -127,7 +131,8 @@ fn texts_of<'a>(
     matches: &ArgMatches<'a>,
     options: &[OptionName],
 ) -> Result<Vec<&'a str>, WordsError>
-    ensures { IfOk result (λ texts. map (given (rows_of (found_of matches.now))) options.now ≡ map Some (map (λ t. t.now) texts.items)) }
+    ensures { IfOk result (λ texts. map (given (rows_of (found_of matches.now))) options.now
+        ≡ map Some (map (λ t. t.now) texts.items)) }
 {
     let mut texts = Vec::new(alloc);
     'options: for &option in options {

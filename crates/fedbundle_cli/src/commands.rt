@@ -1,5 +1,5 @@
-// The subcommands: each reads its options in their order, then its state, runs the command's function over the streams,
-// and writes its state.
+// The subcommands: each reads its options in their order, then its state, runs the command's
+// function over the streams, and writes its state.
 use crate::stop::Stop;
 use crate::{exchange, options, words};
 use bundle_view::Verdict;
@@ -13,7 +13,8 @@ use fedbundle::{
 use std::io::{Stdin, Stdout};
 use trust_closure::IndexedClosure;
 
-/// What the words ask for, done: the exit status 0, or 1 where an input was refused and the rest is done.
+/// What the words ask for, done: the exit status 0, or 1 where an input was refused and the rest is
+/// done.
 pub(crate) fn run(rt: &HostRuntime) -> Result<u8, Stop> {
     let words = words::of_process(rt)?;
     let texts = words::texts(rt.alloc(), words.as_slice())?;

@@ -10,7 +10,8 @@ use std::time::{Duration, Instant};
 /// How many seconds a connect may take, and a read or a write in which no byte moves.
 const MAX_IDLE_SECONDS: u64 = 30;
 
-/// How many seconds a session may take in all. It ends with the first read or write that begins later.
+/// How many seconds a session may take in all. It ends with the first read or write that begins
+/// later.
 const MAX_SESSION_SECONDS: u64 = 600;
 
 /// A connection with another replica, for one session.

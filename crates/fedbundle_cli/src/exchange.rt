@@ -9,8 +9,8 @@ use fedbundle::{CommandError, run_pull, run_serve, save_state, write_served};
 use std::net::TcpListener;
 use trust_closure::IndexedClosure;
 
-/// Serves this many sessions, one after another, with what the state file holds at the start. The fault of a session is reported
-/// at its end, and the answer is the greatest exit status of all.
+/// Serves this many sessions, one after another, with what the state file holds at the start. The
+/// fault of a session is reported at its end, and the answer is the greatest exit status of all.
 pub(crate) fn serve(
     rt: &HostRuntime,
     config: &Config,
@@ -57,8 +57,8 @@ fn serve_over(
     Ok(())
 }
 
-/// Takes what the replica at the address has, and writes the state, also where the session ends with a fault. Where there is
-/// no connection the state file stays as it is.
+/// Takes what the replica at the address has, and writes the state, also where the session ends
+/// with a fault. Where there is no connection the state file stays as it is.
 pub(crate) fn pull(
     rt: &HostRuntime,
     config: &Config,

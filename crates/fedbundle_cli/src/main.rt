@@ -1,5 +1,5 @@
-// The program `fedbundle`: it reads its words, hands its files and standard streams to the command's function, and ends
-// with the exit status that the function's answer has.
+// The program `fedbundle`: it reads its words, hands its files and standard streams to the
+// command's function, and ends with the exit status that the function's answer has.
 #![tactic(auto)]
 
 mod commands;

@@ -8,7 +8,8 @@ use std::alloc::AllocError;
 pub(crate) enum Stop {
     /// The words are none that the command has, or ask for its help or version.
     Words(clap::Error),
-    /// A word is no text, the subcommand or an option is missing, or `--sessions` is no number from 1 to 1,000,000.
+    /// A word is no text, the subcommand or an option is missing, or `--sessions` is no number from
+    /// 1 to 1,000,000.
     Usage,
     /// `--key` is not 64 lower-case hexadecimal digits.
     BadKey,
@@ -46,8 +47,8 @@ impl From<WordsError> for Stop {
     }
 }
 
-/// Tells of a refusal on standard error, and returns the exit status that it has, or 3 where that is greater and
-/// standard error failed.
+/// Tells of a refusal on standard error, and returns the exit status that it has, or 3 where that
+/// is greater and standard error failed.
 pub(crate) fn tell_fault(rt: &HostRuntime, error: &CommandError) -> u8 {
     let told = write_fault(error, &mut FromWrite::new(rt.stderr())).is_ok();
     let ended = status(error);

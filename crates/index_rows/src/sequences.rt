@@ -5,8 +5,8 @@ use crate::nets::number;
 use sorted_order::Order;
 use std::alloc::{AllocError, Global};
 
-/// Inserts this many numbers, each at the front, in the middle or at the end, and tells the sequence
-/// by its places, and from a place on.
+/// Inserts this many numbers, each at the front, in the middle or at the end, and tells the
+/// sequence by its places, and from a place on.
 pub(crate) fn insert(alloc: Global, words: &str, answer: &mut String) -> Result<(), AllocError> {
     let (insertions, from) = words.split_once(' ').unwrap_or((words, "0"));
     let mut order = Order::new(alloc);

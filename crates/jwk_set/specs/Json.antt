@@ -4,7 +4,9 @@ use Rattle.std.specs.Ordering.{nat_cmp}
 use Rattle.std.specs.declared.cmp.Ordering.TheVariants.{Less}
 use Rattle.std.specs.Cmp.Lexicographic.{slice_cmp}
 use Rattle.std.specs.Str.{IsUtf8}
-use Rattle.serde_json.specs.Data.{Num, unsigned, negative, float, Data, null, boolean, number, string, array, object, Items, no_items, item, Members, no_members, member}
+use Rattle.serde_json.specs.Data.{Num, unsigned, negative, float, Data, null, boolean, number}
+use Rattle.serde_json.specs.Data.{string, array, object, Items, no_items, item, Members, no_members}
+use Rattle.serde_json.specs.Data.{member}
 use Rattle.serde_json.specs.Read.{read}
 
 -- the bytes are a JSON text of this value
@@ -21,8 +23,8 @@ abbrev pub IsBelowNames : List ℕ → Members → Type 0
 IsBelowNames name no_members = ⊤
 IsBelowNames name (member other d ms) = (slice_cmp nat_cmp name other ≡ Less) × IsBelowNames name ms
 
--- A value whose compact text stands for nothing else: its numbers are unsigned and whole, its texts are UTF-8, and
--- the names of each object rise.
+-- A value whose compact text stands for nothing else: its numbers are unsigned and whole, its texts
+-- are UTF-8, and the names of each object rise.
 abbrev mutual
   pub IsPlain : Data → Type 0
   IsPlain null = ⊤
@@ -38,8 +40,10 @@ abbrev mutual
 
   pub HasPlainMembers : Members → Type 0
   HasPlainMembers no_members = ⊤
-  HasPlainMembers (member name d ms) = IsUtf8 name × IsPlain d × IsBelowNames name ms × HasPlainMembers ms
+  HasPlainMembers (member name d ms) = IsUtf8 name × IsPlain d × IsBelowNames name ms
+      × HasPlainMembers ms
 
--- a byte that stands for itself in a string (RFC 8259, section 7): no quotation mark, no backslash, no control
+-- a byte that stands for itself in a string (RFC 8259, section 7): no quotation mark, no backslash,
+-- no control
 abbrev pub is_unescaped : ℕ → Bool
 is_unescaped b = not ((b == 34) || (b == 92) || nat_lt b 32)

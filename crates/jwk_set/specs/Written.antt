@@ -27,18 +27,23 @@ use_tokens (X509 _ der) = text_tokens (codes "use") (codes "x509-svid")
 use_tokens (Jwt kid _) = text_tokens (codes "use") (codes "jwt-svid")
 
 abbrev pub chain_tokens : Authority → List Token
-chain_tokens (X509 _ der) = key (codes "x5c") ∷ begin_array ∷ string (encode_of standard der) ∷ end_array ∷ []
+chain_tokens (X509 _ der) = key (codes "x5c") ∷ begin_array ∷ string (encode_of standard der)
+    ∷ end_array ∷ []
 chain_tokens (Jwt kid _) = []
 
 -- the members with an RSA key, and with an EC key, up to the closing bracket
 abbrev pub rsa_tokens : Authority → List ℕ → List ℕ → List Token
 rsa_tokens a n e =
-    text_tokens (codes "e") e ++ (kid_tokens a ++ (text_tokens (codes "kty") (codes "RSA") ++ (text_tokens (codes "n") n ++ (use_tokens a ++ (chain_tokens a ++ end_object ∷ [])))))
+    text_tokens (codes "e") e
+    ++ (kid_tokens a ++ (text_tokens (codes "kty") (codes "RSA")
+    ++ (text_tokens (codes "n") n ++ (use_tokens a ++ (chain_tokens a ++ end_object ∷ [])))))
 
 abbrev pub ec_tokens : Authority → List ℕ → List ℕ → List ℕ → List Token
 ec_tokens a crv x y =
     text_tokens (codes "crv") crv
-    ++ (kid_tokens a ++ (text_tokens (codes "kty") (codes "EC") ++ (use_tokens a ++ (text_tokens (codes "x") x ++ (chain_tokens a ++ (text_tokens (codes "y") y ++ end_object ∷ []))))))
+    ++ (kid_tokens a ++ (text_tokens (codes "kty") (codes "EC")
+    ++ (use_tokens a ++ (text_tokens (codes "x") x
+    ++ (chain_tokens a ++ (text_tokens (codes "y") y ++ end_object ∷ []))))))
 
 abbrev pub key_of : Authority → PublicKey
 key_of (X509 k _) = k

@@ -4,7 +4,8 @@ ghost use Rattle.serde_json.specs.Data.{string, array, item, no_items, put, no_m
 ghost use Rattle.serde_json.specs.View.{view, members_view};
 ghost use Rattle.base64.specs.Engines.{standard};
 ghost use Rattle.base64.specs.GeneralPurpose.{encode_of};
-ghost use Rattle.jwk_set.specs.Element.{IsElement, IsKey, IsAuthority, key_id_of, element_text, tree_of, with_authority, with_key};
+ghost use Rattle.jwk_set.specs.Element.{IsElement, IsKey, IsAuthority, key_id_of, element_text};
+ghost use Rattle.jwk_set.specs.Element.{tree_of, with_authority, with_key};
 ghost use Rattle.jwk_set.specs.Forms.{IsCertificate};
 
 use crate::forms::{Certificate, NonEmptyText, UrlText};

@@ -1,10 +1,12 @@
 //! Reading an element of `keys`: the authority that it says, where it says one.
-ghost use Rattle.std.specs.Prelude.{◌≡◌, ◌↔◌, IsTrue, IfOk, MatchResult, Some, [], ◌∷◌, codes, option_map};
+ghost use Rattle.std.specs.Prelude.{◌≡◌, ◌↔◌, IsTrue, IfOk, MatchResult, Some, [], ◌∷◌, codes};
+ghost use Rattle.std.specs.Prelude.{option_map};
 ghost use Rattle.serde_json.specs.Data.{array, item, string, no_items};
 ghost use Rattle.serde_json.specs.Find.{get};
 ghost use Rattle.serde_json.specs.View.{view};
 ghost use Rattle.jwk_set.specs.Forms.{FindsMember, IsUrlText, IsNonEmptyText, IsCertificate};
-ghost use Rattle.jwk_set.specs.Element.{HasText, HasCertificate, HasKey, HasKeyType, HasKind, IsKey, IsElement};
+ghost use Rattle.jwk_set.specs.Element.{HasText, HasCertificate, HasKey, HasKeyType, HasKind};
+ghost use Rattle.jwk_set.specs.Element.{IsKey, IsElement};
 
 use crate::authority::{Authority, PublicKey};
 use crate::forms::{Certificate, NonEmptyText, UrlText};
@@ -69,7 +71,8 @@ fn read_jwt(alloc: Global, element: &Value) -> Result<Option<Authority>, AllocEr
 }
 
 fn read_key(alloc: Global, element: &Value) -> Result<Option<PublicKey>, AllocError>
-    ensures { MatchResult result (λ o. FindsMember o (λ key. HasKey (view element.now) key × IsKey key))
+    ensures { MatchResult result
+        (λ o. FindsMember o (λ key. HasKey (view element.now) key × IsKey key))
         (λ _. HasKeyType (view element.now)) }
 {
     if has_text(element, "kty", "RSA") {
@@ -154,7 +157,8 @@ fn has_text(element: &Value, name: &str, text: &str) -> bool
 }
 
 fn text_of<'a>(element: &'a Value, name: &str) -> Option<&'a str>
-    ensures { FindsMember (option_map (λ text. text.now) result) (HasText (view element.now) name.now) }
+    ensures { FindsMember (option_map (λ text. text.now) result)
+        (HasText (view element.now) name.now) }
 {
     element.get(name)?.as_str()
 }

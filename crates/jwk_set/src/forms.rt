@@ -4,7 +4,8 @@ ghost use Rattle.std.specs.Cmp.{partial_equiv_from_equiv};
 ghost use Rattle.std.specs.Cmp.Lexicographic.{pointwise, nat_list_eq_equiv};
 ghost use Rattle.base64.specs.Engines.{standard};
 ghost use Rattle.base64.specs.GeneralPurpose.{encode_of};
-ghost use Rattle.jwk_set.specs.Forms.{FindsMember, IsUrlText, IsNonEmptyText, IsCertificate, is_url_symbol as url_symbol};
+ghost use Rattle.jwk_set.specs.Forms.{FindsMember, IsUrlText, IsNonEmptyText, IsCertificate};
+ghost use Rattle.jwk_set.specs.Forms.{is_url_symbol as url_symbol};
 
 use base64::DecodeAllocError;
 use base64::engine::general_purpose::STANDARD;

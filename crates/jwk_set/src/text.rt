@@ -2,7 +2,8 @@
 ghost use Rattle.std.specs.Prelude.{◌≡◌, [], ◌∷◌, codes, IfOk, OnOk, string_bytes};
 ghost use Rattle.json.specs.Token.{key, string};
 ghost use Rattle.jwk_set.specs.Element.{element_text};
-ghost use Rattle.jwk_set.specs.Written.{AppendsTokens, chain_tokens, ec_tokens, key_of, kid_tokens, member_tokens, rsa_tokens, text_tokens, use_tokens};
+ghost use Rattle.jwk_set.specs.Written.{AppendsTokens, chain_tokens, ec_tokens, key_of, kid_tokens};
+ghost use Rattle.jwk_set.specs.Written.{member_tokens, rsa_tokens, text_tokens, use_tokens};
 
 use crate::authority::{Authority, PublicKey};
 use json::Writer;
@@ -85,7 +86,8 @@ fn write_ec(
     x: &str,
     y: &str,
 ) -> Result<(), AllocError>
-    ensures { OnOk result (AppendsTokens out.old out.new (ec_tokens authority.now crv.now x.now y.now)) }
+    ensures { OnOk result (AppendsTokens out.old out.new
+        (ec_tokens authority.now crv.now x.now y.now)) }
 {
     write_member(out, "crv", crv)?;
     write_kid(out, authority)?;

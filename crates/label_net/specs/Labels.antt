@@ -1,5 +1,7 @@
 -- Labels in order, and what a caller sees of a net of them
-use Rattle.std.specs.Prelude.{◌≡◌, ◌↔◌, ◌⊎◌, ℕ, ◌+◌, ◌-◌, ◌*◌, ◌<◌, ◌≤◌, List, [], ◌∷◌, ◌++◌, Bool, true, false, length, min, take, All, AllPairs, Contains, slice_get, slice_index_or, Some}
+use Rattle.std.specs.Prelude.{◌≡◌, ◌↔◌, ◌⊎◌, ℕ, ◌+◌, ◌-◌, ◌*◌, ◌<◌, ◌≤◌, List, [], ◌∷◌, ◌++◌, Bool}
+use Rattle.std.specs.Prelude.{true, false, length, min, take, All, AllPairs, Contains, slice_get}
+use Rattle.std.specs.Prelude.{slice_index_or, Some}
 use Rattle.std.specs.declared.cmp.Ordering.{Ordering}
 use Rattle.std.specs.declared.cmp.Ordering.TheVariants.{Less}
 use Rattle.std.specs.Ordering.{nat_cmp, ordering_then}
@@ -7,7 +9,9 @@ use Rattle.std.specs.Cmp.Lexicographic.{slice_cmp}
 use Rattle.jwk_set.specs.declared.authority.KeyId.{KeyId}
 use Rattle.sorted_order.specs.Stock.{Stock, in_order}
 use Rattle.wait_index.specs.Index.{Index, Last}
-use Rattle.wait_index.specs.Net.{Net, is_closed, ListsReached, with_node, with_label, with_offer, with_wait, with_root, has_wait, visits_of, edges_at, ClosesIn, HasReachOf, TellsFallen}
+use Rattle.wait_index.specs.Net.{Net, is_closed, ListsReached, with_node, with_label, with_offer}
+use Rattle.wait_index.specs.Net.{with_wait, with_root, has_wait, visits_of, edges_at, ClosesIn}
+use Rattle.wait_index.specs.Net.{HasReachOf, TellsFallen}
 use Rattle.label_net.specs.declared.label.Label.{Label}
 
 -- labels are ordered by domain number, key id and document id, so those of a key stand together
@@ -36,9 +40,11 @@ pub record Wired : Type 0 where
   pub nodes : ℕ
   pub edges : ℕ
 
--- for how many edges there is room, should each come with a new label, where a list of labels has room for `listed`
+-- for how many edges there is room, should each come with a new label, where a list of labels has
+-- room for `listed`
 abbrev pub labelled_edges_room : Stock Label → Index → ℕ → ℕ
-labelled_edges_room stock index listed = min (min index.room.labels index.room.edges) (min stock.capacity listed - length stock.items)
+labelled_edges_room stock index listed = min (min index.room.labels index.room.edges)
+    (min stock.capacity listed - length stock.items)
 
 abbrev pub wired_of : Stock Label → Index → ℕ → Wired
 wired_of stock index listed = record {
@@ -50,8 +56,8 @@ wired_of stock index listed = record {
   edges = labelled_edges_room stock index listed;
 }
 
--- Labels are found in their order, the net has one label for each, the marked nodes are the reached ones, and each label
--- has room in the list of those to be closed.
+-- Labels are found in their order, the net has one label for each, the marked nodes are the reached
+-- ones, and each label has room in the list of those to be closed.
 pub record IsWired (stock : Stock Label) (index : Index) (listed : ℕ) : Type 0 where
   pub rising : IsInOrder (in_order stock)
   pub sizes : length index.net.closed ≡ length stock.items
@@ -70,9 +76,12 @@ pub record IsRoomierIndex (old new : Wired) : Type 0 where
   pub edges : old.edges ≤ new.edges
 
 -- The label has this number: it had it before, or it was not there and comes last.
-pub record HasNumber (labels : List Label) (net : Net) (label : Label) (closed : Bool) (more : List Label) (wider : Net) (number : ℕ) : Type 0 where
+pub record HasNumber (labels : List Label) (net : Net) (label : Label) (closed : Bool)
+    (more : List Label) (wider : Net) (number : ℕ) : Type 0 where
   pub named : slice_get more number ≡ Some label
-  pub grown : ((more ≡ labels) × (wider ≡ net)) ⊎ ((Contains labels label → ⊥) × (more ≡ labels ++ label ∷ []) × (wider ≡ with_label net closed))
+  pub grown : ((more ≡ labels) × (wider ≡ net))
+      ⊎ ((Contains labels label → ⊥) × (more ≡ labels ++ label ∷ [])
+      × (wider ≡ with_label net closed))
 
 -- A node is added.
 pub record HasNode (old : Wired) (new : Wired) (node : ℕ) : Type 0 where
@@ -86,7 +95,8 @@ pub record HasNode (old : Wired) (new : Wired) (node : ℕ) : Type 0 where
   pub edges : new.edges ≡ old.edges
 
 -- The node offers the label from now on; where that is new, it is closed as it is said.
-pub record Offers (old : Wired) (node : ℕ) (label : Label) (closed : Bool) (new : Wired) : Type 0 where
+pub record Offers (old : Wired) (node : ℕ) (label : Label) (closed : Bool)
+    (new : Wired) : Type 0 where
   pub number : ℕ
   pub wider : Net
   pub numbered : HasNumber old.labels old.net label closed new.labels wider number
@@ -97,7 +107,8 @@ pub record Offers (old : Wired) (node : ℕ) (label : Label) (closed : Bool) (ne
   pub edges : old.edges ≤ new.edges + 1
 
 -- The node awaits the label from now on; where that is new, it is closed as it is said.
-pub record Awaits (old : Wired) (node : ℕ) (label : Label) (closed : Bool) (new : Wired) : Type 0 where
+pub record Awaits (old : Wired) (node : ℕ) (label : Label) (closed : Bool)
+    (new : Wired) : Type 0 where
   pub number : ℕ
   pub wider : Net
   pub numbered : HasNumber old.labels old.net label closed new.labels wider number

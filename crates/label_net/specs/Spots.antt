@@ -1,10 +1,12 @@
 -- What ties a net of nodes and labels to what stands at its nodes
-use Rattle.std.specs.Prelude.{◌≡◌, ◌≢◌, ◌↔◌, ◌⊎◌, ℕ, ◌+◌, Bool, true, false, length, List, [], ◌∷◌, ◌++◌, map, Option, Some, None, slice_get, AllPairs, Contains}
+use Rattle.std.specs.Prelude.{◌≡◌, ◌≢◌, ◌↔◌, ◌⊎◌, ℕ, ◌+◌, Bool, true, false, length, List, [], ◌∷◌}
+use Rattle.std.specs.Prelude.{◌++◌, map, Option, Some, None, slice_get, AllPairs, Contains}
 use Rattle.std.specs.Option.{option_to_list}
 use Rattle.wait_index.specs.declared.edges.Edge.{Edge}
 use Rattle.wait_index.specs.Net.{Net, is_closed}
 
--- What stands at a node: whether it is a root, what it offers, in order, and what it awaits, if anything.
+-- What stands at a node: whether it is a root, what it offers, in order, and what it awaits, if
+-- anything.
 pub record Spot (A : Type 0) : Type 0 where
   pub rooted : Bool
   pub offers : List A
@@ -21,7 +23,8 @@ arrow_at node label = record { node = node; label = Some label }
 -- one arrow for each of these of each spot, and no other; the first spot stands at this node
 abbrev pub arrows_from : {A : Type 0} → (Spot A → List A) → ℕ → List (Spot A) → List (Arrow A)
 arrows_from of node [] = []
-arrows_from of node (spot ∷ spots) = map (arrow_at node) (of spot) ++ arrows_from of (node + 1) spots
+arrows_from of node (spot ∷ spots) = map (arrow_at node) (of spot)
+    ++ arrows_from of (node + 1) spots
 
 abbrev pub offered_at : {A : Type 0} → Spot A → List A
 offered_at spot = spot.offers
@@ -45,10 +48,12 @@ pub record IsUsed {A : Type 0} (spots : List (Spot A)) (label : A) : Type 0 wher
 -- The net has one node for each spot, for each spot as many offer edges as it has offers and a wait
 -- edge where it awaits, one label for each that is offered or awaited, and no other of these. The
 -- labels are different, and closed exactly where they are shut.
-pub record Mirrors {A : Type 0} (spots : List (Spot A)) (labels : List A) (IsShut : A → Type 0) (net : Net) : Type 0 where
+pub record Mirrors {A : Type 0} (spots : List (Spot A)) (labels : List A) (IsShut : A → Type 0)
+    (net : Net) : Type 0 where
   pub roots : net.roots ≡ map (λ spot. spot.rooted) spots
   pub sizes : length net.closed ≡ length labels
-  pub closed : (number : ℕ) (label : A) → slice_get labels number ≡ Some label → (is_closed net number ≡ true) ↔ IsShut label
+  pub closed : (number : ℕ) (label : A) → slice_get labels number ≡ Some label
+      → (is_closed net number ≡ true) ↔ IsShut label
   pub offers : map (offer_arrow labels) net.offers ≡ arrows_from offered_at 0 spots
   pub waits : map (wait_arrow labels) net.waits ≡ arrows_from awaited_at 0 spots
   pub once : AllPairs ◌≢◌ labels

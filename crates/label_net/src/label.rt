@@ -9,7 +9,8 @@ use jwk_set::KeyId;
 use sorted_order::ItemProbe;
 use std::cmp::Ordering;
 
-/// A key of a document of a trust domain, by the domain's number and by the ids of the document and of the key.
+/// A key of a document of a trust domain, by the domain's number and by the ids of the document and
+/// of the key.
 #[derive(Clone, Copy, Debug, PartialEq, Eq)]
 pub struct Label {
     pub domain: u32,

@@ -1,5 +1,5 @@
-//! A net of nodes and labels whose labels stand for keys of documents: which nodes are reached where each node offers
-//! such keys and awaits at most one.
+//! A net of nodes and labels whose labels stand for keys of documents: which nodes are reached
+//! where each node offers such keys and awaits at most one.
 #![tactic(auto)]
 
 mod label;

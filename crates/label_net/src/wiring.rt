@@ -1,5 +1,6 @@
 //! A net whose labels are found by what they stand for.
-ghost use Rattle.std.specs.Prelude.{◌≡◌, ◌+◌, ◌-◌, ◌<◌, ◌≤◌, false, [], length, vec_capacity, IsOk, OnOk};
+ghost use Rattle.std.specs.Prelude.{◌≡◌, ◌+◌, ◌-◌, ◌<◌, ◌≤◌, false, [], length, vec_capacity, IsOk};
+ghost use Rattle.std.specs.Prelude.{OnOk};
 ghost use Rattle.sorted_order.specs.Stock.{in_order};
 ghost use Rattle.wait_index.specs.Net.{ListsReached, has_wait, with_label};
 ghost use Rattle.label_net.specs.Labels.{IsInOrder, HasNumber, AreNumbersOf};
@@ -11,7 +12,8 @@ use std::alloc::{AllocError, Global};
 use std::marker::Model;
 use wait_index::{LabelNo, NodeNo, Reach};
 
-/// An index of nodes which offer labels and await at most one, whose labels are found by what they stand for.
+/// An index of nodes which offer labels and await at most one, whose labels are found by what they
+/// stand for.
 #[derive(Drop)]
 pub struct Wiring {
     labels: Arena<Label>,
@@ -35,7 +37,8 @@ impl Model for Wiring {
 }
 
 impl Wiring {
-    ghost use Rattle.label_net.specs.Labels.{IsRoomierIndex, HasNode, Offers, Awaits, IsRooted, IsOfKey, Closes};
+    ghost use Rattle.label_net.specs.Labels.{IsRoomierIndex, HasNode, Offers, Awaits, IsRooted};
+    ghost use Rattle.label_net.specs.Labels.{IsOfKey, Closes};
 
     /// An index without nodes, labels and room.
     pub fn new(alloc: Global) -> Self
@@ -93,8 +96,8 @@ impl Wiring {
         self.reach.mark(node);
     }
 
-    /// The node, which is of this index, offers the label from now on. A label that is new is closed from the start where
-    /// `closed` says so. There is room for an edge.
+    /// The node, which is of this index, offers the label from now on. A label that is new is
+    /// closed from the start where `closed` says so. There is room for an edge.
     pub fn add_offer(&mut self, node: NodeNo, label: Label, closed: bool)
         requires room { 0 < self.old.edges }
         requires node { node < length self.old.net.roots }
@@ -105,8 +108,9 @@ impl Wiring {
         self.reach.add_offer(node, number);
     }
 
-    /// The node, which is of this index and awaited no label before, awaits the label from now on. A label that is new is
-    /// closed from the start where `closed` says so. There is room for an edge.
+    /// The node, which is of this index and awaited no label before, awaits the label from now on.
+    /// A label that is new is closed from the start where `closed` says so. There is room for an
+    /// edge.
     pub fn add_wait(&mut self, node: NodeNo, label: Label, closed: bool)
         requires room { 0 < self.old.edges }
         requires node { node < length self.old.net.roots }
@@ -169,7 +173,8 @@ fn number_of(labels: &mut Arena<Label>, reach: &mut Reach, label: Label, closed:
     requires reached { ListsReached reach.old.net reach.old.marked }
     requires items { length labels.old.items < labels.old.capacity }
     requires room { 0 < reach.old.room.labels }
-    ensures number { HasNumber labels.old.items reach.old.net label closed labels.new.items reach.new.net result }
+    ensures number { HasNumber labels.old.items reach.old.net label closed labels.new.items
+        reach.new.net result }
     ensures rising { IsInOrder (in_order labels.new) }
     ensures sizes { length reach.new.net.closed ≡ length labels.new.items }
     ensures reached { ListsReached reach.new.net reach.new.marked }
@@ -178,7 +183,8 @@ fn number_of(labels: &mut Arena<Label>, reach: &mut Reach, label: Label, closed:
     ensures capacity { labels.new.capacity ≡ labels.old.capacity }
     ensures nodes { reach.new.room.nodes ≡ reach.old.room.nodes }
     ensures edges { reach.new.room.edges ≡ reach.old.room.edges }
-    ensures labels { reach.old.room.labels - (length labels.new.items - length labels.old.items) ≡ reach.new.room.labels }
+    ensures labels { reach.old.room.labels - (length labels.new.items - length labels.old.items)
+        ≡ reach.new.room.labels }
 {
     let _count = labels.len();
     match labels.find(&SoughtLabel { label }) {

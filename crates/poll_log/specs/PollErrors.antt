@@ -3,7 +3,8 @@ use Rattle.std.specs.Prelude.{Bool, true, false, Result, Ok, Err}
 use Rattle.byte_lines.specs.declared.error.DeviceError.{DeviceError}
 use Rattle.byte_lines.specs.declared.error.DeviceError.TheVariants as line
 use Rattle.poll_log.specs.declared.error.PollError.{PollError}
-use Rattle.poll_log.specs.declared.error.PollError.TheVariants.{NoRelationship, PastRange, NoMemory, BadLine, BadMoment, Io}
+use Rattle.poll_log.specs.declared.error.PollError.TheVariants.{NoRelationship, PastRange, NoMemory}
+use Rattle.poll_log.specs.declared.error.PollError.TheVariants.{BadLine, BadMoment, Io}
 
 abbrev pub poll_error_of : DeviceError → PollError
 poll_error_of line.Io = Io

@@ -1,5 +1,6 @@
 -- Polls as lines of a text
-use Rattle.std.specs.Prelude.{◌≡◌, ℕ, ◌+◌, ◌⊎◌, ⊤, ℤ, Bool, true, false, List, [], ◌∷◌, ◌++◌, length, codes, Contains, FitsSigned, Option, Some, None}
+use Rattle.std.specs.Prelude.{◌≡◌, ℕ, ◌+◌, ◌⊎◌, ⊤, ℤ, Bool, true, false, List, [], ◌∷◌, ◌++◌}
+use Rattle.std.specs.Prelude.{length, codes, Contains, FitsSigned, Option, Some, None}
 use Rattle.std.specs.Int.{w64}
 use Rattle.std.specs.Fmt.{signed_decimal}
 use Rattle.std.specs.List.{AllZip}
@@ -7,11 +8,13 @@ use Rattle.jiff.specs.Words.{IsTimestampNanos, nanos_of_seconds}
 use Rattle.byte_lines.specs.Lines.{Lines, lines_of}
 use Rattle.poll_log.specs.Polling.{Poll, Standing, log_of}
 use Rattle.poll_log.specs.declared.error.PollError.{PollError}
-use Rattle.poll_log.specs.declared.error.PollError.TheVariants.{NoRelationship, PastRange, NoMemory, BadLine, BadMoment, Io}
+use Rattle.poll_log.specs.declared.error.PollError.TheVariants.{NoRelationship, PastRange, NoMemory}
+use Rattle.poll_log.specs.declared.error.PollError.TheVariants.{BadLine, BadMoment, Io}
 
 -- ---- a moment
 
--- the text is that of a number of seconds within 64 signed bits, in decimal: so with neither a plus nor a needless zero
+-- the text is that of a number of seconds within 64 signed bits, in decimal: so with neither a plus
+-- nor a needless zero
 abbrev pub ReadsSeconds : List ℕ → Option ℤ → Type 0
 ReadsSeconds text None = (n : ℤ) → FitsSigned w64 n → text ≡ signed_decimal n → ⊥
 ReadsSeconds text (Some n) = (text ≡ signed_decimal n) × FitsSigned w64 n
@@ -30,7 +33,8 @@ outcome_text false = codes "fail"
 
 -- with single spaces
 abbrev pub line_text : ToldPoll → List ℕ
-line_text t = t.domain ++ (codes " " ++ (outcome_text t.ok ++ (codes " " ++ signed_decimal t.seconds)))
+line_text t = t.domain ++
+    (codes " " ++ (outcome_text t.ok ++ (codes " " ++ signed_decimal t.seconds)))
 
 -- the line tells this of one of these domains, and the seconds are within 64 bits
 pub record Tells (domains : List (List ℕ)) (text : List ℕ) (t : ToldPoll) : Type 0 where
@@ -64,7 +68,8 @@ pub record TellsNoMoment (domains : List (List ℕ)) (text : List ℕ) : Type 0 
 
 -- ---- all lines
 
--- each line says a poll, nothing follows the last line, and the log is that of these polls in their order
+-- each line says a poll, nothing follows the last line, and the log is that of these polls in their
+-- order
 pub record IsLogOf (domains : List (List ℕ)) (bytes : List ℕ) (log : List Standing) : Type 0 where
   pub polls : List Poll
   pub say : AllZip (SaysPoll domains) (lines_of bytes).whole polls
@@ -72,7 +77,8 @@ pub record IsLogOf (domains : List (List ℕ)) (bytes : List ℕ) (log : List St
   pub is : log ≡ log_of domains polls
 
 -- The line with this number, counted from 1, has the fault, and each before it says a poll.
-pub record FirstBad (domains : List (List ℕ)) (lines : List (List ℕ)) (number : ℕ) (Fault : List ℕ → Type 0) : Type 0 where
+pub record FirstBad (domains : List (List ℕ)) (lines : List (List ℕ)) (number : ℕ)
+    (Fault : List ℕ → Type 0) : Type 0 where
   pub front : List (List ℕ)
   pub polls : List Poll
   pub say : AllZip (SaysPoll domains) front polls
@@ -82,17 +88,21 @@ pub record FirstBad (domains : List (List ℕ)) (lines : List (List ℕ)) (numbe
   pub bad : Fault text
   pub counted : number ≡ length front + 1
 
--- Each line says a poll, and bytes follow the last one's line feed: these would be the line with this number.
+-- Each line says a poll, and bytes follow the last one's line feed: these would be the line with
+-- this number.
 pub record IsCut (domains : List (List ℕ)) (lines : Lines) (number : ℕ) : Type 0 where
   pub polls : List Poll
   pub say : AllZip (SaysPoll domains) lines.whole polls
   pub more : lines.rest ≡ [] → ⊥
   pub counted : number ≡ length lines.whole + 1
 
--- the first fault for which the bytes give no log; that memory ran out or that the source failed says nothing of them
+-- the first fault for which the bytes give no log; that memory ran out or that the source failed
+-- says nothing of them
 abbrev pub RefusesPolls : List (List ℕ) → List ℕ → PollError → Type 0
-RefusesPolls domains bytes (BadLine n) = FirstBad domains (lines_of bytes).whole n (TellsNothing domains) ⊎ IsCut domains (lines_of bytes) n
-RefusesPolls domains bytes (BadMoment n) = FirstBad domains (lines_of bytes).whole n (TellsNoMoment domains)
+RefusesPolls domains bytes (BadLine n) = FirstBad domains (lines_of bytes).whole n
+    (TellsNothing domains) ⊎ IsCut domains (lines_of bytes) n
+RefusesPolls domains bytes (BadMoment n) = FirstBad domains (lines_of bytes).whole n
+    (TellsNoMoment domains)
 RefusesPolls domains bytes NoMemory = ⊤
 RefusesPolls domains bytes Io = ⊤
 RefusesPolls domains bytes NoRelationship = ⊥

@@ -1,5 +1,7 @@
 -- When a domain's bundle is polled again, and what is kept of the polls that were made
-use Rattle.std.specs.Prelude.{◌≡◌, ℕ, zero, suc, ◌*◌, ◌^◌, min, max, ℤ, pos, ◌+ℤ◌, ◌≤ℤ◌, ⊤, Bool, not, List, ◌∷◌, [], ◌++◌, map, filter, reverse, find, bytes_eq, Contains, Option, Some, None, Result, MatchResult, Ok, Err}
+use Rattle.std.specs.Prelude.{◌≡◌, ℕ, zero, suc, ◌*◌, ◌^◌, min, max, ℤ, pos, ◌+ℤ◌, ◌≤ℤ◌, ⊤, Bool}
+use Rattle.std.specs.Prelude.{not, List, ◌∷◌, [], ◌++◌, map, filter, reverse, find, bytes_eq}
+use Rattle.std.specs.Prelude.{Contains, Option, Some, None, Result, MatchResult, Ok, Err}
 use Rattle.std.specs.List.{suffix_len}
 use Rattle.std.specs.List.Sorted.{IsStrictlySortedBy}
 use Rattle.jiff.specs.Words.{IsTimestampNanos}
@@ -11,21 +13,22 @@ use Rattle.poll_log.specs.declared.error.PollError.TheVariants.{NoRelationship, 
 
 -- ---- waiting
 
--- Seconds from one poll to the next (SPIFFE Trust Domain and Bundle, section 4.1.2): those of the refresh hint, but at
--- least a minute and at most a day; five minutes without a hint.
+-- Seconds from one poll to the next (SPIFFE Trust Domain and Bundle, section 4.1.2): those of the
+-- refresh hint, but at least a minute and at most a day; five minutes without a hint.
 abbrev pub interval_of : Option ℕ → ℕ
 interval_of None = 300
 interval_of (Some hint) = max 60 (min hint 86400)
 
--- Seconds from the last poll to the next, after so many that failed in a row: 30 after one, doubled by each that
--- follows, of which eleven count, and never more than the interval.
+-- Seconds from the last poll to the next, after so many that failed in a row: 30 after one, doubled
+-- by each that follows, of which eleven count, and never more than the interval.
 abbrev pub wait_of : Option ℕ → ℕ → ℕ
 wait_of hint zero = interval_of hint
 wait_of hint (suc more) = min (interval_of hint) (30 * 2 ^ min more 11)
 
 -- ---- polls
 
--- the bundle of a domain was asked for, at a moment in nanoseconds since the Unix epoch, and was had or was not
+-- the bundle of a domain was asked for, at a moment in nanoseconds since the Unix epoch, and was
+-- had or was not
 pub record Poll : Type 0 where
   pub domain : List ℕ
   pub moment : ℤ
@@ -53,7 +56,8 @@ pub record Standing : Type 0 where
   pub last : Option ℤ
   pub failures : ℕ
 
--- the moment of the last one, if there was any, and how many failed in a row up to it, counted to twelve
+-- the moment of the last one, if there was any, and how many failed in a row up to it, counted to
+-- twelve
 abbrev pub standing_of : List Poll → List ℕ → Standing
 standing_of polls domain = record {
   domain = domain;
@@ -82,12 +86,14 @@ pub record IsLog (log : List Standing) : Type 0 where
 
 -- the log of any polls became that of the same polls with one more behind them
 abbrev pub RecordsPoll : List Standing → Poll → List Standing → Type 0
-RecordsPoll old p new = (domains : List (List ℕ)) (polls : List Poll) → old ≡ log_of domains polls → new ≡ log_of domains (polls ++ p ∷ [])
+RecordsPoll old p new = (domains : List (List ℕ)) (polls : List Poll) → old ≡ log_of domains polls
+    → new ≡ log_of domains (polls ++ p ∷ [])
 
 -- what `record` does: refused only where the log has no such domain, and then it is as it was
 abbrev pub Records : List Standing → Poll → List Standing → Result (Unit {0}) PollError → Type 0
 Records old p new (Ok _) = Contains (polled_domains old) p.domain × RecordsPoll old p new
-Records old p new (Err e) = (e ≡ NoRelationship) × (Contains (polled_domains old) p.domain → ⊥) × (new ≡ old)
+Records old p new (Err e) = (e ≡ NoRelationship) × (Contains (polled_domains old) p.domain → ⊥)
+    × (new ≡ old)
 
 -- ---- the next poll
 
@@ -103,20 +109,24 @@ abbrev pub IsMoment : Option Timestamp → ℤ → Type 0
 IsMoment None n = ⊥
 IsMoment (Some t) n = t.nanosecond ≡ n
 
--- what `next_poll` answers where there was a poll, and where there was none: no moment, which is refused only where it is past the range of moments
+-- what `next_poll` answers where there was a poll, and where there was none: no moment, which is
+-- refused only where it is past the range of moments
 abbrev pub IsNextAfter : Option ℕ → ℕ → Option ℤ → Result (Option Timestamp) PollError → Type 0
 IsNextAfter hint failures None r = r ≡ Ok None
 IsNextAfter hint failures (Some last) r =
-    MatchResult r (λ next. IsMoment next (next_nanos hint failures last)) (λ e. (e ≡ PastRange) × (IsTimestampNanos (next_nanos hint failures last) → ⊥))
+    MatchResult r (λ next. IsMoment next (next_nanos hint failures last))
+    (λ e. (e ≡ PastRange) × (IsTimestampNanos (next_nanos hint failures last) → ⊥))
 
 abbrev pub IsNext : Option ℕ → Option Standing → Result (Option Timestamp) PollError → Type 0
 IsNext hint None r = r ≡ Err NoRelationship
 IsNext hint (Some s) r = IsNextAfter hint s.failures s.last r
 
--- whether a poll is due at a moment: none was made, or the next one is not later; one past the range never is
+-- whether a poll is due at a moment: none was made, or the next one is not later; one past the
+-- range never is
 abbrev pub IsDueAfter : Option ℕ → ℕ → Option ℤ → ℤ → Type 0
 IsDueAfter hint failures None now = ⊤
-IsDueAfter hint failures (Some last) now = IsTimestampNanos (next_nanos hint failures last) × (next_nanos hint failures last ≤ℤ now)
+IsDueAfter hint failures (Some last) now = IsTimestampNanos (next_nanos hint failures last)
+    × (next_nanos hint failures last ≤ℤ now)
 
 abbrev pub IsPollDue : Option ℕ → Option Standing → ℤ → Type 0
 IsPollDue hint None now = ⊥

@@ -1,5 +1,5 @@
-//! When the bundle of each trust domain is fetched next: how long to wait after a poll, what a replica keeps of the polls
-//! that it made, and polls as lines of a text. No clock is read.
+//! When the bundle of each trust domain is fetched next: how long to wait after a poll, what a
+//! replica keeps of the polls that it made, and polls as lines of a text. No clock is read.
 #![tactic(auto)]
 
 mod error;

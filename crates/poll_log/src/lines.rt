@@ -1,12 +1,14 @@
 //! Polls as lines of a text.
-ghost use Rattle.std.specs.Prelude.{◌≡◌, ◌||◌, ◌++◌, Bool, List, ℕ, ◌↔◌, IsTrue, IfOk, IfErr, IfSome, OnOk, MatchOption, codes};
+ghost use Rattle.std.specs.Prelude.{◌≡◌, ◌||◌, ◌++◌, Bool, List, ℕ, ◌↔◌, IsTrue, IfOk, IfErr};
+ghost use Rattle.std.specs.Prelude.{IfSome, OnOk, MatchOption, codes};
 ghost use Rattle.std.specs.Fmt.{signed_decimal};
 ghost use Rattle.std.specs.List.{AllPass};
 ghost use Rattle.std.specs.Io.KnownBytes.{IsAtEnd};
 ghost use Rattle.spiffe_name.specs.Bytes.{FirstFails};
 ghost use Rattle.poll_log.specs.Polling.{polled_domains, polled};
 ghost use Rattle.poll_log.specs.PollErrors.{is_poll_fault};
-ghost use Rattle.poll_log.specs.PollLines.{IsLogOf, ReadsSeconds, RefusesPolls, TellsNothing, outcome_text};
+ghost use Rattle.poll_log.specs.PollLines.{IsLogOf, ReadsSeconds, RefusesPolls, TellsNothing};
+ghost use Rattle.poll_log.specs.PollLines.{outcome_text};
 ghost use Rattle.poll_log.specs.Inside.PollSteps.{IsWord, RecordsLine, TellsParts, is_no_space};
 
 use crate::error::PollError;
@@ -17,9 +19,9 @@ use itoa::Buffer;
 use jiff::Timestamp;
 use std::alloc::Global;
 
-/// Reads polls from lines `<domain> ok <seconds>` and `<domain> fail <seconds>`, with single spaces, and records them in
-/// their order. The domain has a relationship; the seconds are those since the Unix epoch, as [`read_seconds`] reads them.
-/// A line feed (byte 10) ends each line.
+/// Reads polls from lines `<domain> ok <seconds>` and `<domain> fail <seconds>`, with single
+/// spaces, and records them in their order. The domain has a relationship; the seconds are those
+/// since the Unix epoch, as [`read_seconds`] reads them. A line feed (byte 10) ends each line.
 ///
 /// # Errors
 /// The first bad line is reported.
@@ -33,8 +35,10 @@ pub fn read_polls<R: Source>(
     source: &mut R,
 ) -> Result<PollLog, PollError>
     ensures domains { IfOk result (λ log. polled_domains log ≡ polled config.now) }
-    ensures log { IfOk result (λ log. IfSome (R.remaining source.old) (λ bytes. IsLogOf (polled config.now) bytes log)) }
-    ensures refused { IfErr result (λ e. IfSome (R.remaining source.old) (λ bytes. RefusesPolls (polled config.now) bytes e)) }
+    ensures log { IfOk result
+        (λ log. IfSome (R.remaining source.old) (λ bytes. IsLogOf (polled config.now) bytes log)) }
+    ensures refused { IfErr result
+        (λ e. IfSome (R.remaining source.old) (λ bytes. RefusesPolls (polled config.now) bytes e)) }
     ensures end { OnOk result (IsAtEnd (R.remaining source.new)) }
     ensures fault { R.has_failed source.new ≡ (is_poll_fault result || R.has_failed source.old) }
 {
@@ -68,7 +72,8 @@ fn record_line(log: &mut PollLog, text: &[u8], number: u64) -> Result<(), PollEr
     Ok(())
 }
 
-/// What a poll line says: where the log keeps its domain, whether the poll succeeded, and when it was.
+/// What a poll line says: where the log keeps its domain, whether the poll succeeded, and when it
+/// was.
 #[derive(Clone, Copy)]
 struct Parts {
     place: usize,
@@ -77,7 +82,8 @@ struct Parts {
 }
 
 fn read_parts(log: &PollLog, text: &[u8]) -> Option<Parts>
-    ensures { MatchOption result (TellsNothing (polled_domains log.now) text.now) (TellsParts (polled_domains log.now) text.now) }
+    ensures { MatchOption result (TellsNothing (polled_domains log.now) text.now)
+        (TellsParts (polled_domains log.now) text.now) }
 {
     let (domain, rest) = first_word(text)?;
     let place = log.place_of(domain)?;
@@ -88,7 +94,8 @@ fn read_parts(log: &PollLog, text: &[u8]) -> Option<Parts>
 
 /// What stands before the first space, and what stands behind it.
 fn first_word(text: &[u8]) -> Option<(&[u8], &[u8])>
-    ensures { MatchOption result (AllPass is_no_space text.now) (λ words. IsWord text.now words.0.now words.1.now) }
+    ensures { MatchOption result (AllPass is_no_space text.now)
+        (λ words. IsWord text.now words.0.now words.1.now) }
 {
     let space = first_space(text)?;
     let (word, rest) = text.split_at(space);
@@ -103,7 +110,8 @@ fn first_space(text: &[u8]) -> Option<usize>
 
 /// Whether the poll succeeded, and what stands behind the space that follows.
 fn read_outcome(text: &[u8]) -> Option<(bool, &[u8])>
-    ensures { MatchOption result ((ok : Bool) (rest : List ℕ) → text.now ≡ outcome_text ok ++ (codes " " ++ rest) → ⊥)
+    ensures { MatchOption result
+        ((ok : Bool) (rest : List ℕ) → text.now ≡ outcome_text ok ++ (codes " " ++ rest) → ⊥)
         (λ read. text.now ≡ outcome_text read.0 ++ (codes " " ++ read.1.now)) }
 {
     if let Some(rest) = text.strip_prefix(b"ok ") {
@@ -113,8 +121,9 @@ fn read_outcome(text: &[u8]) -> Option<(bool, &[u8])>
     Some((false, rest))
 }
 
-/// Reads a whole number of seconds within 64 signed bits, as it is written in decimal: a minus sign where it is below 0,
-/// then its digits, without a needless zero. So `-0`, `+1`, `01` and the empty text are none.
+/// Reads a whole number of seconds within 64 signed bits, as it is written in decimal: a minus sign
+/// where it is below 0, then its digits, without a needless zero. So `-0`, `+1`, `01` and the empty
+/// text are none.
 pub fn read_seconds(text: &[u8]) -> Option<i64>
     ensures { ReadsSeconds text.now result }
 {

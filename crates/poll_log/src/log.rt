@@ -1,7 +1,9 @@
 //! What a replica keeps of its polls.
-ghost use Rattle.std.specs.Prelude.{◌≡◌, ◌<◌, ◌↔◌, [], ℕ, List, map, length, Some, IsTrue, MatchResult, slice_get};
+ghost use Rattle.std.specs.Prelude.{◌≡◌, ◌<◌, ◌↔◌, [], ℕ, List, map, length, Some, IsTrue};
+ghost use Rattle.std.specs.Prelude.{MatchResult, slice_get};
 ghost use Rattle.fed_config.specs.Configuration.{IsConfiguration};
-ghost use Rattle.poll_log.specs.Polling.{RecordsPoll, IsPollDue, IsNext, Records, polled_domains, log_of, polled, standing_in};
+ghost use Rattle.poll_log.specs.Polling.{RecordsPoll, IsPollDue, IsNext, Records, polled_domains};
+ghost use Rattle.poll_log.specs.Polling.{log_of, polled, standing_in};
 ghost use Rattle.poll_log.specs.Inside.Standings.{AreNames, IsPlaceOf, after, kept_standing};
 
 use crate::error::PollError;
@@ -13,7 +15,8 @@ use std::alloc::{AllocError, Global};
 use std::marker::Model;
 use std::time::Duration;
 
-/// When each trust domain with a relationship was polled last, and how many polls in a row failed since.
+/// When each trust domain with a relationship was polled last, and how many polls in a row failed
+/// since.
 ///
 /// No clock is read: moments are handed in, and may go back. The last poll recorded counts.
 #[derive(Debug, Drop)]
@@ -54,14 +57,16 @@ impl PollLog {
     /// Records a poll of the domain at that moment, and whether it succeeded. It takes no memory.
     ///
     /// # Errors
-    /// [`PollError::NoRelationship`]: there is no relationship with the domain. The log is as it was.
+    /// [`PollError::NoRelationship`]: there is no relationship with the domain. The log is as it
+    /// was.
     pub fn record(
         &mut self,
         domain: &TrustDomain,
         moment: Timestamp,
         ok: bool,
     ) -> Result<(), PollError>
-        ensures { Records self.old (record { domain = domain.now; moment = moment.nanosecond; ok = ok }) self.new result }
+        ensures { Records self.old
+            (record { domain = domain.now; moment = moment.nanosecond; ok = ok }) self.new result }
     {
         match self.place_of(domain.as_str().as_bytes()) {
             Some(place) => {
@@ -72,8 +77,9 @@ impl PollLog {
         }
     }
 
-    /// When the domain is polled next: the moment of its last poll and then the [`wait`]. `None` where it was never polled.
-    /// The hint is the one in the document that is current for the domain. It takes no memory.
+    /// When the domain is polled next: the moment of its last poll and then the [`wait`]. `None`
+    /// where it was never polled. The hint is the one in the document that is current for the
+    /// domain. It takes no memory.
     ///
     /// # Errors
     /// - [`PollError::NoRelationship`]: there is no relationship with the domain.
@@ -91,8 +97,9 @@ impl PollLog {
         }
     }
 
-    /// Whether the domain is to be polled now: it was never polled, or its next poll is at this moment or before it. A
-    /// domain without a relationship is never due, nor is one whose next poll is past the range. It takes no memory.
+    /// Whether the domain is to be polled now: it was never polled, or its next poll is at this
+    /// moment or before it. A domain without a relationship is never due, nor is one whose next
+    /// poll is past the range. It takes no memory.
     pub fn due(&self, domain: &TrustDomain, hint: Option<u64>, now: Timestamp) -> bool
         ensures { IsTrue result ↔ IsPollDue hint (standing_in self.now domain.now) now.nanosecond }
     {
@@ -117,7 +124,8 @@ impl PollLog {
     pub(crate) fn add(&mut self, place: usize, moment: Timestamp, ok: bool)
         requires { place < length self.old }
         ensures { (domain : List ℕ) → slice_get (polled_domains self.old) place ≡ Some domain
-            → RecordsPoll self.old (record { domain = domain; moment = moment.nanosecond; ok = ok }) self.new }
+            → RecordsPoll self.old (record { domain = domain; moment = moment.nanosecond; ok = ok })
+            self.new }
     {
         self.standings[place].add(moment, ok);
     }
@@ -146,7 +154,8 @@ impl Standing {
     }
 
     fn next_poll(&self, hint: Option<u64>) -> Result<Option<Timestamp>, PollError>
-        ensures { IsNextAfter hint (kept_standing self.now).failures (kept_standing self.now).last result }
+        ensures { IsNextAfter hint (kept_standing self.now).failures (kept_standing self.now).last
+            result }
     {
         let Some(last) = self.last else {
             return Ok(None);
@@ -159,7 +168,9 @@ impl Standing {
 }
 
 fn never_polled(alloc: Global, relationships: &[Relationship]) -> Result<Vec<Standing>, AllocError>
-    ensures { MatchResult result (λ standings. map kept_standing standings.items ≡ log_of (map (λ r. r.domain) relationships.now) [])
+    ensures { MatchResult result
+        (λ standings. map kept_standing standings.items
+        ≡ log_of (map (λ r. r.domain) relationships.now) [])
         (λ _. 0 < length relationships.now) }
 {
     let mut standings = Vec::with_capacity(alloc, relationships.len())?;

@@ -17,8 +17,8 @@ const FIRST_RETRY: u64 = 30;
 /// How many failures in a row count.
 pub(crate) const MOST_FAILURES: u32 = 12;
 
-/// Seconds from one poll to the next: those of the refresh hint (SPIFFE Trust Domain and Bundle, section 4.1.2), but at
-/// least 60 and at most 86,400, and 300 without a hint.
+/// Seconds from one poll to the next: those of the refresh hint (SPIFFE Trust Domain and Bundle,
+/// section 4.1.2), but at least 60 and at most 86,400, and 300 without a hint.
 pub fn interval(hint: Option<u64>) -> u64
     ensures { result ≡ interval_of hint }
 {
@@ -28,8 +28,9 @@ pub fn interval(hint: Option<u64>) -> u64
     }
 }
 
-/// Seconds from the last poll to the next, after this many failures in a row: without any the interval, and else 30, doubled
-/// by each failure after the first, but never more than the interval. Of the failures 12 count.
+/// Seconds from the last poll to the next, after this many failures in a row: without any the
+/// interval, and else 30, doubled by each failure after the first, but never more than the
+/// interval. Of the failures 12 count.
 pub fn wait(hint: Option<u64>, failures: u32) -> u64
     ensures value { result ≡ wait_of hint failures }
     ensures within { result ≤ 86400 }

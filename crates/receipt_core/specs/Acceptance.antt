@@ -7,9 +7,11 @@ use Rattle.fed_config.specs.declared.relationship.Relationship.{Relationship}
 use Rattle.fed_config.specs.declared.seed.Seed.{Seed}
 use Rattle.bundle_doc.specs.Bundle.{HasKeyId, doc_id_of}
 use Rattle.receipt_core.specs.declared.distrust.Distrust.{Distrust}
-use Rattle.receipt_core.specs.Receipt.{Receipt, IsReceipt, receipt_cmp, IsDistrust, distrust_cmp, Pair, pair_of}
+use Rattle.receipt_core.specs.Receipt.{Receipt, IsReceipt, receipt_cmp, IsDistrust, distrust_cmp}
+use Rattle.receipt_core.specs.Receipt.{Pair, pair_of}
 
--- The configuration has a relationship with the receipt's domain, and its endpoint is the receipt's.
+-- The configuration has a relationship with the receipt's domain, and its endpoint is the
+-- receipt's.
 pub record IsFitting (c : Configuration) (r : Receipt) : Type 0 where
   pub relationship : Relationship
   pub has : Contains c.relationships relationship
@@ -19,21 +21,23 @@ pub record IsFitting (c : Configuration) (r : Receipt) : Type 0 where
 abbrev pub distrust_of : List ℕ → Receipt → Distrust
 distrust_of domain r = record { domain = domain; key = r.key }
 
--- The document is of the endpoint's trust domain, it is the named one, an X.509 authority of it has the named key, and
--- that key is not distrusted there.
+-- The document is of the endpoint's trust domain, it is the named one, an X.509 authority of it has
+-- the named key, and that key is not distrusted there.
 pub record Vouches (records : List Distrust) (p : Pair) (r : Receipt) : Type 0 where
   pub endpoint : p.domain ≡ r.endpoint.domain
   pub voucher : doc_id_of p.domain p.document ≡ r.voucher.0
   pub key : HasKeyId p.document.authorities r.key
   pub trusted : Contains records (distrust_of p.domain r) → ⊥
 
--- A chain from a document to another: each receipt fits, and is vouched for by the document before it.
+-- A chain from a document to another: each receipt fits, and is vouched for by the document before
+-- it.
 abbrev pub Leads : Configuration → List Distrust → Pair → List Receipt → Pair → Type 0
 Leads c records from [] to = from ≡ to
-Leads c records from (r ∷ chain) to = IsFitting c r × Vouches records from r × Leads c records (pair_of r) chain to
+Leads c records from (r ∷ chain) to = IsFitting c r × Vouches records from r
+    × Leads c records (pair_of r) chain to
 
--- What a closure means: its configuration, and the receipts and the records of distrust that it holds, each a set that
--- is kept as a rising list.
+-- What a closure means: its configuration, and the receipts and the records of distrust that it
+-- holds, each a set that is kept as a rising list.
 pub record Meaning : Type 0 where
   pub config : Configuration
   pub held : List Receipt
@@ -53,8 +57,8 @@ pub record IsMeaning (m : Meaning) : Type 0 where
 abbrev pub pair_of_seed : Seed → Pair
 pair_of_seed s = record { domain = s.domain; document = s.document }
 
--- Accepted: a chain of held receipts leads from a configured document to this one. The empty chain leads from each to
--- itself.
+-- Accepted: a chain of held receipts leads from a configured document to this one. The empty chain
+-- leads from each to itself.
 pub record IsMember (m : Meaning) (p : Pair) : Type 0 where
   pub seed : Seed
   pub configured : Contains m.config.seeds seed
@@ -75,7 +79,9 @@ pub record IsPending (m : Meaning) (r : Receipt) : Type 0 where
   pub held : Contains m.held r
   pub unreleased : IsReleased m r → ⊥
 
--- The set has the configured documents and, with a document, that of each held receipt that it vouches for.
+-- The set has the configured documents and, with a document, that of each held receipt that it
+-- vouches for.
 pub record IsClosed (m : Meaning) (set : Pair → Type 0) : Type 0 where
   pub seeds : (s : Seed) → Contains m.config.seeds s → set (pair_of_seed s)
-  pub steps : (p : Pair) (r : Receipt) → set p → Contains m.held r → IsFitting m.config r → Vouches m.records p r → set (pair_of r)
+  pub steps : (p : Pair) (r : Receipt) → set p → Contains m.held r → IsFitting m.config r
+      → Vouches m.records p r → set (pair_of r)

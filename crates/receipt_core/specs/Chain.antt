@@ -15,7 +15,8 @@ abbrev pub LeadsOn : Configuration → List Distrust → Pair → List Receipt �
 LeadsOn c records from chain = Leads c records from chain (last_pair from chain)
 
 -- The list isn't empty, and it leads from a configured document to its last receipt's.
-pub record IsChain (c : Configuration) (records : List Distrust) (chain : List Receipt) : Type 0 where
+pub record IsChain (c : Configuration) (records : List Distrust)
+    (chain : List Receipt) : Type 0 where
   pub some : 0 < length chain
   pub seed : Seed
   pub configured : Contains c.seeds seed

@@ -9,7 +9,8 @@ use Rattle.bundle_doc.specs.Bundle.{Bundle, Means, Fits}
 use Rattle.receipt_core.specs.Receipt.{Receipt, IsReceipt, line, IsDistrust, distrust_line}
 use Rattle.receipt_core.specs.declared.distrust.Distrust.{Distrust}
 use Rattle.receipt_core.specs.declared.line_error.LineError.{LineError}
-use Rattle.receipt_core.specs.declared.line_error.LineError.TheVariants.{NotCanonical, TooLong, NoMemory}
+use Rattle.receipt_core.specs.declared.line_error.LineError.TheVariants.{NotCanonical, TooLong}
+use Rattle.receipt_core.specs.declared.line_error.LineError.TheVariants.{NoMemory}
 
 -- the bytes are the receipt's line
 pub record IsLine (bytes : List ℕ) (r : Receipt) : Type 0 where
@@ -19,7 +20,8 @@ pub record IsLine (bytes : List ℕ) (r : Receipt) : Type 0 where
 abbrev pub IsNoLine : List ℕ → Type 0
 IsNoLine bytes = (r : Receipt) → IsLine bytes r → ⊥
 
--- Why bytes are refused. Memory is wanted only for a line that is within the bound of receipts' lines.
+-- Why bytes are refused. Memory is wanted only for a line that is within the bound of receipts'
+-- lines.
 abbrev pub RefusesReceiptLine : List ℕ → LineError → Type 0
 RefusesReceiptLine bytes TooLong = 8388608 < length bytes
 RefusesReceiptLine bytes NotCanonical = (length bytes ≤ 8388608) × IsNoLine bytes

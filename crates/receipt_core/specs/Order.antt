@@ -1,7 +1,8 @@
 -- The orders of receipts, triples and records of distrust are total, and tell apart what differs.
 use Rattle.std.specs.Prelude.{Bool, Some}
 use Rattle.std.specs.Ordering.{eq_by_cmp}
-use Rattle.std.specs.Cmp.{IsTotalOrder, IsEquivalence, IsPartialOrder, then_total, eq_by_cmp_equiv, partial_order_from_total}
+use Rattle.std.specs.Cmp.{IsTotalOrder, IsEquivalence, IsPartialOrder, then_total, eq_by_cmp_equiv}
+use Rattle.std.specs.Cmp.{partial_order_from_total}
 use Rattle.std.specs.Cmp.Lexicographic.{on_texts}
 use Rattle.receipt_core.specs.Receipt.{Receipt, line, receipt_cmp, triple_cmp, distrust_cmp}
 use Rattle.receipt_core.specs.declared.distrust.Distrust.{Distrust}
@@ -11,10 +12,12 @@ pub receipt_total : IsTotalOrder receipt_cmp
 receipt_total = on_texts line
 
 pub triple_total : IsTotalOrder triple_cmp
-triple_total = then_total (on_texts (λ (t : Triple). t.domain)) (then_total (on_texts (λ (t : Triple). t.document.0)) (on_texts (λ (t : Triple). t.key.0)))
+triple_total = then_total (on_texts (λ (t : Triple). t.domain))
+    (then_total (on_texts (λ (t : Triple). t.document.0)) (on_texts (λ (t : Triple). t.key.0)))
 
 pub distrust_total : IsTotalOrder distrust_cmp
-distrust_total = then_total (on_texts (λ (x : Distrust). x.key.0)) (on_texts (λ (x : Distrust). x.domain))
+distrust_total = then_total (on_texts (λ (x : Distrust). x.key.0))
+    (on_texts (λ (x : Distrust). x.domain))
 
 -- the order doesn't tell them apart
 abbrev pub same_receipt : Receipt → Receipt → Bool

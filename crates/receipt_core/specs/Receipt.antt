@@ -19,8 +19,9 @@ use Rattle.receipt_core.specs.Rising.{with_item}
 use Rattle.receipt_core.specs.declared.distrust.Distrust.{Distrust}
 use Rattle.receipt_core.specs.declared.triple.Triple.{Triple}
 
--- What was noted of one fetch: which document came for which domain, from which endpoint; and which key of which bundle
--- (the voucher) of the endpoint's trust domain proved that endpoint (SPIFFE Federation, section 5.2, https_spiffe).
+-- What was noted of one fetch: which document came for which domain, from which endpoint; and which
+-- key of which bundle (the voucher) of the endpoint's trust domain proved that endpoint (SPIFFE
+-- Federation, section 5.2, https_spiffe).
 pub record Receipt : Type 0 where
   pub domain : List ℕ
   pub endpoint : Id
@@ -44,7 +45,12 @@ pub record IsReceipt (r : Receipt) : Type 0 where
 -- ---- the line
 
 abbrev pub receipt_tree : Receipt → Data
-receipt_tree r = object (member (codes "doc") (document_tree r.document) (member (codes "domain") (string r.domain) (member (codes "endpoint") (string r.endpoint.text) (member (codes "key") (string (encode_lower r.key.0)) (member (codes "voucher") (string (encode_lower r.voucher.0)) no_members)))))
+receipt_tree r = object
+    (member (codes "doc") (document_tree r.document)
+    (member (codes "domain") (string r.domain)
+    (member (codes "endpoint") (string r.endpoint.text)
+    (member (codes "key") (string (encode_lower r.key.0))
+    (member (codes "voucher") (string (encode_lower r.voucher.0)) no_members)))))
 
 -- the one spelling, without a line feed
 unfoldable pub line : Receipt → List ℕ
@@ -86,24 +92,32 @@ key_ids authorities = fold (λ keys authority. with_key_id (key_id_of authority)
 
 -- what a document of a domain can vouch by: its id and each of its key ids
 abbrev pub offer_of : Pair → KeyId → Triple
-offer_of p key = record { domain = p.domain; document = record { 0 = doc_id_of p.domain p.document }; key = key }
+offer_of p key = record {
+  domain = p.domain;
+  document = record { 0 = doc_id_of p.domain p.document };
+  key = key;
+}
 
 abbrev pub offers_of : Pair → List Triple
 offers_of p = map (offer_of p) (key_ids p.document.authorities)
 
--- what a receipt has to be vouched for by: the named key of the named document of the endpoint's domain
+-- what a receipt has to be vouched for by: the named key of the named document of the endpoint's
+-- domain
 abbrev pub need_of : Receipt → Triple
 need_of r = record { domain = r.endpoint.domain; document = r.voucher; key = r.key }
 
 -- triples are ordered by domain, document id and key id
 abbrev pub triple_cmp : Triple → Triple → Ordering
-triple_cmp a b = ordering_then (slice_cmp nat_cmp a.domain b.domain) (ordering_then (slice_cmp nat_cmp a.document.0 b.document.0) (key_cmp a.key b.key))
+triple_cmp a b = ordering_then (slice_cmp nat_cmp a.domain b.domain)
+    (ordering_then (slice_cmp nat_cmp a.document.0 b.document.0) (key_cmp a.key b.key))
 
 -- ---- distrust
 
 -- a record's one spelling, without a line feed
 abbrev pub distrust_tree : Distrust → Data
-distrust_tree x = object (member (codes "distrust") (string (encode_lower x.key.0)) (member (codes "domain") (string x.domain) no_members))
+distrust_tree x = object
+    (member (codes "distrust") (string (encode_lower x.key.0))
+    (member (codes "domain") (string x.domain) no_members))
 
 unfoldable pub distrust_line : Distrust → List ℕ
 distrust_line x = compact_text (distrust_tree x)

@@ -13,10 +13,11 @@ use fed_config::{Config, Relationship, Seed};
 use spiffe_name::{SpiffeId, TrustDomain};
 use std::cmp::Ordering;
 
-/// Whether the receipts are a chain under the configuration and the records of distrust: there is at least one, each
-/// fits a relationship, a seed vouches for the first, and the document of each vouches for the next (SPIFFE Federation,
-/// section 5.2, profile `https_spiffe`). A yes means that the last document is accepted by every replica of this
-/// configuration that holds these receipts and no other records.
+/// Whether the receipts are a chain under the configuration and the records of distrust: there is
+/// at least one, each fits a relationship, a seed vouches for the first, and the document of each
+/// vouches for the next (SPIFFE Federation, section 5.2, profile `https_spiffe`). A yes means that
+/// the last document is accepted by every replica of this configuration that holds these receipts
+/// and no other records.
 ///
 /// It takes no memory.
 pub fn check_chain(config: &Config, records: &[Distrust], receipts: &[Receipt]) -> bool
@@ -65,7 +66,9 @@ fn is_first(config: &Config, records: &[Distrust], receipt: &Receipt) -> bool
 }
 
 fn is_next(config: &Config, records: &[Distrust], previous: &Receipt, receipt: &Receipt) -> bool
-    ensures { IsTrue result ↔ (IsFitting config.now receipt.now × Vouches records.now (pair_of previous.now) receipt.now) }
+    ensures { IsTrue result
+        ↔ (IsFitting config.now receipt.now
+        × Vouches records.now (pair_of previous.now) receipt.now) }
 {
     if fits(config, receipt) {
         is_vouched_for(records, previous, receipt)
@@ -104,7 +107,9 @@ fn fits(config: &Config, receipt: &Receipt) -> bool
 }
 
 fn has_relationship(relationships: &[Relationship], receipt: &Receipt) -> bool
-    ensures { IsTrue result ↔ Any (λ x. (x.domain ≡ receipt.now.domain) × (x.endpoint ≡ receipt.now.endpoint)) relationships.now }
+    ensures { IsTrue result
+        ↔ Any (λ x. (x.domain ≡ receipt.now.domain) × (x.endpoint ≡ receipt.now.endpoint))
+        relationships.now }
 {
     relationships
         .iter()
@@ -112,7 +117,9 @@ fn has_relationship(relationships: &[Relationship], receipt: &Receipt) -> bool
 }
 
 fn is_of(relationship: &Relationship, receipt: &Receipt) -> bool
-    ensures { IsTrue result ↔ ((relationship.now.domain ≡ receipt.now.domain) × (relationship.now.endpoint ≡ receipt.now.endpoint)) }
+    ensures { IsTrue result
+        ↔ ((relationship.now.domain ≡ receipt.now.domain)
+        × (relationship.now.endpoint ≡ receipt.now.endpoint)) }
 {
     is_same_domain(&relationship.domain, receipt.domain())
         && is_same_id(&relationship.endpoint, receipt.endpoint())
@@ -120,7 +127,8 @@ fn is_of(relationship: &Relationship, receipt: &Receipt) -> bool
 
 // Whether a record names the receipt's key in its endpoint's trust domain.
 fn is_distrusted(records: &[Distrust], receipt: &Receipt) -> bool
-    ensures { IsTrue result ↔ Any (λ x. x ≡ distrust_of receipt.now.endpoint.domain receipt.now) records.now }
+    ensures { IsTrue result
+        ↔ Any (λ x. x ≡ distrust_of receipt.now.endpoint.domain receipt.now) records.now }
 {
     records.iter().any(|distrust| is_about(distrust, receipt))
 }
@@ -133,13 +141,19 @@ fn is_about(distrust: &Distrust, receipt: &Receipt) -> bool
 
 // Whether a seed has the key that the receipt names, and is the document that it names.
 fn has_voucher(seeds: &[Seed], receipt: &Receipt) -> bool
-    ensures { IsTrue result ↔ Any (λ s. (s.domain ≡ receipt.now.endpoint.domain) × HasKeyId s.document.authorities receipt.now.key × (doc_id_of s.domain s.document ≡ receipt.now.voucher.0)) seeds.now }
+    ensures { IsTrue result
+        ↔ Any (λ s. (s.domain ≡ receipt.now.endpoint.domain)
+        × HasKeyId s.document.authorities receipt.now.key
+        × (doc_id_of s.domain s.document ≡ receipt.now.voucher.0)) seeds.now }
 {
     seeds.iter().any(|seed| is_voucher(seed, receipt))
 }
 
 fn is_voucher(seed: &Seed, receipt: &Receipt) -> bool
-    ensures { IsTrue result ↔ ((seed.now.domain ≡ receipt.now.endpoint.domain) × HasKeyId seed.now.document.authorities receipt.now.key × (doc_id_of seed.now.domain seed.now.document ≡ receipt.now.voucher.0)) }
+    ensures { IsTrue result
+        ↔ ((seed.now.domain ≡ receipt.now.endpoint.domain)
+        × HasKeyId seed.now.document.authorities receipt.now.key
+        × (doc_id_of seed.now.domain seed.now.document ≡ receipt.now.voucher.0)) }
 {
     is_same_domain(&seed.domain, receipt.endpoint().domain())
         && seed.document.has_key(&receipt.key())
@@ -147,7 +161,8 @@ fn is_voucher(seed: &Seed, receipt: &Receipt) -> bool
 }
 
 fn offers_need(previous: &Receipt, receipt: &Receipt) -> bool
-    ensures { IsTrue result ↔ Any (λ t. t ≡ need_of receipt.now) (offers_of (pair_of previous.now)) }
+    ensures { IsTrue result
+        ↔ Any (λ t. t ≡ need_of receipt.now) (offers_of (pair_of previous.now)) }
 {
     has_offer(previous.offers(), receipt.need())
 }

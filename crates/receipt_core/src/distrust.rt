@@ -3,7 +3,8 @@ ghost use Rattle.std.specs.Prelude.{◌≡◌, ◌↔◌, IsTrue, IfOk, MatchRes
 ghost use Rattle.std.specs.Cmp.{partial_equiv_from_equiv};
 ghost use Rattle.receipt_core.specs.Receipt.{distrust_cmp, distrust_line};
 ghost use Rattle.receipt_core.specs.Line.{IsRecord, RefusesRecord};
-ghost use Rattle.receipt_core.specs.Order.{same_distrust, distrust_total, distrust_equiv, distrust_po};
+ghost use Rattle.receipt_core.specs.Order.{same_distrust, distrust_total, distrust_equiv};
+ghost use Rattle.receipt_core.specs.Order.{distrust_po};
 
 use crate::line_error::LineError;
 use crate::record_line::{read_distrust, write_distrust};
@@ -12,8 +13,9 @@ use spiffe_name::TrustDomain;
 use std::alloc::{AllocError, Global};
 use std::cmp::Ordering;
 
-/// A key that vouches for nothing any more in a trust domain. Records are equal exactly when both parts are, and are
-/// ordered by key id, then by domain, each by its bytes, which is the order of their lines.
+/// A key that vouches for nothing any more in a trust domain. Records are equal exactly when both
+/// parts are, and are ordered by key id, then by domain, each by its bytes, which is the order of
+/// their lines.
 #[derive(Debug, Drop)]
 pub struct Distrust {
     pub domain: TrustDomain,
@@ -21,13 +23,15 @@ pub struct Distrust {
 }
 
 impl Distrust {
-    /// Reads a record's line, without its line feed: compact JSON with the members `distrust`, the key id as 64
-    /// lower-case hexadecimal digits, and `domain`, in this order. It has at most 346 bytes.
+    /// Reads a record's line, without its line feed: compact JSON with the members `distrust`, the
+    /// key id as 64 lower-case hexadecimal digits, and `domain`, in this order. It has at most 346
+    /// bytes.
     ///
     /// # Errors
     /// - [`LineError::TooLong`]: it has more than 8,388,608 bytes,
     /// - [`LineError::NotCanonical`]: it is no record's line,
-    /// - [`LineError::NoMemory`]: memory ran out, which is returned only within the bound of records' lines.
+    /// - [`LineError::NoMemory`]: memory ran out, which is returned only within the bound of
+    ///   records' lines.
     pub fn read_line(alloc: Global, bytes: &[u8]) -> Result<Distrust, LineError>
         ensures { MatchResult result (IsRecord bytes.now) (RefusesRecord bytes.now) }
     {

@@ -1,10 +1,12 @@
-//! What follows from the definitions alone. A call that needs a law calls its function, which does nothing, and cites
-//! what it ensures.
+//! What follows from the definitions alone. A call that needs a law calls its function, which does
+//! nothing, and cites what it ensures.
 ghost use Rattle.std.specs.Prelude.{◌≡◌, ◌↔◌, [], ◌∷◌, ◌++◌, ℕ, List, Option, Contains};
 ghost use Rattle.std.specs.declared.cmp.Ordering.TheVariants.{Less};
 ghost use Rattle.std.specs.Ordering.{nat_cmp};
 ghost use Rattle.std.specs.Cmp.Lexicographic.{slice_cmp};
-ghost use Rattle.receipt_core.specs.Receipt.{Receipt, IsReceipt, line, receipt_cmp, triple_cmp, Pair, pair_of, offers_of, need_of, IsDistrust, distrust_line, distrust_cmp};
+ghost use Rattle.receipt_core.specs.Receipt.{Receipt, IsReceipt, line, receipt_cmp, triple_cmp};
+ghost use Rattle.receipt_core.specs.Receipt.{Pair, pair_of, offers_of, need_of, IsDistrust};
+ghost use Rattle.receipt_core.specs.Receipt.{distrust_line, distrust_cmp};
 ghost use Rattle.receipt_core.specs.Acceptance.{IsMember, Meaning, Vouches, distrust_of};
 ghost use Rattle.std.specs.List.{AllByRecursion};
 ghost use Rattle.receipt_core.specs.Chain.{IsChain};
@@ -13,13 +15,16 @@ ghost use Rattle.receipt_core.specs.declared.distrust.Distrust.{Distrust};
 
 pub use byte_lines::laws::{pieces, streams};
 
-/// One line, one receipt, and one record of distrust: the orders of receipts and of records are those of their lines,
-/// and tell apart what differs. A record's line comes before each receipt's.
+/// One line, one receipt, and one record of distrust: the orders of receipts and of records are
+/// those of their lines, and tell apart what differs. A record's line comes before each receipt's.
 pub fn lines()
     ensures one_receipt { (r s : Receipt) → IsReceipt r → IsReceipt s → line r ≡ line s → r ≡ s }
-    ensures one_record { (x y : Distrust) → IsDistrust x → IsDistrust y → distrust_line x ≡ distrust_line y → x ≡ y }
-    ensures records { (x y : Distrust) → IsDistrust x → IsDistrust y → slice_cmp nat_cmp (distrust_line x) (distrust_line y) ≡ distrust_cmp x y }
-    ensures record_first { (x : Distrust) (r : Receipt) → IsDistrust x → IsReceipt r → slice_cmp nat_cmp (distrust_line x) (line r) ≡ Less }
+    ensures one_record { (x y : Distrust) → IsDistrust x → IsDistrust y
+        → distrust_line x ≡ distrust_line y → x ≡ y }
+    ensures records { (x y : Distrust) → IsDistrust x → IsDistrust y
+        → slice_cmp nat_cmp (distrust_line x) (distrust_line y) ≡ distrust_cmp x y }
+    ensures record_first { (x : Distrust) (r : Receipt) → IsDistrust x → IsReceipt r
+        → slice_cmp nat_cmp (distrust_line x) (line r) ≡ Less }
 {}
 
 /// Receipts, triples and records of distrust in rising lists are sets.
@@ -29,17 +34,20 @@ pub fn sets()
     ensures records { AreSets Always distrust_cmp }
 {}
 
-/// A document vouches for a receipt exactly if what the receipt needs is among what the document offers, and no record
-/// distrusts the key in the endpoint's trust domain.
+/// A document vouches for a receipt exactly if what the receipt needs is among what the document
+/// offers, and no record distrusts the key in the endpoint's trust domain.
 pub fn vouching()
     ensures { (records : List Distrust) (p : Pair) (r : Receipt) → Vouches records p r
-        ↔ (Contains (offers_of p) (need_of r) × (Contains records (distrust_of r.endpoint.domain r) → ⊥)) }
+        ↔ (Contains (offers_of p) (need_of r)
+        × (Contains records (distrust_of r.endpoint.domain r) → ⊥)) }
 {}
 
-/// The last document of a chain is accepted under each meaning of this configuration that holds the chain's receipts
-/// and whose records are among these.
+/// The last document of a chain is accepted under each meaning of this configuration that holds the
+/// chain's receipts and whose records are among these.
 pub fn chains()
-    ensures { (m : Meaning) (records : List Distrust) (front : List Receipt) (r : Receipt) → IsChain m.config records (front ++ r ∷ [])
-        → AllByRecursion (Contains m.held) (front ++ r ∷ []) → ((x : Distrust) → Contains m.records x → Contains records x)
+    ensures { (m : Meaning) (records : List Distrust) (front : List Receipt) (r : Receipt)
+        → IsChain m.config records (front ++ r ∷ [])
+        → AllByRecursion (Contains m.held) (front ++ r ∷ [])
+        → ((x : Distrust) → Contains m.records x → Contains records x)
         → IsMember m (pair_of r) }
 {}

@@ -1,8 +1,9 @@
-//! Receipts: what a replica notes of a bundle document that it fetched, and of a key that it distrusts.
+//! Receipts: what a replica notes of a bundle document that it fetched, and of a key that it
+//! distrusts.
 //!
-//! A `Receipt` and a record of distrust (`Distrust`) have one line of text each, which is read exactly. A document offers
-//! triples, a receipt needs one, and `check_chain` follows them from the configuration to a document, for somebody who
-//! keeps no receipts.
+//! A `Receipt` and a record of distrust (`Distrust`) have one line of text each, which is read
+//! exactly. A document offers triples, a receipt needs one, and `check_chain` follows them from the
+//! configuration to a document, for somebody who keeps no receipts.
 #![tactic(auto)]
 
 mod chain;

@@ -19,8 +19,22 @@ pub(crate) fn id_of(
     voucher: DocId,
     key: KeyId,
 ) -> ReceiptId
-    ensures id { result.0 ≡ receipt_id_of (record { domain = domain.now; endpoint = endpoint.now; document = document.now; voucher = voucher; key = key }) }
-    ensures form { IsReceipt (record { domain = domain.now; endpoint = endpoint.now; document = document.now; voucher = voucher; key = key }) }
+    ensures id { result.0 ≡ receipt_id_of
+        (record {
+          domain = domain.now;
+          endpoint = endpoint.now;
+          document = document.now;
+          voucher = voucher;
+          key = key;
+        }) }
+    ensures form { IsReceipt
+        (record {
+          domain = domain.now;
+          endpoint = endpoint.now;
+          document = document.now;
+          voucher = voucher;
+          key = key;
+        }) }
 {
     let mut hasher = Sha256::new();
     hasher.update("{\"doc\":");
@@ -37,8 +51,8 @@ pub(crate) fn id_of(
     ReceiptId(hasher.finalize())
 }
 
-// The bytes of a line beside the document, the domain and the endpoint: the two digests and what stands between all, and
-// a line feed, which most callers add.
+// The bytes of a line beside the document, the domain and the endpoint: the two digests and what
+// stands between all, and a line feed, which most callers add.
 const OTHER_BYTES: usize = 185;
 
 // The line of a receipt.

@@ -3,7 +3,8 @@ ghost use Rattle.std.specs.Prelude.{◌≡◌, ◌++◌, ◌↔◌, IsTrue, IfOk
 ghost use Rattle.serde_json.specs.View.{view};
 ghost use Rattle.jwk_set.specs.Json.{IsJson};
 ghost use Rattle.jwk_set.specs.Forms.{FindsMember};
-ghost use Rattle.receipt_core.specs.Line.{IsLine, IsNoJson, IsNoLine, RefusesReceiptLine, SaysReceipt, Unless};
+ghost use Rattle.receipt_core.specs.Line.{IsLine, IsNoJson, IsNoLine, RefusesReceiptLine};
+ghost use Rattle.receipt_core.specs.Line.{SaysReceipt, Unless};
 ghost use Rattle.receipt_core.specs.Parts.{pieces};
 
 use crate::line_error::LineError;
@@ -20,8 +21,8 @@ use std::str;
 /// The most bytes of any line, without its line feed.
 pub const MAX_LINE_BYTES: usize = 8_388_608;
 
-// The most bytes of a receipt's line: a document, 255 bytes of a domain, 2,048 of an endpoint, two digests of 64 digits,
-// and 56 between them.
+// The most bytes of a receipt's line: a document, 255 bytes of a domain, 2,048 of an endpoint, two
+// digests of 64 digits, and 56 between them.
 const MAX_RECEIPT_LINE_BYTES: usize = 1_051_063;
 
 // The receipt of a line.
@@ -64,7 +65,9 @@ pub(crate) fn read_directly(alloc: Global, bytes: &[u8]) -> Result<Option<Receip
 }
 
 fn split_line(text: &str) -> Option<Pieces<'_>>
-    ensures { IfSome result (λ p. text.now ≡ pieces p.document.now p.domain.now p.endpoint.now p.key.now p.voucher.now) }
+    ensures { IfSome result
+        (λ p. text.now ≡ pieces p.document.now p.domain.now p.endpoint.now p.key.now
+        p.voucher.now) }
 {
     let rest = before_end(text, "\"}")?;
     let (rest, voucher) = split_last(rest, "\",\"voucher\":\"")?;
@@ -100,7 +103,9 @@ fn split_last<'a>(text: &'a str, label: &str) -> Option<(&'a str, &'a str)>
 }
 
 fn read_pieces(alloc: Global, parts: &Pieces<'_>) -> Result<Option<Receipt>, AllocError>
-    ensures { IfOk result (λ o. IfSome o (IsLine (pieces parts.now.document.now parts.now.domain.now parts.now.endpoint.now parts.now.key.now parts.now.voucher.now))) }
+    ensures { IfOk result (λ o. IfSome o
+        (IsLine (pieces parts.now.document.now parts.now.domain.now parts.now.endpoint.now
+        parts.now.key.now parts.now.voucher.now))) }
 {
     let (Some(key), Some(voucher)) = (digest_of(parts.key), digest_of(parts.voucher)) else {
         return Ok(None);
@@ -138,7 +143,8 @@ fn read_tree(alloc: Global, bytes: &[u8]) -> Result<Receipt, LineError>
 
 // The JSON value of the bytes.
 pub(crate) fn parse(alloc: Global, bytes: &[u8]) -> Result<Value, LineError>
-    ensures { MatchResult result (λ v. IsJson bytes.now (view v)) (λ e. Unless e (IsNoJson bytes.now)) }
+    ensures { MatchResult result (λ v. IsJson bytes.now (view v))
+        (λ e. Unless e (IsNoJson bytes.now)) }
 {
     match Value::from_slice(alloc, bytes) {
         Ok(value) => Ok(value),

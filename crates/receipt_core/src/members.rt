@@ -71,7 +71,8 @@ fn is_digits(digest: &[u8; 32], text: &[u8]) -> bool
 
 // The text of a member.
 fn text_of<'a>(value: &'a Value, name: &str) -> Option<&'a str>
-    ensures { FindsMember (option_map (λ text. text.now) result) (HasText (view value.now) name.now) }
+    ensures { FindsMember (option_map (λ text. text.now) result)
+        (HasText (view value.now) name.now) }
 {
     value.get(name)?.as_str()
 }
@@ -82,7 +83,8 @@ pub(crate) fn read_domain(
     value: &Value,
     name: &str,
 ) -> Result<Option<TrustDomain>, AllocError>
-    ensures { IfOk result (λ o. FindsMember o (λ d. HasText (view value.now) name.now d × IsDomainText d)) }
+    ensures { IfOk result (λ o. FindsMember o
+        (λ d. HasText (view value.now) name.now d × IsDomainText d)) }
 {
     match text_of(value, name) {
         Some(text) => domain_of(alloc, text),
@@ -96,7 +98,8 @@ pub(crate) fn read_endpoint(
     value: &Value,
     name: &str,
 ) -> Result<Option<SpiffeId>, AllocError>
-    ensures { IfOk result (λ o. FindsMember o (λ id. HasText (view value.now) name.now id.text × IsId id)) }
+    ensures { IfOk result (λ o. FindsMember o
+        (λ id. HasText (view value.now) name.now id.text × IsId id)) }
 {
     match text_of(value, name) {
         Some(text) => endpoint_of(alloc, text),
@@ -106,7 +109,8 @@ pub(crate) fn read_endpoint(
 
 // The digest that a member spells.
 pub(crate) fn read_digest(value: &Value, name: &str) -> Option<[u8; 32]>
-    ensures { FindsMember result (λ d. HasText (view value.now) name.now (encode_lower d) × IsDigest d) }
+    ensures { FindsMember result
+        (λ d. HasText (view value.now) name.now (encode_lower d) × IsDigest d) }
 {
     match text_of(value, name) {
         Some(text) => digest_of(text),

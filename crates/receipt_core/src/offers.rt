@@ -10,7 +10,8 @@ use spiffe_name::TrustDomain;
 use std::alloc::{AllocError, Global};
 use std::collections::BTreeSet;
 
-/// What a document of a domain can vouch by: one triple for each different key id of its X.509 authorities, rising.
+/// What a document of a domain can vouch by: one triple for each different key id of its X.509
+/// authorities, rising.
 ///
 /// # Errors
 /// Memory ran out.
@@ -19,7 +20,8 @@ pub fn offers_of(
     domain: &TrustDomain,
     document: &Document,
 ) -> Result<Vec<Triple>, AllocError>
-    ensures { IfOk result (λ offers. offers.items ≡ offers_of (record { domain = domain.now; document = document.now })) }
+    ensures { IfOk result (λ offers. offers.items
+        ≡ offers_of (record { domain = domain.now; document = document.now })) }
 {
     let id = document.id(domain);
     let mut offers = Vec::new(alloc);

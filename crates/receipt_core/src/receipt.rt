@@ -1,7 +1,8 @@
 //! Receipts.
 ghost use Rattle.std.specs.Prelude.{◌≡◌, ◌↔◌, IsTrue, IfOk, IfSome, MatchResult, Some, refl};
 ghost use Rattle.std.specs.Cmp.{partial_equiv_from_equiv};
-ghost use Rattle.receipt_core.specs.Receipt.{IsReceipt, line, receipt_cmp, receipt_id_of, need_of, offers_of, pair_of};
+ghost use Rattle.receipt_core.specs.Receipt.{IsReceipt, line, receipt_cmp, receipt_id_of, need_of};
+ghost use Rattle.receipt_core.specs.Receipt.{offers_of, pair_of};
 ghost use Rattle.receipt_core.specs.Order.{same_receipt, receipt_total, receipt_equiv, receipt_po};
 ghost use Rattle.receipt_core.specs.Line.{IsLine, RefusesReceiptLine};
 ghost use Rattle.receipt_core.specs.Parts.{IsKeptReceipt, parts_cmp, rest_cmp};
@@ -19,12 +20,13 @@ use std::alloc::{AllocError, Global};
 use std::cmp::Ordering;
 use std::marker::Model;
 
-/// What was noted of one fetch: which document came for which domain, from which endpoint; and which key of which
-/// document of the endpoint's trust domain proved it (SPIFFE Federation, section 5.2, profile `https_spiffe`).
+/// What was noted of one fetch: which document came for which domain, from which endpoint; and
+/// which key of which document of the endpoint's trust domain proved it (SPIFFE Federation, section
+/// 5.2, profile `https_spiffe`).
 ///
-/// Receipts are equal exactly when their five parts are, which is when their lines are, and are ordered by their lines'
-/// bytes. A receipt keeps its document once, and beside it its id, what it needs and what it offers, which are computed
-/// when it is made.
+/// Receipts are equal exactly when their five parts are, which is when their lines are, and are
+/// ordered by their lines' bytes. A receipt keeps its document once, and beside it its id, what it
+/// needs and what it offers, which are computed when it is made.
 #[derive(Debug, Drop)]
 pub struct Receipt {
     domain: TrustDomain,
@@ -43,14 +45,28 @@ impl Model for Receipt {
 
     ghost Value = { Receipt };
 
-    ghost view = { λ r. record { domain = r.domain; endpoint = r.endpoint; document = r.document; voucher = r.voucher; key = r.key } };
+    ghost view = { λ r. record {
+      domain = r.domain;
+      endpoint = r.endpoint;
+      document = r.document;
+      voucher = r.voucher;
+      key = r.key;
+    } };
 
-    ghost invariant = { λ r. IsKeptReceipt (record { domain = r.domain; endpoint = r.endpoint; document = r.document; voucher = r.voucher; key = r.key }) r.id r.need r.offers.items };
+    ghost invariant = { λ r. IsKeptReceipt
+        (record {
+          domain = r.domain;
+          endpoint = r.endpoint;
+          document = r.document;
+          voucher = r.voucher;
+          key = r.key;
+        }) r.id r.need r.offers.items };
 }
 
 impl Receipt {
-    /// The receipt of these parts: the domain of the document, the endpoint that served it, the document, the id of the
-    /// document of the endpoint's trust domain that vouched for it, and the id of the key that authenticated the endpoint.
+    /// The receipt of these parts: the domain of the document, the endpoint that served it, the
+    /// document, the id of the document of the endpoint's trust domain that vouched for it, and the
+    /// id of the key that authenticated the endpoint.
     ///
     /// # Errors
     /// Memory ran out.
@@ -62,7 +78,14 @@ impl Receipt {
         voucher: DocId,
         key: KeyId,
     ) -> Result<Receipt, AllocError>
-        ensures { IfOk result (λ r. r ≡ record { domain = domain; endpoint = endpoint; document = document; voucher = voucher; key = key }) }
+        ensures { IfOk result (λ r. r
+            ≡ record {
+              domain = domain;
+              endpoint = endpoint;
+              document = document;
+              voucher = voucher;
+              key = key;
+            }) }
     {
         let id = id_of(&domain, &endpoint, &document, voucher, key);
         let need = Triple::new(alloc, endpoint.domain(), voucher, key)?;
@@ -79,25 +102,27 @@ impl Receipt {
         })
     }
 
-    /// Reads a line, without its line feed. A receipt has one line: compact JSON with the members `doc`, `domain`,
-    /// `endpoint`, `key` and `voucher` in this order, where `doc` is the canonical document and the digests are 64
-    /// lower-case hexadecimal digits.
+    /// Reads a line, without its line feed. A receipt has one line: compact JSON with the members
+    /// `doc`, `domain`, `endpoint`, `key` and `voucher` in this order, where `doc` is the canonical
+    /// document and the digests are 64 lower-case hexadecimal digits.
     ///
-    /// A receipt's line has at most 1,051,063 bytes; a longer one is refused before it is parsed. A line that is read at
-    /// once takes memory for its receipt; any other is parsed as JSON, whose tree can take over a hundred times its text.
+    /// A receipt's line has at most 1,051,063 bytes; a longer one is refused before it is parsed. A
+    /// line that is read at once takes memory for its receipt; any other is parsed as JSON, whose
+    /// tree can take over a hundred times its text.
     ///
     /// # Errors
     /// - [`LineError::TooLong`]: it has more than 8,388,608 bytes,
     /// - [`LineError::NotCanonical`]: it is no receipt's line,
-    /// - [`LineError::NoMemory`]: memory ran out, which is returned only within the bound of receipts' lines.
+    /// - [`LineError::NoMemory`]: memory ran out, which is returned only within the bound of
+    ///   receipts' lines.
     pub fn read_line(alloc: Global, bytes: &[u8]) -> Result<Receipt, LineError>
         ensures { MatchResult result (IsLine bytes.now) (RefusesReceiptLine bytes.now) }
     {
         read_receipt(alloc, bytes)
     }
 
-    /// Reads a line by its parts, with no JSON tree between, as [`Receipt::read_line`] does first. Where it returns None
-    /// that call has to decide.
+    /// Reads a line by its parts, with no JSON tree between, as [`Receipt::read_line`] does first.
+    /// Where it returns None that call has to decide.
     ///
     /// # Errors
     /// Memory ran out.
@@ -160,14 +185,16 @@ impl Receipt {
         self.id
     }
 
-    /// What a document has to offer to vouch for this receipt: the key of the voucher, in the endpoint's trust domain.
+    /// What a document has to offer to vouch for this receipt: the key of the voucher, in the
+    /// endpoint's trust domain.
     pub fn need(&self) -> &Triple
         ensures { result.now ≡ need_of self.now }
     {
         &self.need
     }
 
-    /// What the receipt's document can vouch by: one triple for each different key id of its X.509 authorities, rising.
+    /// What the receipt's document can vouch by: one triple for each different key id of its X.509
+    /// authorities, rising.
     pub fn offers(&self) -> &[Triple]
         ensures { result.now ≡ offers_of (pair_of self.now) }
     {

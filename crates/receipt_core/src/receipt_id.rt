@@ -1,8 +1,8 @@
 //! Ids of receipts.
 use std::{fmt, str};
 
-/// The id of a receipt: the SHA-256 (FIPS 180-4, section 6.2) of its line, without a line feed. Ids are
-/// ordered by their bytes, and print as 64 lower-case hexadecimal digits.
+/// The id of a receipt: the SHA-256 (FIPS 180-4, section 6.2) of its line, without a line feed. Ids
+/// are ordered by their bytes, and print as 64 lower-case hexadecimal digits.
 #[derive(Clone, Copy, Debug, PartialEq, Eq, PartialOrd, Ord, Hash)]
 pub struct ReceiptId(pub [u8; 32]);
 

@@ -4,7 +4,8 @@ ghost use Rattle.serde_json.specs.View.{view};
 ghost use Rattle.jwk_set.specs.Json.{IsJson};
 ghost use Rattle.jwk_set.specs.Forms.{FindsMember};
 ghost use Rattle.receipt_core.specs.Receipt.{distrust_line};
-ghost use Rattle.receipt_core.specs.Line.{IsNoRecord, IsRecord, RefusesRecord, SaysDistrust, Unless};
+ghost use Rattle.receipt_core.specs.Line.{IsNoRecord, IsRecord, RefusesRecord, SaysDistrust};
+ghost use Rattle.receipt_core.specs.Line.{Unless};
 
 use crate::distrust::Distrust;
 use crate::line::digits;

@@ -10,9 +10,10 @@ use spiffe_name::TrustDomain;
 use std::alloc::{AllocError, Global};
 use std::cmp::Ordering;
 
-/// A key of a document of a trust domain, by the document's id and the key's. A receipt needs one, and a document offers
-/// one for each key of its X.509 authorities. Triples are equal exactly when their three parts are, and are ordered by
-/// domain, then document id, then key id, each by its bytes.
+/// A key of a document of a trust domain, by the document's id and the key's. A receipt needs one,
+/// and a document offers one for each key of its X.509 authorities. Triples are equal exactly when
+/// their three parts are, and are ordered by domain, then document id, then key id, each by its
+/// bytes.
 #[derive(Debug, Drop)]
 pub struct Triple {
     pub domain: TrustDomain,
@@ -31,7 +32,8 @@ impl Triple {
         document: DocId,
         key: KeyId,
     ) -> Result<Triple, AllocError>
-        ensures { IfOk result (λ t. t ≡ record { domain = domain.now; document = document; key = key }) }
+        ensures { IfOk result (λ t. t
+            ≡ record { domain = domain.now; document = document; key = key }) }
     {
         Ok(Triple {
             domain: domain.try_clone(alloc)?,

@@ -1,4 +1,5 @@
--- What the crate's records of the lines of questions say, and how the next question of a stream is read.
+-- What the crate's records of the lines of questions say, and how the next question of a stream is
+-- read.
 use Rattle.std.specs.Prelude.{◌≡◌, ◌≢◌, ◌≤◌, ◌⊎◌, ℕ, List, length, Option, None, Some, codes}
 use Rattle.std.specs.List.{join_by}
 use Rattle.std.specs.Io.KnownBytes.{Consumes, IsAtEnd}
@@ -6,7 +7,10 @@ use Rattle.fed_config.specs.Configuration.{Configuration, config_id_of}
 use Rattle.byte_lines.specs.Lines.{HasLine, HasNoLine, HasMore}
 use Rattle.replica_sync.specs.Session.{Question}
 use Rattle.replica_sync.specs.declared.error.SyncError.{SyncError}
-use Rattle.replica_sync.specs.declared.error.SyncError.TheVariants.{BadHeader, ConfigDiffers, VersionDiffers, NotCanonical, NotRising, BadCount, Truncated, Refused, Io, NoMemory}
+use Rattle.replica_sync.specs.declared.error.SyncError.TheVariants.{BadHeader, ConfigDiffers}
+use Rattle.replica_sync.specs.declared.error.SyncError.TheVariants.{VersionDiffers, NotCanonical}
+use Rattle.replica_sync.specs.declared.error.SyncError.TheVariants.{NotRising, BadCount, Truncated}
+use Rattle.replica_sync.specs.declared.error.SyncError.TheVariants.{Refused, Io, NoMemory}
 use Rattle.replica_gossip.specs.Messages.{Asked, question_text, quoted}
 use Rattle.replica_gossip.specs.FirstLines.{HasBadFirstLine, IsAskedLine, IsSpoken, RefusesAsked}
 use Rattle.replica_gossip.specs.Questions.{IsQuestionOf}
@@ -14,7 +18,12 @@ use Rattle.replica_gossip.specs.declared.asking.Asking.{Asking}
 use Rattle.replica_gossip.specs.declared.asking.Parts.{Parts}
 
 abbrev pub asking_by : Asking → Asked
-asking_by a = record { question = record { bucket = a.bucket; config = a.have.config; ids = a.have.ids }; format = a.format; buckets = a.buckets }
+asking_by a = record {
+  question =
+      record { bucket = a.bucket; config = a.have.config; ids = a.have.ids };
+  format = a.format;
+  buckets = a.buckets;
+}
 
 -- The parts are those of what is asked.
 pub record ArePartsOf (p : Parts) (a : Asked) : Type 0 where
@@ -34,7 +43,8 @@ pub record IsOfParts (p : Parts) (listed : List (List ℕ)) (a : Asking) : Type 
 
 -- the text is no question's line; or else memory ran out
 abbrev pub IsNoneAsked : List ℕ → SyncError → Type 0
-IsNoneAsked text e = ((e ≡ BadHeader) × ((asked : Asked) → IsAskedLine text asked → ⊥)) ⊎ (e ≡ NoMemory)
+IsNoneAsked text e = ((e ≡ BadHeader) × ((asked : Asked) → IsAskedLine text asked → ⊥))
+    ⊎ (e ≡ NoMemory)
 
 -- ---- in a stream
 
@@ -77,7 +87,8 @@ pub record IsUnsaid (a : Asking) (e : SyncError) : Type 0 where
 abbrev pub RefusesSpoken : Configuration → Asking → SyncError → Type 0
 RefusesSpoken config a BadHeader = ⊥
 RefusesSpoken config a ConfigDiffers = a.have.config ≢ config_id_of config
-RefusesSpoken config a VersionDiffers = (a.have.config ≡ config_id_of config) × (IsSpoken a.format a.buckets → ⊥)
+RefusesSpoken config a VersionDiffers = (a.have.config ≡ config_id_of config)
+    × (IsSpoken a.format a.buckets → ⊥)
 RefusesSpoken config a (NotCanonical n) = ⊥
 RefusesSpoken config a (NotRising n) = ⊥
 RefusesSpoken config a BadCount = ⊥

@@ -7,7 +7,10 @@ use Rattle.receipt_core.specs.Receipt.{IsDigest}
 use Rattle.replica_sync.specs.Session.{IsQuestion}
 use Rattle.replica_gossip.specs.Messages.{Asked, asked_text, GiveHeader, told_text}
 use Rattle.replica_sync.specs.declared.error.SyncError.{SyncError}
-use Rattle.replica_sync.specs.declared.error.SyncError.TheVariants.{BadHeader, ConfigDiffers, VersionDiffers, NotCanonical, NotRising, BadCount, Truncated, Refused, Io, NoMemory}
+use Rattle.replica_sync.specs.declared.error.SyncError.TheVariants.{BadHeader, ConfigDiffers}
+use Rattle.replica_sync.specs.declared.error.SyncError.TheVariants.{VersionDiffers, NotCanonical}
+use Rattle.replica_sync.specs.declared.error.SyncError.TheVariants.{NotRising, BadCount, Truncated}
+use Rattle.replica_sync.specs.declared.error.SyncError.TheVariants.{Refused, Io, NoMemory}
 
 -- the one format and the one number of buckets that are spoken
 abbrev pub IsSpoken : ℕ → ℕ → Type 0
@@ -133,7 +136,8 @@ RefusesTold expected text NoMemory = Unit {0}
 -- ---- in a stream
 
 -- The stream's first line has a fault; one that is too long is none of a message. It is used up.
-pub record HasBadFirstLine (refuses : List ℕ → SyncError → Type 0) (old new : Option (List ℕ)) (e : SyncError) : Type 0 where
+pub record HasBadFirstLine (refuses : List ℕ → SyncError → Type 0) (old new : Option (List ℕ))
+    (e : SyncError) : Type 0 where
   pub text : List ℕ
   pub is : HasLine old new text
   pub cause : ((e ≡ BadHeader) × (8388608 < length text)) ⊎ refuses text e

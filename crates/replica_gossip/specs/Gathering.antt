@@ -9,7 +9,8 @@ use Rattle.replica_sync.specs.declared.entry.Entry.{Entry}
 use Rattle.replica_sync.specs.declared.entry.Entry.TheVariants.{Record, Receipt as AReceipt}
 use Rattle.replica_sync.specs.declared.entry.Wanted.{Wanted}
 use Rattle.replica_sync.specs.declared.error.SyncError.{SyncError}
-use Rattle.replica_gossip.specs.Answers.{IsBegun, RefusesNextEntry, Wants, content_lines, refused_text}
+use Rattle.replica_gossip.specs.Answers.{IsBegun, RefusesNextEntry, Wants, content_lines}
+use Rattle.replica_gossip.specs.Answers.{refused_text}
 use Rattle.replica_gossip.specs.declared.answer_reader.Content.{Content}
 
 abbrev pub answer_content : Content → State
@@ -27,7 +28,8 @@ pub record Pushes (wanted : Wanted) (old : State) (text : List ℕ) (new : State
   pub now : new ≡ pushed entry old
 
 -- The stream's first line is the one that is wanted. It is used up.
-pub record IsNextAnswerLine (count distrusts : ℕ) (old : State) (before : Option (List ℕ)) (new : State) (after : Option (List ℕ)) : Type 0 where
+pub record IsNextAnswerLine (count distrusts : ℕ) (old : State) (before : Option (List ℕ))
+    (new : State) (after : Option (List ℕ)) : Type 0 where
   pub wanted : Wanted
   pub wants : Wants count distrusts old wanted
   pub text : List ℕ
@@ -40,28 +42,35 @@ pub record IsWhole (count distrusts : ℕ) (content : State) : Type 0 where
   pub records : length content.records ≡ distrusts
 
 -- Nothing is wanted any more, and nothing is read.
-pub record IsDone (count distrusts : ℕ) (old : State) (before : Option (List ℕ)) (new : State) (after : Option (List ℕ)) : Type 0 where
+pub record IsDone (count distrusts : ℕ) (old : State) (before : Option (List ℕ)) (new : State)
+    (after : Option (List ℕ)) : Type 0 where
   pub whole : IsWhole count distrusts old
   pub same : new ≡ old
   pub rest : after ≡ before
 
 -- whether there was one more line
-abbrev pub StepsThroughAnswer : ℕ → ℕ → State → Option (List ℕ) → State → Option (List ℕ) → Bool → Type 0
-StepsThroughAnswer count distrusts old before new after true = IsNextAnswerLine count distrusts old before new after
-StepsThroughAnswer count distrusts old before new after false = IsDone count distrusts old before new after
+abbrev pub StepsThroughAnswer : ℕ → ℕ → State → Option (List ℕ) → State → Option (List ℕ) → Bool
+    → Type 0
+StepsThroughAnswer count distrusts old before new after true = IsNextAnswerLine count distrusts old
+    before new after
+StepsThroughAnswer count distrusts old before new after false = IsDone count distrusts old before
+    new after
 
 -- The stream begins with the lines of so much of the answer, and `left` is what follows.
-pub record Gathers (count distrusts : ℕ) (stream : Option (List ℕ)) (content : State) (left : Option (List ℕ)) : Type 0 where
+pub record Gathers (count distrusts : ℕ) (stream : Option (List ℕ)) (content : State)
+    (left : Option (List ℕ)) : Type 0 where
   pub begun : IsBegun count distrusts content
   pub text : Consumes stream left (text_of_lines (content_lines content))
 
 -- They are all.
-pub record GathersAll (count distrusts : ℕ) (stream : Option (List ℕ)) (content : State) (left : Option (List ℕ)) : Type 0 where
+pub record GathersAll (count distrusts : ℕ) (stream : Option (List ℕ)) (content : State)
+    (left : Option (List ℕ)) : Type 0 where
   pub gathers : Gathers count distrusts stream content left
   pub whole : IsWhole count distrusts content
 
 -- A good beginning, and behind it this fault.
-pub record StopsGathering (count distrusts : ℕ) (old new : Option (List ℕ)) (e : SyncError) : Type 0 where
+pub record StopsGathering (count distrusts : ℕ) (old new : Option (List ℕ))
+    (e : SyncError) : Type 0 where
   pub content : State
   pub left : Option (List ℕ)
   pub gathers : Gathers count distrusts old content left

@@ -1,5 +1,6 @@
 -- A session in which a replica asks about each bucket and takes what is answered.
-use Rattle.std.specs.Prelude.{◌≡◌, ℕ, ◌+◌, ◌<◌, ◌⊎◌, List, [], ◌∷◌, ◌++◌, length, flat_map, fold, Option, Some, Result, Ok, Err}
+use Rattle.std.specs.Prelude.{◌≡◌, ℕ, ◌+◌, ◌<◌, ◌⊎◌, List, [], ◌∷◌, ◌++◌, length, flat_map, fold}
+use Rattle.std.specs.Prelude.{Option, Some, Result, Ok, Err}
 use Rattle.std.specs.Io.KnownBytes.{Appends, Consumes}
 use Rattle.fed_config.specs.Configuration.{Configuration, config_id_of}
 use Rattle.receipt_core.specs.Acceptance.{Meaning}
@@ -9,7 +10,8 @@ use Rattle.replica_sync.specs.Entries.{RefusesEntryLine}
 use Rattle.replica_sync.specs.declared.entry.Wanted.{Wanted}
 use Rattle.replica_sync.specs.declared.error.SyncError.{SyncError}
 use Rattle.replica_gossip.specs.Messages.{question_text, reply_text}
-use Rattle.replica_gossip.specs.Answers.{IsAnswer, AnswerBegins, RefusesHead, RefusesNextEntry, next_entry_number}
+use Rattle.replica_gossip.specs.Answers.{IsAnswer, AnswerBegins, RefusesHead, RefusesNextEntry}
+use Rattle.replica_gossip.specs.Answers.{next_entry_number}
 use Rattle.replica_gossip.specs.Questions.{IsWritten}
 use Rattle.replica_gossip.specs.declared.pulling.PullFault.{PullFault}
 
@@ -22,10 +24,12 @@ pub record IsReply (config : Configuration) (bucket : ℕ) (reply : Reply) : Typ
 -- the answers about this bucket and those after it, one each
 abbrev pub AreReplies : Configuration → ℕ → List Reply → Type 0
 AreReplies config bucket [] = Unit {0}
-AreReplies config bucket (reply ∷ replies) = IsReply config bucket reply × AreReplies config (bucket + 1) replies
+AreReplies config bucket (reply ∷ replies) = IsReply config bucket reply
+    × AreReplies config (bucket + 1) replies
 
 -- The stream begins with answers about the buckets from 0 on, and `left` is what follows them.
-pub record Session (config : Configuration) (stream : Option (List ℕ)) (replies : List Reply) (left : Option (List ℕ)) : Type 0 where
+pub record Session (config : Configuration) (stream : Option (List ℕ)) (replies : List Reply)
+    (left : Option (List ℕ)) : Type 0 where
   pub each : AreReplies config 0 replies
   pub text : Consumes stream left (flat_map reply_text replies)
 
@@ -40,61 +44,84 @@ question_in config state bucket = question_of (meaning_of_state config state) bu
 -- The questions to which these are the answers: each has the ids that were held when it was asked.
 abbrev pub questions_of : Configuration → ℕ → State → List Reply → List Question
 questions_of config bucket state [] = []
-questions_of config bucket state (reply ∷ replies) = question_in config state bucket ∷ questions_of config (bucket + 1) (joined state reply.content) replies
+questions_of config bucket state (reply ∷ replies) = question_in config state bucket
+    ∷ questions_of config (bucket + 1) (joined state reply.content) replies
 
 -- how many lines they have
 abbrev pub line_count : List Reply → ℕ
 line_count [] = 0
-line_count (reply ∷ replies) = 1 + length reply.content.records + length reply.content.held + line_count replies
+line_count (reply ∷ replies) = 1 + length reply.content.records + length reply.content.held
+    + line_count replies
 
--- what is wrong with a line, where the replica held this before the answer and has taken so much of it
-abbrev pub refused_line : Configuration → State → ℕ → State → Wanted → List ℕ → List ℕ → SyncError → Type 0
-refused_line config state first content wanted last text e = RefusesEntryLine wanted (meaning_of_state config (joined state content)) last (next_entry_number first content) text e
+-- what is wrong with a line, where the replica held this before the answer and has taken so much of
+-- it
+abbrev pub refused_line : Configuration → State → ℕ → State → Wanted → List ℕ → List ℕ → SyncError
+    → Type 0
+refused_line config state first content wanted last text e = RefusesEntryLine wanted
+    (meaning_of_state config (joined state content)) last (next_entry_number first content) text e
 
 -- A good beginning of the answer, and behind it this fault.
-pub record FailsWithin (config : Configuration) (state : State) (bucket first : ℕ) (content : State) (left : Option (List ℕ)) (e : SyncError) : Type 0 where
+pub record FailsWithin (config : Configuration) (state : State) (bucket first : ℕ) (content : State)
+    (left : Option (List ℕ)) (e : SyncError) : Type 0 where
   pub count : ℕ
   pub distrusts : ℕ
   pub further : Option (List ℕ)
   pub after : Option (List ℕ)
-  pub begins : AnswerBegins (Some (record { config = config; bucket = bucket })) left count distrusts content further
-  pub cause : RefusesNextEntry (refused_line config state first content) count distrusts content further after e
+  pub begins : AnswerBegins (Some (record { config = config; bucket = bucket })) left count
+      distrusts content further
+  pub cause : RefusesNextEntry (refused_line config state first content) count distrusts content
+      further after e
 
 -- Its first line has a fault.
-pub record FailsFirst (config : Configuration) (bucket : ℕ) (content : State) (left : Option (List ℕ)) (e : SyncError) : Type 0 where
+pub record FailsFirst (config : Configuration) (bucket : ℕ) (content : State)
+    (left : Option (List ℕ)) (e : SyncError) : Type 0 where
   pub after : Option (List ℕ)
   pub cause : RefusesHead (Some (record { config = config; bucket = bucket })) left after e
   pub none : content ≡ no_state
 
--- why the answer about the bucket is not read to its end, where its first line has the number and so much of it was taken
-abbrev pub RefusesAnswer : Configuration → State → ℕ → ℕ → State → Option (List ℕ) → SyncError → Type 0
-RefusesAnswer config state bucket first content left e = FailsFirst config bucket content left e ⊎ FailsWithin config state bucket first content left e
+-- why the answer about the bucket is not read to its end, where its first line has the number and
+-- so much of it was taken
+abbrev pub RefusesAnswer : Configuration → State → ℕ → ℕ → State → Option (List ℕ) → SyncError
+    → Type 0
+RefusesAnswer config state bucket first content left e = FailsFirst config bucket content left e
+    ⊎ FailsWithin config state bucket first content left e
 
 -- All buckets are asked about, and what the answers have is held now.
-pub record PullsAll (old : Meaning) (stream before : Option (List ℕ)) (new : Meaning) (after : Option (List ℕ)) : Type 0 where
+pub record PullsAll (old : Meaning) (stream before : Option (List ℕ)) (new : Meaning)
+    (after : Option (List ℕ)) : Type 0 where
   pub replies : List Reply
   pub left : Option (List ℕ)
   pub session : Session old.config stream replies left
   pub all : length replies ≡ 256
   pub meaning : new ≡ meaning_of_state old.config (after_replies (state_of old) replies)
-  pub asked : Appends before after (flat_map question_text (questions_of old.config 0 (state_of old) replies))
+  pub asked : Appends before after
+      (flat_map question_text (questions_of old.config 0 (state_of old) replies))
 
 -- What the lines before the fault have is held now.
-pub record PullsUpTo (old : Meaning) (stream before : Option (List ℕ)) (new : Meaning) (after : Option (List ℕ)) (e : SyncError) : Type 0 where
+pub record PullsUpTo (old : Meaning) (stream before : Option (List ℕ)) (new : Meaning)
+    (after : Option (List ℕ)) (e : SyncError) : Type 0 where
   pub replies : List Reply
   pub left : Option (List ℕ)
   pub session : Session old.config stream replies left
   pub few : length replies < 256
   pub content : State
-  pub cause : RefusesAnswer old.config (after_replies (state_of old) replies) (length replies) (line_count replies + 1) content left e
-  pub meaning : new ≡ meaning_of_state old.config (joined (after_replies (state_of old) replies) content)
-  pub asked : IsWritten e before after (flat_map question_text (questions_of old.config 0 (state_of old) replies ++ question_in old.config (after_replies (state_of old) replies) (length replies) ∷ []))
+  pub cause : RefusesAnswer old.config (after_replies (state_of old) replies) (length replies)
+      (line_count replies + 1) content left e
+  pub meaning : new ≡ meaning_of_state old.config
+      (joined (after_replies (state_of old) replies) content)
+  pub asked : IsWritten e before after
+      (flat_map question_text
+      (questions_of old.config 0 (state_of old) replies
+      ++ question_in old.config (after_replies (state_of old) replies) (length replies) ∷ []))
 
 -- so many receipts are held that were not
 abbrev pub HasGained : Meaning → Meaning → ℕ → Type 0
 HasGained old new count = length new.held ≡ length old.held + count
 
 -- what a call does that asks and takes
-abbrev pub Pulls : Meaning → Option (List ℕ) → Option (List ℕ) → Meaning → Option (List ℕ) → Result ℕ PullFault → Type 0
-Pulls old stream before new after (Ok count) = PullsAll old stream before new after × HasGained old new count
-Pulls old stream before new after (Err fault) = PullsUpTo old stream before new after fault.why × HasGained old new fault.taken
+abbrev pub Pulls : Meaning → Option (List ℕ) → Option (List ℕ) → Meaning → Option (List ℕ)
+    → Result ℕ PullFault → Type 0
+Pulls old stream before new after (Ok count) = PullsAll old stream before new after
+    × HasGained old new count
+Pulls old stream before new after (Err fault) = PullsUpTo old stream before new after fault.why
+    × HasGained old new fault.taken

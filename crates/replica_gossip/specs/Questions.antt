@@ -1,5 +1,6 @@
 -- How questions are read from a stream, and what a replica writes to those of a session.
-use Rattle.std.specs.Prelude.{◌≡◌, ℕ, ◌≤◌, List, length, flat_map, Option, Some, IfSome, Result, Ok, Err}
+use Rattle.std.specs.Prelude.{◌≡◌, ℕ, ◌≤◌, List, length, flat_map, Option, Some, IfSome, Result, Ok}
+use Rattle.std.specs.Prelude.{Err}
 use Rattle.std.specs.List.{AllByRecursion}
 use Rattle.std.specs.Io.KnownBytes.{Appends, Consumes}
 use Rattle.fed_config.specs.Configuration.{Configuration, config_id_of}
@@ -10,13 +11,20 @@ use Rattle.replica_sync.specs.Session.{Question, reply_of}
 use Rattle.replica_gossip.specs.Messages.{asked_of, asked_text, question_text, reply_text}
 use Rattle.replica_gossip.specs.FirstLines.{HasBadFirstLine, IsAsked, RefusesAsked}
 use Rattle.replica_sync.specs.declared.error.SyncError.{SyncError}
-use Rattle.replica_sync.specs.declared.error.SyncError.TheVariants.{BadHeader, ConfigDiffers, VersionDiffers, NotCanonical, NotRising, BadCount, Truncated, Refused, Io, NoMemory}
+use Rattle.replica_sync.specs.declared.error.SyncError.TheVariants.{BadHeader, ConfigDiffers}
+use Rattle.replica_sync.specs.declared.error.SyncError.TheVariants.{VersionDiffers, NotCanonical}
+use Rattle.replica_sync.specs.declared.error.SyncError.TheVariants.{NotRising, BadCount, Truncated}
+use Rattle.replica_sync.specs.declared.error.SyncError.TheVariants.{Refused, Io, NoMemory}
 
--- Why no question is read, where one should begin. Nothing is known of the stream where the source fails.
-abbrev pub RefusesQuestion : Option Configuration → Option (List ℕ) → Option (List ℕ) → SyncError → Type 0
+-- Why no question is read, where one should begin. Nothing is known of the stream where the source
+-- fails.
+abbrev pub RefusesQuestion : Option Configuration → Option (List ℕ) → Option (List ℕ) → SyncError
+    → Type 0
 RefusesQuestion config old new BadHeader = HasBadFirstLine (RefusesAsked config) old new BadHeader
-RefusesQuestion config old new ConfigDiffers = HasBadFirstLine (RefusesAsked config) old new ConfigDiffers
-RefusesQuestion config old new VersionDiffers = HasBadFirstLine (RefusesAsked config) old new VersionDiffers
+RefusesQuestion config old new ConfigDiffers = HasBadFirstLine (RefusesAsked config) old new
+    ConfigDiffers
+RefusesQuestion config old new VersionDiffers = HasBadFirstLine (RefusesAsked config) old new
+    VersionDiffers
 RefusesQuestion config old new (NotCanonical n) = ⊥
 RefusesQuestion config old new (NotRising n) = ⊥
 RefusesQuestion config old new BadCount = ⊥
@@ -25,7 +33,8 @@ RefusesQuestion config old new (Refused n why) = ⊥
 RefusesQuestion config old new Io = Unit {0}
 RefusesQuestion config old new NoMemory = Unit {0}
 
--- A line can ask it: the bucket is one of 256, the ids are digests that rise, and there are not too many for a line.
+-- A line can ask it: the bucket is one of 256, the ids are digests that rise, and there are not too
+-- many for a line.
 pub record IsAskable (q : Question) : Type 0 where
   pub asked : IsAsked (asked_of q)
   pub short : length (asked_text (asked_of q)) ≤ 8388608
@@ -38,7 +47,8 @@ pub record IsQuestionOf (config : Configuration) (q : Question) : Type 0 where
   pub own : q.config ≡ config_id_of config
 
 -- The stream begins with these questions of the configuration, and `left` is what follows them.
-pub record Asks (config : Configuration) (stream : Option (List ℕ)) (questions : List Question) (left : Option (List ℕ)) : Type 0 where
+pub record Asks (config : Configuration) (stream : Option (List ℕ)) (questions : List Question)
+    (left : Option (List ℕ)) : Type 0 where
   pub each : AllByRecursion (IsQuestionOf config) questions
   pub text : Consumes stream left (flat_map question_text questions)
 
@@ -46,11 +56,15 @@ pub record Asks (config : Configuration) (stream : Option (List ℕ)) (questions
 abbrev pub replies_text : Meaning → List Question → List ℕ
 replies_text m questions = flat_map (λ q. reply_text (reply_of m q)) questions
 
--- Why the next question is not answered: as when it is read alone, but that the stream may end where it would begin.
+-- Why the next question is not answered: as when it is read alone, but that the stream may end
+-- where it would begin.
 abbrev pub RefusesFurther : Configuration → Option (List ℕ) → SyncError → Type 0
-RefusesFurther config left BadHeader = (after : Option (List ℕ)) × HasBadFirstLine (RefusesAsked (Some config)) left after BadHeader
-RefusesFurther config left ConfigDiffers = (after : Option (List ℕ)) × HasBadFirstLine (RefusesAsked (Some config)) left after ConfigDiffers
-RefusesFurther config left VersionDiffers = (after : Option (List ℕ)) × HasBadFirstLine (RefusesAsked (Some config)) left after VersionDiffers
+RefusesFurther config left BadHeader = (after : Option (List ℕ))
+    × HasBadFirstLine (RefusesAsked (Some config)) left after BadHeader
+RefusesFurther config left ConfigDiffers = (after : Option (List ℕ))
+    × HasBadFirstLine (RefusesAsked (Some config)) left after ConfigDiffers
+RefusesFurther config left VersionDiffers = (after : Option (List ℕ))
+    × HasBadFirstLine (RefusesAsked (Some config)) left after VersionDiffers
 RefusesFurther config left (NotCanonical n) = ⊥
 RefusesFurther config left (NotRising n) = ⊥
 RefusesFurther config left BadCount = ⊥
@@ -81,7 +95,8 @@ pub record ServesAll (m : Meaning) (stream old new : Option (List ℕ)) (count :
   pub written : Appends old new (replies_text m questions)
 
 -- The questions before the fault are answered, and nothing else is written.
-pub record ServesUpTo (m : Meaning) (stream old new : Option (List ℕ)) (e : SyncError) : Type 0 where
+pub record ServesUpTo (m : Meaning) (stream old new : Option (List ℕ))
+    (e : SyncError) : Type 0 where
   pub questions : List Question
   pub left : Option (List ℕ)
   pub asks : Asks m.config stream questions left
@@ -89,6 +104,7 @@ pub record ServesUpTo (m : Meaning) (stream old new : Option (List ℕ)) (e : Sy
   pub written : IsWritten e old new (replies_text m questions)
 
 -- what a call that serves one session does
-abbrev pub Serves : Meaning → Option (List ℕ) → Option (List ℕ) → Option (List ℕ) → Result ℕ SyncError → Type 0
+abbrev pub Serves : Meaning → Option (List ℕ) → Option (List ℕ) → Option (List ℕ)
+    → Result ℕ SyncError → Type 0
 Serves m stream old new (Ok count) = ServesAll m stream old new count
 Serves m stream old new (Err e) = ServesUpTo m stream old new e

@@ -1,5 +1,6 @@
 -- How the questions of a session are answered, one by one.
-use Rattle.std.specs.Prelude.{◌≡◌, ℕ, ◌⊎◌, List, [], length, Bool, true, false, Option, Result, Ok, Err}
+use Rattle.std.specs.Prelude.{◌≡◌, ℕ, ◌⊎◌, List, [], length, Bool, true, false, Option, Result, Ok}
+use Rattle.std.specs.Prelude.{Err}
 use Rattle.std.specs.Io.KnownBytes.{Appends, Consumes, IsAtEnd}
 use Rattle.receipt_core.specs.Acceptance.{Meaning}
 use Rattle.byte_lines.specs.Device.{AppendsBeginning}
@@ -26,22 +27,26 @@ pub record ServesNone (stream old new : Option (List ℕ)) : Type 0 where
   pub nothing : Appends old new []
 
 -- The next question is not read, and nothing was written.
-pub record FailsReading (m : Meaning) (stream old new : Option (List ℕ)) (e : SyncError) : Type 0 where
+pub record FailsReading (m : Meaning) (stream old new : Option (List ℕ))
+    (e : SyncError) : Type 0 where
   pub cause : RefusesFurther m.config stream e
   pub nothing : Appends old new []
 
 -- It was read, and a beginning of its answer was written.
-pub record FailsWriting (m : Meaning) (stream left old new : Option (List ℕ)) (e : SyncError) : Type 0 where
+pub record FailsWriting (m : Meaning) (stream left old new : Option (List ℕ))
+    (e : SyncError) : Type 0 where
   pub cause : IsServingFault e
   pub question : Question
   pub own : IsQuestionOf m.config question
   pub text : Consumes stream left (question_text question)
   pub begun : AppendsBeginning old new (reply_text (reply_of m question))
 
-abbrev pub ServesNext : Meaning → Option (List ℕ) → Option (List ℕ) → Option (List ℕ) → Option (List ℕ) → Result Bool SyncError → Type 0
+abbrev pub ServesNext : Meaning → Option (List ℕ) → Option (List ℕ) → Option (List ℕ)
+    → Option (List ℕ) → Result Bool SyncError → Type 0
 ServesNext m stream left old new (Ok true) = ServesOne m stream left old new
 ServesNext m stream left old new (Ok false) = ServesNone stream old new
-ServesNext m stream left old new (Err e) = FailsReading m stream old new e ⊎ FailsWriting m stream left old new e
+ServesNext m stream left old new (Err e) = FailsReading m stream old new e
+    ⊎ FailsWriting m stream left old new e
 
 -- So many questions were read and answered.
 pub record Served (m : Meaning) (stream left old new : Option (List ℕ)) (count : ℕ) : Type 0 where

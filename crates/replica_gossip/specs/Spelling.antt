@@ -3,19 +3,35 @@ use Rattle.std.specs.Prelude.{◌≡◌, ◌<◌, ◌^◌, ℕ, List, map, Optio
 use Rattle.byte_lines.specs.Lines.{HasLine}
 use Rattle.receipt_core.specs.Receipt.{IsDigest}
 use Rattle.replica_sync.specs.declared.error.SyncError.{SyncError}
-use Rattle.replica_sync.specs.declared.error.SyncError.TheVariants.{BadHeader, ConfigDiffers, VersionDiffers, NotCanonical, NotRising, BadCount, Truncated, Refused, Io, NoMemory}
+use Rattle.replica_sync.specs.declared.error.SyncError.TheVariants.{BadHeader, ConfigDiffers}
+use Rattle.replica_sync.specs.declared.error.SyncError.TheVariants.{VersionDiffers, NotCanonical}
+use Rattle.replica_sync.specs.declared.error.SyncError.TheVariants.{NotRising, BadCount, Truncated}
+use Rattle.replica_sync.specs.declared.error.SyncError.TheVariants.{Refused, Io, NoMemory}
 use Rattle.replica_gossip.specs.Messages.{Asked, GiveHeader}
-use Rattle.replica_gossip.specs.FirstLines.{Expected, IsAbout, IsOwn, IsOther, IsSpoken, TellsOf, config_of}
+use Rattle.replica_gossip.specs.FirstLines.{Expected, IsAbout, IsOwn, IsOther, IsSpoken, TellsOf}
+use Rattle.replica_gossip.specs.FirstLines.{config_of}
 use Rattle.replica_gossip.specs.declared.spelling.AskedLine.{AskedLine}
 use Rattle.replica_gossip.specs.declared.spelling.ToldLine.{ToldLine}
 use Rattle.replica_gossip.specs.declared.told_reader.Expected.{Expected as Wish}
 use Rattle.replica_gossip.specs.declared.told_reader.Head.{Head}
 
 abbrev pub asked_by : AskedLine → Asked
-asked_by a = record { question = record { bucket = a.bucket; config = a.config.0; ids = map (λ id. id.0) a.ids.now }; format = a.format; buckets = a.buckets }
+asked_by a = record {
+  question =
+      record { bucket = a.bucket; config = a.config.0; ids = map (λ id. id.0) a.ids.now };
+  format = a.format;
+  buckets = a.buckets;
+}
 
 abbrev pub header_by : ToldLine → GiveHeader
-header_by t = record { bucket = t.bucket; config = t.config.0; count = t.count; distrusts = t.distrusts; format = t.format; buckets = t.buckets }
+header_by t = record {
+  bucket = t.bucket;
+  config = t.config.0;
+  count = t.count;
+  distrusts = t.distrusts;
+  format = t.format;
+  buckets = t.buckets;
+}
 
 -- Its numbers have 64 bits, and its digest 32 bytes.
 pub record HasWords (t : GiveHeader) : Type 0 where
@@ -32,7 +48,14 @@ expected_by (Some wish) = Some (record { config = wish.config.now; bucket = wish
 -- ---- the one format and number of buckets that are spoken
 
 abbrev pub told_by_head : Head → GiveHeader
-told_by_head h = record { bucket = h.bucket; config = h.config.0; count = h.count; distrusts = Some h.distrusts; format = 2; buckets = 256 }
+told_by_head h = record {
+  bucket = h.bucket;
+  config = h.config.0;
+  count = h.count;
+  distrusts = Some h.distrusts;
+  format = 2;
+  buckets = 256;
+}
 
 -- It is a first line that is read, and says this.
 pub record TellsHead (expected : Option Expected) (text : List ℕ) (h : Head) : Type 0 where
@@ -40,7 +63,8 @@ pub record TellsHead (expected : Option Expected) (text : List ℕ) (h : Head) :
   pub own : IsOwn (config_of expected) h.config.0
 
 -- The stream's first line is such a one. It is used up.
-pub record HasHead (expected : Option Expected) (old new : Option (List ℕ)) (h : Head) : Type 0 where
+pub record HasHead (expected : Option Expected) (old new : Option (List ℕ))
+    (h : Head) : Type 0 where
   pub text : List ℕ
   pub is : HasLine old new text
   pub tells : TellsHead expected text h
@@ -54,8 +78,10 @@ pub record IsHeadOf (expected : Option Expected) (t : GiveHeader) (h : Head) : T
 -- what is wrong with what is told
 abbrev pub RefusesSaid : Option Expected → GiveHeader → SyncError → Type 0
 RefusesSaid expected t BadHeader = IsAbout expected t.bucket → ⊥
-RefusesSaid expected t ConfigDiffers = IsAbout expected t.bucket × IsOther (config_of expected) t.config
-RefusesSaid expected t VersionDiffers = IsAbout expected t.bucket × IsOwn (config_of expected) t.config × (IsSpoken t.format t.buckets → ⊥)
+RefusesSaid expected t ConfigDiffers = IsAbout expected t.bucket
+    × IsOther (config_of expected) t.config
+RefusesSaid expected t VersionDiffers = IsAbout expected t.bucket
+    × IsOwn (config_of expected) t.config × (IsSpoken t.format t.buckets → ⊥)
 RefusesSaid expected t (NotCanonical n) = ⊥
 RefusesSaid expected t (NotRising n) = ⊥
 RefusesSaid expected t BadCount = ⊥

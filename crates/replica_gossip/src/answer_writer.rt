@@ -1,6 +1,7 @@
 //! Answers, written.
 ghost use Rattle.std.specs.Prelude.{◌≡◌, ◌≢◌, IfErr, IfOk, flat_map, true, Err};
-ghost use Rattle.replica_gossip.specs.Messages.{WritesText, receipt_text, record_text, reply_text, told_of, told_text};
+ghost use Rattle.replica_gossip.specs.Messages.{WritesText, receipt_text, record_text, reply_text};
+ghost use Rattle.replica_gossip.specs.Messages.{told_of, told_text};
 ghost use Rattle.replica_sync.specs.Snapshots.{ended};
 ghost use Rattle.replica_sync.specs.declared.error.SyncError.TheVariants.{Io, NoMemory};
 
@@ -13,9 +14,10 @@ use spiffe_name::TrustDomain;
 use std::alloc::{AllocError, Global};
 use trust_closure::Distrusts;
 
-/// Writes the answer: a line of compact JSON with the members `bucket`, `config`, `count`, the number of receipts,
-/// `distrusts`, the number of records, `format`, which is 2, and `of`, which is 256; then a line for each record, and a
-/// line for each receipt. Memory is taken for one line at a time.
+/// Writes the answer: a line of compact JSON with the members `bucket`, `config`, `count`, the
+/// number of receipts, `distrusts`, the number of records, `format`, which is 2, and `of`, which is
+/// 256; then a line for each record, and a line for each receipt. Memory is taken for one line at a
+/// time.
 ///
 /// # Errors
 /// A beginning of the answer may have been written.
@@ -26,7 +28,8 @@ pub fn write_answer<W: Sink>(
     answer: Answer<'_>,
     sink: &mut W,
 ) -> Result<(), SyncError>
-    ensures written { WritesText (W.contents sink.old) (W.contents sink.new) result (reply_text answer.entry) }
+    ensures written { WritesText (W.contents sink.old) (W.contents sink.new) result
+        (reply_text answer.entry) }
     ensures io { result ≡ Err Io → W.has_failed sink.new ≡ true }
     ensures refused { IfErr result (λ e. e ≢ Io → e ≡ NoMemory) }
 {
@@ -59,7 +62,8 @@ fn write_records<W: Sink>(
     distrusts: Distrusts<'_>,
     sink: &mut W,
 ) -> Result<(), SyncError>
-    ensures written { WritesText (W.contents sink.old) (W.contents sink.new) result (flat_map record_text distrusts.entry) }
+    ensures written { WritesText (W.contents sink.old) (W.contents sink.new) result
+        (flat_map record_text distrusts.entry) }
     ensures io { result ≡ Err Io → W.has_failed sink.new ≡ true }
     ensures refused { IfErr result (λ e. e ≢ Io → e ≡ NoMemory) }
 {
@@ -74,7 +78,8 @@ fn write_receipts<W: Sink>(
     receipts: Lacking<'_>,
     sink: &mut W,
 ) -> Result<(), SyncError>
-    ensures written { WritesText (W.contents sink.old) (W.contents sink.new) result (flat_map receipt_text receipts.entry) }
+    ensures written { WritesText (W.contents sink.old) (W.contents sink.new) result
+        (flat_map receipt_text receipts.entry) }
     ensures io { result ≡ Err Io → W.has_failed sink.new ≡ true }
     ensures refused { IfErr result (λ e. e ≢ Io → e ≡ NoMemory) }
 {
@@ -90,7 +95,8 @@ fn write_record<W: Sink>(
     key: &KeyId,
     sink: &mut W,
 ) -> Result<(), SyncError>
-    ensures written { WritesText (W.contents sink.old) (W.contents sink.new) result (record_text (record { domain = domain.now; key = key.now })) }
+    ensures written { WritesText (W.contents sink.old) (W.contents sink.new) result
+        (record_text (record { domain = domain.now; key = key.now })) }
     ensures io { result ≡ Err Io → W.has_failed sink.new ≡ true }
     ensures refused { IfErr result (λ e. e ≢ Io → e ≡ NoMemory) }
 {
@@ -100,7 +106,8 @@ fn write_record<W: Sink>(
 }
 
 fn write_receipt<W: Sink>(alloc: Global, receipt: &Receipt, sink: &mut W) -> Result<(), SyncError>
-    ensures written { WritesText (W.contents sink.old) (W.contents sink.new) result (receipt_text receipt.now) }
+    ensures written { WritesText (W.contents sink.old) (W.contents sink.new) result
+        (receipt_text receipt.now) }
     ensures io { result ≡ Err Io → W.has_failed sink.new ≡ true }
     ensures refused { IfErr result (λ e. e ≢ Io → e ≡ NoMemory) }
 {
@@ -110,7 +117,8 @@ fn write_receipt<W: Sink>(alloc: Global, receipt: &Receipt, sink: &mut W) -> Res
 }
 
 fn record_line(alloc: Global, domain: &TrustDomain, key: &KeyId) -> Result<Vec<u8>, AllocError>
-    ensures { IfOk result (λ text. text.items ≡ record_text (record { domain = domain.now; key = key.now })) }
+    ensures { IfOk result (λ text. text.items
+        ≡ record_text (record { domain = domain.now; key = key.now })) }
 {
     let distrust = Distrust {
         domain: domain.try_clone(alloc)?,

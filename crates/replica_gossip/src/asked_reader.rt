@@ -15,10 +15,11 @@ use receipt_core::ReceiptId;
 use replica_sync::Have;
 use std::alloc::{AllocError, Global};
 
-/// Reads the line of a question. There is none where the line is not spelt as one, or its bucket is not below the number
-/// of buckets, or its ids do not rise.
+/// Reads the line of a question. There is none where the line is not spelt as one, or its bucket is
+/// not below the number of buckets, or its ids do not rise.
 pub(crate) fn read_asked(alloc: Global, text: &[u8]) -> Result<Option<Asking>, AllocError>
-    ensures { IfOk result (λ found. MatchOption found ((a : Asked) → IsAskedLine text.now a → ⊥) (λ a. IsAskedLine text.now (asking_by a))) }
+    ensures { IfOk result (λ found. MatchOption found ((a : Asked) → IsAskedLine text.now a → ⊥)
+        (λ a. IsAskedLine text.now (asking_by a))) }
 {
     let parts = guess(text);
     let ids = read_ids(alloc, parts.ids)?;
@@ -53,7 +54,9 @@ fn guess(text: &[u8]) -> Parts<'_>
 }
 
 fn asking_of(parts: &Parts<'_>, ids: Vec<ReceiptId>) -> Option<Asking>
-    ensures { MatchOption result (parts.now.bucket < parts.now.buckets → IsStrictlySortedBy id_cmp (map (λ id. id.0) ids.items) → ⊥)
+    ensures { MatchOption result
+        (parts.now.bucket < parts.now.buckets
+        → IsStrictlySortedBy id_cmp (map (λ id. id.0) ids.items) → ⊥)
         (IsOfParts parts.now (map (λ id. id.0) ids.items)) }
 {
     if parts.bucket >= parts.buckets {

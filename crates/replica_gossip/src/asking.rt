@@ -4,8 +4,8 @@ ghost use Rattle.std.specs.Prelude.{◌≡◌, ◌<◌, ◌%◌};
 use fed_config::ConfigId;
 use replica_sync::Have;
 
-/// What the line of a question says, of whatever format and number of buckets. The bucket is one of as many as the line names; of the
-/// question itself it is that modulo 256.
+/// What the line of a question says, of whatever format and number of buckets. The bucket is one of
+/// as many as the line names; of the question itself it is that modulo 256.
 #[derive(Debug, Drop)]
 pub(crate) struct Asking {
     pub(crate) bucket: u64,

@@ -1,5 +1,6 @@
 //! The ids in the line of a question.
-ghost use Rattle.std.specs.Prelude.{◌≡◌, ◌++◌, ◌∷◌, ◌<◌, ◌≤◌, ℕ, List, IfOk, IfSome, MatchOption, codes, drop, map, length};
+ghost use Rattle.std.specs.Prelude.{◌≡◌, ◌++◌, ◌∷◌, ◌<◌, ◌≤◌, ℕ, List, IfOk, IfSome, MatchOption};
+ghost use Rattle.std.specs.Prelude.{codes, drop, map, length};
 ghost use Rattle.std.specs.List.{AllByRecursion, AllPass, join_by};
 ghost use Rattle.receipt_core.specs.Receipt.{IsDigest};
 ghost use Rattle.spiffe_name.specs.Bytes.{FirstFails};
@@ -12,7 +13,9 @@ use std::alloc::{AllocError, Global};
 
 /// What stands behind the label and before the first closing bracket, and what begins with that.
 pub(crate) fn list_behind<'a>(text: &'a [u8], label: &[u8]) -> (&'a [u8], &'a [u8])
-    ensures { (inside rest : List ℕ) → AllPass is_inside inside → text.now ≡ label.now ++ (inside ++ (93 ∷ rest)) → (result.0.now ≡ inside) × (result.1.now ≡ 93 ∷ rest) }
+    ensures { (inside rest : List ℕ) → AllPass is_inside inside
+        → text.now ≡ label.now ++ (inside ++ (93 ∷ rest))
+        → (result.0.now ≡ inside) × (result.1.now ≡ 93 ∷ rest) }
 {
     let rest = behind(text, label);
     match bracket(rest) {
@@ -27,9 +30,12 @@ fn bracket(text: &[u8]) -> Option<usize>
     text.iter().position(|byte| *byte == b']')
 }
 
-/// The ids that the text lists, each in quotation marks, with commas between. Of another text some of them.
+/// The ids that the text lists, each in quotation marks, with commas between. Of another text some
+/// of them.
 pub(crate) fn read_ids(alloc: Global, text: &[u8]) -> Result<Vec<ReceiptId>, AllocError>
-    ensures same { IfOk result (λ ids. (wanted : List (List ℕ)) → AllByRecursion IsDigest wanted → text.now ≡ join_by quoted (codes ",") wanted → map (λ id. id.0) ids.items ≡ wanted) }
+    ensures same { IfOk result
+        (λ ids. (wanted : List (List ℕ)) → AllByRecursion IsDigest wanted
+        → text.now ≡ join_by quoted (codes ",") wanted → map (λ id. id.0) ids.items ≡ wanted) }
     ensures form { IfOk result (λ ids. AllByRecursion IsDigest (map (λ id. id.0) ids.items)) }
 {
     let mut ids = Vec::new(alloc);
@@ -45,7 +51,8 @@ pub(crate) fn read_ids(alloc: Global, text: &[u8]) -> Result<Vec<ReceiptId>, All
 
 // The first id, and what stands behind it and its comma.
 fn take_id(text: &[u8]) -> Option<(ReceiptId, &[u8])>
-    ensures same { (ids : List (List ℕ)) → AllByRecursion IsDigest ids → text.now ≡ join_by quoted (codes ",") ids → TakesId ids result }
+    ensures same { (ids : List (List ℕ)) → AllByRecursion IsDigest ids
+        → text.now ≡ join_by quoted (codes ",") ids → TakesId ids result }
     ensures form { IfSome result (λ r. IsDigest r.0.0) }
     ensures falls { IfSome result (λ r. length r.1.now < length text.now) }
 {

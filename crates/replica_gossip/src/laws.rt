@@ -23,16 +23,18 @@ ghost use Rattle.replica_gossip.specs.Pulling.{PullsAll, PullsUpTo};
 pub fn questions()
     ensures one { (bytes : List ℕ) (p q : Question) (left rest : Option (List ℕ))
         → IsAskable p → IsAskable q
-        → Consumes (Some bytes) left (question_text p) → Consumes (Some bytes) rest (question_text q)
+        → Consumes (Some bytes) left (question_text p)
+        → Consumes (Some bytes) rest (question_text q)
         → (p ≡ q) × (left ≡ rest) }
     ensures read { (config : Option Configuration) (bytes : List ℕ) (q : Question)
         (left new : Option (List ℕ)) (e : SyncError)
         → IsAskable q → IsOwn config q.config → e ≢ Io → e ≢ NoMemory
-        → Consumes (Some bytes) left (question_text q) → RefusesQuestion config (Some bytes) new e → ⊥ }
+        → Consumes (Some bytes) left (question_text q) → RefusesQuestion config (Some bytes) new e
+        → ⊥ }
 {}
 
-/// What a stream answers is one, and an answer that is there to its last byte is read. Only a source
-/// that fails, or lack of memory, may keep it from being read.
+/// What a stream answers is one, and an answer that is there to its last byte is read. Only a
+/// source that fails, or lack of memory, may keep it from being read.
 ///
 /// - `one`: of two answers that it begins with, both are the same, and so is what follows them.
 /// - `read`: where it begins with a whole answer, it has no fault before that answer's end.
@@ -46,12 +48,12 @@ pub fn answers()
         → Consumes (Some bytes) left (reply_text a) → RefusesGive (Some bytes) new e → ⊥ }
 {}
 
-/// No session is both carried out and ended by a fault of its stream, and what it does is determined by
-/// the bytes that are read. Only a device that fails, lack of memory, or a line whose receipt or
-/// record the replica cannot hold, ends it otherwise.
+/// No session is both carried out and ended by a fault of its stream, and what it does is
+/// determined by the bytes that are read. Only a device that fails, lack of memory, or a line whose
+/// receipt or record the replica cannot hold, ends it otherwise.
 ///
-/// - `served`: a stream that is wholly questions of the configuration has no fault, behind whichever
-///   of them.
+/// - `served`: a stream that is wholly questions of the configuration has no fault, behind
+///   whichever of them.
 /// - `served_once`: it is this many questions, and no other number of them.
 /// - `pulled`: a stream that begins with answers about all buckets has no fault in them, but that
 ///   what a line says is refused.

@@ -1,4 +1,5 @@
-//! The messages by which replicas come to hold the same receipts, as texts, and the sessions of which they are parts.
+//! The messages by which replicas come to hold the same receipts, as texts, and the sessions of
+//! which they are parts.
 #![tactic(auto)]
 
 mod answer_reader;

@@ -43,8 +43,8 @@ pub struct PullFault {
 /// - [`SyncError::ConfigDiffers`]: it is of another configuration,
 /// - [`SyncError::VersionDiffers`]: it has another format than 2, or another number of buckets than
 ///   256,
-/// - [`SyncError::NotCanonical`]: a line is none of a record where a record should stand, or none of
-///   a receipt where a receipt should, or has more than 8,388,608 bytes,
+/// - [`SyncError::NotCanonical`]: a line is none of a record where a record should stand, or none
+///   of a receipt where a receipt should, or has more than 8,388,608 bytes,
 /// - [`SyncError::NotRising`]: a line is not greater than the one before it in its answer,
 /// - [`SyncError::Refused`]: a receipt or a record is not of the configuration, or is one too many,
 /// - [`SyncError::Io`]: the source or the sink failed,
@@ -55,8 +55,11 @@ pub fn pull<C: Closure, R: Source, W: Sink>(
     source: &mut R,
     sink: &mut W,
 ) -> Result<u64, PullFault>
-    ensures pulls { Pulls (C.state closure.old).meaning (R.remaining source.old) (W.contents sink.old) (C.state closure.new).meaning (W.contents sink.new) result }
-    ensures io { IfErr result (λ fault. fault.why ≡ Io → (R.has_failed source.new ≡ true) ⊎ (W.has_failed sink.new ≡ true)) }
+    ensures pulls { Pulls (C.state closure.old).meaning (R.remaining source.old)
+        (W.contents sink.old) (C.state closure.new).meaning (W.contents sink.new) result }
+    ensures io { IfErr result
+        (λ fault. fault.why ≡ Io
+        → (R.has_failed source.new ≡ true) ⊎ (W.has_failed sink.new ≡ true)) }
 {
     let before = closure.receipt_count();
     let pulled = pull_all(alloc, closure, source, sink);
@@ -74,9 +77,14 @@ fn pull_all<C: Closure, R: Source, W: Sink>(
     source: &mut R,
     sink: &mut W,
 ) -> Result<(), SyncError>
-    ensures ok { OnOk result (PullsAll (C.state closure.old).meaning (R.remaining source.old) (W.contents sink.old) (C.state closure.new).meaning (W.contents sink.new)) }
-    ensures refused { IfErr result (PullsUpTo (C.state closure.old).meaning (R.remaining source.old) (W.contents sink.old) (C.state closure.new).meaning (W.contents sink.new)) }
-    ensures io { IsErrOf result Io → (R.has_failed source.new ≡ true) ⊎ (W.has_failed sink.new ≡ true) }
+    ensures ok { OnOk result
+        (PullsAll (C.state closure.old).meaning (R.remaining source.old) (W.contents sink.old)
+        (C.state closure.new).meaning (W.contents sink.new)) }
+    ensures refused { IfErr result
+        (PullsUpTo (C.state closure.old).meaning (R.remaining source.old) (W.contents sink.old)
+        (C.state closure.new).meaning (W.contents sink.new)) }
+    ensures io { IsErrOf result Io
+        → (R.has_failed source.new ≡ true) ⊎ (W.has_failed sink.new ≡ true) }
 {
     let mut lines = LineBuf::new(alloc);
     let mut place = Place {
@@ -108,12 +116,24 @@ fn pull_bucket<C: Closure, R: Source, W: Sink>(
     sink: &mut W,
 ) -> Result<(), SyncError>
     requires counted { place.old.read + left_of R.budget lines.old source.old < 2 ^ 64 }
-    ensures ok { OnOk result (TakesReply (C.state closure.old).meaning bucket (stream_of R.remaining lines.old source.old) place.old.read (C.state closure.new).meaning (stream_of R.remaining lines.new source.new) place.new.read) }
-    ensures refused { IfErr result (StopsReply (C.state closure.old).meaning bucket (place.old.read + 1) (stream_of R.remaining lines.old source.old) (C.state closure.new).meaning) }
-    ensures asked { OnOk result (Appends (W.contents sink.old) (W.contents sink.new) (question_text (question_of (C.state closure.old).meaning bucket))) }
-    ensures asks { IfErr result (λ e. IsWritten e (W.contents sink.old) (W.contents sink.new) (question_text (question_of (C.state closure.old).meaning bucket))) }
-    ensures counted { OnOk result (place.new.read + left_of R.budget lines.new source.new ≤ place.old.read + left_of R.budget lines.old source.old) }
-    ensures io { IsErrOf result Io → (R.has_failed source.new ≡ true) ⊎ (W.has_failed sink.new ≡ true) }
+    ensures ok { OnOk result
+        (TakesReply (C.state closure.old).meaning bucket
+        (stream_of R.remaining lines.old source.old) place.old.read (C.state closure.new).meaning
+        (stream_of R.remaining lines.new source.new) place.new.read) }
+    ensures refused { IfErr result
+        (StopsReply (C.state closure.old).meaning bucket (place.old.read + 1)
+        (stream_of R.remaining lines.old source.old) (C.state closure.new).meaning) }
+    ensures asked { OnOk result
+        (Appends (W.contents sink.old) (W.contents sink.new)
+        (question_text (question_of (C.state closure.old).meaning bucket))) }
+    ensures asks { IfErr result
+        (λ e. IsWritten e (W.contents sink.old) (W.contents sink.new)
+        (question_text (question_of (C.state closure.old).meaning bucket))) }
+    ensures counted { OnOk result
+        (place.new.read + left_of R.budget lines.new source.new
+        ≤ place.old.read + left_of R.budget lines.old source.old) }
+    ensures io { IsErrOf result Io
+        → (R.has_failed source.new ≡ true) ⊎ (W.has_failed sink.new ≡ true) }
 {
     ask(alloc, closure, bucket, sink)?;
     take_answer(alloc, closure, bucket, place, lines, source)
@@ -126,7 +146,8 @@ fn ask<C: Closure, W: Sink>(
     bucket: u8,
     sink: &mut W,
 ) -> Result<(), SyncError>
-    ensures writes { WritesText (W.contents sink.old) (W.contents sink.new) result (question_text (question_of (C.state closure.now).meaning bucket)) }
+    ensures writes { WritesText (W.contents sink.old) (W.contents sink.new) result
+        (question_text (question_of (C.state closure.now).meaning bucket)) }
     ensures refused { IfErr result (λ e. (e ≡ Io) ⊎ (e ≡ NoMemory)) }
     ensures io { IsErrOf result Io → W.has_failed sink.new ≡ true }
 {

@@ -7,7 +7,8 @@ ghost use Rattle.replica_sync.specs.Snapshots.{is_io};
 ghost use Rattle.replica_gossip.specs.Messages.{question_text};
 ghost use Rattle.replica_gossip.specs.FirstLines.{IsAskedLine};
 ghost use Rattle.replica_gossip.specs.Questions.{IsAskable, RefusesFurther, RefusesQuestion};
-ghost use Rattle.replica_gossip.specs.Asking.{FindsAsked, FindsOwn, IsNoneAsked, IsSaid, IsUnsaid, RefusesHaveLine, RefusesSpoken, asking_by};
+ghost use Rattle.replica_gossip.specs.Asking.{FindsAsked, FindsOwn, IsNoneAsked, IsSaid, IsUnsaid};
+ghost use Rattle.replica_gossip.specs.Asking.{RefusesHaveLine, RefusesSpoken, asking_by};
 
 use crate::asked_reader::read_asked;
 use crate::asking::Asking;
@@ -16,17 +17,20 @@ use fed_config::Config;
 use replica_sync::{Have, SyncError};
 use std::alloc::Global;
 
-/// Reads a question: the next line, of which the first bytes may lie in the buffer already. Only the spelling of
-/// [`write_have`](crate::write_have) is read. No configuration is compared.
+/// Reads a question: the next line, of which the first bytes may lie in the buffer already. Only
+/// the spelling of [`write_have`](crate::write_have) is read. No configuration is compared.
 ///
-/// Beside the line, which has at most 8,388,608 bytes, memory is taken for its ids and for the line as it is written.
+/// Beside the line, which has at most 8,388,608 bytes, memory is taken for its ids and for the line
+/// as it is written.
 ///
 /// # Errors
 /// The line is used up. Of these the first that holds:
 /// - [`SyncError::Truncated`]: the stream ends before the line's line feed,
-/// - [`SyncError::BadHeader`]: the line is no question's, of whatever format and number of buckets, or its bucket is not
-///   below that number, or its ids do not rise strictly, or it has more than 8,388,608 bytes,
-/// - [`SyncError::VersionDiffers`]: it has another format than 2, or another number of buckets than 256,
+/// - [`SyncError::BadHeader`]: the line is no question's, of whatever format and number of buckets,
+///   or its bucket is not below that number, or its ids do not rise strictly, or it has more than
+///   8,388,608 bytes,
+/// - [`SyncError::VersionDiffers`]: it has another format than 2, or another number of buckets than
+///   256,
 /// - [`SyncError::Io`]: the source failed,
 /// - [`SyncError::NoMemory`]: memory ran out.
 pub fn read_have<R: Source>(
@@ -34,9 +38,13 @@ pub fn read_have<R: Source>(
     lines: &mut LineBuf,
     source: &mut R,
 ) -> Result<Have, SyncError>
-    ensures ok { IfOk result (λ h. Consumes (stream_of R.remaining lines.old source.old) (stream_of R.remaining lines.new source.new) (question_text h)) }
+    ensures ok { IfOk result
+        (λ h. Consumes (stream_of R.remaining lines.old source.old)
+        (stream_of R.remaining lines.new source.new) (question_text h)) }
     ensures asked { IfOk result IsAskable }
-    ensures refused { IfErr result (RefusesQuestion None (stream_of R.remaining lines.old source.old) (stream_of R.remaining lines.new source.new)) }
+    ensures refused { IfErr result
+        (RefusesQuestion None (stream_of R.remaining lines.old source.old)
+        (stream_of R.remaining lines.new source.new)) }
     ensures fault { R.has_failed source.new ≡ (is_io result || R.has_failed source.old) }
 {
     match next_asked(alloc, lines, source)? {
@@ -45,18 +53,23 @@ pub fn read_have<R: Source>(
     }
 }
 
-/// Reads the next question as [`read_have`] does, and then compares its configuration. There is none where the stream ends
-/// where it would begin.
+/// Reads the next question as [`read_have`] does, and then compares its configuration. There is
+/// none where the stream ends where it would begin.
 pub(crate) fn next_own<R: Source>(
     alloc: Global,
     config: &Config,
     lines: &mut LineBuf,
     source: &mut R,
 ) -> Result<Option<Have>, SyncError>
-    ensures ok { IfOk result (FindsOwn config.now (stream_of R.remaining lines.old source.old) (stream_of R.remaining lines.new source.new)) }
-    ensures refused { IfErr result (RefusesFurther config.now (stream_of R.remaining lines.old source.old)) }
+    ensures ok { IfOk result
+        (FindsOwn config.now (stream_of R.remaining lines.old source.old)
+        (stream_of R.remaining lines.new source.new)) }
+    ensures refused { IfErr result
+        (RefusesFurther config.now (stream_of R.remaining lines.old source.old)) }
     ensures fault { R.has_failed source.new ≡ (is_io result || R.has_failed source.old) }
-    ensures falls { IfOk result (λ found. found ≢ None → left_of R.budget lines.new source.new < left_of R.budget lines.old source.old) }
+    ensures falls { IfOk result
+        (λ found. found ≢ None → left_of R.budget lines.new source.new
+        < left_of R.budget lines.old source.old) }
 {
     match next_asked(alloc, lines, source)? {
         Some(asking) => Ok(Some(own_question(config, asking)?)),
@@ -64,16 +77,23 @@ pub(crate) fn next_own<R: Source>(
     }
 }
 
-// The line of a question that is next in the stream. There is none where that ends where one would begin.
+// The line of a question that is next in the stream. There is none where that ends where one would
+// begin.
 fn next_asked<R: Source>(
     alloc: Global,
     lines: &mut LineBuf,
     source: &mut R,
 ) -> Result<Option<Asking>, SyncError>
-    ensures ok { IfOk result (FindsAsked (stream_of R.remaining lines.old source.old) (stream_of R.remaining lines.new source.new)) }
-    ensures refused { IfErr result (RefusesHaveLine (stream_of R.remaining lines.old source.old) (stream_of R.remaining lines.new source.new)) }
+    ensures ok { IfOk result
+        (FindsAsked (stream_of R.remaining lines.old source.old)
+        (stream_of R.remaining lines.new source.new)) }
+    ensures refused { IfErr result
+        (RefusesHaveLine (stream_of R.remaining lines.old source.old)
+        (stream_of R.remaining lines.new source.new)) }
     ensures fault { R.has_failed source.new ≡ (is_io result || R.has_failed source.old) }
-    ensures falls { IfOk result (λ found. found ≢ None → left_of R.budget lines.new source.new < left_of R.budget lines.old source.old) }
+    ensures falls { IfOk result
+        (λ found. found ≢ None → left_of R.budget lines.new source.new
+        < left_of R.budget lines.old source.old) }
 {
     match lines.next_line(source)? {
         Line::Text(text) => Ok(Some(asked_line(alloc, text)?)),
@@ -93,7 +113,8 @@ fn asked_line(alloc: Global, text: &[u8]) -> Result<Asking, SyncError>
 }
 
 fn own_question(config: &Config, asking: Asking) -> Result<Have, SyncError>
-    ensures { MatchResult result (λ h. (h.config ≡ config_id_of config.now) × IsSaid asking h) (RefusesSpoken config.now asking) }
+    ensures { MatchResult result (λ h. (h.config ≡ config_id_of config.now) × IsSaid asking h)
+        (RefusesSpoken config.now asking) }
 {
     if asking.have.config() != config.digest() {
         return Err(SyncError::ConfigDiffers);

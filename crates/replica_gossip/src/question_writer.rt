@@ -10,15 +10,19 @@ use byte_lines::{Sink, write_all};
 use replica_sync::{Have, SyncError};
 use std::alloc::{AllocError, Global};
 
-/// Writes the question: one line of compact JSON with the members `bucket`, `config`, `format`, which is 2, `have`, the
-/// ids as lower-case hexadecimal, and `of`, which is 256. All memory is had before the first byte is written.
+/// Writes the question: one line of compact JSON with the members `bucket`, `config`, `format`,
+/// which is 2, `have`, the ids as lower-case hexadecimal, and `of`, which is 256. All memory is had
+/// before the first byte is written.
 ///
 /// # Errors
 /// - [`SyncError::Io`]: the sink failed, and holds a beginning of the question.
 /// - [`SyncError::NoMemory`]: memory ran out. Nothing was written.
 pub fn write_have<W: Sink>(alloc: Global, have: &Have, sink: &mut W) -> Result<(), SyncError>
-    ensures ok { OnOk result (Appends (W.contents sink.old) (W.contents sink.new) (question_text have.now)) }
-    ensures io { result ≡ Err Io → (W.has_failed sink.new ≡ true) × AppendsBeginning (W.contents sink.old) (W.contents sink.new) (question_text have.now) }
+    ensures ok { OnOk result
+        (Appends (W.contents sink.old) (W.contents sink.new) (question_text have.now)) }
+    ensures io { result ≡ Err Io
+        → (W.has_failed sink.new ≡ true)
+        × AppendsBeginning (W.contents sink.old) (W.contents sink.new) (question_text have.now) }
     ensures memory { result ≡ Err NoMemory → sink.new ≡ sink.old }
     ensures refused { IfErr result (λ e. e ≢ Io → e ≡ NoMemory) }
 {

@@ -11,7 +11,8 @@ use replica_sync::number::read_number;
 
 /// What follows the label, where the text begins with it.
 pub(crate) fn after<'a>(text: &'a [u8], label: &[u8]) -> Option<&'a [u8]>
-    ensures { MatchOption result ((rest : List ℕ) → text.now ≡ label.now ++ rest → ⊥) (λ rest. text.now ≡ label.now ++ rest.now) }
+    ensures { MatchOption result ((rest : List ℕ) → text.now ≡ label.now ++ rest → ⊥)
+        (λ rest. text.now ≡ label.now ++ rest.now) }
 {
     text.strip_prefix(label)
 }
@@ -29,7 +30,9 @@ pub(crate) fn behind<'a>(text: &'a [u8], label: &[u8]) -> &'a [u8]
 /// The number behind the label, and what follows its digits.
 pub(crate) fn number_behind<'a>(text: &'a [u8], label: &[u8]) -> (u64, &'a [u8])
     ensures few { result.0 < 2 ^ 64 }
-    ensures right { (n stop : ℕ) (more : List ℕ) → n < 2 ^ 64 → is_ascii_digit stop ≡ false → text.now ≡ label.now ++ (decimal n ++ (stop ∷ more)) → (result.0 ≡ n) × (result.1.now ≡ stop ∷ more) }
+    ensures right { (n stop : ℕ) (more : List ℕ) → n < 2 ^ 64 → is_ascii_digit stop ≡ false
+        → text.now ≡ label.now ++ (decimal n ++ (stop ∷ more))
+        → (result.0 ≡ n) × (result.1.now ≡ stop ∷ more) }
 {
     let (digits, rest) = split_digits(behind(text, label));
     (number_of(digits), rest)
@@ -37,7 +40,9 @@ pub(crate) fn number_behind<'a>(text: &'a [u8], label: &[u8]) -> (u64, &'a [u8])
 
 /// The digest behind the label, and what follows its digits.
 pub(crate) fn digest_behind<'a>(text: &'a [u8], label: &[u8]) -> ([u8; 32], &'a [u8])
-    ensures { (digest rest : List ℕ) → IsDigest digest → text.now ≡ label.now ++ (encode_lower digest ++ rest) → (result.0 ≡ digest) × (result.1.now ≡ rest) }
+    ensures { (digest rest : List ℕ) → IsDigest digest
+        → text.now ≡ label.now ++ (encode_lower digest ++ rest)
+        → (result.0 ≡ digest) × (result.1.now ≡ rest) }
 {
     let text = behind(text, label);
     if text.len() < 64 {
@@ -63,7 +68,9 @@ fn config_id(digest: [u8; 32]) -> ConfigId
 
 // The leading decimal digits, and what follows them.
 fn split_digits(text: &[u8]) -> (&[u8], &[u8])
-    ensures { (digits : List ℕ) (stop : ℕ) (more : List ℕ) → AllPass is_ascii_digit digits → is_ascii_digit stop ≡ false → text.now ≡ digits ++ (stop ∷ more) → (result.0.now ≡ digits) × (result.1.now ≡ stop ∷ more) }
+    ensures { (digits : List ℕ) (stop : ℕ) (more : List ℕ) → AllPass is_ascii_digit digits
+        → is_ascii_digit stop ≡ false → text.now ≡ digits ++ (stop ∷ more)
+        → (result.0.now ≡ digits) × (result.1.now ≡ stop ∷ more) }
 {
     match first_stop(text) {
         Some(place) => text.split_at(place),
@@ -73,7 +80,8 @@ fn split_digits(text: &[u8]) -> (&[u8], &[u8])
 
 // Where the first byte is that is no decimal digit.
 fn first_stop(text: &[u8]) -> Option<usize>
-    ensures { MatchOption result (AllPass is_ascii_digit text.now) (FirstFails is_ascii_digit text.now) }
+    ensures { MatchOption result (AllPass is_ascii_digit text.now)
+        (FirstFails is_ascii_digit text.now) }
 {
     text.iter().position(|byte| !byte.is_ascii_digit())
 }
@@ -89,7 +97,8 @@ fn number_of(digits: &[u8]) -> u64
 }
 
 fn digest_of(digits: &[u8]) -> [u8; 32]
-    ensures { (digest : List ℕ) → IsDigest digest → digits.now ≡ encode_lower digest → result ≡ digest }
+    ensures { (digest : List ℕ) → IsDigest digest → digits.now ≡ encode_lower digest
+        → result ≡ digest }
 {
     let mut digest = [0; 32];
     // What is refused is written otherwise, so whatever stands there then is right.

@@ -48,7 +48,8 @@ pub(crate) fn push_asked(out: &mut Vec<u8>, asked: &AskedLine<'_>) -> Result<(),
 }
 
 fn push_ids(out: &mut Vec<u8>, ids: &[ReceiptId]) -> Result<(), AllocError>
-    ensures { OnOk result (out.new.items ≡ out.old.items ++ join_by quoted (codes ",") (map (λ id. id.0) ids.now)) }
+    ensures { OnOk result (out.new.items
+        ≡ out.old.items ++ join_by quoted (codes ",") (map (λ id. id.0) ids.now)) }
 {
     let Some((first, others)) = ids.split_first() else {
         return Ok(());

@@ -1,7 +1,10 @@
 //! Answers, taken line by line.
-ghost use Rattle.std.specs.Prelude.{◌≡◌, ◌+◌, ◌<◌, ◌≤◌, ◌^◌, ◌⊎◌, true, [], OnOk, IfErr, IsErrOf, MatchResult, Some};
+ghost use Rattle.std.specs.Prelude.{◌≡◌, ◌+◌, ◌<◌, ◌≤◌, ◌^◌, ◌⊎◌, true, [], OnOk, IfErr, IsErrOf};
+ghost use Rattle.std.specs.Prelude.{MatchResult, Some};
 ghost use Rattle.byte_lines.specs.Streams.{stream_of, left_of};
-ghost use Rattle.replica_gossip.specs.Taking.{TakesReply, StopsReply, TakesLines, StopsWithin, IsNextOf, TakesNext, HasNotTaken, TakesHere, HasRefusedHere};
+ghost use Rattle.replica_gossip.specs.Taking.{TakesReply, StopsReply, TakesLines, StopsWithin};
+ghost use Rattle.replica_gossip.specs.Taking.{IsNextOf, TakesNext, HasNotTaken, TakesHere};
+ghost use Rattle.replica_gossip.specs.Taking.{HasRefusedHere};
 ghost use Rattle.replica_sync.specs.declared.error.SyncError.TheVariants.{Io};
 
 use crate::told_reader::{Expected, Head, next_head};
@@ -29,9 +32,16 @@ pub(crate) fn take_answer<C: Closure, R: Source>(
     source: &mut R,
 ) -> Result<(), SyncError>
     requires counted { place.old.read + left_of R.budget lines.old source.old < 2 ^ 64 }
-    ensures ok { OnOk result (TakesReply (C.state closure.old).meaning bucket (stream_of R.remaining lines.old source.old) place.old.read (C.state closure.new).meaning (stream_of R.remaining lines.new source.new) place.new.read) }
-    ensures refused { IfErr result (StopsReply (C.state closure.old).meaning bucket (place.old.read + 1) (stream_of R.remaining lines.old source.old) (C.state closure.new).meaning) }
-    ensures counted { OnOk result (place.new.read + left_of R.budget lines.new source.new ≤ place.old.read + left_of R.budget lines.old source.old) }
+    ensures ok { OnOk result
+        (TakesReply (C.state closure.old).meaning bucket
+        (stream_of R.remaining lines.old source.old) place.old.read (C.state closure.new).meaning
+        (stream_of R.remaining lines.new source.new) place.new.read) }
+    ensures refused { IfErr result
+        (StopsReply (C.state closure.old).meaning bucket (place.old.read + 1)
+        (stream_of R.remaining lines.old source.old) (C.state closure.new).meaning) }
+    ensures counted { OnOk result
+        (place.new.read + left_of R.budget lines.new source.new
+        ≤ place.old.read + left_of R.budget lines.old source.old) }
     ensures io { IsErrOf result Io → R.has_failed source.new ≡ true }
 {
     let expected = Expected {
@@ -55,9 +65,16 @@ fn take_lines<C: Closure, R: Source>(
 ) -> Result<(), SyncError>
     requires empty { place.old.last.items ≡ [] }
     requires counted { place.old.read + left_of R.budget lines.old source.old < 2 ^ 64 }
-    ensures ok { OnOk result (TakesLines (C.state closure.old).meaning (stream_of R.remaining lines.old source.old) told.count told.distrusts place.old.read (C.state closure.new).meaning (stream_of R.remaining lines.new source.new) place.new.read) }
-    ensures refused { IfErr result (StopsWithin (C.state closure.old).meaning (stream_of R.remaining lines.old source.old) told.count told.distrusts place.old.read (C.state closure.new).meaning) }
-    ensures counted { OnOk result (place.new.read + left_of R.budget lines.new source.new ≤ place.old.read + left_of R.budget lines.old source.old) }
+    ensures ok { OnOk result
+        (TakesLines (C.state closure.old).meaning (stream_of R.remaining lines.old source.old)
+        told.count told.distrusts place.old.read (C.state closure.new).meaning
+        (stream_of R.remaining lines.new source.new) place.new.read) }
+    ensures refused { IfErr result
+        (StopsWithin (C.state closure.old).meaning (stream_of R.remaining lines.old source.old)
+        told.count told.distrusts place.old.read (C.state closure.new).meaning) }
+    ensures counted { OnOk result
+        (place.new.read + left_of R.budget lines.new source.new
+        ≤ place.old.read + left_of R.budget lines.old source.old) }
     ensures io { IsErrOf result Io → R.has_failed source.new ≡ true }
 {
     let mut due = told;
@@ -99,10 +116,17 @@ fn take_next<C: Closure, R: Source>(
     source: &mut R,
 ) -> Result<(), SyncError>
     requires counted { place.old.read + left_of R.budget lines.old source.old < 2 ^ 64 }
-    ensures ok { OnOk result (TakesNext wanted (C.state closure.old).meaning place.old.last.items (stream_of R.remaining lines.old source.old) (C.state closure.new).meaning place.new.last.items (stream_of R.remaining lines.new source.new)) }
-    ensures refused { IfErr result (HasNotTaken wanted (C.state closure.old).meaning place.old.last.items (place.old.read + 1) (stream_of R.remaining lines.old source.old) (C.state closure.new).meaning (stream_of R.remaining lines.new source.new)) }
+    ensures ok { OnOk result
+        (TakesNext wanted (C.state closure.old).meaning place.old.last.items
+        (stream_of R.remaining lines.old source.old) (C.state closure.new).meaning
+        place.new.last.items (stream_of R.remaining lines.new source.new)) }
+    ensures refused { IfErr result
+        (HasNotTaken wanted (C.state closure.old).meaning place.old.last.items (place.old.read + 1)
+        (stream_of R.remaining lines.old source.old) (C.state closure.new).meaning
+        (stream_of R.remaining lines.new source.new)) }
     ensures read { OnOk result (place.new.read ≡ place.old.read + 1) }
-    ensures falls { OnOk result (left_of R.budget lines.new source.new < left_of R.budget lines.old source.old) }
+    ensures falls { OnOk result
+        (left_of R.budget lines.new source.new < left_of R.budget lines.old source.old) }
     ensures io { IsErrOf result Io → R.has_failed source.new ≡ true }
 {
     match lines.next_line(source)? {
@@ -122,7 +146,11 @@ fn take_text<C: Closure>(
     text: &[u8],
 ) -> Result<(), SyncError>
     requires counted { place.old.read + 1 < 2 ^ 64 }
-    ensures takes { MatchResult result (λ done. TakesHere wanted (C.state closure.old).meaning place.old.last.items text.now (C.state closure.new).meaning) (HasRefusedHere wanted (C.state closure.old).meaning place.old.last.items (place.old.read + 1) text.now (C.state closure.new).meaning) }
+    ensures takes { MatchResult result
+        (λ done. TakesHere wanted (C.state closure.old).meaning place.old.last.items text.now
+        (C.state closure.new).meaning)
+        (HasRefusedHere wanted (C.state closure.old).meaning place.old.last.items
+        (place.old.read + 1) text.now (C.state closure.new).meaning) }
     ensures read { OnOk result (place.new.read ≡ place.old.read + 1) }
     ensures last { OnOk result (place.new.last.items ≡ text.now) }
 {

@@ -1,11 +1,14 @@
 //! The first lines of answers, read.
-ghost use Rattle.std.specs.Prelude.{◌≡◌, ◌++◌, ◌<◌, ◌^◌, ◌↔◌, ◌||◌, ℕ, List, Option, IsTrue, IfOk, IfErr, IfSome, OnOk, MatchOption, codes};
+ghost use Rattle.std.specs.Prelude.{◌≡◌, ◌++◌, ◌<◌, ◌^◌, ◌↔◌, ◌||◌, ℕ, List, Option, IsTrue, IfOk};
+ghost use Rattle.std.specs.Prelude.{IfErr, IfSome, OnOk, MatchOption, codes};
 ghost use Rattle.byte_lines.specs.Streams.{stream_of, left_of};
 ghost use Rattle.replica_sync.specs.Snapshots.{is_io};
 ghost use Rattle.replica_gossip.specs.Messages.{GiveHeader, distrusts_part, told_text};
-ghost use Rattle.replica_gossip.specs.FirstLines.{IsAbout, IsOwn, IsRecordCount, IsGiveHeader, IsToldLine, RefusesTold, config_of};
+ghost use Rattle.replica_gossip.specs.FirstLines.{IsAbout, IsOwn, IsRecordCount, IsGiveHeader};
+ghost use Rattle.replica_gossip.specs.FirstLines.{IsToldLine, RefusesTold, config_of};
 ghost use Rattle.replica_gossip.specs.Answers.{RefusesHead};
-ghost use Rattle.replica_gossip.specs.Spelling.{HasHead, HasWords, IsHeadOf, RefusesSaid, TellsHead, expected_by, header_by};
+ghost use Rattle.replica_gossip.specs.Spelling.{HasHead, HasWords, IsHeadOf, RefusesSaid};
+ghost use Rattle.replica_gossip.specs.Spelling.{TellsHead, expected_by, header_by};
 
 use crate::scanner::{after, digest_behind, id_of, number_behind};
 use crate::spelling::{ToldLine, push_told};
@@ -39,10 +42,15 @@ pub(crate) fn next_head<R: Source>(
     lines: &mut LineBuf,
     source: &mut R,
 ) -> Result<Head, SyncError>
-    ensures ok { IfOk result (HasHead (expected_by expected.entry) (stream_of R.remaining lines.old source.old) (stream_of R.remaining lines.new source.new)) }
-    ensures refused { IfErr result (RefusesHead (expected_by expected.entry) (stream_of R.remaining lines.old source.old) (stream_of R.remaining lines.new source.new)) }
+    ensures ok { IfOk result
+        (HasHead (expected_by expected.entry) (stream_of R.remaining lines.old source.old)
+        (stream_of R.remaining lines.new source.new)) }
+    ensures refused { IfErr result
+        (RefusesHead (expected_by expected.entry) (stream_of R.remaining lines.old source.old)
+        (stream_of R.remaining lines.new source.new)) }
     ensures fault { R.has_failed source.new ≡ (is_io result || R.has_failed source.old) }
-    ensures falls { OnOk result (left_of R.budget lines.new source.new < left_of R.budget lines.old source.old) }
+    ensures falls { OnOk result
+        (left_of R.budget lines.new source.new < left_of R.budget lines.old source.old) }
 {
     match lines.next_line(source)? {
         Line::Text(text) => read_head(alloc, expected, text),
@@ -111,11 +119,15 @@ fn is_own(expected: Option<Expected<'_>>, config: &ConfigId) -> bool
     }
 }
 
-/// Reads the first line of an answer, of whatever format and number of buckets. There is none where the line is not spelt
-/// as one, or its bucket is not below that number.
+/// Reads the first line of an answer, of whatever format and number of buckets. There is none where
+/// the line is not spelt as one, or its bucket is not below that number.
 pub(crate) fn read_told(alloc: Global, text: &[u8]) -> Result<Option<ToldLine>, AllocError>
-    ensures read { IfOk result (λ found. MatchOption found ((t : GiveHeader) → IsToldLine text.now t → ⊥) (λ t. IsToldLine text.now (header_by t))) }
-    ensures only { IfOk result (λ found. IfSome found (λ t. (other : GiveHeader) → IsToldLine text.now other → header_by t ≡ other)) }
+    ensures read { IfOk result
+        (λ found. MatchOption found ((t : GiveHeader) → IsToldLine text.now t → ⊥)
+        (λ t. IsToldLine text.now (header_by t))) }
+    ensures only { IfOk result
+        (λ found. IfSome found (λ t. (other : GiveHeader) → IsToldLine text.now other
+        → header_by t ≡ other)) }
 {
     let told = guess(text);
     if !is_told(&told) {
@@ -152,7 +164,9 @@ fn guess(text: &[u8]) -> ToldLine
 // The number of records, where one is given, and what follows.
 fn records_behind(text: &[u8]) -> (Option<u64>, &[u8])
     ensures few { IfSome result.0 (λ n. n < 2 ^ 64) }
-    ensures right { (distrusts : Option ℕ) (more : List ℕ) → IfSome distrusts (λ n. n < 2 ^ 64) → text.now ≡ distrusts_part distrusts ++ (codes ",\"format\":" ++ more) → (result.0 ≡ distrusts) × (result.1.now ≡ codes ",\"format\":" ++ more) }
+    ensures right { (distrusts : Option ℕ) (more : List ℕ) → IfSome distrusts (λ n. n < 2 ^ 64)
+        → text.now ≡ distrusts_part distrusts ++ (codes ",\"format\":" ++ more)
+        → (result.0 ≡ distrusts) × (result.1.now ≡ codes ",\"format\":" ++ more) }
 {
     match after(text, b",\"distrusts\":") {
         Some(_) => {
@@ -163,7 +177,8 @@ fn records_behind(text: &[u8]) -> (Option<u64>, &[u8])
     }
 }
 
-// Whether the bucket is below the number of buckets, and the number of records is given, but for the first format.
+// Whether the bucket is below the number of buckets, and the number of records is given, but for
+// the first format.
 fn is_told(told: &ToldLine) -> bool
     requires { HasWords (header_by told.now) }
     ensures { IsTrue result ↔ IsGiveHeader (header_by told.now) }

@@ -1,5 +1,6 @@
 -- How an answer of another replica is taken: all of it, or nothing.
-use Rattle.std.specs.Prelude.{◌≡◌, ◌≢◌, ℕ, ◌+◌, ◌-◌, ◌^◌, ◌<◌, ◌≤◌, ◌⊎◌, List, [], ◌∷◌, ◌++◌, length, map, fold, Contains}
+use Rattle.std.specs.Prelude.{◌≡◌, ◌≢◌, ℕ, ◌+◌, ◌-◌, ◌^◌, ◌<◌, ◌≤◌, ◌⊎◌, List, [], ◌∷◌, ◌++◌}
+use Rattle.std.specs.Prelude.{length, map, fold, Contains}
 use Rattle.std.specs.declared.cmp.Ordering.{Ordering}
 use Rattle.fed_config.specs.Configuration.{config_id_of}
 use Rattle.receipt_core.specs.declared.distrust.Distrust.{Distrust}
@@ -17,7 +18,10 @@ use Rattle.replica_sync.specs.Session.{Reply, state_of}
 use Rattle.replica_sync.specs.declared.entry.Entry.{Entry}
 use Rattle.replica_sync.specs.declared.entry.Entry.TheVariants.{Record, Receipt as AReceipt}
 use Rattle.replica_sync.specs.declared.error.SyncError.{SyncError}
-use Rattle.replica_sync.specs.declared.error.SyncError.TheVariants.{BadHeader, ConfigDiffers, VersionDiffers, NotCanonical, NotRising, BadCount, Truncated, Refused, Io, NoMemory}
+use Rattle.replica_sync.specs.declared.error.SyncError.TheVariants.{BadHeader, ConfigDiffers}
+use Rattle.replica_sync.specs.declared.error.SyncError.TheVariants.{VersionDiffers, NotCanonical}
+use Rattle.replica_sync.specs.declared.error.SyncError.TheVariants.{NotRising, BadCount, Truncated}
+use Rattle.replica_sync.specs.declared.error.SyncError.TheVariants.{Refused, Io, NoMemory}
 
 abbrev pub of_records : List Distrust → List Entry
 of_records records = map Record records
@@ -42,9 +46,10 @@ abbrev pub AreWelcome : Meaning → List Entry → Type 0
 AreWelcome m [] = Unit {0}
 AreWelcome m (entry ∷ entries) = IsWelcome m entry × AreWelcome (with_entry entry m) entries
 
--- The line with this number is the first one that is not welcome: its entry has this cause where all before it are held.
--- The first line of an answer is line 1, and has no entry.
-pub record IsFirstRefused (m : Meaning) (entries : List Entry) (number : ℕ) (why : TakeError) : Type 0 where
+-- The line with this number is the first one that is not welcome: its entry has this cause where
+-- all before it are held. The first line of an answer is line 1, and has no entry.
+pub record IsFirstRefused (m : Meaning) (entries : List Entry) (number : ℕ)
+    (why : TakeError) : Type 0 where
   pub before : List Entry
   pub entry : Entry
   pub after : List Entry
@@ -97,14 +102,15 @@ RefusesReply old reply Io = ⊥
 RefusesReply old reply NoMemory = WantsRoom old reply ⊎ IsTooLong old reply
 
 -- Nothing of it is held that was not.
-pub record HasRefusedReply (old : ClosureState) (reply : Reply) (new : Meaning) (why : SyncError) : Type 0 where
+pub record HasRefusedReply (old : ClosureState) (reply : Reply) (new : Meaning)
+    (why : SyncError) : Type 0 where
   pub cause : RefusesReply old reply why
   pub same : new ≡ old.meaning
 
 -- ---- places for more
 
--- Of the places so many are free, where so many are held already and so many items are left: exactly so many, or at least
--- so many and enough for all that are left.
+-- Of the places so many are free, where so many are held already and so many items are left:
+-- exactly so many, or at least so many and enough for all that are left.
 pub record HasPlaces (limit held free left : ℕ) : Type 0 where
   pub few : held + free ≤ limit
   pub exact : (left ≤ free) ⊎ (held + free ≡ limit)
@@ -115,6 +121,7 @@ pub record HasNoPlace {X : Type 0} (limit : ℕ) (set : List X) (item : X) : Typ
   pub full : limit ≤ length set
 
 -- It may be held, and then so many places are free for the others.
-pub record HasPlace {X : Type 0} (cmp : X → X → Ordering) (limit : ℕ) (set : List X) (item : X) (left more : ℕ) : Type 0 where
+pub record HasPlace {X : Type 0} (cmp : X → X → Ordering) (limit : ℕ) (set : List X) (item : X)
+    (left more : ℕ) : Type 0 where
   pub place : Contains set item ⊎ (length set < limit)
   pub after : HasPlaces limit (length (with_item cmp item set)) more (left - 1)

@@ -1,15 +1,19 @@
--- The lines of receipts and records of distrust, as they follow one another in snapshots and answers: which may stand at
--- a place, what they say, and the faults of one line.
+-- The lines of receipts and records of distrust, as they follow one another in snapshots and
+-- answers: which may stand at a place, what they say, and the faults of one line.
 use Rattle.std.specs.Prelude.{◌≡◌, ◌≢◌, ℕ, ◌+◌, ◌<◌, ◌≤◌, ◌⊎◌, List, length}
 use Rattle.std.specs.declared.cmp.Ordering.TheVariants.{Less}
 use Rattle.std.specs.Ordering.{nat_cmp}
 use Rattle.std.specs.Cmp.Lexicographic.{slice_cmp}
-use Rattle.receipt_core.specs.Receipt.{IsReceipt, line, with_receipt, IsDistrust, distrust_line, with_distrust}
+use Rattle.receipt_core.specs.Receipt.{IsReceipt, line, with_receipt, IsDistrust, distrust_line}
+use Rattle.receipt_core.specs.Receipt.{with_distrust}
 use Rattle.receipt_core.specs.Acceptance.{Meaning}
 use Rattle.byte_lines.specs.declared.error.DeviceError.{DeviceError}
-use Rattle.byte_lines.specs.declared.error.DeviceError.TheVariants.{Io as SourceFault, NoMemory as NoLineMemory}
+use Rattle.byte_lines.specs.declared.error.DeviceError.TheVariants.{Io as SourceFault}
+use Rattle.byte_lines.specs.declared.error.DeviceError.TheVariants.{NoMemory as NoLineMemory}
 use Rattle.receipt_core.specs.declared.line_error.LineError.{LineError}
-use Rattle.receipt_core.specs.declared.line_error.LineError.TheVariants.{NotCanonical as NoLine, TooLong, NoMemory as NoReadMemory}
+use Rattle.receipt_core.specs.declared.line_error.LineError.TheVariants.{NotCanonical as NoLine}
+use Rattle.receipt_core.specs.declared.line_error.LineError.TheVariants.{TooLong}
+use Rattle.receipt_core.specs.declared.line_error.LineError.TheVariants.{NoMemory as NoReadMemory}
 use Rattle.trust_closure.specs.Refusals.{Room, RefusesReceipt, RefusesDistrust}
 use Rattle.trust_closure.specs.declared.error.TakeError.{TakeError}
 use Rattle.trust_closure.specs.declared.error.TakeError.TheVariants.{NoMemory as NoTakeMemory}
@@ -18,7 +22,10 @@ use Rattle.replica_sync.specs.declared.entry.Entry.TheVariants.{Record, Receipt 
 use Rattle.replica_sync.specs.declared.entry.Wanted.{Wanted}
 use Rattle.replica_sync.specs.declared.entry.Wanted.TheVariants.{Records, Receipts, Either}
 use Rattle.replica_sync.specs.declared.error.SyncError.{SyncError}
-use Rattle.replica_sync.specs.declared.error.SyncError.TheVariants.{BadHeader, ConfigDiffers, VersionDiffers, NotCanonical, NotRising, BadCount, Truncated, Refused, Io, NoMemory}
+use Rattle.replica_sync.specs.declared.error.SyncError.TheVariants.{BadHeader, ConfigDiffers}
+use Rattle.replica_sync.specs.declared.error.SyncError.TheVariants.{VersionDiffers, NotCanonical}
+use Rattle.replica_sync.specs.declared.error.SyncError.TheVariants.{NotRising, BadCount, Truncated}
+use Rattle.replica_sync.specs.declared.error.SyncError.TheVariants.{Refused, Io, NoMemory}
 
 abbrev pub fault_of : DeviceError → SyncError
 fault_of SourceFault = Io
@@ -76,7 +83,8 @@ RefusesEntry m (Record x) why = RefusesDistrust m x why
 RefusesEntry m (AReceipt r) why = RefusesReceipt m no_room r why
 
 -- Nothing has changed.
-pub record HasRefusedEntry (old : Meaning) (entry : Entry) (new : Meaning) (why : TakeError) : Type 0 where
+pub record HasRefusedEntry (old : Meaning) (entry : Entry) (new : Meaning)
+    (why : TakeError) : Type 0 where
   pub cause : RefusesEntry old entry why
   pub same : new ≡ old
 
@@ -99,7 +107,8 @@ pub record IsNotAbove (wanted : Wanted) (last text : List ℕ) : Type 0 where
   pub below : IsAbove last text → ⊥
 
 -- It is the next line, and what it says is refused.
-pub record IsRefused (wanted : Wanted) (m : Meaning) (last text : List ℕ) (why : TakeError) : Type 0 where
+pub record IsRefused (wanted : Wanted) (m : Meaning) (last text : List ℕ)
+    (why : TakeError) : Type 0 where
   pub entry : Entry
   pub next : IsNextEntry wanted last text entry
   pub cause : RefusesEntry m entry why
@@ -117,26 +126,32 @@ RefusesEntryText wanted last number text (Refused n why) = ⊥
 RefusesEntryText wanted last number text Io = ⊥
 RefusesEntryText wanted last number text NoMemory = length text ≤ 1051063
 
--- The faults of the line with this number, where the closure means m: the first of these that holds.
+-- The faults of the line with this number, where the closure means m: the first of these that
+-- holds.
 abbrev pub RefusesEntryLine : Wanted → Meaning → List ℕ → ℕ → List ℕ → SyncError → Type 0
 RefusesEntryLine wanted m last number text BadHeader = ⊥
 RefusesEntryLine wanted m last number text ConfigDiffers = ⊥
 RefusesEntryLine wanted m last number text VersionDiffers = ⊥
 RefusesEntryLine wanted m last number text (NotCanonical n) = (n ≡ number) × IsNoLineOf wanted text
-RefusesEntryLine wanted m last number text (NotRising n) = (n ≡ number) × IsNotAbove wanted last text
+RefusesEntryLine wanted m last number text (NotRising n) = (n ≡ number)
+    × IsNotAbove wanted last text
 RefusesEntryLine wanted m last number text BadCount = ⊥
 RefusesEntryLine wanted m last number text Truncated = ⊥
-RefusesEntryLine wanted m last number text (Refused n why) = (n ≡ number) × (why ≢ NoTakeMemory) × IsRefused wanted m last text why
+RefusesEntryLine wanted m last number text (Refused n why) = (n ≡ number) × (why ≢ NoTakeMemory)
+    × IsRefused wanted m last text why
 RefusesEntryLine wanted m last number text Io = ⊥
-RefusesEntryLine wanted m last number text NoMemory = (length text ≤ 1051063) ⊎ IsRefused wanted m last text NoTakeMemory
+RefusesEntryLine wanted m last number text NoMemory = (length text ≤ 1051063)
+    ⊎ IsRefused wanted m last text NoTakeMemory
 
 -- The text is the next line, and what it says is held.
-pub record TakesEntryText (wanted : Wanted) (old : Meaning) (last text : List ℕ) (new : Meaning) (count : ℕ) : Type 0 where
+pub record TakesEntryText (wanted : Wanted) (old : Meaning) (last text : List ℕ) (new : Meaning)
+    (count : ℕ) : Type 0 where
   pub entry : Entry
   pub next : IsNextEntry wanted last text entry
   pub taken : TakesEntry old entry new count
 
 -- The line has this fault, and nothing has changed.
-pub record HasRefusedLine (wanted : Wanted) (old : Meaning) (last : List ℕ) (number : ℕ) (text : List ℕ) (new : Meaning) (why : SyncError) : Type 0 where
+pub record HasRefusedLine (wanted : Wanted) (old : Meaning) (last : List ℕ) (number : ℕ)
+    (text : List ℕ) (new : Meaning) (why : SyncError) : Type 0 where
   pub cause : RefusesEntryLine wanted old last number text why
   pub same : new ≡ old

@@ -1,5 +1,6 @@
 -- Worlds whose replicas are closures in memory.
-use Rattle.std.specs.Prelude.{◌≡◌, ℕ, ◌<◌, ◌≤◌, cond, List, length, map, slice_index_or, Option, Some, None, ⊤}
+use Rattle.std.specs.Prelude.{◌≡◌, ℕ, ◌<◌, ◌≤◌, cond, List, length, map, slice_index_or, Option}
+use Rattle.std.specs.Prelude.{Some, None, ⊤}
 use Rattle.std.specs.List.{AllByRecursion}
 use Rattle.std.specs.List.Sorted.{IsStrictlySortedBy}
 use Rattle.fed_config.specs.Configuration.{Configuration, HasDomain}
@@ -15,9 +16,11 @@ use Rattle.replica_sync.specs.declared.message.Message.TheVariants.{Question, An
 use Rattle.replica_sync.specs.declared.playing.Playing.{Playing}
 
 -- There are so many closures, and each means what the state of its number says.
-pub record AreOf {A : Type 0} (meaning : A → Meaning) (config : Configuration) (n : ℕ) (closures : List A) (states : ℕ → State) : Type 0 where
+pub record AreOf {A : Type 0} (meaning : A → Meaning) (config : Configuration) (n : ℕ)
+    (closures : List A) (states : ℕ → State) : Type 0 where
   pub count : length closures ≡ n
-  pub each : (i : ℕ) (c : A) → i < n → meaning (slice_index_or closures i c) ≡ meaning_of_state config (states i)
+  pub each : (i : ℕ) (c : A) → i < n
+      → meaning (slice_index_or closures i c) ≡ meaning_of_state config (states i)
 
 -- all this is gained, or nothing where that would be too much
 abbrev pub grown : State → State → State
@@ -42,7 +45,8 @@ asked None = None
 asked (Some (question asker bucket ids)) = Some (bucket, ids)
 asked (Some (answer answerer place content)) = None
 
--- A closure of the configuration can hold these receipts: they fit, they rise, and they are not too many.
+-- A closure of the configuration can hold these receipts: they fit, they rise, and they are not too
+-- many.
 pub record CanHold (config : Configuration) (receipts : List Receipt) : Type 0 where
   pub fitting : AllByRecursion (IsFitting config) receipts
   pub rising : IsStrictlySortedBy receipt_cmp receipts
@@ -57,17 +61,21 @@ pub record CanHoldRecords (config : Configuration) (records : List Distrust) : T
 -- what is answered can be held
 abbrev pub IsSound : Configuration → Message → Type 0
 IsSound config (question asker bucket ids) = ⊤
-IsSound config (answer answerer place content) = CanHold config content.held × CanHoldRecords config content.records
+IsSound config (answer answerer place content) = CanHold config content.held
+    × CanHoldRecords config content.records
 
 -- ---- worlds
 
 -- The closures mean what the replicas hold and saved, and the messages are those that were sent.
-pub record Plays {A : Type 0} (meaning : A → Meaning) (config : Configuration) (n : ℕ) (playing : Playing A) (w : World) : Type 0 where
+pub record Plays {A : Type 0} (meaning : A → Meaning) (config : Configuration) (n : ℕ)
+    (playing : Playing A) (w : World) : Type 0 where
   pub held : AreOf meaning config n playing.held.items w.now
   pub saved : AreOf meaning config n playing.saved.items w.saved
   pub sent : map message_of playing.sent.items ≡ w.sent
   pub sound : AllByRecursion (IsSound config) w.sent
 
 -- after the event it stands for what the world is then
-abbrev pub StandsForEvent : {A : Type 0} → (A → Meaning) → Configuration → Playing A → Playing A → Event → Type 0
-StandsForEvent meaning config old new event = (n : ℕ) (w : World) → Plays meaning config n old w → Plays meaning config n new (happens (rules_of config n) w event)
+abbrev pub StandsForEvent : {A : Type 0} → (A → Meaning) → Configuration → Playing A → Playing A
+    → Event → Type 0
+StandsForEvent meaning config old new event = (n : ℕ) (w : World) → Plays meaning config n old w
+    → Plays meaning config n new (happens (rules_of config n) w event)

@@ -9,7 +9,8 @@ use Rattle.replica_sync.specs.State.{State, id_cmp, ids_held, receipts_lacking}
 abbrev pub state_of : Meaning → State
 state_of m = record { held = m.held; records = m.records }
 
--- A question names the ids that the asker holds of a bucket; `config` is the digest of its configuration.
+-- A question names the ids that the asker holds of a bucket; `config` is the digest of its
+-- configuration.
 pub record Question : Type 0 where
   pub bucket : ℕ
   pub config : List ℕ
@@ -27,9 +28,14 @@ IsQuestion q = IsStrictlySortedBy id_cmp q.ids
 
 -- what a closure asks about a bucket
 abbrev pub question_of : Meaning → ℕ → Question
-question_of m bucket = record { bucket = bucket; config = config_id_of m.config; ids = ids_held (state_of m) bucket }
+question_of m bucket = record {
+  bucket = bucket;
+  config = config_id_of m.config;
+  ids = ids_held (state_of m) bucket;
+}
 
--- what a closure answers: the receipts of the bucket that the question does not name, and all records
+-- what a closure answers: the receipts of the bucket that the question does not name, and all
+-- records
 abbrev pub reply_of : Meaning → Question → Reply
 reply_of m q = record {
   bucket = q.bucket;

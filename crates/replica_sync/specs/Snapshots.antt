@@ -1,5 +1,7 @@
 -- Snapshots: the text of what a replica holds, and what is wrong with a stream that is none.
-use Rattle.std.specs.Prelude.{◌≡◌, ℕ, ◌+◌, ◌^◌, ◌<◌, ◌≤◌, ◌⊎◌, ◌++◌, ◌||◌, Bool, true, false, List, [], ◌∷◌, length, map, flat_map, fold, codes, decimal, Option, IfSome, Result, Ok, Err, nat_le, ◌&&◌}
+use Rattle.std.specs.Prelude.{◌≡◌, ℕ, ◌+◌, ◌^◌, ◌<◌, ◌≤◌, ◌⊎◌, ◌++◌, ◌||◌, Bool, true, false, List}
+use Rattle.std.specs.Prelude.{[], ◌∷◌, length, map, flat_map, fold, codes, decimal, Option, IfSome}
+use Rattle.std.specs.Prelude.{Result, Ok, Err, nat_le, ◌&&◌}
 use Rattle.std.specs.List.{AllPass}
 use Rattle.std.specs.Io.KnownBytes.{Consumes}
 use Rattle.hex.specs.Hex.{encode_lower}
@@ -13,7 +15,10 @@ use Rattle.replica_sync.specs.declared.entry.Wanted.TheVariants.{Receipts, Eithe
 use Rattle.replica_sync.specs.declared.format.Format.{Format}
 use Rattle.replica_sync.specs.declared.format.Format.TheVariants.{First, Second}
 use Rattle.replica_sync.specs.declared.error.SyncError.{SyncError}
-use Rattle.replica_sync.specs.declared.error.SyncError.TheVariants.{BadHeader, ConfigDiffers, VersionDiffers, NotCanonical, NotRising, BadCount, Truncated, Refused, Io, NoMemory}
+use Rattle.replica_sync.specs.declared.error.SyncError.TheVariants.{BadHeader, ConfigDiffers}
+use Rattle.replica_sync.specs.declared.error.SyncError.TheVariants.{VersionDiffers, NotCanonical}
+use Rattle.replica_sync.specs.declared.error.SyncError.TheVariants.{NotRising, BadCount, Truncated}
+use Rattle.replica_sync.specs.declared.error.SyncError.TheVariants.{Refused, Io, NoMemory}
 
 -- ---- the text
 
@@ -23,7 +28,8 @@ version_of Second = 2
 
 -- the first line, of the digits of a digest and those of a number
 unfoldable pub header_of : List ℕ → List ℕ → List ℕ
-header_of digits number = codes "{\"config\":\"" ++ (digits ++ (codes "\",\"format\":" ++ (number ++ codes "}")))
+header_of digits number = codes "{\"config\":\""
+    ++ (digits ++ (codes "\",\"format\":" ++ (number ++ codes "}")))
 
 -- the digest of the configuration in hexadecimal
 abbrev pub digits_of : Configuration → List ℕ
@@ -42,7 +48,8 @@ records_part Second records = codes ",\"distrusts\":" ++ decimal records
 
 -- the last line, of the numbers of receipts and of records
 unfoldable pub count_of : Format → ℕ → ℕ → List ℕ
-count_of format receipts records = count_beginning ++ (decimal receipts ++ (records_part format records ++ codes "}"))
+count_of format receipts records = count_beginning
+    ++ (decimal receipts ++ (records_part format records ++ codes "}"))
 
 abbrev pub count_line : Format → Meaning → List ℕ
 count_line format m = count_of format (length m.held) (length m.records)
@@ -72,16 +79,18 @@ abbrev pub IsTold : Format → Meaning → Type 0
 IsTold First m = m.records ≡ []
 IsTold Second m = Unit {0}
 
--- The stream begins with the first line and the lines of what a replica of the configuration may hold, and `left` is what
--- follows them.
-pub record Begins (config : Configuration) (stream : Option (List ℕ)) (format : Format) (m : Meaning) (left : Option (List ℕ)) : Type 0 where
+-- The stream begins with the first line and the lines of what a replica of the configuration may
+-- hold, and `left` is what follows them.
+pub record Begins (config : Configuration) (stream : Option (List ℕ)) (format : Format)
+    (m : Meaning) (left : Option (List ℕ)) : Type 0 where
   pub of_config : m.config ≡ config
   pub valid : IsMeaning m
   pub told : IsTold format m
   pub text : Consumes stream left (begun_text format m)
 
 -- The stream is the text of what a replica of the configuration may hold.
-pub record IsSnapshot (config : Configuration) (stream : Option (List ℕ)) (m : Meaning) : Type 0 where
+pub record IsSnapshot (config : Configuration) (stream : Option (List ℕ))
+    (m : Meaning) : Type 0 where
   pub of_config : m.config ≡ config
   pub valid : IsMeaning m
   pub format : Format
@@ -138,7 +147,8 @@ RefusesHeader config text Io = ⊥
 RefusesHeader config text NoMemory = ⊥
 
 -- The first line is there, and has this fault. A first line that is too long is none.
-pub record HasBadFirst (config : Configuration) (stream : Option (List ℕ)) (e : SyncError) : Type 0 where
+pub record HasBadFirst (config : Configuration) (stream : Option (List ℕ))
+    (e : SyncError) : Type 0 where
   pub text : List ℕ
   pub after : Option (List ℕ)
   pub is : HasLine stream after text
@@ -203,7 +213,8 @@ RefusesPlace format m text Io = ⊥
 RefusesPlace format m text NoMemory = Unit {0}
 
 -- There is such a line, and it has this fault.
-pub record HasBadLine (format : Format) (m : Meaning) (left : Option (List ℕ)) (e : SyncError) : Type 0 where
+pub record HasBadLine (format : Format) (m : Meaning) (left : Option (List ℕ))
+    (e : SyncError) : Type 0 where
   pub text : List ℕ
   pub after : Option (List ℕ)
   pub is : HasLine left after text
@@ -215,12 +226,14 @@ pub record HasMoreBehind (format : Format) (m : Meaning) (left : Option (List �
   pub is : Consumes left after (ended (count_line format m))
   pub more : HasMore after
 
--- Nothing of the stream is known where the source fails; and memory is wanted before its first byte is read.
+-- Nothing of the stream is known where the source fails; and memory is wanted before its first byte
+-- is read.
 abbrev pub RefusesNext : Format → Meaning → Option (List ℕ) → SyncError → Type 0
 RefusesNext format m left BadHeader = ⊥
 RefusesNext format m left ConfigDiffers = ⊥
 RefusesNext format m left VersionDiffers = ⊥
-RefusesNext format m left (NotCanonical n) = HasBadLine format m left (NotCanonical n) ⊎ ((n ≡ next_number m + 1) × HasMoreBehind format m left)
+RefusesNext format m left (NotCanonical n) = HasBadLine format m left (NotCanonical n)
+    ⊎ ((n ≡ next_number m + 1) × HasMoreBehind format m left)
 RefusesNext format m left (NotRising n) = HasBadLine format m left (NotRising n)
 RefusesNext format m left BadCount = HasBadLine format m left BadCount
 RefusesNext format m left Truncated = HasNoLine left
@@ -231,7 +244,8 @@ RefusesNext format m left NoMemory = Unit {0}
 -- ---- the first fault
 
 -- A good beginning, and behind it this fault.
-pub record HasFaultBehind (config : Configuration) (stream : Option (List ℕ)) (e : SyncError) : Type 0 where
+pub record HasFaultBehind (config : Configuration) (stream : Option (List ℕ))
+    (e : SyncError) : Type 0 where
   pub format : Format
   pub m : Meaning
   pub left : Option (List ℕ)

@@ -1,5 +1,7 @@
--- What a replica holds, and what it does with it: the words in which the calls of this crate say what they do.
-use Rattle.std.specs.Prelude.{ℕ, ◌-◌, Bool, ◌==◌, ◌&&◌, not, nat_le, List, [], length, map, filter, take, slice_index_or, bytes_eq}
+-- What a replica holds, and what it does with it: the words in which the calls of this crate say
+-- what they do.
+use Rattle.std.specs.Prelude.{ℕ, ◌-◌, Bool, ◌==◌, ◌&&◌, not, nat_le, List, [], length, map, filter}
+use Rattle.std.specs.Prelude.{take, slice_index_or, bytes_eq}
 use Rattle.std.specs.declared.cmp.Ordering.{Ordering}
 use Rattle.std.specs.Ordering.{nat_cmp}
 use Rattle.std.specs.Cmp.Lexicographic.{slice_cmp}
@@ -20,7 +22,10 @@ no_state = record { held = []; records = [] }
 
 -- what is held, with all that is gained
 abbrev pub joined : State → State → State
-joined state gain = record { held = with_items receipt_cmp gain.held state.held; records = with_items distrust_cmp gain.records state.records }
+joined state gain = record {
+  held = with_items receipt_cmp gain.held state.held;
+  records = with_items distrust_cmp gain.records state.records;
+}
 
 -- at most so many receipts and records are held
 abbrev pub is_within_limits : State → Bool
@@ -38,19 +43,25 @@ id_cmp = slice_cmp nat_cmp
 
 -- the ids of a bucket's receipts, each once, rising
 abbrev pub ids_held : State → ℕ → List (List ℕ)
-ids_held state bucket = with_items id_cmp (map receipt_id_of (filter (is_of_bucket bucket) state.held)) []
+ids_held state bucket = with_items id_cmp
+    (map receipt_id_of (filter (is_of_bucket bucket) state.held)) []
 
 abbrev pub is_named : List (List ℕ) → Receipt → Bool
 is_named ids r = list_any (λ id. bytes_eq id (receipt_id_of r)) ids
 
 -- the bucket's receipts whose ids are not named
 abbrev pub receipts_lacking : State → ℕ → List (List ℕ) → List Receipt
-receipts_lacking state bucket ids = filter (λ r. is_of_bucket bucket r && not (is_named ids r)) state.held
+receipts_lacking state bucket ids = filter (λ r. is_of_bucket bucket r && not (is_named ids r))
+    state.held
 
 -- an answer that was cut: records come before receipts
 abbrev pub first_of : ℕ → State → State
-first_of count gain = record { held = take (count - length gain.records) gain.held; records = take count gain.records }
+first_of count gain = record {
+  held = take (count - length gain.records) gain.held;
+  records = take count gain.records;
+}
 
 -- what a closure with this configuration and these sets means
 abbrev pub meaning_of_state : Configuration → State → Meaning
-meaning_of_state config state = record { config = config; held = state.held; records = state.records }
+meaning_of_state config
+    state = record { config = config; held = state.held; records = state.records }

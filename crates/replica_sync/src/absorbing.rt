@@ -1,10 +1,12 @@
 //! What a replica takes of an answer.
-ghost use Rattle.std.specs.Prelude.{◌≡◌, ◌+◌, ◌^◌, ◌<◌, ◌≤◌, ◌↔◌, IsTrue, MatchOption, MatchResult, length};
+ghost use Rattle.std.specs.Prelude.{◌≡◌, ◌+◌, ◌^◌, ◌<◌, ◌≤◌, ◌↔◌, IsTrue, MatchOption, MatchResult};
+ghost use Rattle.std.specs.Prelude.{length};
 ghost use Rattle.trust_closure.specs.Refusals.{IsRoomier};
 ghost use Rattle.trust_closure.specs.Merge.{offers_count};
 ghost use Rattle.replica_sync.specs.State.{joined, meaning_of_state};
 ghost use Rattle.replica_sync.specs.Session.{state_of};
-ghost use Rattle.replica_sync.specs.Absorbing.{AreWelcome, HasAbsorbed, HasRefusedReply, IsFirstRefused, entries_of, room_for};
+ghost use Rattle.replica_sync.specs.Absorbing.{AreWelcome, HasAbsorbed, HasRefusedReply};
+ghost use Rattle.replica_sync.specs.Absorbing.{IsFirstRefused, entries_of, room_for};
 
 use crate::error::SyncError;
 use crate::give::Give;
@@ -14,17 +16,20 @@ use receipt_core::Receipt;
 use std::alloc::AllocError;
 use trust_closure::{Closure, TakeError};
 
-/// Takes all of an answer, or nothing, and returns how many receipts were not held. Its work is that of its takes; where
-/// its lines may pass a limit, each is also compared with those before it.
+/// Takes all of an answer, or nothing, and returns how many receipts were not held. Its work is
+/// that of its takes; where its lines may pass a limit, each is also compared with those before it.
 ///
 /// # Errors
 /// What is held stays. Of these the first that holds:
 /// - [`SyncError::ConfigDiffers`]: the answer is of a configuration with another digest,
-/// - [`SyncError::Refused`]: a record or a receipt is not of the configuration, or is one too many. Lines are counted from
-///   1, the answer's first line: records come before receipts, and of several lines the first is reported,
-/// - [`SyncError::NoMemory`]: memory ran out. Never where all receipts and their offers are within [`Closure::room`].
+/// - [`SyncError::Refused`]: a record or a receipt is not of the configuration, or is one too many.
+///   Lines are counted from 1, the answer's first line: records come before receipts, and of
+///   several lines the first is reported,
+/// - [`SyncError::NoMemory`]: memory ran out. Never where all receipts and their offers are within
+///   [`Closure::room`].
 pub fn absorb<C: Closure>(closure: &mut C, give: Give) -> Result<usize, SyncError>
-    ensures { MatchResult result (HasAbsorbed (C.state closure.old).meaning give (C.state closure.new).meaning)
+    ensures { MatchResult result
+        (HasAbsorbed (C.state closure.old).meaning give (C.state closure.new).meaning)
         (HasRefusedReply (C.state closure.old) give (C.state closure.new).meaning) }
 {
     if closure.config().digest() != give.config {
@@ -55,7 +60,8 @@ fn are_numbered(give: &Give) -> bool
 // The number of the first line that is not welcome, and why it is not.
 fn first_refused<C: Closure>(closure: &C, give: &Give) -> Option<(u64, TakeError)>
     requires { length (entries_of give.now.content) + 2 < 2 ^ 64 }
-    ensures { MatchOption result (AreWelcome (C.state closure.now).meaning (entries_of give.now.content))
+    ensures { MatchOption result
+        (AreWelcome (C.state closure.now).meaning (entries_of give.now.content))
         (λ p. IsFirstRefused (C.state closure.now).meaning (entries_of give.now.content) p.0 p.1) }
 {
     let records = give.distrusts().len() as u64;
@@ -71,7 +77,8 @@ fn first_refused<C: Closure>(closure: &C, give: &Give) -> Option<(u64, TakeError
 // Makes room for all of the receipts and their offers.
 fn make_room<C: Closure>(closure: &mut C, receipts: &[Receipt]) -> Result<(), AllocError>
     ensures meaning { (C.state closure.new).meaning ≡ (C.state closure.old).meaning }
-    ensures room { MatchResult result (λ _. IsRoomier (room_for receipts.now) (C.state closure.new).room)
+    ensures room { MatchResult result
+        (λ _. IsRoomier (room_for receipts.now) (C.state closure.new).room)
         (λ _. IsRoomier (room_for receipts.now) (C.state closure.old).room → ⊥) }
 {
     let _room = closure.room();
@@ -83,7 +90,8 @@ fn make_room<C: Closure>(closure: &mut C, receipts: &[Receipt]) -> Result<(), Al
 
 // How many offers the receipts have together, if that is a number of 64 bits.
 fn offers_of_all(receipts: &[Receipt]) -> Option<usize>
-    ensures { MatchOption result (2 ^ 64 ≤ offers_count receipts.now) (λ offers. offers_count receipts.now ≡ offers) }
+    ensures { MatchOption result (2 ^ 64 ≤ offers_count receipts.now)
+        (λ offers. offers_count receipts.now ≡ offers) }
 {
     let mut offers: usize = 0;
     for receipt in receipts {
@@ -92,12 +100,16 @@ fn offers_of_all(receipts: &[Receipt]) -> Option<usize>
     Some(offers)
 }
 
-// Takes all of what is welcome, for which there is room, and returns how many receipts were not held.
+// Takes all of what is welcome, for which there is room, and returns how many receipts were not
+// held.
 fn take_whole<C: Closure>(closure: &mut C, give: Give) -> usize
     requires welcome { AreWelcome (C.state closure.old).meaning (entries_of give.content) }
     requires room { IsRoomier (room_for give.content.held) (C.state closure.old).room }
-    ensures meaning { (C.state closure.new).meaning ≡ meaning_of_state (C.state closure.old).meaning.config (joined (state_of (C.state closure.old).meaning) give.content) }
-    ensures count { length (C.state closure.new).meaning.held ≡ length (C.state closure.old).meaning.held + result }
+    ensures meaning { (C.state closure.new).meaning
+        ≡ meaning_of_state (C.state closure.old).meaning.config
+        (joined (state_of (C.state closure.old).meaning) give.content) }
+    ensures count { length (C.state closure.new).meaning.held
+        ≡ length (C.state closure.old).meaning.held + result }
 {
     let held = closure.receipt_count();
     distrust_all(closure, give.distrusts());

@@ -7,8 +7,8 @@ use crate::question::Have;
 use crate::reply::{Answer, Lacking};
 use trust_closure::Closure;
 
-/// What the closure answers to the question: the receipts of the bucket that the question does not name, in the order of
-/// their lines' bytes, and all records of distrust. It takes no memory.
+/// What the closure answers to the question: the receipts of the bucket that the question does not
+/// name, in the order of their lines' bytes, and all records of distrust. It takes no memory.
 pub fn answer<'a, C: Closure>(closure: &'a C, have: &'a Have) -> Answer<'a>
     ensures { result ≡ reply_of (C.state closure.now).meaning have.now }
 {
@@ -23,7 +23,8 @@ pub fn answer<'a, C: Closure>(closure: &'a C, have: &'a Have) -> Answer<'a>
 }
 
 fn lacking<'a, C: Closure>(closure: &'a C, have: &'a Have) -> Lacking<'a>
-    ensures { result ≡ receipts_lacking (state_of (C.state closure.now).meaning) have.now.bucket have.now.ids }
+    ensures { result ≡ receipts_lacking (state_of (C.state closure.now).meaning) have.now.bucket
+        have.now.ids }
 {
     Lacking::new(closure.receipts_of(have.bucket()), have.ids())
 }

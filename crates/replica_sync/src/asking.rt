@@ -30,7 +30,8 @@ pub fn have<C: Closure>(alloc: Global, closure: &C, bucket: u8) -> Result<Have, 
 
 // The ids of the bucket's receipts, rising, each once.
 fn ids_of<C: Closure>(alloc: Global, closure: &C, bucket: u8) -> Result<Vec<ReceiptId>, AllocError>
-    ensures { IfOk result (λ ids. map (λ id. id.0) ids.items ≡ ids_held (state_of (C.state closure.now).meaning) bucket) }
+    ensures { IfOk result (λ ids. map (λ id. id.0) ids.items
+        ≡ ids_held (state_of (C.state closure.now).meaning) bucket) }
 {
     let mut ids = gathered(alloc, closure, bucket)?;
     ids.sort_unstable();
@@ -44,7 +45,8 @@ fn gathered<C: Closure>(
     closure: &C,
     bucket: u8,
 ) -> Result<Vec<ReceiptId>, AllocError>
-    ensures { IfOk result (λ ids. map (λ id. id.0) ids.items ≡ map receipt_id_of (receipts_in bucket (C.state closure.now).meaning.held)) }
+    ensures { IfOk result (λ ids. map (λ id. id.0) ids.items
+        ≡ map receipt_id_of (receipts_in bucket (C.state closure.now).meaning.held)) }
 {
     let mut ids = Vec::new(alloc);
     for receipt in closure.receipts_of(bucket) {

@@ -1,7 +1,9 @@
 //! One line of a list of receipts and records of distrust.
 ghost use Rattle.std.specs.Prelude.{◌≡◌, MatchResult, length};
 ghost use Rattle.receipt_core.specs.Line.{RefusesRecord, RefusesReceiptLine as RefusesReceipt};
-ghost use Rattle.replica_sync.specs.Entries.{IsEntry, IsNextEntry, RefusesSpelling, RefusesEntryText, TakesEntry, TakesEntryText, HasRefusedEntry, HasRefusedLine};
+ghost use Rattle.replica_sync.specs.Entries.{IsEntry, IsNextEntry, RefusesSpelling};
+ghost use Rattle.replica_sync.specs.Entries.{RefusesEntryText, TakesEntry, TakesEntryText};
+ghost use Rattle.replica_sync.specs.Entries.{HasRefusedEntry, HasRefusedLine};
 
 use crate::error::SyncError;
 use receipt_core::{Distrust, LineError, Receipt};
@@ -24,8 +26,8 @@ pub enum Wanted {
     Either,
 }
 
-/// Reads the line with this number, where `last` is the line before it, which is empty for the first, and takes what it
-/// says. Answers how many receipts are held now and were not.
+/// Reads the line with this number, where `last` is the line before it, which is empty for the
+/// first, and takes what it says. Answers how many receipts are held now and were not.
 pub fn take_line<C: Closure>(
     alloc: Global,
     closure: &mut C,
@@ -34,8 +36,11 @@ pub fn take_line<C: Closure>(
     number: u64,
     text: &[u8],
 ) -> Result<u64, SyncError>
-    ensures { MatchResult result (TakesEntryText wanted (C.state closure.old).meaning last.now text.now (C.state closure.new).meaning)
-        (HasRefusedLine wanted (C.state closure.old).meaning last.now number text.now (C.state closure.new).meaning) }
+    ensures { MatchResult result
+        (TakesEntryText wanted (C.state closure.old).meaning last.now text.now
+        (C.state closure.new).meaning)
+        (HasRefusedLine wanted (C.state closure.old).meaning last.now number text.now
+        (C.state closure.new).meaning) }
 {
     let entry = next_entry(alloc, wanted, last, number, text)?;
     match take_entry(closure, entry) {
@@ -45,7 +50,8 @@ pub fn take_line<C: Closure>(
     }
 }
 
-/// What the line with this number says, where `last` is the line before it, which is empty for the first.
+/// What the line with this number says, where `last` is the line before it, which is empty for the
+/// first.
 pub fn next_entry(
     alloc: Global,
     wanted: Wanted,
@@ -53,7 +59,8 @@ pub fn next_entry(
     number: u64,
     text: &[u8],
 ) -> Result<Entry, SyncError>
-    ensures { MatchResult result (IsNextEntry wanted last.now text.now) (RefusesEntryText wanted last.now number text.now) }
+    ensures { MatchResult result (IsNextEntry wanted last.now text.now)
+        (RefusesEntryText wanted last.now number text.now) }
 {
     match read_entry(alloc, wanted, text) {
         Ok(entry) => {
@@ -70,7 +77,8 @@ pub fn next_entry(
 
 /// Takes what a line says, and returns how many receipts are held now and were not.
 fn take_entry<C: Closure>(closure: &mut C, entry: Entry) -> Result<u64, TakeError>
-    ensures { MatchResult result (TakesEntry (C.state closure.old).meaning entry (C.state closure.new).meaning)
+    ensures { MatchResult result
+        (TakesEntry (C.state closure.old).meaning entry (C.state closure.new).meaning)
         (HasRefusedEntry (C.state closure.old).meaning entry (C.state closure.new).meaning) }
 {
     match entry {
@@ -80,8 +88,11 @@ fn take_entry<C: Closure>(closure: &mut C, entry: Entry) -> Result<u64, TakeErro
 }
 
 fn take_receipt<C: Closure>(closure: &mut C, receipt: Receipt) -> Result<u64, TakeError>
-    ensures { MatchResult result (TakesEntry (C.state closure.old).meaning (Entry.Receipt receipt) (C.state closure.new).meaning)
-        (HasRefusedEntry (C.state closure.old).meaning (Entry.Receipt receipt) (C.state closure.new).meaning) }
+    ensures { MatchResult result
+        (TakesEntry (C.state closure.old).meaning (Entry.Receipt receipt)
+        (C.state closure.new).meaning)
+        (HasRefusedEntry (C.state closure.old).meaning (Entry.Receipt receipt)
+        (C.state closure.new).meaning) }
 {
     receipt_core::laws::sets();
     let _config = closure.config();
@@ -93,8 +104,11 @@ fn take_receipt<C: Closure>(closure: &mut C, receipt: Receipt) -> Result<u64, Ta
 }
 
 fn take_record<C: Closure>(closure: &mut C, distrust: &Distrust) -> Result<u64, TakeError>
-    ensures { MatchResult result (TakesEntry (C.state closure.old).meaning (Entry.Record distrust.now) (C.state closure.new).meaning)
-        (HasRefusedEntry (C.state closure.old).meaning (Entry.Record distrust.now) (C.state closure.new).meaning) }
+    ensures { MatchResult result
+        (TakesEntry (C.state closure.old).meaning (Entry.Record distrust.now)
+        (C.state closure.new).meaning)
+        (HasRefusedEntry (C.state closure.old).meaning (Entry.Record distrust.now)
+        (C.state closure.new).meaning) }
 {
     receipt_core::laws::sets();
     let _config = closure.config();

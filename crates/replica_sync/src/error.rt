@@ -8,7 +8,8 @@ use std::alloc::AllocError;
 use thiserror::Error;
 use trust_closure::TakeError;
 
-/// Why a snapshot or a message is refused: the first fault in the order of its bytes. Lines are counted from 1.
+/// Why a snapshot or a message is refused: the first fault in the order of its bytes. Lines are
+/// counted from 1.
 #[derive(Clone, Copy, Debug, PartialEq, Eq, Error)]
 pub enum SyncError {
     /// The first line is not spelt as one of its kind.
@@ -32,7 +33,8 @@ pub enum SyncError {
     /// The input ends before it is complete.
     #[error("S7 Truncated")]
     Truncated,
-    /// What the line says is not taken: its domain is unknown, its endpoint is another one, or there is no place.
+    /// What the line says is not taken: its domain is unknown, its endpoint is another one, or
+    /// there is no place.
     #[error("S8 Refused line {0} {1}")]
     Refused(u64, TakeError),
     /// The source or the sink failed.

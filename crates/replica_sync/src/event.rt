@@ -1,8 +1,8 @@
 //! What happens to replicas.
 use receipt_core::{Distrust, Receipt};
 
-/// What can happen in a world of replicas that have one configuration. A replica is named by its number, a message by
-/// its place among all that were sent, both from 0.
+/// What can happen in a world of replicas that have one configuration. A replica is named by its
+/// number, a message by its place among all that were sent, both from 0.
 #[derive(Debug, Drop)]
 pub enum Event {
     /// A replica takes a receipt, where it fits the configuration.
@@ -20,7 +20,8 @@ pub enum Event {
         replica: usize,
         bucket: u8,
     },
-    /// A replica answers a question with all its records and the bucket's receipts that the question doesn't name.
+    /// A replica answers a question with all its records and the bucket's receipts that the
+    /// question doesn't name.
     Answer {
         replica: usize,
         question: usize,

@@ -12,13 +12,16 @@ use receipt_core::{Distrust, Receipt};
 use std::alloc::{AllocError, Global};
 use trust_closure::{Closure, NoMemory, TakeError};
 
-/// The closure gains all that the other one of its configuration holds, or nothing where that would be too much.
+/// The closure gains all that the other one of its configuration holds, or nothing where that would
+/// be too much.
 ///
 /// # Errors
 /// Memory ran out.
 pub(crate) fn grow<C: Closure>(closure: &mut C, more: &C) -> Result<(), NoMemory>
     ensures { (C.state closure.old).meaning.config ≡ (C.state more.now).meaning.config
-        → OnOk result ((C.state closure.new).meaning ≡ meaning_of_state (C.state closure.old).meaning.config (grown (state_of (C.state closure.old).meaning) (state_of (C.state more.now).meaning))) }
+        → OnOk result ((C.state closure.new).meaning
+        ≡ meaning_of_state (C.state closure.old).meaning.config
+        (grown (state_of (C.state closure.old).meaning) (state_of (C.state more.now).meaning))) }
 {
     let _domains = more.config().domains();
     match closure.merge(more) {
@@ -39,7 +42,8 @@ pub(crate) fn copied<C: Closure>(alloc: Global, closure: &C) -> Result<C, NoMemo
     Ok(copy)
 }
 
-/// A closure that holds these records and receipts, which are what a closure of this configuration can hold.
+/// A closure that holds these records and receipts, which are what a closure of this configuration
+/// can hold.
 ///
 /// # Errors
 /// Memory ran out.
@@ -50,7 +54,8 @@ pub(crate) fn gathered<C: Closure>(
     receipts: &[Receipt],
 ) -> Result<C, NoMemory>
     ensures { CanHold config.now receipts.now → CanHoldRecords config.now records.now
-        → IfOk result (λ c. (C.state c).meaning ≡ record { config = config.now; held = receipts.now; records = records.now }) }
+        → IfOk result (λ c. (C.state c).meaning
+        ≡ record { config = config.now; held = receipts.now; records = records.now }) }
 {
     let mut closure = C::new(alloc, config)?;
     offer_records(&mut closure, records);
@@ -59,8 +64,10 @@ pub(crate) fn gathered<C: Closure>(
 }
 
 fn offer_records<C: Closure>(closure: &mut C, records: &[Distrust])
-    ensures { (C.state closure.old).meaning.records ≡ [] → CanHoldRecords (C.state closure.old).meaning.config records.now
-        → (C.state closure.new).meaning ≡ record (C.state closure.old).meaning { records = records.now } }
+    ensures { (C.state closure.old).meaning.records ≡ []
+        → CanHoldRecords (C.state closure.old).meaning.config records.now
+        → (C.state closure.new).meaning
+        ≡ record (C.state closure.old).meaning { records = records.now } }
 {
     for record in records {
         offer_record(closure, record);
@@ -72,8 +79,10 @@ fn offer_receipts<C: Closure>(
     closure: &mut C,
     receipts: &[Receipt],
 ) -> Result<(), NoMemory>
-    ensures { (C.state closure.old).meaning.held ≡ [] → CanHold (C.state closure.old).meaning.config receipts.now
-        → OnOk result ((C.state closure.new).meaning ≡ record (C.state closure.old).meaning { held = receipts.now }) }
+    ensures { (C.state closure.old).meaning.held ≡ []
+        → CanHold (C.state closure.old).meaning.config receipts.now
+        → OnOk result ((C.state closure.new).meaning
+        ≡ record (C.state closure.old).meaning { held = receipts.now }) }
 {
     for receipt in receipts {
         offer_receipt(alloc, closure, receipt)?;
@@ -92,8 +101,10 @@ pub(crate) fn offer_receipt<C: Closure>(
 ) -> Result<(), NoMemory>
     ensures unfit { is_fitting (C.state closure.old).meaning.config receipt.now ≡ false
         → OnOk result ((C.state closure.new).meaning ≡ (C.state closure.old).meaning) }
-    ensures next { (later : List Receipt) → let m = (C.state closure.old).meaning in CanHold m.config (m.held ++ receipt.now ∷ later)
-        → OnOk result ((C.state closure.new).meaning ≡ record m { held = m.held ++ receipt.now ∷ [] }) }
+    ensures next { (later : List Receipt)
+        → let m = (C.state closure.old).meaning in CanHold m.config (m.held ++ receipt.now ∷ later)
+        → OnOk result ((C.state closure.new).meaning
+        ≡ record m { held = m.held ++ receipt.now ∷ [] }) }
 {
     let _domains = closure.config().domains();
     match closure.take(receipt.try_clone(alloc)?) {
@@ -106,7 +117,9 @@ pub(crate) fn offer_receipt<C: Closure>(
 pub(crate) fn offer_record<C: Closure>(closure: &mut C, distrust: &Distrust)
     ensures unfit { is_known (C.state closure.old).meaning.config distrust.now.domain ≡ false
         → (C.state closure.new).meaning ≡ (C.state closure.old).meaning }
-    ensures next { (later : List Distrust) → let m = (C.state closure.old).meaning in CanHoldRecords m.config (m.records ++ distrust.now ∷ later)
+    ensures next { (later : List Distrust)
+        → let m = (C.state closure.old).meaning in CanHoldRecords m.config
+        (m.records ++ distrust.now ∷ later)
         → (C.state closure.new).meaning ≡ record m { records = m.records ++ distrust.now ∷ [] } }
 {
     // What is refused is no part of what the replica gathers.

@@ -5,8 +5,9 @@ use fed_config::ConfigId;
 use receipt_core::{Distrust, Receipt};
 use std::marker::Model;
 
-/// An answer of another replica, as it was read: records of distrust and receipts, each in the order of their lines. It
-/// may be any list of both; what of it fits a closure is found when it is taken.
+/// An answer of another replica, as it was read: records of distrust and receipts, each in the
+/// order of their lines. It may be any list of both; what of it fits a closure is found when it is
+/// taken.
 #[derive(Debug, Drop)]
 pub struct Give {
     pub(crate) bucket: u8,
@@ -20,18 +21,27 @@ impl Model for Give {
 
     ghost Value = { Reply };
 
-    ghost view = { λ g. record { bucket = g.bucket; config = g.config.0; content = record { held = g.receipts.items; records = g.distrusts.items } } };
+    ghost view = { λ g. record {
+      bucket = g.bucket;
+      config = g.config.0;
+      content = record { held = g.receipts.items; records = g.distrusts.items };
+    } };
 }
 
 impl Give {
-    /// The answer about a bucket that has these records and receipts, of a replica whose configuration has this digest.
+    /// The answer about a bucket that has these records and receipts, of a replica whose
+    /// configuration has this digest.
     pub fn new(
         bucket: u8,
         config: ConfigId,
         distrusts: Vec<Distrust>,
         receipts: Vec<Receipt>,
     ) -> Give
-        ensures { result ≡ record { bucket = bucket; config = config.0; content = record { held = receipts.items; records = distrusts.items } } }
+        ensures { result ≡ record {
+          bucket = bucket;
+          config = config.0;
+          content = record { held = receipts.items; records = distrusts.items };
+        } }
     {
         Give {
             bucket,

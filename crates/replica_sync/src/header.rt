@@ -1,8 +1,11 @@
 //! The first and the last line of a snapshot.
-ghost use Rattle.std.specs.Prelude.{◌≡◌, ◌++◌, ◌↔◌, ℕ, List, ◌||◌, IsTrue, OnOk, IfOk, IfErr, MatchOption, MatchResult};
+ghost use Rattle.std.specs.Prelude.{◌≡◌, ◌++◌, ◌↔◌, ℕ, List, ◌||◌, IsTrue, OnOk, IfOk, IfErr};
+ghost use Rattle.std.specs.Prelude.{MatchOption, MatchResult};
 ghost use Rattle.std.specs.Io.KnownBytes.{Consumes};
 ghost use Rattle.byte_lines.specs.Streams.{stream_of};
-ghost use Rattle.replica_sync.specs.Snapshots.{RefusesFirst, ended, is_io, IsHeader, IsNoHeader, IsSplit, RefusesHeader, header_line, count_of, digits_of, records_part, version_of};
+ghost use Rattle.replica_sync.specs.Snapshots.{RefusesFirst, ended, is_io, IsHeader, IsNoHeader};
+ghost use Rattle.replica_sync.specs.Snapshots.{IsSplit, RefusesHeader, header_line, count_of};
+ghost use Rattle.replica_sync.specs.Snapshots.{digits_of, records_part, version_of};
 
 use crate::error::SyncError;
 use crate::format::Format;
@@ -24,8 +27,11 @@ pub(crate) fn read_first<R: Source>(
     lines: &mut LineBuf,
     source: &mut R,
 ) -> Result<Format, SyncError>
-    ensures ok { IfOk result (λ format. Consumes (stream_of R.remaining lines.old source.old) (stream_of R.remaining lines.new source.new) (ended (header_line format config.now))) }
-    ensures refused { IfErr result (RefusesFirst config.now (stream_of R.remaining lines.old source.old)) }
+    ensures ok { IfOk result
+        (λ format. Consumes (stream_of R.remaining lines.old source.old)
+        (stream_of R.remaining lines.new source.new) (ended (header_line format config.now))) }
+    ensures refused { IfErr result
+        (RefusesFirst config.now (stream_of R.remaining lines.old source.old)) }
     ensures fault { R.has_failed source.new ≡ (is_io result || R.has_failed source.old) }
 {
     match lines.next_line(source)? {
@@ -55,7 +61,8 @@ fn format_of(config: &Config, text: &[u8]) -> Result<Format, SyncError>
 }
 
 fn read_header(text: &[u8]) -> Option<Header<'_>>
-    ensures { MatchOption result (IsNoHeader text.now) (λ h. IsHeader text.now h.digits.now h.version) }
+    ensures { MatchOption result (IsNoHeader text.now)
+        (λ h. IsHeader text.now h.digits.now h.version) }
 {
     let Some((digits, number)) = split_header(text) else {
         return None;
@@ -70,7 +77,8 @@ fn read_header(text: &[u8]) -> Option<Header<'_>>
 }
 
 fn split_header(text: &[u8]) -> Option<(&[u8], &[u8])>
-    ensures { MatchOption result ((digits number : List ℕ) → IsSplit text.now digits number → ⊥) (λ p. IsSplit text.now p.0.now p.1.now) }
+    ensures { MatchOption result ((digits number : List ℕ) → IsSplit text.now digits number → ⊥)
+        (λ p. IsSplit text.now p.0.now p.1.now) }
 {
     let Some(rest) = after(text, b"{\"config\":\"") else {
         return None;
@@ -89,13 +97,15 @@ fn split_header(text: &[u8]) -> Option<(&[u8], &[u8])>
 }
 
 fn after<'a>(text: &'a [u8], label: &[u8]) -> Option<&'a [u8]>
-    ensures { MatchOption result ((rest : List ℕ) → text.now ≡ label.now ++ rest → ⊥) (λ rest. text.now ≡ label.now ++ rest.now) }
+    ensures { MatchOption result ((rest : List ℕ) → text.now ≡ label.now ++ rest → ⊥)
+        (λ rest. text.now ≡ label.now ++ rest.now) }
 {
     text.strip_prefix(label)
 }
 
 fn before_end<'a>(text: &'a [u8], label: &[u8]) -> Option<&'a [u8]>
-    ensures { MatchOption result ((rest : List ℕ) → text.now ≡ rest ++ label.now → ⊥) (λ rest. text.now ≡ rest.now ++ label.now) }
+    ensures { MatchOption result ((rest : List ℕ) → text.now ≡ rest ++ label.now → ⊥)
+        (λ rest. text.now ≡ rest.now ++ label.now) }
 {
     text.strip_suffix(label)
 }

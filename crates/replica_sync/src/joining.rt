@@ -11,7 +11,9 @@ use trust_closure::Closure;
 /// Distrusts all of these, which are welcome.
 pub(crate) fn distrust_all<C: Closure>(closure: &mut C, records: &[Distrust])
     requires { AreWelcome (C.state closure.old).meaning (of_records records.now) }
-    ensures meaning { (C.state closure.new).meaning ≡ record (C.state closure.old).meaning { records = with_items distrust_cmp records.now (C.state closure.old).meaning.records } }
+    ensures meaning { (C.state closure.new).meaning
+        ≡ record (C.state closure.old).meaning
+        { records = with_items distrust_cmp records.now (C.state closure.old).meaning.records } }
     ensures room { (C.state closure.new).room ≡ (C.state closure.old).room }
 {
     receipt_core::laws::sets();
@@ -26,7 +28,9 @@ pub(crate) fn distrust_all<C: Closure>(closure: &mut C, records: &[Distrust])
 pub(crate) fn take_all<C: Closure>(closure: &mut C, receipts: Vec<Receipt>)
     requires welcome { AreWelcome (C.state closure.old).meaning (of_receipts receipts.items) }
     requires room { IsRoomier (room_for receipts.items) (C.state closure.old).room }
-    ensures { (C.state closure.new).meaning ≡ record (C.state closure.old).meaning { held = with_items receipt_cmp receipts.items (C.state closure.old).meaning.held } }
+    ensures { (C.state closure.new).meaning
+        ≡ record (C.state closure.old).meaning
+        { held = with_items receipt_cmp receipts.items (C.state closure.old).meaning.held } }
 {
     receipt_core::laws::sets();
     for receipt in receipts {

@@ -17,7 +17,8 @@ const MOST_RECORDS: usize = 4_096;
 /// The most receipts that are held.
 const MOST_RECEIPTS: usize = 65_536;
 
-/// Which of the records is the first that is not welcome, where the first has number 2, and why it is not.
+/// Which of the records is the first that is not welcome, where the first has number 2, and why it
+/// is not.
 pub(crate) fn first_record<C: Closure>(
     closure: &C,
     records: &[Distrust],
@@ -45,15 +46,18 @@ pub(crate) fn first_record<C: Closure>(
     None
 }
 
-/// Which of the receipts is the first that is not welcome, where the first has number 2, and why it is not. Records make
-/// no difference.
+/// Which of the receipts is the first that is not welcome, where the first has number 2, and why it
+/// is not. Records make no difference.
 pub(crate) fn first_receipt<C: Closure>(
     closure: &C,
     receipts: &[Receipt],
 ) -> Option<(u64, TakeError)>
     requires { length receipts.now + 2 < 2 ^ 64 }
-    ensures { (records : List Distrust) → MatchOption result (AreWelcome (record (C.state closure.now).meaning { records = records }) (of_receipts receipts.now))
-        (λ p. IsFirstRefused (record (C.state closure.now).meaning { records = records }) (of_receipts receipts.now) p.0 p.1) }
+    ensures { (records : List Distrust)
+        → MatchOption result (AreWelcome
+        (record (C.state closure.now).meaning { records = records }) (of_receipts receipts.now))
+        (λ p. IsFirstRefused (record (C.state closure.now).meaning { records = records })
+        (of_receipts receipts.now) p.0 p.1) }
 {
     receipt_core::laws::sets();
     let config = closure.config();
@@ -76,7 +80,8 @@ pub(crate) fn first_receipt<C: Closure>(
 
 // Whether the receipt's domain has a relationship, and that has the receipt's endpoint.
 fn fit(config: &Config, receipt: &Receipt) -> Result<(), TakeError>
-    ensures fits { MatchResult result (λ _. IsFitting config.now receipt.now) (Misfits config.now receipt.now) }
+    ensures fits { MatchResult result (λ _. IsFitting config.now receipt.now)
+        (Misfits config.now receipt.now) }
     ensures form { IsReceipt receipt.now }
 {
     let Some(relationship) = config.relationship(receipt.domain()) else {

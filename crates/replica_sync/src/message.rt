@@ -37,7 +37,8 @@ pub(crate) struct Content {
 
 /// What the closure answers to the question, copied.
 pub(crate) fn told<C: Closure>(alloc: Global, closure: &C, have: &Have) -> Result<Content, NoMemory>
-    ensures copies { IfOk result (λ c. content_of c ≡ (reply_of (C.state closure.now).meaning have.now).content) }
+    ensures copies { IfOk result
+        (λ c. content_of c ≡ (reply_of (C.state closure.now).meaning have.now).content) }
     ensures valid { IsMeaning (C.state closure.now).meaning }
 {
     let _config = closure.config();
@@ -73,7 +74,8 @@ fn copied_receipts(alloc: Global, lacking: Lacking<'_>) -> Result<Vec<Receipt>, 
 
 /// The question at the place, if one is there.
 pub(crate) fn question_at(sent: &[Message], place: usize) -> Option<&Have>
-    ensures { option_map (λ q. (q.now.bucket, q.now.ids)) result ≡ asked (slice_get (map message_of sent.now) place) }
+    ensures { option_map (λ q. (q.now.bucket, q.now.ids)) result
+        ≡ asked (slice_get (map message_of sent.now) place) }
 {
     match sent.get(place) {
         Some(Message::Question { have, .. }) => Some(have),
@@ -83,7 +85,8 @@ pub(crate) fn question_at(sent: &[Message], place: usize) -> Option<&Have>
 
 /// The content of the answer at the place, if one is there.
 pub(crate) fn answer_at(sent: &[Message], place: usize) -> Option<&Content>
-    ensures { option_map (λ c. content_of c.now) result ≡ answered (slice_get (map message_of sent.now) place) }
+    ensures { option_map (λ c. content_of c.now) result
+        ≡ answered (slice_get (map message_of sent.now) place) }
 {
     match sent.get(place) {
         Some(Message::Answer { content, .. }) => Some(content),

@@ -10,9 +10,9 @@ use receipt_core::{Distrust, Receipt};
 use spiffe_name::TrustDomain;
 use trust_closure::Closure;
 
-/// How many places are free for the others once this record is held too, which is the first of those left, where the
-/// records before it are held and this many places are free. `None` where there is none for it. What is held is searched
-/// only where not all that are left have a place.
+/// How many places are free for the others once this record is held too, which is the first of
+/// those left, where the records before it are held and this many places are free. `None` where
+/// there is none for it. What is held is searched only where not all that are left have a place.
 pub(crate) fn place_for_record<C: Closure>(
     closure: &C,
     before: &[Distrust],
@@ -21,9 +21,15 @@ pub(crate) fn place_for_record<C: Closure>(
     distrust: &Distrust,
 ) -> Option<usize>
     requires left { 0 < left }
-    requires places { HasPlaces 4096 (length (with_items distrust_cmp before.now (C.state closure.now).meaning.records)) free left }
-    ensures { MatchOption result (HasNoPlace 4096 (with_items distrust_cmp before.now (C.state closure.now).meaning.records) distrust.now)
-        (HasPlace distrust_cmp 4096 (with_items distrust_cmp before.now (C.state closure.now).meaning.records) distrust.now left) }
+    requires places { HasPlaces 4096
+        (length (with_items distrust_cmp before.now (C.state closure.now).meaning.records)) free
+        left }
+    ensures { MatchOption result
+        (HasNoPlace 4096 (with_items distrust_cmp before.now (C.state closure.now).meaning.records)
+        distrust.now)
+        (HasPlace distrust_cmp 4096
+        (with_items distrust_cmp before.now (C.state closure.now).meaning.records) distrust.now
+        left) }
 {
     receipt_core::laws::sets();
     let _valid = closure.config();
@@ -45,11 +51,15 @@ pub(crate) fn place_for_receipt<C: Closure>(
     receipt: &Receipt,
 ) -> Option<usize>
     requires left { 0 < left }
-    requires places { HasPlaces 65536 (length (with_items receipt_cmp before.now (C.state closure.now).meaning.held)) free left }
+    requires places { HasPlaces 65536
+        (length (with_items receipt_cmp before.now (C.state closure.now).meaning.held)) free left }
     requires form { IsReceipt receipt.now }
     requires forms { AllByRecursion IsReceipt before.now }
-    ensures { MatchOption result (HasNoPlace 65536 (with_items receipt_cmp before.now (C.state closure.now).meaning.held) receipt.now)
-        (HasPlace receipt_cmp 65536 (with_items receipt_cmp before.now (C.state closure.now).meaning.held) receipt.now left) }
+    ensures { MatchOption result
+        (HasNoPlace 65536 (with_items receipt_cmp before.now (C.state closure.now).meaning.held)
+        receipt.now)
+        (HasPlace receipt_cmp 65536
+        (with_items receipt_cmp before.now (C.state closure.now).meaning.held) receipt.now left) }
 {
     receipt_core::laws::sets();
     let _valid = closure.config();
@@ -64,7 +74,9 @@ pub(crate) fn place_for_receipt<C: Closure>(
 
 // Whether the record is held, or one of these.
 fn is_record_among<C: Closure>(closure: &C, before: &[Distrust], distrust: &Distrust) -> bool
-    ensures { IsTrue result ↔ Contains (with_items distrust_cmp before.now (C.state closure.now).meaning.records) distrust.now }
+    ensures { IsTrue result
+        ↔ Contains (with_items distrust_cmp before.now (C.state closure.now).meaning.records)
+        distrust.now }
 {
     receipt_core::laws::sets();
     if holds_record(closure, distrust) {
@@ -77,7 +89,9 @@ fn is_record_among<C: Closure>(closure: &C, before: &[Distrust], distrust: &Dist
 fn is_receipt_among<C: Closure>(closure: &C, before: &[Receipt], receipt: &Receipt) -> bool
     requires form { IsReceipt receipt.now }
     requires forms { AllByRecursion IsReceipt before.now }
-    ensures { IsTrue result ↔ Contains (with_items receipt_cmp before.now (C.state closure.now).meaning.held) receipt.now }
+    ensures { IsTrue result
+        ↔ Contains (with_items receipt_cmp before.now (C.state closure.now).meaning.held)
+        receipt.now }
 {
     receipt_core::laws::sets();
     let _valid = closure.config();

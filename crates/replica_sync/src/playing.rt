@@ -3,7 +3,8 @@ ghost use Rattle.std.specs.Prelude.{◌≡◌, ℕ, ◌+◌, cond, nat_le, IfOk,
 ghost use Rattle.fed_config.specs.Configuration.{Configuration};
 ghost use Rattle.replica_sync.specs.State.{State, no_state};
 ghost use Rattle.replica_sync.specs.Session.{state_of, question_of};
-ghost use Rattle.replica_sync.specs.World.{World, empty_world, apply, gains, where_so, rules_of, is_replica, at_replica};
+ghost use Rattle.replica_sync.specs.World.{World, empty_world, apply, gains, where_so, rules_of};
+ghost use Rattle.replica_sync.specs.World.{is_replica, at_replica};
 ghost use Rattle.replica_sync.specs.Playing.{AreOf, Plays, StandsForEvent};
 ghost use Rattle.replica_sync.specs.declared.event.Event.{Event};
 
@@ -40,7 +41,8 @@ pub(crate) fn start<C: Closure>(
 }
 
 fn empty_closures<C: Closure>(alloc: Global, config: &Config, n: usize) -> Result<Vec<C>, NoMemory>
-    ensures { IfOk result (λ v. AreOf (λ c. (C.state c).meaning) config.now n v.items (λ i. no_state)) }
+    ensures { IfOk result (λ v. AreOf (λ c. (C.state c).meaning) config.now n v.items
+        (λ i. no_state)) }
 {
     let mut closures = Vec::new(alloc);
     for _ in 0..n {
@@ -57,7 +59,8 @@ pub(crate) fn take<C: Closure>(
     replica: usize,
     receipt: &Receipt,
 ) -> Result<(), NoMemory>
-    ensures { OnOk result (StandsForEvent (λ c. (C.state c).meaning) config.now playing.old playing.new (Event.Take replica receipt.now)) }
+    ensures { OnOk result (StandsForEvent (λ c. (C.state c).meaning) config.now playing.old
+        playing.new (Event.Take replica receipt.now)) }
 {
     let mut more = C::new(alloc, config)?;
     offer_receipt(alloc, &mut more, receipt)?;
@@ -72,7 +75,8 @@ pub(crate) fn revoke<C: Closure>(
     replica: usize,
     distrust: &Distrust,
 ) -> Result<(), NoMemory>
-    ensures { OnOk result (StandsForEvent (λ c. (C.state c).meaning) config.now playing.old playing.new (Event.Revoke replica distrust.now)) }
+    ensures { OnOk result (StandsForEvent (λ c. (C.state c).meaning) config.now playing.old
+        playing.new (Event.Revoke replica distrust.now)) }
 {
     let mut more = C::new(alloc, config)?;
     offer_record(&mut more, distrust);
@@ -86,7 +90,9 @@ pub(crate) fn ask<C: Closure>(
     replica: usize,
     bucket: u8,
 ) -> Result<(), NoMemory>
-    ensures { (config : Configuration) → OnOk result (StandsForEvent (λ c. (C.state c).meaning) config playing.old playing.new (Event.Ask replica bucket)) }
+    ensures { (config : Configuration)
+        → OnOk result (StandsForEvent (λ c. (C.state c).meaning) config playing.old playing.new
+        (Event.Ask replica bucket)) }
 {
     let Some(closure) = playing.held.get(replica) else {
         return Ok(());
@@ -116,7 +122,9 @@ pub(crate) fn answer<C: Closure>(
     replica: usize,
     question: usize,
 ) -> Result<(), NoMemory>
-    ensures { (config : Configuration) → OnOk result (StandsForEvent (λ c. (C.state c).meaning) config playing.old playing.new (Event.Answer replica question)) }
+    ensures { (config : Configuration)
+        → OnOk result (StandsForEvent (λ c. (C.state c).meaning) config playing.old playing.new
+        (Event.Answer replica question)) }
 {
     let Some(closure) = playing.held.get(replica) else {
         return Ok(());
@@ -141,7 +149,8 @@ pub(crate) fn absorb<C: Closure>(
     replica: usize,
     answer: usize,
 ) -> Result<(), NoMemory>
-    ensures { OnOk result (StandsForEvent (λ c. (C.state c).meaning) config.now playing.old playing.new (Event.Absorb replica answer)) }
+    ensures { OnOk result (StandsForEvent (λ c. (C.state c).meaning) config.now playing.old
+        playing.new (Event.Absorb replica answer)) }
 {
     let Some(content) = answer_at(playing.sent.as_slice(), answer) else {
         return Ok(());
@@ -161,7 +170,8 @@ pub(crate) fn part<C: Closure>(
     answer: usize,
     count: usize,
 ) -> Result<(), NoMemory>
-    ensures { OnOk result (StandsForEvent (λ c. (C.state c).meaning) config.now playing.old playing.new (Event.Part replica answer count)) }
+    ensures { OnOk result (StandsForEvent (λ c. (C.state c).meaning) config.now playing.old
+        playing.new (Event.Part replica answer count)) }
 {
     let Some(content) = answer_at(playing.sent.as_slice(), answer) else {
         return Ok(());
@@ -185,7 +195,9 @@ pub(crate) fn join<C: Closure>(
     replica: usize,
     other: usize,
 ) -> Result<(), NoMemory>
-    ensures { (config : Configuration) → OnOk result (StandsForEvent (λ c. (C.state c).meaning) config playing.old playing.new (Event.Join replica other)) }
+    ensures { (config : Configuration)
+        → OnOk result (StandsForEvent (λ c. (C.state c).meaning) config playing.old playing.new
+        (Event.Join replica other)) }
 {
     let Some(closure) = playing.held.get(other) else {
         return Ok(());
@@ -200,7 +212,9 @@ pub(crate) fn save<C: Closure>(
     playing: &mut Playing<C>,
     replica: usize,
 ) -> Result<(), NoMemory>
-    ensures { (config : Configuration) → OnOk result (StandsForEvent (λ c. (C.state c).meaning) config playing.old playing.new (Event.Save replica)) }
+    ensures { (config : Configuration)
+        → OnOk result (StandsForEvent (λ c. (C.state c).meaning) config playing.old playing.new
+        (Event.Save replica)) }
 {
     copy_at(alloc, &playing.held, &mut playing.saved, replica)
 }
@@ -211,15 +225,21 @@ pub(crate) fn restart<C: Closure>(
     playing: &mut Playing<C>,
     replica: usize,
 ) -> Result<(), NoMemory>
-    ensures { (config : Configuration) → OnOk result (StandsForEvent (λ c. (C.state c).meaning) config playing.old playing.new (Event.Restart replica)) }
+    ensures { (config : Configuration)
+        → OnOk result (StandsForEvent (λ c. (C.state c).meaning) config playing.old playing.new
+        (Event.Restart replica)) }
 {
     copy_at(alloc, &playing.saved, &mut playing.held, replica)
 }
 
 // The replica gains all that the closure holds, or nothing where that would be too much.
 fn gain<C: Closure>(playing: &mut Playing<C>, replica: usize, more: &C) -> Result<(), NoMemory>
-    ensures { (n : ℕ) (w : World) (config : Configuration) → (C.state more.now).meaning.config ≡ config → Plays (λ c. (C.state c).meaning) config n playing.old w
-        → OnOk result (Plays (λ c. (C.state c).meaning) config n playing.new (apply w (where_so (is_replica (rules_of config n) replica) (gains replica (state_of (C.state more.now).meaning))))) }
+    ensures { (n : ℕ) (w : World) (config : Configuration)
+        → (C.state more.now).meaning.config ≡ config
+        → Plays (λ c. (C.state c).meaning) config n playing.old w
+        → OnOk result (Plays (λ c. (C.state c).meaning) config n playing.new
+        (apply w (where_so (is_replica (rules_of config n) replica)
+        (gains replica (state_of (C.state more.now).meaning))))) }
 {
     if replica < playing.held.len() {
         grow(&mut playing.held[replica], more)?;
@@ -227,15 +247,19 @@ fn gain<C: Closure>(playing: &mut Playing<C>, replica: usize, more: &C) -> Resul
     Ok(())
 }
 
-// Of two lists of closures, the one at this place of the second becomes a copy of that of the first.
+// Of two lists of closures, the one at this place of the second becomes a copy of that of the
+// first.
 fn copy_at<C: Closure>(
     alloc: Global,
     from: &Vec<C>,
     to: &mut Vec<C>,
     place: usize,
 ) -> Result<(), NoMemory>
-    ensures { (config : Configuration) (n : ℕ) (given states : ℕ → State) → AreOf (λ c. (C.state c).meaning) config n from.now.items given → AreOf (λ c. (C.state c).meaning) config n to.old.items states
-        → OnOk result (AreOf (λ c. (C.state c).meaning) config n to.new.items (cond (nat_le (place + 1) n) (at_replica place (given place) states) states)) }
+    ensures { (config : Configuration) (n : ℕ) (given states : ℕ → State)
+        → AreOf (λ c. (C.state c).meaning) config n from.now.items given
+        → AreOf (λ c. (C.state c).meaning) config n to.old.items states
+        → OnOk result (AreOf (λ c. (C.state c).meaning) config n to.new.items
+        (cond (nat_le (place + 1) n) (at_replica place (given place) states) states)) }
 {
     if place < from.len() && place < to.len() {
         to[place] = copied(alloc, &from[place])?;

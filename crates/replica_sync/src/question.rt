@@ -8,8 +8,8 @@ use fed_config::ConfigId;
 use receipt_core::ReceiptId;
 use std::marker::Model;
 
-/// A question: the ids of the receipts that a replica holds of a bucket, which is the first byte of an id. They rise, so
-/// each comes once.
+/// A question: the ids of the receipts that a replica holds of a bucket, which is the first byte of
+/// an id. They rise, so each comes once.
 #[derive(Debug, Drop)]
 pub struct Have {
     pub(crate) bucket: u8,
@@ -23,16 +23,25 @@ impl Model for Have {
 
     ghost Value = { Question };
 
-    ghost view = { λ h. record { bucket = h.bucket; config = h.config.0; ids = map (λ id. id.0) h.ids.items } };
+    ghost view = { λ h. record {
+      bucket = h.bucket;
+      config = h.config.0;
+      ids = map (λ id. id.0) h.ids.items;
+    } };
 
-    ghost invariant = { λ h. IsQuestion (record { bucket = h.bucket; config = h.config.0; ids = map (λ id. id.0) h.ids.items }) };
+    ghost invariant = { λ h. IsQuestion
+        (record { bucket = h.bucket; config = h.config.0; ids = map (λ id. id.0) h.ids.items }) };
 }
 
 impl Have {
     /// A question with these ids. `None` exactly where they do not rise.
     pub fn new(bucket: u8, config: ConfigId, ids: Vec<ReceiptId>) -> Option<Have>
         ensures { MatchOption result (IsStrictlySortedBy id_cmp (map (λ id. id.0) ids.items) → ⊥)
-            (λ h. h ≡ record { bucket = bucket; config = config.0; ids = map (λ id. id.0) ids.items }) }
+            (λ h. h ≡ record {
+              bucket = bucket;
+              config = config.0;
+              ids = map (λ id. id.0) ids.items;
+            }) }
     {
         if is_rising(ids.as_slice()) {
             Some(Have {

@@ -11,7 +11,8 @@ use receipt_core::{Receipt, ReceiptId};
 use std::marker::Model;
 use trust_closure::{Distrusts, Receipts};
 
-/// An answer: the receipts of a bucket that a question does not name, and all records of distrust of the answerer.
+/// An answer: the receipts of a bucket that a question does not name, and all records of distrust
+/// of the answerer.
 #[derive(Drop)]
 pub struct Answer<'a> {
     pub(crate) bucket: u8,
@@ -35,9 +36,14 @@ impl<'a> Model for Answer<'a> {
 
     ghost Value = { Reply };
 
-    ghost view = { λ a. record { bucket = a.bucket; config = a.config.0; content = record { held = a.receipts; records = a.distrusts } } };
+    ghost view = { λ a. record {
+      bucket = a.bucket;
+      config = a.config.0;
+      content = record { held = a.receipts; records = a.distrusts };
+    } };
 
-    ghost invariant = { λ a. HasCounts (record { held = a.receipts; records = a.distrusts }) a.count a.records };
+    ghost invariant = { λ a. HasCounts (record { held = a.receipts; records = a.distrusts }) a.count
+        a.records };
 }
 
 impl<'a> Model for Lacking<'a> {

@@ -1,10 +1,14 @@
 //! Snapshots, read.
-ghost use Rattle.std.specs.Prelude.{◌≡◌, ◌+◌, ◌<◌, ◌≤◌, ◌||◌, ◌↔◌, true, [], IsTrue, IfOk, OnOk, IfErr, MatchResult, length};
+ghost use Rattle.std.specs.Prelude.{◌≡◌, ◌+◌, ◌<◌, ◌≤◌, ◌||◌, ◌↔◌, true, [], IsTrue, IfOk, OnOk};
+ghost use Rattle.std.specs.Prelude.{IfErr, MatchResult, length};
 ghost use Rattle.std.specs.Io.KnownBytes.{Consumes, IsAtEnd};
 ghost use Rattle.receipt_core.specs.Acceptance.{IsMeaning};
 ghost use Rattle.byte_lines.specs.Streams.{stream_of, left_of};
-ghost use Rattle.replica_sync.specs.Snapshots.{IsSnapshot, IsTold, RefusesNext, RefusesPlace, RefusesSnapshot, count_of, is_io, last_line, next_number, wanted_of};
-ghost use Rattle.replica_sync.specs.Reading.{FailsBehind, HoldsAll, Judges, RefusesEnd, StepsThroughSnapshot};
+ghost use Rattle.replica_sync.specs.Snapshots.{IsSnapshot, IsTold, RefusesNext, RefusesPlace};
+ghost use Rattle.replica_sync.specs.Snapshots.{RefusesSnapshot, count_of, is_io, last_line};
+ghost use Rattle.replica_sync.specs.Snapshots.{next_number, wanted_of};
+ghost use Rattle.replica_sync.specs.Reading.{FailsBehind, HoldsAll, Judges, RefusesEnd};
+ghost use Rattle.replica_sync.specs.Reading.{StepsThroughSnapshot};
 ghost use Rattle.trust_closure.specs.Changes.{empty_of};
 
 use crate::entry::{Wanted, take_line};
@@ -16,10 +20,11 @@ use fed_config::Config;
 use std::alloc::{AllocError, Global};
 use trust_closure::Closure;
 
-/// Reads a snapshot of this configuration: a first line, the lines of records of distrust and of receipts, rising, and a
-/// last line with their numbers, each ended by a line feed (byte 10), and nothing behind them. The second format is read,
-/// which [`write_snapshot`](crate::write_snapshot) writes, and the first, which has receipts alone. The closure then holds
-/// exactly what the lines say.
+/// Reads a snapshot of this configuration: a first line, the lines of records of distrust and of
+/// receipts, rising, and a last line with their numbers, each ended by a line feed (byte 10), and
+/// nothing behind them. The second format is read, which [`write_snapshot`](crate::write_snapshot)
+/// writes, and the first, which has receipts alone. The closure then holds exactly what the lines
+/// say.
 ///
 /// The work is linear in the bytes. Beside what is held, memory is taken for one line.
 ///
@@ -29,8 +34,8 @@ use trust_closure::Closure;
 /// - [`SyncError::BadHeader`]: the first line is none, or has more than 8,388,608 bytes,
 /// - [`SyncError::ConfigDiffers`]: it is of another configuration,
 /// - [`SyncError::VersionDiffers`]: it is of another format than the first two,
-/// - [`SyncError::NotCanonical`]: a line is none of a record or a receipt, or of a record in the first format, or has more
-///   than 8,388,608 bytes, or something follows the last line,
+/// - [`SyncError::NotCanonical`]: a line is none of a record or a receipt, or of a record in the
+///   first format, or has more than 8,388,608 bytes, or something follows the last line,
 /// - [`SyncError::NotRising`]: a line is not greater than the one before,
 /// - [`SyncError::Refused`]: a receipt or a record is not of the configuration, or is one too many,
 /// - [`SyncError::BadCount`]: a line begins as the last one, and tells other numbers,
@@ -41,7 +46,8 @@ pub fn read_snapshot<C: Closure, R: Source>(
     config: &Config,
     source: &mut R,
 ) -> Result<C, SyncError>
-    ensures ok { IfOk result (λ c. IsSnapshot config.now (R.remaining source.old) (C.state c).meaning) }
+    ensures ok { IfOk result
+        (λ c. IsSnapshot config.now (R.remaining source.old) (C.state c).meaning) }
     ensures ends { OnOk result (IsAtEnd (R.remaining source.new)) }
     ensures refused { IfErr result (RefusesSnapshot config.now (R.remaining source.old)) }
     ensures fault { R.has_failed source.new ≡ (is_io result || R.has_failed source.old) }
@@ -63,8 +69,12 @@ fn read_held<C: Closure, R: Source>(
     source: &mut R,
 ) -> Result<u64, SyncError>
     requires { (C.state closure.old).meaning ≡ empty_of (C.state closure.old).meaning.config }
-    ensures ok { IfOk result (HoldsAll (C.state closure.old).meaning.config (stream_of R.remaining lines.old source.old) format (C.state closure.new).meaning (stream_of R.remaining lines.new source.new)) }
-    ensures refused { IfErr result (FailsBehind (C.state closure.old).meaning.config (stream_of R.remaining lines.old source.old) format) }
+    ensures ok { IfOk result
+        (HoldsAll (C.state closure.old).meaning.config (stream_of R.remaining lines.old source.old)
+        format (C.state closure.new).meaning (stream_of R.remaining lines.new source.new)) }
+    ensures refused { IfErr result
+        (FailsBehind (C.state closure.old).meaning.config
+        (stream_of R.remaining lines.old source.old) format) }
     ensures fault { R.has_failed source.new ≡ (is_io result || R.has_failed source.old) }
 {
     let mut last = Vec::new(alloc);
@@ -75,7 +85,8 @@ fn read_held<C: Closure, R: Source>(
     Ok(number + 1)
 }
 
-// Reads the line with this number, where `last` is the one before, and returns whether it was not the last one.
+// Reads the line with this number, where `last` is the one before, and returns whether it was not
+// the last one.
 fn read_next<C: Closure, R: Source>(
     alloc: Global,
     format: Format,
@@ -88,12 +99,19 @@ fn read_next<C: Closure, R: Source>(
     requires last { last.old.items ≡ last_line (C.state closure.old).meaning }
     requires number { number ≡ next_number (C.state closure.old).meaning }
     requires told { IsTold format (C.state closure.old).meaning }
-    ensures ok { IfOk result (StepsThroughSnapshot format (C.state closure.old).meaning (stream_of R.remaining lines.old source.old) (C.state closure.new).meaning (stream_of R.remaining lines.new source.new)) }
-    ensures last { IfOk result (λ more. more ≡ true → last.new.items ≡ last_line (C.state closure.new).meaning) }
+    ensures ok { IfOk result
+        (StepsThroughSnapshot format (C.state closure.old).meaning
+        (stream_of R.remaining lines.old source.old) (C.state closure.new).meaning
+        (stream_of R.remaining lines.new source.new)) }
+    ensures last { IfOk result
+        (λ more. more ≡ true → last.new.items ≡ last_line (C.state closure.new).meaning) }
     ensures valid { IsMeaning (C.state closure.old).meaning }
-    ensures refused { IfErr result (RefusesNext format (C.state closure.old).meaning (stream_of R.remaining lines.old source.old)) }
+    ensures refused { IfErr result
+        (RefusesNext format (C.state closure.old).meaning
+        (stream_of R.remaining lines.old source.old)) }
     ensures fault { R.has_failed source.new ≡ (is_io result || R.has_failed source.old) }
-    ensures falls { OnOk result (left_of R.budget lines.new source.new < left_of R.budget lines.old source.old) }
+    ensures falls { OnOk result
+        (left_of R.budget lines.new source.new < left_of R.budget lines.old source.old) }
 {
     let _config = closure.config();
     match lines.next_line(source)? {
@@ -104,8 +122,8 @@ fn read_next<C: Closure, R: Source>(
     }
 }
 
-// Takes what the line with this number says, where `last` is the one before, or compares the numbers that it tells.
-// Answers whether it was not the last one.
+// Takes what the line with this number says, where `last` is the one before, or compares the
+// numbers that it tells. Answers whether it was not the last one.
 fn judge<C: Closure>(
     alloc: Global,
     format: Format,
@@ -118,8 +136,11 @@ fn judge<C: Closure>(
     requires number { number ≡ next_number (C.state closure.old).meaning }
     requires told { IsTold format (C.state closure.old).meaning }
     requires short { length text.now ≤ 8388608 }
-    ensures judges { MatchResult result (Judges format (C.state closure.old).meaning text.now (C.state closure.new).meaning) (RefusesPlace format (C.state closure.old).meaning text.now) }
-    ensures last { IfOk result (λ more. more ≡ true → last.new.items ≡ last_line (C.state closure.new).meaning) }
+    ensures judges { MatchResult result
+        (Judges format (C.state closure.old).meaning text.now (C.state closure.new).meaning)
+        (RefusesPlace format (C.state closure.old).meaning text.now) }
+    ensures last { IfOk result
+        (λ more. more ≡ true → last.new.items ≡ last_line (C.state closure.new).meaning) }
 {
     let _config = closure.config();
     if text.starts_with(b"{\"count\":") {
@@ -175,7 +196,8 @@ fn set_last(last: &mut Vec<u8>, text: &[u8]) -> Result<(), AllocError>
 fn read_end<R: Source>(number: u64, lines: &mut LineBuf, source: &mut R) -> Result<(), SyncError>
     ensures ok { OnOk result (IsAtEnd (stream_of R.remaining lines.old source.old)) }
     ensures ends { OnOk result (IsAtEnd (stream_of R.remaining lines.new source.new)) }
-    ensures refused { IfErr result (RefusesEnd number (stream_of R.remaining lines.old source.old)) }
+    ensures refused { IfErr result
+        (RefusesEnd number (stream_of R.remaining lines.old source.old)) }
     ensures fault { R.has_failed source.new ≡ (is_io result || R.has_failed source.old) }
 {
     match lines.next_line(source)? {

@@ -14,9 +14,10 @@ use spiffe_name::TrustDomain;
 use std::alloc::{AllocError, Global};
 use trust_closure::Closure;
 
-/// Writes the snapshot of what is held: a first line with the configuration's digest, the lines of records of distrust and
-/// of receipts, each rising, and a last line with their numbers, each ended by a line feed (byte 10). The text depends on
-/// the configuration, the receipts and the records of distrust alone, so closures of one meaning write the same bytes.
+/// Writes the snapshot of what is held: a first line with the configuration's digest, the lines of
+/// records of distrust and of receipts, each rising, and a last line with their numbers, each ended
+/// by a line feed (byte 10). The text depends on the configuration, the receipts and the records of
+/// distrust alone, so closures of one meaning write the same bytes.
 ///
 /// Memory is taken for one line at a time.
 ///
@@ -29,7 +30,8 @@ pub fn write_snapshot<C: Closure, W: Sink>(
     closure: &C,
     sink: &mut W,
 ) -> Result<(), SyncError>
-    ensures writes { Writes (W.contents sink.old) (W.contents sink.new) (snapshot_text Format.Second (C.state closure.now).meaning) result }
+    ensures writes { Writes (W.contents sink.old) (W.contents sink.new)
+        (snapshot_text Format.Second (C.state closure.now).meaning) result }
     ensures fault { W.has_failed sink.new ≡ (is_io result || W.has_failed sink.old) }
 {
     byte_lines::laws::pieces();
@@ -49,7 +51,8 @@ fn put_records<C: Closure, W: Sink>(
     closure: &C,
     sink: &mut W,
 ) -> Result<u64, SyncError>
-    ensures writes { Writes (W.contents sink.old) (W.contents sink.new) (text_of_lines (map distrust_line (C.state closure.now).meaning.records)) result }
+    ensures writes { Writes (W.contents sink.old) (W.contents sink.new)
+        (text_of_lines (map distrust_line (C.state closure.now).meaning.records)) result }
     ensures count { IfOk result (λ count. count ≡ length (C.state closure.now).meaning.records) }
     ensures fault { W.has_failed sink.new ≡ (is_io result || W.has_failed sink.old) }
 {
@@ -69,7 +72,8 @@ fn put_receipts<C: Closure, W: Sink>(
     closure: &C,
     sink: &mut W,
 ) -> Result<(), SyncError>
-    ensures writes { Writes (W.contents sink.old) (W.contents sink.new) (text_of_lines (map line (C.state closure.now).meaning.held)) result }
+    ensures writes { Writes (W.contents sink.old) (W.contents sink.new)
+        (text_of_lines (map line (C.state closure.now).meaning.held)) result }
     ensures fault { W.has_failed sink.new ≡ (is_io result || W.has_failed sink.old) }
 {
     byte_lines::laws::pieces();
@@ -92,7 +96,8 @@ fn put_line<W: Sink>(sink: &mut W, mut text: Vec<u8>) -> Result<(), SyncError>
 }
 
 fn record_line(alloc: Global, domain: &TrustDomain, key: &KeyId) -> Result<Vec<u8>, AllocError>
-    ensures { IfOk result (λ text. text.items ≡ distrust_line (record { domain = domain.now; key = key.now })) }
+    ensures { IfOk result (λ text. text.items
+        ≡ distrust_line (record { domain = domain.now; key = key.now })) }
 {
     let record = Distrust {
         domain: domain.try_clone(alloc)?,

@@ -11,13 +11,14 @@ use fed_config::Config;
 use std::alloc::Global;
 use trust_closure::{Closure, IndexedClosure, NoMemory};
 
-/// Lets the events happen, one after another, to `n` replicas of one configuration, which hold nothing at first, and
-/// answers what each then holds, by its number. It is a model of replicas that talk: to try what may happen to them, and
-/// for tests. It is not made for speed.
+/// Lets the events happen, one after another, to `n` replicas of one configuration, which hold
+/// nothing at first, and answers what each then holds, by its number. It is a model of replicas
+/// that talk: to try what may happen to them, and for tests. It is not made for speed.
 ///
-/// An event that names no replica, or no message of its kind, changes nothing. The same is so of a receipt or a record
-/// that does not fit the configuration, and of a gain by which a replica would hold more than 65,536 receipts or 4,096
-/// records of distrust. Messages stay: an answer may be taken late, more than once, in part, or never.
+/// An event that names no replica, or no message of its kind, changes nothing. The same is so of a
+/// receipt or a record that does not fit the configuration, and of a gain by which a replica would
+/// hold more than 65,536 receipts or 4,096 records of distrust. Messages stay: an answer may be
+/// taken late, more than once, in part, or never.
 ///
 /// # Errors
 /// Memory ran out, which ends the play.
@@ -27,7 +28,8 @@ pub fn run_world(
     n: usize,
     events: &[Event],
 ) -> Result<Vec<IndexedClosure>, NoMemory>
-    ensures { IfOk result (λ closures. AreOf (λ c. c.state.meaning) config.now n closures.items (run (rules_of config.now n) events.now).now) }
+    ensures { IfOk result (λ closures. AreOf (λ c. c.state.meaning) config.now n closures.items
+        (run (rules_of config.now n) events.now).now) }
 {
     let mut playing: Playing<IndexedClosure> = start(alloc, config, n)?;
     for event in events {
@@ -42,7 +44,8 @@ fn play<C: Closure>(
     playing: &mut Playing<C>,
     event: &Event,
 ) -> Result<(), NoMemory>
-    ensures { OnOk result (StandsForEvent (λ c. (C.state c).meaning) config.now playing.old playing.new event.now) }
+    ensures { OnOk result (StandsForEvent (λ c. (C.state c).meaning) config.now playing.old
+        playing.new event.now) }
 {
     match event {
         Event::Take { replica, receipt } => take(alloc, config, playing, *replica, receipt),

@@ -1,5 +1,6 @@
 -- A sequence in blocks: their numbers one after another are the sequence
-use Rattle.std.specs.Prelude.{◌≡◌, ◌≢◌, ℕ, ◌+◌, ◌-◌, ◌*◌, ◌^◌, ◌<◌, ◌≤◌, zero, suc, List, [], ◌∷◌, ◌++◌, length, take, drop, slice_index, slice_index_or}
+use Rattle.std.specs.Prelude.{◌≡◌, ◌≢◌, ℕ, ◌+◌, ◌-◌, ◌*◌, ◌^◌, ◌<◌, ◌≤◌, zero, suc, List, [], ◌∷◌}
+use Rattle.std.specs.Prelude.{◌++◌, length, take, drop, slice_index, slice_index_or}
 use Rattle.std.specs.declared.cmp.Ordering.{Ordering}
 use Rattle.std.specs.declared.cmp.Ordering.TheVariants.{Less}
 use Rattle.std.specs.List.{concat, insert, sum}
@@ -51,7 +52,8 @@ pub record IsBoundary (compared : ℕ → Ordering) (numbers : List ℕ) (place 
 pub record IsEdgeBlock (compared : ℕ → Ordering) (blocks : List (List ℕ)) (block : ℕ) : Type 0 where
   pub within : block < length blocks
   pub before : 0 < block → compared (slice_index (block_at blocks block) 0) ≡ Less
-  pub after : block + 1 < length blocks → compared (slice_index (block_at blocks (block + 1)) 0) ≢ Less
+  pub after : block + 1 < length blocks
+      → compared (slice_index (block_at blocks (block + 1)) 0) ≢ Less
 
 -- how many numbers there is room for, given that each block but the first is at least half full
 abbrev pub capacity_of : ℕ → ℕ → ℕ
@@ -61,10 +63,12 @@ capacity_of blocks spare = 256 * (blocks + spare - 1)
 -- numbers stand before the next group.
 pub record AreSums (sums : List ℕ) (blocks : List (List ℕ)) : Type 0 where
   pub all : length blocks ≤ 64 * length sums
-  pub each : (group : ℕ) → group ≤ length sums → sum (take group sums) ≡ length_before blocks (64 * group)
+  pub each : (group : ℕ) → group ≤ length sums
+      → sum (take group sums) ≡ length_before blocks (64 * group)
 
 -- What an order keeps.
-pub record AreKept (blocks : List (List ℕ)) (sums : List ℕ) (spare count directory : ℕ) : Type 0 where
+pub record AreKept (blocks : List (List ℕ)) (sums : List ℕ)
+    (spare count directory : ℕ) : Type 0 where
   pub counted : count ≡ length (concat blocks)
   pub roomy : count ≤ capacity_of (length blocks) spare
   pub filled : AreFilled blocks

@@ -1,6 +1,7 @@
 -- How the items of a list stand to what is sought: `Less` before it, `Equal` in its place,
 -- `Greater` after it
-use Rattle.std.specs.Prelude.{◌≡◌, ◌≢◌, ℕ, ◌<◌, ◌≤◌, Bool, true, false, List, length, slice_index, slice_get, Option, Some, MatchOption, Result, MatchResult}
+use Rattle.std.specs.Prelude.{◌≡◌, ◌≢◌, ℕ, ◌<◌, ◌≤◌, Bool, true, false, List, length, slice_index}
+use Rattle.std.specs.Prelude.{slice_get, Option, Some, MatchOption, Result, MatchResult}
 use Rattle.std.specs.declared.cmp.Ordering.{Ordering}
 use Rattle.std.specs.declared.cmp.Ordering.TheVariants.{Less, Equal, Greater}
 use Rattle.std.specs.List.{AllWithin, HoldsAt}
@@ -18,7 +19,8 @@ pub record IsGap {X : Type 0} (compared : X → Ordering) (items : List X) (plac
   pub after : AllWithin (λ x. compared x ≢ Less) items place (length items)
 
 -- The first item in its place stands at this place.
-pub record IsFound {X : Type 0} (compared : X → Ordering) (items : List X) (place : ℕ) : Type 0 where
+pub record IsFound {X : Type 0} (compared : X → Ordering) (items : List X)
+    (place : ℕ) : Type 0 where
   pub within : place < length items
   pub before : AllWithin (λ x. compared x ≡ Less) items 0 place
   pub here : HoldsAt (λ x. compared x ≡ Equal) items place
@@ -30,7 +32,8 @@ pub record IsFirstFound (compared : ℕ → Ordering) (numbers : List ℕ) (numb
   pub numbered : slice_index numbers place ≡ number
 
 -- No item is in its place: those up to this place stand before it, and the others after it.
-pub record IsMissing {X : Type 0} (compared : X → Ordering) (items : List X) (place : ℕ) : Type 0 where
+pub record IsMissing {X : Type 0} (compared : X → Ordering) (items : List X)
+    (place : ℕ) : Type 0 where
   pub within : place ≤ length items
   pub before : AllWithin (λ x. compared x ≡ Less) items 0 place
   pub after : AllWithin (λ x. compared x ≡ Greater) items place (length items)

@@ -1,5 +1,6 @@
 -- What a caller sees of an arena
-use Rattle.std.specs.Prelude.{◌≡◌, ℕ, ◌<◌, List, length, slice_get, slice_index, Option, Some, None, Result, MatchResult}
+use Rattle.std.specs.Prelude.{◌≡◌, ℕ, ◌<◌, List, length, slice_get, slice_index, Option, Some, None}
+use Rattle.std.specs.Prelude.{Result, MatchResult}
 use Rattle.std.specs.declared.cmp.Ordering.{Ordering}
 use Rattle.std.specs.declared.cmp.Ordering.TheVariants.{Equal}
 use Rattle.std.specs.List.{All, Contains, HoldsAt, filter_map}
@@ -35,7 +36,8 @@ abbrev pub compared_at : {T : Type 0} → (T → Ordering) → List T → ℕ �
 compared_at compared items number = compared_if compared (slice_get items number)
 
 -- The number is that of the first item, in the caller's order, that is in its place.
-pub record IsNumber {T : Type 0} (compared : T → Ordering) (stock : Stock T) (number : ℕ) : Type 0 where
+pub record IsNumber {T : Type 0} (compared : T → Ordering) (stock : Stock T)
+    (number : ℕ) : Type 0 where
   pub within : number < length stock.items
   pub equal : HoldsAt (λ item. compared item ≡ Equal) stock.items number
   pub place : ℕ
@@ -44,4 +46,5 @@ pub record IsNumber {T : Type 0} (compared : T → Ordering) (stock : Stock T) (
 
 -- what a search answers: the item's number, or the place in the order where it would stand
 abbrev pub FindsNumber : {T : Type 0} → (T → Ordering) → Stock T → Result ℕ ℕ → Type 0
-FindsNumber compared stock result = MatchResult result (IsNumber compared stock) (IsMissing compared (in_order stock))
+FindsNumber compared stock result = MatchResult result (IsNumber compared stock)
+    (IsMissing compared (in_order stock))

@@ -1,5 +1,6 @@
 //! Items in order of arrival, beside the order that the caller gives them.
-ghost use Rattle.std.specs.Prelude.{◌≡◌, ℕ, ◌+◌, ◌<◌, ◌≤◌, [], ◌∷◌, ◌++◌, length, take, drop, slice_get, IsOk, OnOk, Some};
+ghost use Rattle.std.specs.Prelude.{◌≡◌, ℕ, ◌+◌, ◌<◌, ◌≤◌, [], ◌∷◌, ◌++◌, length, take, drop};
+ghost use Rattle.std.specs.Prelude.{slice_get, IsOk, OnOk, Some};
 ghost use Rattle.std.specs.List.{insert, filter};
 ghost use Rattle.sorted_order.specs.Sought.{IsRising, IsGap, is_equal};
 ghost use Rattle.sorted_order.specs.Stock.{in_order, Arranges, FindsNumber, compared_at};
@@ -70,7 +71,8 @@ impl<T> Arena<T> {
         ensures order { self.new.order ≡ self.old.order }
         ensures capacity { self.old.capacity ≤ self.new.capacity }
         ensures ok { OnOk result (length self.new.items + items ≤ self.new.capacity) }
-        ensures within { length self.old.items + items ≤ self.old.capacity → (IsOk result) × (self.new ≡ self.old) }
+        ensures within { length self.old.items + items ≤ self.old.capacity
+            → (IsOk result) × (self.new ≡ self.old) }
     {
         if items <= self.room() {
             return Ok(());
@@ -157,7 +159,8 @@ impl<T> Arena<T> {
     /// The items in the place of what is sought, in order.
     pub fn matching<P: ItemProbe<T>>(&self, probe: &P) -> Lent<'_, T>
         requires { IsRising (P.compared probe.now) (in_order self.now) }
-        ensures { result ≡ filter (λ item. is_equal (P.compared probe.now item)) (in_order self.now) }
+        ensures { result ≡ filter (λ item. is_equal (P.compared probe.now item))
+            (in_order self.now) }
     {
         let numbers = self
             .order
@@ -168,7 +171,9 @@ impl<T> Arena<T> {
     /// The numbers of the items in the place of what is sought, in order.
     pub fn numbers_matching<P: ItemProbe<T>>(&self, probe: &P) -> Numbers<'_>
         requires { IsRising (P.compared probe.now) (in_order self.now) }
-        ensures numbers { result ≡ filter (λ number. is_equal (compared_at (P.compared probe.now) self.now.items number)) self.now.order }
+        ensures numbers { result
+            ≡ filter (λ number. is_equal (compared_at (P.compared probe.now) self.now.items number))
+            self.now.order }
         ensures arranged { Arranges self.now.order (length self.now.items) }
     {
         let by_item = ByItem::new(self.items.as_slice(), probe);

@@ -1,5 +1,6 @@
 //! A block: a few hundred numbers whose room is there from the start.
-ghost use Rattle.std.specs.Prelude.{◌≡◌, ℕ, ◌<◌, ◌≤◌, List, [], length, take, drop, vec_capacity, IfOk};
+ghost use Rattle.std.specs.Prelude.{◌≡◌, ℕ, ◌<◌, ◌≤◌, List, [], length, take, drop, vec_capacity};
+ghost use Rattle.std.specs.Prelude.{IfOk};
 ghost use Rattle.std.specs.List.{insert};
 
 use std::alloc::{AllocError, Global};
@@ -21,7 +22,8 @@ impl Model for Block {
 
     ghost view = { λ block. block.numbers.items };
 
-    ghost invariant = { λ block. (length block.numbers.items ≤ 512) × (512 ≤ vec_capacity block.numbers) };
+    ghost invariant = { λ block. (length block.numbers.items ≤ 512)
+        × (512 ≤ vec_capacity block.numbers) };
 }
 
 impl Block {

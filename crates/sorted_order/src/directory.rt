@@ -1,7 +1,9 @@
 //! Calls over the blocks of a sequence.
-ghost use Rattle.std.specs.Prelude.{◌≡◌, ℕ, ◌+◌, ◌-◌, ◌*◌, ◌^◌, ◌<◌, ◌≤◌, length, vec_capacity, OnOk};
+ghost use Rattle.std.specs.Prelude.{◌≡◌, ℕ, ◌+◌, ◌-◌, ◌*◌, ◌^◌, ◌<◌, ◌≤◌, length, vec_capacity};
+ghost use Rattle.std.specs.Prelude.{OnOk};
 ghost use Rattle.std.specs.List.{concat, insert};
-ghost use Rattle.sorted_order.specs.Blocks.{AreFilled, AreSums, block_at, put, halved, IsSpot, capacity_of};
+ghost use Rattle.sorted_order.specs.Blocks.{AreFilled, AreSums, block_at, put, halved, IsSpot};
+ghost use Rattle.sorted_order.specs.Blocks.{capacity_of};
 
 use crate::block::{BLOCK, Block, HALF};
 use crate::sums::{GROUP, add_groups, count_one, group_at, sum_up};
@@ -48,15 +50,18 @@ pub(crate) fn put_number(
 )
     requires place { at ≤ length (concat blocks.old.items) }
     requires filled { AreFilled blocks.old.items }
-    requires room { length (concat blocks.old.items) < capacity_of (length blocks.old.items) (length spare.old.items) }
+    requires room { length (concat blocks.old.items)
+        < capacity_of (length blocks.old.items) (length spare.old.items) }
     requires first { 0 < length spare.old.items → 0 < length blocks.old.items }
-    requires directory { length blocks.old.items + length spare.old.items ≤ vec_capacity blocks.old }
+    requires directory { length blocks.old.items + length spare.old.items
+        ≤ vec_capacity blocks.old }
     requires few { length (concat blocks.old.items) < 2 ^ 32 }
     requires summed { AreSums sums.old blocks.old.items }
     requires grouped { length blocks.old.items + length spare.old.items ≤ 64 * length sums.old }
     ensures items { concat blocks.new.items ≡ insert (concat blocks.old.items) at number }
     ensures filled { AreFilled blocks.new.items }
-    ensures blocks { length blocks.new.items + length spare.new.items ≡ length blocks.old.items + length spare.old.items }
+    ensures blocks { length blocks.new.items + length spare.new.items
+        ≡ length blocks.old.items + length spare.old.items }
     ensures some { 0 < length blocks.new.items }
     ensures directory { vec_capacity blocks.new ≡ vec_capacity blocks.old }
     ensures summed { AreSums sums.new blocks.new.items }
@@ -77,9 +82,11 @@ fn make_room(
 ) -> (usize, usize)
     requires place { at ≤ length (concat blocks.old.items) }
     requires filled { AreFilled blocks.old.items }
-    requires room { length (concat blocks.old.items) < capacity_of (length blocks.old.items) (length spare.old.items) }
+    requires room { length (concat blocks.old.items)
+        < capacity_of (length blocks.old.items) (length spare.old.items) }
     requires first { 0 < length spare.old.items → 0 < length blocks.old.items }
-    requires directory { length blocks.old.items + length spare.old.items ≤ vec_capacity blocks.old }
+    requires directory { length blocks.old.items + length spare.old.items
+        ≤ vec_capacity blocks.old }
     requires few { length (concat blocks.old.items) < 2 ^ 32 }
     requires summed { AreSums sums.old blocks.old.items }
     requires grouped { length blocks.old.items + length spare.old.items ≤ 64 * length sums.old }
@@ -87,7 +94,8 @@ fn make_room(
     ensures room { length (block_at blocks.new.items result.0) < 512 }
     ensures items { concat blocks.new.items ≡ concat blocks.old.items }
     ensures filled { AreFilled blocks.new.items }
-    ensures blocks { length blocks.new.items + length spare.new.items ≡ length blocks.old.items + length spare.old.items }
+    ensures blocks { length blocks.new.items + length spare.new.items
+        ≡ length blocks.old.items + length spare.old.items }
     ensures directory { vec_capacity blocks.new ≡ vec_capacity blocks.old }
     ensures summed { AreSums sums.new blocks.new.items }
     ensures groups { length sums.new ≡ length sums.old }
@@ -133,8 +141,8 @@ fn split(blocks: &mut Vec<Block>, spare: &mut Vec<Block>, block: usize)
     let _ = blocks.insert(block + 1, second);
 }
 
-/// Makes spare blocks until there are this many blocks in all, the first of them for the sequence if
-/// that has none.
+/// Makes spare blocks until there are this many blocks in all, the first of them for the sequence
+/// if that has none.
 pub(crate) fn add_blocks(
     blocks: &mut Vec<Block>,
     spare: &mut Vec<Block>,
@@ -147,16 +155,19 @@ pub(crate) fn add_blocks(
     requires more { length blocks.old.items + length spare.old.items < wanted }
     requires few { length (concat blocks.old.items) < 2 ^ 32 }
     requires summed { AreSums sums.old.items blocks.old.items }
-    requires grouped { length blocks.old.items + length spare.old.items ≤ 64 * length sums.old.items }
+    requires grouped { length blocks.old.items + length spare.old.items
+        ≤ 64 * length sums.old.items }
     ensures items { concat blocks.new.items ≡ concat blocks.old.items }
     ensures filled { AreFilled blocks.new.items }
     ensures first { 0 < length spare.new.items → 0 < length blocks.new.items }
     ensures listed { length blocks.new.items + length spare.new.items ≤ vec_capacity blocks.new }
-    ensures more { length blocks.old.items + length spare.old.items ≤ length blocks.new.items + length spare.new.items }
+    ensures more { length blocks.old.items + length spare.old.items
+        ≤ length blocks.new.items + length spare.new.items }
     ensures most { length blocks.new.items + length spare.new.items ≤ wanted }
     ensures ok { OnOk result (length blocks.new.items + length spare.new.items ≡ wanted) }
     ensures summed { AreSums sums.new.items blocks.new.items }
-    ensures grouped { length blocks.new.items + length spare.new.items ≤ 64 * length sums.new.items }
+    ensures grouped { length blocks.new.items + length spare.new.items
+        ≤ 64 * length sums.new.items }
 {
     blocks.try_reserve(wanted - blocks.len())?;
     add_groups(blocks.as_slice(), sums, wanted)?;

@@ -27,5 +27,6 @@ pub fn insertion_keeps_order<T>()
 
 /// As many items stand in order as there are.
 pub fn each_item_is_in_order<T>()
-    ensures { (stock : Stock T) → Arranges stock.order (length stock.items) → length (in_order stock) ≡ length stock.items }
+    ensures { (stock : Stock T) → Arranges stock.order (length stock.items)
+        → length (in_order stock) ≡ length stock.items }
 {}

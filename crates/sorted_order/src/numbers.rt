@@ -74,7 +74,8 @@ impl<'a> Iterator for Numbers<'a> {
 fn first_of<'a>(here: &'a [u32], blocks: &'a [Block]) -> (u32, &'a [u32], &'a [Block])
     requires some { 0 < length (here.now ++ concat blocks.now) }
     requires filled { AreHalfFull blocks.now }
-    ensures numbers { here.now ++ concat blocks.now ≡ result.0 ∷ (result.1.now ++ concat result.2.now) }
+    ensures numbers { here.now ++ concat blocks.now
+        ≡ result.0 ∷ (result.1.now ++ concat result.2.now) }
     ensures filled { AreHalfFull result.2.now }
 {
     if !here.is_empty() {

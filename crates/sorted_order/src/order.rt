@@ -1,5 +1,6 @@
 //! A sequence of numbers in the order that its caller gives.
-ghost use Rattle.std.specs.Prelude.{◌≡◌, ℕ, ◌+◌, ◌-◌, ◌*◌, ◌^◌, ◌<◌, ◌≤◌, [], length, take, drop, slice_get, slice_index, min, IsOk, OnOk};
+ghost use Rattle.std.specs.Prelude.{◌≡◌, ℕ, ◌+◌, ◌-◌, ◌*◌, ◌^◌, ◌<◌, ◌≤◌, [], length, take, drop};
+ghost use Rattle.std.specs.Prelude.{slice_get, slice_index, min, IsOk, OnOk};
 ghost use Rattle.std.specs.List.{All, filter, insert};
 ghost use Rattle.sorted_order.specs.Sought.{IsRising, IsGap, FindsFirst, Finds, is_equal};
 
@@ -47,7 +48,8 @@ impl Model for Order {
       capacity = capacity_of (length o.blocks.items) (length o.spare.items);
     } };
 
-    ghost invariant = { λ o. AreKept o.blocks.items o.sums.items (length o.spare.items) o.count (vec_capacity o.blocks) };
+    ghost invariant = { λ o. AreKept o.blocks.items o.sums.items (length o.spare.items) o.count
+        (vec_capacity o.blocks) };
 }
 
 impl Order {
@@ -90,7 +92,8 @@ impl Order {
         ensures items { self.new.items ≡ self.old.items }
         ensures capacity { self.old.capacity ≤ self.new.capacity }
         ensures ok { OnOk result (length self.new.items + numbers ≤ self.new.capacity) }
-        ensures within { length self.old.items + numbers ≤ self.old.capacity → (IsOk result) × (self.new ≡ self.old) }
+        ensures within { length self.old.items + numbers ≤ self.old.capacity
+            → (IsOk result) × (self.new ≡ self.old) }
         ensures doubles { self.old.capacity < length self.old.items + numbers
             → OnOk result (min (2 * self.old.capacity) 4294967040 ≤ self.new.capacity) }
     {
@@ -184,7 +187,8 @@ impl Order {
     pub fn matching<P: Probe>(&self, probe: &P) -> Numbers<'_>
         requires known { All (P.knows probe.now) self.now.items }
         requires rising { IsRising (P.compared probe.now) self.now.items }
-        ensures { result ≡ filter (λ number. is_equal (P.compared probe.now number)) self.now.items }
+        ensures { result ≡ filter (λ number. is_equal (P.compared probe.now number))
+            self.now.items }
     {
         let first = self.before(probe);
         let end = self.before(&Past::new(probe));

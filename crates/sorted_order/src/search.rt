@@ -1,7 +1,8 @@
 //! Searches over the blocks of a sequence.
 ghost use Rattle.std.specs.Prelude.{◌≡◌, ℕ, ◌+◌, ◌-◌, ◌^◌, ◌<◌, ◌≤◌, length, slice_get};
 ghost use Rattle.std.specs.List.{All, concat};
-ghost use Rattle.sorted_order.specs.Blocks.{AreFilled, block_at, length_before, IsSpot, IsBoundary, IsEdgeBlock};
+ghost use Rattle.sorted_order.specs.Blocks.{AreFilled, block_at, length_before, IsSpot, IsBoundary};
+ghost use Rattle.sorted_order.specs.Blocks.{IsEdgeBlock};
 ghost use Rattle.sorted_order.specs.Sought.{FindsAt};
 
 use crate::block::Block;
@@ -12,8 +13,10 @@ pub(crate) fn edge<P: Probe>(blocks: &[Block], probe: &P) -> (usize, usize)
     requires some { 0 < length blocks.now }
     requires filled { AreFilled blocks.now }
     requires known { All (P.knows probe.now) (concat blocks.now) }
-    ensures spot { IsSpot blocks.now (length_before blocks.now result.0 + result.1) result.0 result.1 }
-    ensures edge { IsBoundary (P.compared probe.now) (concat blocks.now) (length_before blocks.now result.0 + result.1) }
+    ensures spot { IsSpot blocks.now (length_before blocks.now result.0 + result.1) result.0
+        result.1 }
+    ensures edge { IsBoundary (P.compared probe.now) (concat blocks.now)
+        (length_before blocks.now result.0 + result.1) }
 {
     let block = edge_block(blocks, probe);
     let place = edge_in(blocks[block].as_slice(), probe);

@@ -1,5 +1,6 @@
 //! Sums over the blocks of a sequence: how many numbers lie in each group of 64 blocks.
-ghost use Rattle.std.specs.Prelude.{◌≡◌, ℕ, ◌+◌, ◌*◌, ◌/◌, ◌^◌, ◌<◌, ◌≤◌, length, take, slice_index, slice_set, OnOk};
+ghost use Rattle.std.specs.Prelude.{◌≡◌, ℕ, ◌+◌, ◌*◌, ◌/◌, ◌^◌, ◌<◌, ◌≤◌, length, take};
+ghost use Rattle.std.specs.Prelude.{slice_index, slice_set, OnOk};
 ghost use Rattle.std.specs.List.{concat, sum};
 ghost use Rattle.sorted_order.specs.Blocks.{AreSums, length_before};
 

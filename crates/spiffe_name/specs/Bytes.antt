@@ -1,5 +1,6 @@
 -- Bytes of names, and where a text first has a wrong one.
-use Rattle.std.specs.Prelude.{◌≡◌, ℕ, ◌<◌, Bool, false, ◌&&◌, ◌||◌, ◌==◌, nat_le, nat_lt, not, List, [], ◌∷◌, ◌++◌, length, take, slice_index}
+use Rattle.std.specs.Prelude.{◌≡◌, ℕ, ◌<◌, Bool, false, ◌&&◌, ◌||◌, ◌==◌, nat_le, nat_lt, not, List}
+use Rattle.std.specs.Prelude.{[], ◌∷◌, ◌++◌, length, take, slice_index}
 use Rattle.std.specs.List.{AllPass}
 use Rattle.std.specs.Str.{IsUtf8}
 
@@ -54,7 +55,8 @@ is_printable b = nat_le 33 b && nat_le b 126
 abbrev pub is_quotable : ℕ → Bool
 is_quotable b = not ((b == 34) || (b == 92) || nat_lt b 32)
 
--- A text that can stand between quotation marks as it is, as in a JSON string (RFC 8259, section 7).
+-- A text that can stand between quotation marks as it is, as in a JSON string (RFC 8259, section
+-- 7).
 pub record IsPlainText (text : List ℕ) : Type 0 where
   pub printable : AllPass is_printable text
   pub unescaped : AllPass is_quotable text

@@ -1,7 +1,8 @@
 -- Places in errors.
 use Rattle.std.specs.Prelude.{ℕ, ◌+◌}
 use Rattle.spiffe_name.specs.declared.error.NameError.{NameError}
-use Rattle.spiffe_name.specs.declared.error.NameError.TheVariants.{Empty, TooLong, BadScheme, BadDomainByte, BadPath, NoMemory}
+use Rattle.spiffe_name.specs.declared.error.NameError.TheVariants.{Empty, TooLong, BadScheme}
+use Rattle.spiffe_name.specs.declared.error.NameError.TheVariants.{BadDomainByte, BadPath, NoMemory}
 
 -- where the error is, or 0
 abbrev pub place_of : NameError → ℕ

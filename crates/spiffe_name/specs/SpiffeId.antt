@@ -1,10 +1,12 @@
 -- SPIFFE IDs: SPIFFE-ID, section 2.
-use Rattle.std.specs.Prelude.{◌≡◌, ◌≢◌, ℕ, ◌+◌, ◌<◌, ◌≤◌, ◌⊎◌, Bool, true, false, ◌||◌, List, [], ◌∷◌, ◌++◌, length, flat_map, bytes_eq, codes}
+use Rattle.std.specs.Prelude.{◌≡◌, ◌≢◌, ℕ, ◌+◌, ◌<◌, ◌≤◌, ◌⊎◌, Bool, true, false, ◌||◌, List, []}
+use Rattle.std.specs.Prelude.{◌∷◌, ◌++◌, length, flat_map, bytes_eq, codes}
 use Rattle.std.specs.List.{AllPass, AllByRecursion}
 use Rattle.spiffe_name.specs.Bytes.{is_segment_byte, is_not_slash, EmptyOrSlash, FirstFails}
 use Rattle.spiffe_name.specs.TrustDomain.{IsDomainText, RefusesDomain}
 use Rattle.spiffe_name.specs.declared.error.NameError.{NameError}
-use Rattle.spiffe_name.specs.declared.error.NameError.TheVariants.{Empty, TooLong, BadScheme, BadDomainByte, BadPath, NoMemory}
+use Rattle.spiffe_name.specs.declared.error.NameError.TheVariants.{Empty, TooLong, BadScheme}
+use Rattle.spiffe_name.specs.declared.error.NameError.TheVariants.{BadDomainByte, BadPath, NoMemory}
 
 -- An ID, as contracts see it.
 pub record Id : Type 0 where
@@ -17,7 +19,8 @@ scheme = codes "spiffe://"
 
 -- Section 2.2: no segment is empty, or one of the relative path modifiers . and ..
 abbrev pub is_empty_or_modifier : List ℕ → Bool
-is_empty_or_modifier segment = bytes_eq segment [] || bytes_eq segment (codes ".") || bytes_eq segment (codes "..")
+is_empty_or_modifier segment = bytes_eq segment [] || bytes_eq segment (codes ".")
+    || bytes_eq segment (codes "..")
 
 pub record IsSegment (segment : List ℕ) : Type 0 where
   pub bytes : AllPass is_segment_byte segment
@@ -32,7 +35,8 @@ pub record IsPath (path : List ℕ) : Type 0 where
   pub each : AllByRecursion IsSegment segments
   pub whole : path ≡ path_of_segments segments
 
--- Sections 2 and 2.3: the text is the scheme, the name of a trust domain and a path, of at most 2,048 bytes together.
+-- Sections 2 and 2.3: the text is the scheme, the name of a trust domain and a path, of at most
+-- 2,048 bytes together.
 pub record IsIdText (text domain path : List ℕ) : Type 0 where
   pub whole : text ≡ scheme ++ (domain ++ path)
   pub limit : length text ≤ 2048
@@ -42,8 +46,8 @@ pub record IsIdText (text domain path : List ℕ) : Type 0 where
 abbrev pub IsId : Id → Type 0
 IsId id = IsIdText id.text id.domain id.path
 
--- A text within the limit is spiffe://, what is to be a trust domain name, up to the next slash or the
--- end, and what is to be a path.
+-- A text within the limit is spiffe://, what is to be a trust domain name, up to the next slash or
+-- the end, and what is to be a path.
 pub record HasParts (text domain path : List ℕ) : Type 0 where
   pub limit : length text ≤ 2048
   pub whole : text ≡ scheme ++ (domain ++ path)
@@ -52,11 +56,13 @@ pub record HasParts (text domain path : List ℕ) : Type 0 where
 
 -- What is to be a trust domain name is none, for this cause.
 abbrev pub RefusesDomainPart : List ℕ → NameError → Type 0
-RefusesDomainPart text error = (domain path : List ℕ) × (HasParts text domain path × RefusesDomain domain error)
+RefusesDomainPart text error = (domain path : List ℕ)
+    × (HasParts text domain path × RefusesDomain domain error)
 
 -- A segment has its first wrong byte here, or is no name and begins here.
 abbrev pub FaultInSegment : List ℕ → ℕ → Type 0
-FaultInSegment segment place = FirstFails is_segment_byte segment place ⊎ ((is_empty_or_modifier segment ≡ true) × (place ≡ 0))
+FaultInSegment segment place = FirstFails is_segment_byte segment place
+    ⊎ ((is_empty_or_modifier segment ≡ true) × (place ≡ 0))
 
 -- A front of the path is segments, and the next one has a fault here.
 pub record FirstFault (path : List ℕ) (place : ℕ) : Type 0 where
@@ -75,7 +81,11 @@ pub record FirstFault (path : List ℕ) (place : ℕ) : Type 0 where
 abbrev pub RefusesId : List ℕ → NameError → Type 0
 RefusesId text Empty = (text ≡ []) ⊎ RefusesDomainPart text Empty
 RefusesId text TooLong = (2048 < length text) ⊎ RefusesDomainPart text TooLong
-RefusesId text BadScheme = (text ≢ []) × (length text ≤ 2048) × ((rest : List ℕ) → text ≢ scheme ++ rest)
-RefusesId text (BadDomainByte place) = (n : ℕ) × ((place ≡ length scheme + n) × RefusesDomainPart text (BadDomainByte n))
-RefusesId text (BadPath place) = (domain path : List ℕ) × (n : ℕ) × (HasParts text domain path × IsDomainText domain × FirstFault path n × (place ≡ length scheme + length domain + n))
+RefusesId text BadScheme = (text ≢ []) × (length text ≤ 2048)
+    × ((rest : List ℕ) → text ≢ scheme ++ rest)
+RefusesId text (BadDomainByte place) = (n : ℕ)
+    × ((place ≡ length scheme + n) × RefusesDomainPart text (BadDomainByte n))
+RefusesId text (BadPath place) = (domain path : List ℕ) × (n : ℕ)
+    × (HasParts text domain path × IsDomainText domain × FirstFault path n
+    × (place ≡ length scheme + length domain + n))
 RefusesId text NoMemory = (domain path : List ℕ) × IsIdText text domain path

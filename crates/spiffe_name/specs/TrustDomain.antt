@@ -3,7 +3,8 @@ use Rattle.std.specs.Prelude.{◌≡◌, ℕ, ◌<◌, ◌≤◌, List, [], leng
 use Rattle.std.specs.List.{AllPass}
 use Rattle.spiffe_name.specs.Bytes.{is_domain_byte, FirstFails}
 use Rattle.spiffe_name.specs.declared.error.NameError.{NameError}
-use Rattle.spiffe_name.specs.declared.error.NameError.TheVariants.{Empty, TooLong, BadScheme, BadDomainByte, BadPath, NoMemory}
+use Rattle.spiffe_name.specs.declared.error.NameError.TheVariants.{Empty, TooLong, BadScheme}
+use Rattle.spiffe_name.specs.declared.error.NameError.TheVariants.{BadDomainByte, BadPath, NoMemory}
 
 -- 1 to 255 bytes, each a to z, 0 to 9, full stop, hyphen or low line
 pub record IsDomainText (text : List ℕ) : Type 0 where
@@ -15,7 +16,8 @@ pub record IsDomainText (text : List ℕ) : Type 0 where
 abbrev pub RefusesDomain : List ℕ → NameError → Type 0
 RefusesDomain text Empty = text ≡ []
 RefusesDomain text TooLong = 255 < length text
-RefusesDomain text (BadDomainByte place) = (length text ≤ 255) × FirstFails is_domain_byte text place
+RefusesDomain text (BadDomainByte place) = (length text ≤ 255)
+    × FirstFails is_domain_byte text place
 RefusesDomain text NoMemory = IsDomainText text
 -- these are of IDs
 RefusesDomain text BadScheme = ⊥

@@ -1,14 +1,19 @@
 //! SPIFFE IDs.
-ghost use Rattle.std.specs.Prelude.{◌≡◌, ◌≢◌, ℕ, ◌+◌, ◌≤◌, List, Some, refl, IfOk, IfErr, IfSome, MatchResult, MatchOption, IsOkUnless, bytes_eq, string_bytes, length, drop};
+ghost use Rattle.std.specs.Prelude.{◌≡◌, ◌≢◌, ℕ, ◌+◌, ◌≤◌, List, Some, refl, IfOk, IfErr, IfSome};
+ghost use Rattle.std.specs.Prelude.{MatchResult, MatchOption, IsOkUnless, bytes_eq, string_bytes};
+ghost use Rattle.std.specs.Prelude.{length, drop};
 ghost use Rattle.std.proofs.Common.{rules};
 ghost use Rattle.std.specs.Ordering.{nat_cmp};
 ghost use Rattle.std.specs.Hash as written;
 ghost use Rattle.std.specs.Cmp.{on_equiv, on_total, on_po, on_per, partial_equiv_from_equiv};
-ghost use Rattle.std.specs.Cmp.Lexicographic.{slice_cmp, nat_list_eq_equiv, nat_list_cmp_total, texts_ties, texts_po};
+ghost use Rattle.std.specs.Cmp.Lexicographic.{slice_cmp, nat_list_eq_equiv, nat_list_cmp_total};
+ghost use Rattle.std.specs.Cmp.Lexicographic.{texts_ties, texts_po};
 ghost use Rattle.std.specs.Cmp.Rules.{hashing};
 ghost use Rattle.std.specs.List.{AllPass};
 ghost use Rattle.spiffe_name.specs.Bytes.{is_segment_byte, FirstFails, EmptyOrSlash, SplitsAtSlash};
-ghost use Rattle.spiffe_name.specs.SpiffeId.{Id, IsId, IsIdText, RefusesId, IsPath, IsSegment, FirstFault, FaultInSegment, is_empty_or_modifier, scheme};
+ghost use Rattle.spiffe_name.specs.SpiffeId.{Id, IsId, IsIdText, RefusesId, IsPath, IsSegment};
+ghost use Rattle.spiffe_name.specs.SpiffeId.{FirstFault, FaultInSegment, is_empty_or_modifier};
+ghost use Rattle.spiffe_name.specs.SpiffeId.{scheme};
 
 use crate::domain::{TrustDomain, check_domain};
 use crate::error::NameError;
@@ -36,9 +41,14 @@ pub struct SpiffeId {
 impl Model for SpiffeId {
     ghost Value = { Id };
 
-    ghost view = { λ id. record { text = string_bytes id.text; domain = id.domain; path = drop (length scheme + length id.domain) (string_bytes id.text) } };
+    ghost view = { λ id. record {
+      text = string_bytes id.text;
+      domain = id.domain;
+      path = drop (length scheme + length id.domain) (string_bytes id.text);
+    } };
 
-    ghost invariant = { λ id. IsIdText (string_bytes id.text) id.domain (drop (length scheme + length id.domain) (string_bytes id.text)) };
+    ghost invariant = { λ id. IsIdText (string_bytes id.text) id.domain
+        (drop (length scheme + length id.domain) (string_bytes id.text)) };
 }
 
 impl SpiffeId {

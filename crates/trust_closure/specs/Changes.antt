@@ -2,16 +2,20 @@
 use Rattle.std.specs.Prelude.{◌≡◌, ℕ, ◌+◌, ◌<◌, ◌≤◌, [], length, Contains, Result, MatchResult}
 use Rattle.fed_config.specs.Configuration.{Configuration, HasDomain}
 use Rattle.receipt_core.specs.declared.distrust.Distrust.{Distrust}
-use Rattle.receipt_core.specs.Receipt.{Receipt, Pair, pair_of, offers_of, with_receipt, with_distrust}
+use Rattle.receipt_core.specs.Receipt.{Receipt, Pair, pair_of, offers_of, with_receipt}
+use Rattle.receipt_core.specs.Receipt.{with_distrust}
 use Rattle.receipt_core.specs.Acceptance.{IsFitting, Meaning, IsMember}
 use Rattle.trust_closure.specs.declared.error.TakeError.{TakeError}
 use Rattle.trust_closure.specs.declared.outcome.Refused.{Refused}
 use Rattle.trust_closure.specs.declared.outcome.Taken.{Taken}
-use Rattle.trust_closure.specs.declared.outcome.Taken.TheVariants.{New as TakenNew, Already as TakenAlready}
+use Rattle.trust_closure.specs.declared.outcome.Taken.TheVariants.{New as TakenNew}
+use Rattle.trust_closure.specs.declared.outcome.Taken.TheVariants.{Already as TakenAlready}
 use Rattle.trust_closure.specs.declared.outcome.Distrusted.{Distrusted}
-use Rattle.trust_closure.specs.declared.outcome.Distrusted.TheVariants.{New as DistrustedNew, Already as DistrustedAlready}
+use Rattle.trust_closure.specs.declared.outcome.Distrusted.TheVariants.{New as DistrustedNew}
+use Rattle.trust_closure.specs.declared.outcome.Distrusted.TheVariants.{Already as DistrustedAlready}
 use Rattle.trust_closure.specs.Count.{IsCount}
-use Rattle.trust_closure.specs.Refusals.{Room, IsRoomier, RefusesReceipt, RefusesDistrust, RefusesMerge, IsOfConfig, all_receipts, all_records}
+use Rattle.trust_closure.specs.Refusals.{Room, IsRoomier, RefusesReceipt, RefusesDistrust}
+use Rattle.trust_closure.specs.Refusals.{RefusesMerge, IsOfConfig, all_receipts, all_records}
 
 -- what a closure holds, and how much more it has memory for
 pub record HeldAndRoom : Type 0 where
@@ -33,8 +37,10 @@ pub record IsUnchanged (old new : HeldAndRoom) : Type 0 where
 
 -- ---- one receipt
 
--- It fits, was not held and is held now; it has taken no more room than that of one receipt and its offers.
-pub record HasTaken (old : HeldAndRoom) (r : Receipt) (new : HeldAndRoom) (accepted_now : ℕ) : Type 0 where
+-- It fits, was not held and is held now; it has taken no more room than that of one receipt and its
+-- offers.
+pub record HasTaken (old : HeldAndRoom) (r : Receipt) (new : HeldAndRoom)
+    (accepted_now : ℕ) : Type 0 where
   pub fits : IsFitting old.meaning.config r
   pub unheld : Contains old.meaning.held r → ⊥
   pub few : length old.meaning.held < 65536
@@ -53,7 +59,8 @@ Took old r new (TakenNew accepted_now) = HasTaken old r new accepted_now
 Took old r new TakenAlready = HasReceiptAlready old r new
 
 -- The receipt comes back, and nothing is lost.
-pub record HasRefused (old : HeldAndRoom) (r : Receipt) (new : HeldAndRoom) (refused : Refused) : Type 0 where
+pub record HasRefused (old : HeldAndRoom) (r : Receipt) (new : HeldAndRoom)
+    (refused : Refused) : Type 0 where
   pub receipt : refused.receipt ≡ r
   pub cause : RefusesReceipt old.meaning old.room r refused.why
   pub unchanged : IsUnchanged old new
@@ -81,12 +88,14 @@ Distrusts old x new (DistrustedNew lost) = HasDistrusted old x new lost
 Distrusts old x new DistrustedAlready = HasRecordAlready old x new
 
 -- Nothing has changed.
-pub record HasRefusedDistrust (old : Meaning) (x : Distrust) (new : Meaning) (why : TakeError) : Type 0 where
+pub record HasRefusedDistrust (old : Meaning) (x : Distrust) (new : Meaning)
+    (why : TakeError) : Type 0 where
   pub cause : RefusesDistrust old x why
   pub meaning : new ≡ old
 
 abbrev pub TakesDistrust : Meaning → Distrust → Meaning → Result Distrusted TakeError → Type 0
-TakesDistrust old x new result = MatchResult result (Distrusts old x new) (HasRefusedDistrust old x new)
+TakesDistrust old x new result = MatchResult result (Distrusts old x new)
+    (HasRefusedDistrust old x new)
 
 -- ---- another closure
 
@@ -95,13 +104,19 @@ pub record HasMerged (old other new : Meaning) (n : ℕ) : Type 0 where
   pub of_config : IsOfConfig old other
   pub few : length (all_receipts old other) ≤ 65536
   pub few_records : length (all_records old other) ≤ 4096
-  pub meaning : new ≡ record { config = old.config; held = all_receipts old other; records = all_records old other }
+  pub meaning : new ≡ record {
+    config = old.config;
+    held = all_receipts old other;
+    records = all_records old other;
+  }
   pub count : length (all_receipts old other) ≡ length old.held + n
 
 -- Nothing is joined.
-pub record HasRefusedMerge (old : HeldAndRoom) (other : Meaning) (new : HeldAndRoom) (why : TakeError) : Type 0 where
+pub record HasRefusedMerge (old : HeldAndRoom) (other : Meaning) (new : HeldAndRoom)
+    (why : TakeError) : Type 0 where
   pub cause : RefusesMerge old.meaning other why
   pub unchanged : IsUnchanged old new
 
 abbrev pub Merges : HeldAndRoom → Meaning → HeldAndRoom → Result ℕ TakeError → Type 0
-Merges old other new result = MatchResult result (HasMerged old.meaning other new.meaning) (HasRefusedMerge old other new)
+Merges old other new result = MatchResult result (HasMerged old.meaning other new.meaning)
+    (HasRefusedMerge old other new)

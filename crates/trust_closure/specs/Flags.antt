@@ -8,11 +8,15 @@ use Rattle.trust_closure.specs.Nodes.{is_raised}
 abbrev pub raised_count : List Bool → ℕ
 raised_count flags = count_by (λ flag. flag) flags
 
--- Each accepted document has one number among these, whose flag is raised, and each raised flag is that of an accepted
--- document.
-pub record TellsMembers (m : Meaning) (pairs : List Pair) (numbers : List ℕ) (flags : List Bool) : Type 0 where
+-- Each accepted document has one number among these, whose flag is raised, and each raised flag is
+-- that of an accepted document.
+pub record TellsMembers (m : Meaning) (pairs : List Pair) (numbers : List ℕ)
+    (flags : List Bool) : Type 0 where
   pub size : length flags ≡ length pairs
-  pub sound : (number : ℕ) (p : Pair) → is_raised flags number ≡ true → slice_get pairs number ≡ Some p → IsMember m p
+  pub sound : (number : ℕ) (p : Pair) → is_raised flags number ≡ true
+      → slice_get pairs number ≡ Some p → IsMember m p
   pub listed : (number : ℕ) → is_raised flags number ≡ true → Contains numbers number
-  pub all : (p : Pair) → IsMember m p → (number : ℕ) × (is_raised flags number ≡ true) × (slice_get pairs number ≡ Some p)
-  pub once : (one other : ℕ) (p : Pair) → Contains numbers one → Contains numbers other → slice_get pairs one ≡ Some p → slice_get pairs other ≡ Some p → one ≡ other
+  pub all : (p : Pair) → IsMember m p
+      → (number : ℕ) × (is_raised flags number ≡ true) × (slice_get pairs number ≡ Some p)
+  pub once : (one other : ℕ) (p : Pair) → Contains numbers one → Contains numbers other
+      → slice_get pairs one ≡ Some p → slice_get pairs other ≡ Some p → one ≡ other

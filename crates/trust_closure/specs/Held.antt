@@ -1,5 +1,6 @@
 -- What is held: a configuration, receipts and records of distrust
-use Rattle.std.specs.Prelude.{◌≡◌, ℕ, ◌<◌, ◌≤◌, List, [], ◌++◌, map, length, Contains, Result, Ok, Err, MatchResult}
+use Rattle.std.specs.Prelude.{◌≡◌, ℕ, ◌<◌, ◌≤◌, List, [], ◌++◌, map, length, Contains, Result, Ok}
+use Rattle.std.specs.Prelude.{Err, MatchResult}
 use Rattle.std.specs.declared.cmp.Ordering.{Ordering}
 use Rattle.std.specs.Ordering.{nat_cmp, ordering_then}
 use Rattle.std.specs.Prelude.{slice_index_or}
@@ -7,15 +8,18 @@ use Rattle.std.specs.List.{AllByRecursion}
 use Rattle.std.specs.List.Sorted.{IsStrictlySortedBy}
 use Rattle.fed_config.specs.Configuration.{Configuration, IsConfiguration, HasDomain, domain_cmp}
 use Rattle.receipt_core.specs.declared.distrust.Distrust.{Distrust}
-use Rattle.receipt_core.specs.Receipt.{Receipt, IsReceipt, IsDigest, receipt_cmp, receipt_id_of, with_distrust}
+use Rattle.receipt_core.specs.Receipt.{Receipt, IsReceipt, IsDigest, receipt_cmp, receipt_id_of}
+use Rattle.receipt_core.specs.Receipt.{with_distrust}
 use Rattle.receipt_core.specs.Rising.{with_items}
 use Rattle.receipt_core.specs.Acceptance.{IsFitting, Meaning}
 use Rattle.sorted_order.specs.Sought.{IsMissing}
 use Rattle.sorted_order.specs.Stock.{Stock, Arranges, in_order, picked}
 use Rattle.trust_closure.specs.Records.{record_cmp, AreWithin}
-use Rattle.trust_closure.specs.Refusals.{IsOfUnknownDomain, IsOfWrongEndpoint, IsOneTooMany, RefusesDistrust}
+use Rattle.trust_closure.specs.Refusals.{IsOfUnknownDomain, IsOfWrongEndpoint, IsOneTooMany}
+use Rattle.trust_closure.specs.Refusals.{RefusesDistrust}
 use Rattle.trust_closure.specs.declared.error.TakeError.{TakeError}
-use Rattle.trust_closure.specs.declared.error.TakeError.TheVariants.{UnknownDomain, WrongEndpoint, Full, NoMemory, ConfigDiffers}
+use Rattle.trust_closure.specs.declared.error.TakeError.TheVariants.{UnknownDomain, WrongEndpoint}
+use Rattle.trust_closure.specs.declared.error.TakeError.TheVariants.{Full, NoMemory, ConfigDiffers}
 use Rattle.trust_closure.specs.declared.record.Record.{Record}
 use Rattle.trust_closure.specs.declared.held.Standing.{Standing}
 use Rattle.trust_closure.specs.declared.held.Standing.TheVariants.{Present, Absent}
@@ -24,10 +28,12 @@ use Rattle.trust_closure.specs.declared.records.Addition.TheVariants.{Added, The
 
 -- the domains of a configuration, as its rising list
 abbrev pub domains_of : Configuration → List (List ℕ)
-domains_of c = with_items domain_cmp (map (λ r. r.domain) c.relationships ++ (map (λ r. r.endpoint.domain) c.relationships ++ map (λ s. s.domain) c.seeds)) []
+domains_of c = with_items domain_cmp
+    (map (λ r. r.domain) c.relationships
+    ++ (map (λ r. r.endpoint.domain) c.relationships ++ map (λ s. s.domain) c.seeds)) []
 
--- the configuration, the receipts in order of arrival and in that of their lines, the records, and how many receipts
--- there is room for in all
+-- the configuration, the receipts in order of arrival and in that of their lines, the records, and
+-- how many receipts there is room for in all
 pub record Hoard : Type 0 where
   pub config : Configuration
   pub arrived : List Receipt
@@ -46,7 +52,8 @@ abbrev pub bucket_cmp : Receipt → Receipt → Ordering
 bucket_cmp r s = ordering_then (nat_cmp (bucket_of r) (bucket_of s)) (receipt_cmp r s)
 
 -- The receipts fit and are in order, and so are the records.
-pub record IsHoard (c : Configuration) (stock : Stock Receipt) (buckets : List ℕ) (records : List Record) : Type 0 where
+pub record IsHoard (c : Configuration) (stock : Stock Receipt) (buckets : List ℕ)
+    (records : List Record) : Type 0 where
   pub configuration : IsConfiguration c
   pub receipts : AllByRecursion IsReceipt stock.items
   pub fitting : AllByRecursion (IsFitting c) stock.items
@@ -99,7 +106,8 @@ AddsRecord old x new There = Contains old.records x × (new ≡ old)
 AddsRecord old x new NoPlace = ⊥
 
 abbrev pub AddsOrRefuses : Meaning → Distrust → Meaning → Result Addition TakeError → Type 0
-AddsOrRefuses old x new result = MatchResult result (AddsRecord old x new) (λ why. RefusesDistrust old x why × (new ≡ old))
+AddsOrRefuses old x new result = MatchResult result (AddsRecord old x new)
+    (λ why. RefusesDistrust old x why × (new ≡ old))
 
 -- what is told of an addition
 abbrev pub addition_result : Addition → Result Addition TakeError

@@ -1,5 +1,6 @@
 -- What an indexed closure keeps
-use Rattle.std.specs.Prelude.{◌≡◌, ◌≢◌, ◌↔◌, AllPairs, ◌+◌, ◌^◌, ◌<◌, ◌≤◌, ℕ, map, List, Contains, length, slice_get, Some}
+use Rattle.std.specs.Prelude.{◌≡◌, ◌≢◌, ◌↔◌, AllPairs, ◌+◌, ◌^◌, ◌<◌, ◌≤◌, ℕ, map, List, Contains}
+use Rattle.std.specs.Prelude.{length, slice_get, Some}
 use Rattle.std.specs.List.{All}
 use Rattle.fed_config.specs.Configuration.{AreDomains}
 use Rattle.fed_config.specs.declared.seed.Seed.{Seed}
@@ -15,7 +16,8 @@ use Rattle.trust_closure.specs.Nodes.{pairs_of}
 use Rattle.trust_closure.specs.NodeCounts.{count_at, AreCounts}
 use Rattle.label_net.specs.declared.label.Label.{Label}
 use Rattle.trust_closure.specs.Held.{Hoard, meaning_of, domains_of}
-use Rattle.trust_closure.specs.NetOf.{spots_of, spot_of_seed, IsShutBy, triple_by, IsNetOf, IsWiringOf}
+use Rattle.trust_closure.specs.NetOf.{spots_of, spot_of_seed, IsShutBy, triple_by, IsNetOf}
+use Rattle.trust_closure.specs.NetOf.{IsWiringOf}
 use Rattle.trust_closure.specs.Pairs.{Paired, IsPairing}
 use Rattle.trust_closure.specs.Refusals.{Room, IsRoomier}
 use Rattle.trust_closure.specs.Changes.{HeldAndRoom}
@@ -23,10 +25,11 @@ use Rattle.trust_closure.specs.declared.indexed.Spare.{Spare}
 use Rattle.std.specs.Prelude.{[], ◌∷◌, ◌++◌, take, Result, MatchResult}
 use Rattle.trust_closure.specs.declared.outcome.Refused.{Refused}
 use Rattle.trust_closure.specs.declared.outcome.Taken.{Taken}
-use Rattle.trust_closure.specs.declared.outcome.Taken.TheVariants.{New as TakenNew, Already as TakenAlready}
+use Rattle.trust_closure.specs.declared.outcome.Taken.TheVariants.{New as TakenNew}
+use Rattle.trust_closure.specs.declared.outcome.Taken.TheVariants.{Already as TakenAlready}
 
--- The index has exactly the nodes and edges of what is held, its reached nodes are marked, and each different document
--- has its number.
+-- The index has exactly the nodes and edges of what is held, its reached nodes are marked, and each
+-- different document has its number.
 pub record IsBuilt (h : Hoard) (p : Paired) (w : Wired) : Type 0 where
   pub valid : IsMeaning (meaning_of h)
   pub same : (r : Receipt) → Contains h.held r ↔ Contains h.arrived r
@@ -42,7 +45,8 @@ pub record IsIndexed (h : Hoard) (p : Paired) (w : Wired) : Type 0 where
   pub built : IsBuilt h p w
   pub counts : AreCounts p.firsts w.marked p.counts
 
--- The counts are still those of the nodes that were marked before the last close. It told what fell.
+-- The counts are still those of the nodes that were marked before the last close. It told what
+-- fell.
 pub record WasCounted (p : Paired) (i : Index) : Type 0 where
   pub net : Net
   pub marked : List ℕ
@@ -115,19 +119,21 @@ indexed_of h w s turns = record {
   turns = turns;
 }
 
--- The index has one node for each configured document, which is marked, and one for each receipt, in
--- order of arrival, for each receipt one wait edge, for each node as many offer edges as it has
--- offers, and no other, one label for each triple that is offered or awaited, and no other label; the
--- labels of distrusted keys are closed. A receipt's node is marked exactly where an accepted document
--- vouches for it.
+-- The index has one node for each configured document, which is marked, and one for each receipt,
+-- in order of arrival, for each receipt one wait edge, for each node as many offer edges as it has
+-- offers, and no other, one label for each triple that is offered or awaited, and no other label;
+-- the labels of distrusted keys are closed. A receipt's node is marked exactly where an accepted
+-- document vouches for it.
 pub record IsIndexOf (i : Indexed) : Type 0 where
   pub labels : List Triple
-  pub net : IsNetOf i.state.meaning.config.seeds i.arrived i.state.meaning.records labels i.wired.net
+  pub net : IsNetOf i.state.meaning.config.seeds i.arrived i.state.meaning.records labels
+      i.wired.net
   pub held : (r : Receipt) → Contains i.state.meaning.held r ↔ Contains i.arrived r
   pub once : length i.arrived ≡ length i.state.meaning.held
   pub seeds : (node : ℕ) → node < length i.state.meaning.config.seeds → Contains i.wired.marked node
   pub receipts : (place : ℕ) (r : Receipt) → slice_get i.arrived place ≡ Some r
-      → Contains i.wired.marked (length i.state.meaning.config.seeds + place) ↔ IsReleased i.state.meaning r
+      → Contains i.wired.marked (length i.state.meaning.config.seeds + place)
+      ↔ IsReleased i.state.meaning r
 
 -- The index and the different documents of these configured documents, before a count is raised.
 pub record IsSeeded (h : Hoard) (seeds : List Seed) (p : Paired) (w : Wired) : Type 0 where
@@ -135,7 +141,8 @@ pub record IsSeeded (h : Hoard) (seeds : List Seed) (p : Paired) (w : Wired) : T
   pub lowered : (number : ℕ) → count_at p.counts number ≡ 0
   pub room : length p.firsts ≤ p.capacity
   pub firsts : length p.firsts ≡ length seeds
-  pub wired : (domains : List (List ℕ)) → AreDomains h.config domains → IsWiringOf domains h.records (map spot_of_seed seeds) w
+  pub wired : (domains : List (List ℕ)) → AreDomains h.config domains
+      → IsWiringOf domains h.records (map spot_of_seed seeds) w
   pub reached : ListsReached w.net w.marked
 
 -- the receipts in order of arrival once this one was taken: one that was not held comes last

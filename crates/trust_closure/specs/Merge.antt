@@ -5,10 +5,12 @@ use Rattle.receipt_core.specs.declared.distrust.Distrust.{Distrust}
 use Rattle.receipt_core.specs.Receipt.{Receipt, receipt_cmp, distrust_cmp, pair_of, offers_of}
 use Rattle.receipt_core.specs.Rising.{with_items}
 use Rattle.receipt_core.specs.Acceptance.{IsFitting, Meaning}
-use Rattle.trust_closure.specs.Refusals.{IsRoomier, IsOfConfig, IsOfUnknownDomain, IsOfWrongEndpoint, all_receipts, all_records}
+use Rattle.trust_closure.specs.Refusals.{IsRoomier, IsOfConfig, IsOfUnknownDomain}
+use Rattle.trust_closure.specs.Refusals.{IsOfWrongEndpoint, all_receipts, all_records}
 use Rattle.trust_closure.specs.Changes.{HeldAndRoom}
 use Rattle.trust_closure.specs.declared.error.TakeError.{TakeError}
-use Rattle.trust_closure.specs.declared.error.TakeError.TheVariants.{UnknownDomain, WrongEndpoint, Full, NoMemory, ConfigDiffers}
+use Rattle.trust_closure.specs.declared.error.TakeError.TheVariants.{UnknownDomain, WrongEndpoint}
+use Rattle.trust_closure.specs.declared.error.TakeError.TheVariants.{Full, NoMemory, ConfigDiffers}
 use Rattle.trust_closure.specs.declared.copies.Share.{Share}
 
 -- Both together are of one configuration, and no more than one holds.
@@ -38,11 +40,13 @@ pub record IsShare (m other : Meaning) (share : Share) : Type 0 where
   pub copies : AreCopies m other share.copies.items
   pub offers : offers_count share.copies.items ≡ share.offers
 
--- Each receipt fits, or the first cause of these that stands of one of them: its domain is unknown, or its endpoint is
--- another.
+-- Each receipt fits, or the first cause of these that stands of one of them: its domain is unknown,
+-- or its endpoint is another.
 abbrev pub MisfitsOne : Configuration → List Receipt → TakeError → Type 0
 MisfitsOne c receipts UnknownDomain = (r : Receipt) × Contains receipts r × IsOfUnknownDomain c r
-MisfitsOne c receipts WrongEndpoint = ((r : Receipt) → Contains receipts r → IsOfUnknownDomain c r → ⊥) × ((r : Receipt) × Contains receipts r × IsOfWrongEndpoint c r)
+MisfitsOne c receipts WrongEndpoint =
+    ((r : Receipt) → Contains receipts r → IsOfUnknownDomain c r → ⊥)
+    × ((r : Receipt) × Contains receipts r × IsOfWrongEndpoint c r)
 MisfitsOne c receipts Full = ⊥
 MisfitsOne c receipts NoMemory = ⊥
 MisfitsOne c receipts ConfigDiffers = ⊥
@@ -56,4 +60,5 @@ pub record AreKnown (m : Meaning) (records : List Distrust) : Type 0 where
 pub record FitWithinRoom (old : HeldAndRoom) (receipts : List Receipt) : Type 0 where
   pub fitting : (r : Receipt) → Contains receipts r → IsFitting old.meaning.config r
   pub few : length old.meaning.held + length receipts ≤ 65536
-  pub room : IsRoomier (record { receipts = length receipts; offers = offers_count receipts }) old.room
+  pub room : IsRoomier (record { receipts = length receipts; offers = offers_count receipts })
+      old.room

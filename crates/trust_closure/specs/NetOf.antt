@@ -1,5 +1,6 @@
 -- The nodes of the index of a closure: one for each configured document and one for each receipt
-use Rattle.std.specs.Prelude.{ℕ, ◌<◌, List, [], ◌++◌, true, false, length, map, Some, None, Contains, slice_get, slice_index_or, ◌≡◌, ◌+◌, ◌≤◌, take}
+use Rattle.std.specs.Prelude.{ℕ, ◌<◌, List, [], ◌++◌, true, false, length, map, Some, None}
+use Rattle.std.specs.Prelude.{Contains, slice_get, slice_index_or, ◌≡◌, ◌+◌, ◌≤◌, take}
 use Rattle.std.specs.List.{All}
 use Rattle.fed_config.specs.Configuration.{Configuration, AreDomains}
 use Rattle.fed_config.specs.declared.seed.Seed.{Seed}
@@ -18,7 +19,11 @@ spot_of_seed s = record { rooted = true; offers = offers_of (pair_of_seed s); aw
 
 -- A receipt's node is none, and awaits what the receipt needs.
 abbrev pub spot_of_receipt : Receipt → Spot Triple
-spot_of_receipt r = record { rooted = false; offers = offers_of (pair_of r); awaits = Some (need_of r) }
+spot_of_receipt r = record {
+  rooted = false;
+  offers = offers_of (pair_of r);
+  awaits = Some (need_of r);
+}
 
 abbrev pub spots_of : List Seed → List Receipt → List (Spot Triple)
 spots_of seeds arrivals = map spot_of_seed seeds ++ map spot_of_receipt arrivals
@@ -27,23 +32,32 @@ spots_of seeds arrivals = map spot_of_seed seeds ++ map spot_of_receipt arrivals
 abbrev pub IsShutBy : List Distrust → Triple → Type 0
 IsShutBy records t = Contains records (record { domain = t.domain; key = t.key })
 
--- The net has exactly the nodes and edges of the configured documents and of the receipts, in order of arrival, and
--- the labels of distrusted keys are closed.
+-- The net has exactly the nodes and edges of the configured documents and of the receipts, in order
+-- of arrival, and the labels of distrusted keys are closed.
 abbrev pub IsNetOf : List Seed → List Receipt → List Distrust → List Triple → Net → Type 0
-IsNetOf seeds arrivals records labels net = Mirrors (spots_of seeds arrivals) labels (IsShutBy records) net
+IsNetOf seeds arrivals records labels net = Mirrors (spots_of seeds arrivals) labels
+    (IsShutBy records) net
 
 -- what a label stands for, given the domains by number
 abbrev pub triple_by : List (List ℕ) → Label → Triple
-triple_by domains label = record { domain = slice_index_or domains label.domain []; document = label.document; key = label.key }
+triple_by domains label =
+    record {
+      domain = slice_index_or domains label.domain [];
+      document = label.document;
+      key = label.key;
+    }
 
 -- The label stands for the triple, whatever list of the configuration's domains numbers them.
 pub record IsLabelOf (c : Configuration) (t : Triple) (label : Label) : Type 0 where
-  pub domain : (domains : List (List ℕ)) → AreDomains c domains → slice_get domains label.domain ≡ Some t.domain
+  pub domain : (domains : List (List ℕ)) → AreDomains c domains
+      → slice_get domains label.domain ≡ Some t.domain
   pub document : label.document ≡ t.document
   pub key : label.key ≡ t.key
 
--- The wiring mirrors these spots: its labels name domains that are there, and stand for what the spots offer and await.
-pub record IsWiringOf (domains : List (List ℕ)) (records : List Distrust) (spots : List (Spot Triple)) (w : Wired) : Type 0 where
+-- The wiring mirrors these spots: its labels name domains that are there, and stand for what the
+-- spots offer and await.
+pub record IsWiringOf (domains : List (List ℕ)) (records : List Distrust)
+    (spots : List (Spot Triple)) (w : Wired) : Type 0 where
   pub within : All (λ label. label.domain < length domains) w.labels
   pub mirrors : Mirrors spots (map (triple_by domains) w.labels) (IsShutBy records) w.net
 

@@ -1,5 +1,6 @@
 -- How many of the marked nodes have each of the different documents
-use Rattle.std.specs.Prelude.{◌≡◌, ◌+◌, ◌==◌, not, ℕ, Bool, List, map, length, count_by, slice_index_or}
+use Rattle.std.specs.Prelude.{◌≡◌, ◌+◌, ◌==◌, not, ℕ, Bool, List, map, length, count_by}
+use Rattle.std.specs.Prelude.{slice_index_or}
 
 -- a document's flag is raised where its count is not 0
 abbrev pub flags_of : List ℕ → List Bool

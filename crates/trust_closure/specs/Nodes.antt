@@ -1,5 +1,7 @@
--- Documents of domains by number: those of the configuration, and then those of the receipts in order of arrival
-use Rattle.std.specs.Prelude.{ℕ, ◌<◌, ◌≡◌, Bool, false, cond, List, ◌++◌, map, length, slice_get, slice_index_or, Option, None}
+-- Documents of domains by number: those of the configuration, and then those of the receipts in
+-- order of arrival
+use Rattle.std.specs.Prelude.{ℕ, ◌<◌, ◌≡◌, Bool, false, cond, List, ◌++◌, map, length, slice_get}
+use Rattle.std.specs.Prelude.{slice_index_or, Option, None}
 use Rattle.std.specs.Option.{option_map}
 use Rattle.std.specs.List.{All, filter_map}
 use Rattle.fed_config.specs.declared.seed.Seed.{Seed}
@@ -16,7 +18,8 @@ is_raised flags number = slice_index_or flags number false
 
 -- the document with the number, where its flag is raised
 abbrev pub raised_document : List Pair → List Bool → ℕ → Option Bundle
-raised_document pairs flags number = cond (is_raised flags number) (option_map (λ p. p.document) (slice_get pairs number)) None
+raised_document pairs flags number = cond (is_raised flags number)
+    (option_map (λ p. p.document) (slice_get pairs number)) None
 
 -- the documents with these numbers whose flags are raised
 abbrev pub raised_documents : List Pair → List Bool → List ℕ → List Bundle

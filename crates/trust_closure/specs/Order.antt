@@ -5,4 +5,5 @@ use Rattle.bundle_doc.specs.Bundle.{Bundle, canonical_text}
 use Rattle.trust_closure.specs.Views.{document_cmp}
 
 pub document_total : IsTotalOrder document_cmp
-document_total = then_total (on_total (λ (d : Bundle). d.rank) (options_total nat_cmp_total)) (on_texts canonical_text)
+document_total = then_total (on_total (λ (d : Bundle). d.rank) (options_total nat_cmp_total))
+    (on_texts canonical_text)

@@ -1,5 +1,6 @@
 -- Different documents of domains, in order, each by the number of the first that came
-use Rattle.std.specs.Prelude.{◌≡◌, ℕ, ◌<◌, ◌≤◌, ◌⊎◌, List, [], AllPairs, true, length, Contains, slice_get, slice_index_or, Some, None}
+use Rattle.std.specs.Prelude.{◌≡◌, ℕ, ◌<◌, ◌≤◌, ◌⊎◌, List, [], AllPairs, true, length, Contains}
+use Rattle.std.specs.Prelude.{slice_get, slice_index_or, Some, None}
 use Rattle.std.specs.List.{All, insert, filter}
 use Rattle.std.specs.declared.cmp.Ordering.{Ordering}
 use Rattle.std.specs.declared.cmp.Ordering.TheVariants.{Less, Equal}
@@ -33,9 +34,11 @@ pub record Paired : Type 0 where
 
 -- the pairs with these numbers rise
 abbrev pub AreRising : List Pair → List ℕ → Type 0
-AreRising pairs numbers = AllPairs (λ i j. pair_cmp (pair_at pairs i) (pair_at pairs j) ≡ Less) numbers
+AreRising pairs numbers = AllPairs (λ i j. pair_cmp (pair_at pairs i) (pair_at pairs j) ≡ Less)
+    numbers
 
--- The numbers are those of different pairs, in order; and each pair has the number of the first that is equal.
+-- The numbers are those of different pairs, in order; and each pair has the number of the first
+-- that is equal.
 pub record IsPairing (pairs : List Pair) (p : Paired) : Type 0 where
   pub sizes : length p.firsts ≡ length pairs
   pub counted : length p.counts ≡ length pairs
@@ -43,12 +46,16 @@ pub record IsPairing (pairs : List Pair) (p : Paired) : Type 0 where
   pub within : All (λ n. n < length pairs) p.numbers
   pub few : length p.numbers ≤ length pairs
   pub rising : AreRising pairs p.numbers
-  pub first : (node number : ℕ) → slice_get p.firsts node ≡ Some number → Contains p.numbers number × (slice_get pairs number ≡ slice_get pairs node)
+  pub first : (node number : ℕ) → slice_get p.firsts node ≡ Some number
+      → Contains p.numbers number × (slice_get pairs number ≡ slice_get pairs node)
 
--- The pair has this number: one among those in order that has it, or, where none has, the number that is put in its place.
+-- The pair has this number: one among those in order that has it, or, where none has, the number
+-- that is put in its place.
 abbrev pub PutsFirst : List Pair → Pair → ℕ → List ℕ → List ℕ → ℕ → Type 0
-PutsFirst pairs p number old new first = ((new ≡ old) × Contains old first × (pair_cmp (pair_at pairs first) p ≡ Equal))
-    ⊎ ((first ≡ number) × ((place : ℕ) × (new ≡ insert old place number) × IsMissing (λ n. pair_cmp (pair_at pairs n) p) old place))
+PutsFirst pairs p number old new
+    first = ((new ≡ old) × Contains old first × (pair_cmp (pair_at pairs first) p ≡ Equal))
+    ⊎ ((first ≡ number) × ((place : ℕ) × (new ≡ insert old place number)
+    × IsMissing (λ n. pair_cmp (pair_at pairs n) p) old place))
 
 -- the pair has a number whose flag is raised
 pub record HasRaised (pairs : List Pair) (p : Paired) (q : Pair) : Type 0 where
@@ -59,7 +66,8 @@ pub record HasRaised (pairs : List Pair) (p : Paired) (q : Pair) : Type 0 where
 
 -- the numbers of the domain's pairs
 abbrev pub numbers_of : List Pair → List ℕ → List ℕ → List ℕ
-numbers_of pairs numbers domain = filter (λ n. is_equal (domain_cmp (pair_at pairs n).domain domain)) numbers
+numbers_of pairs numbers domain = filter
+    (λ n. is_equal (domain_cmp (pair_at pairs n).domain domain)) numbers
 
 -- the domain's documents whose flags are raised, in order
 abbrev pub raised_of : List Pair → Paired → List ℕ → List Bundle

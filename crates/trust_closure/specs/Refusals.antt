@@ -7,7 +7,8 @@ use Rattle.receipt_core.specs.Receipt.{Receipt, receipt_cmp, distrust_cmp, pair_
 use Rattle.receipt_core.specs.Rising.{with_items}
 use Rattle.receipt_core.specs.Acceptance.{IsFitting, Meaning}
 use Rattle.trust_closure.specs.declared.error.TakeError.{TakeError}
-use Rattle.trust_closure.specs.declared.error.TakeError.TheVariants.{UnknownDomain, WrongEndpoint, Full, NoMemory, ConfigDiffers}
+use Rattle.trust_closure.specs.declared.error.TakeError.TheVariants.{UnknownDomain, WrongEndpoint}
+use Rattle.trust_closure.specs.declared.error.TakeError.TheVariants.{Full, NoMemory, ConfigDiffers}
 
 -- for how many receipts, and for how many offers of theirs, there is memory already
 pub record Room : Type 0 where
@@ -113,7 +114,8 @@ pub record WantsCopies (m other : Meaning) : Type 0 where
 
 abbrev pub RefusesMerge : Meaning → Meaning → TakeError → Type 0
 RefusesMerge m other UnknownDomain = IsAlike m other × HasUnknownDomain m other
-RefusesMerge m other WrongEndpoint = IsAlike m other × (HasUnknownDomain m other → ⊥) × HasWrongEndpoint m other
+RefusesMerge m other WrongEndpoint = IsAlike m other × (HasUnknownDomain m other → ⊥)
+    × HasWrongEndpoint m other
 RefusesMerge m other Full = IsOfConfig m other × AreTooMany m other
 RefusesMerge m other NoMemory = WantsCopies m other
 RefusesMerge m other ConfigDiffers = IsAlike m other → ⊥

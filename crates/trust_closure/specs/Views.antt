@@ -11,9 +11,11 @@ use Rattle.receipt_core.specs.Receipt.{Receipt, Pair, receipt_id_of}
 use Rattle.receipt_core.specs.Acceptance.{Meaning, IsMember, IsPending}
 use Rattle.trust_closure.specs.Count.{IsCount}
 
--- documents are ordered by rank, where an absent one stands below 0, and then by the bytes of their canonical texts
+-- documents are ordered by rank, where an absent one stands below 0, and then by the bytes of their
+-- canonical texts
 abbrev pub document_cmp : Bundle → Bundle → Ordering
-document_cmp a b = ordering_then (option_cmp nat_cmp a.rank b.rank) (slice_cmp nat_cmp (canonical_text a) (canonical_text b))
+document_cmp a b = ordering_then (option_cmp nat_cmp a.rank b.rank)
+    (slice_cmp nat_cmp (canonical_text a) (canonical_text b))
 
 abbrev pub document_of : List ℕ → Bundle → Pair
 document_of domain document = record { domain = domain; document = document }

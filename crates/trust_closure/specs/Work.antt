@@ -1,5 +1,6 @@
 -- How much work it is to distrust keys
-use Rattle.std.specs.Prelude.{◌≡◌, ◌↔◌, ◌⊎◌, ◌*◌, ◌<◌, ◌≤◌, ℕ, [], ◌∷◌, Bool, List, Contains, Result, MatchResult, length, slice_get, Some}
+use Rattle.std.specs.Prelude.{◌≡◌, ◌↔◌, ◌⊎◌, ◌*◌, ◌<◌, ◌≤◌, ℕ, [], ◌∷◌, Bool, List, Contains}
+use Rattle.std.specs.Prelude.{Result, MatchResult, length, slice_get, Some}
 use Rattle.std.specs.List.{All}
 use Rattle.receipt_core.specs.declared.distrust.Distrust.{Distrust}
 use Rattle.receipt_core.specs.declared.triple.Triple.{Triple}

@@ -14,23 +14,29 @@ use std::alloc::{AllocError, Global};
 /// Memory ran out.
 pub type NoMemory = AllocError;
 
-/// A configuration, a set of receipts and a set of records of distrust, which together say what is accepted: the least
-/// set that has the configured documents and, for each held receipt that an accepted document vouches for, the receipt's
-/// document (SPIFFE Federation, section 5.2, profile `https_spiffe`).
+/// A configuration, a set of receipts and a set of records of distrust, which together say what is
+/// accepted: the least set that has the configured documents and, for each held receipt that an
+/// accepted document vouches for, the receipt's document (SPIFFE Federation, section 5.2, profile
+/// `https_spiffe`).
 ///
-/// A document vouches for a receipt where it is of the endpoint's trust domain, has the voucher's id and an X.509
-/// authority with the receipt's key, and that key is not distrusted in that domain. A receipt that no accepted document
-/// vouches for is pending, and stays held. At most 65,536 receipts and 4,096 records of distrust are held.
+/// A document vouches for a receipt where it is of the endpoint's trust domain, has the voucher's
+/// id and an X.509 authority with the receipt's key, and that key is not distrusted in that domain.
+/// A receipt that no accepted document vouches for is pending, and stays held. At most 65,536
+/// receipts and 4,096 records of distrust are held.
 pub trait Closure: Drop {
     ghost use Rattle.receipt_core.specs.Acceptance.{Meaning, IsMeaning, IsMember};
-    ghost use Rattle.trust_closure.specs.Views.{IsAcceptedList, IsPendingCount, document_of, receipts_in};
+    ghost use Rattle.trust_closure.specs.Views.{IsAcceptedList, IsPendingCount, document_of};
+    ghost use Rattle.trust_closure.specs.Views.{receipts_in};
     ghost use Rattle.trust_closure.specs.Refusals.{Room, IsRoomier};
-    ghost use Rattle.trust_closure.specs.Changes.{HeldAndRoom, empty_of, Takes, TakesDistrust, Merges};
+    ghost use Rattle.trust_closure.specs.Changes.{HeldAndRoom, empty_of, Takes, TakesDistrust};
+    ghost use Rattle.trust_closure.specs.Changes.{Merges};
 
-    // The configuration, the receipts and the records of distrust, and how much more there is memory for.
+    // The configuration, the receipts and the records of distrust, and how much more there is
+    // memory for.
     ghost state: { Self → HeldAndRoom };
 
-    /// A closure of the configuration that holds no receipt and no record of distrust. It makes room for all records.
+    /// A closure of the configuration that holds no receipt and no record of distrust. It makes
+    /// room for all records.
     ///
     /// # Errors
     /// Memory ran out.
@@ -46,21 +52,24 @@ pub trait Closure: Drop {
     ///
     /// # Errors
     /// The receipt comes back, and what is held stays. Of these the first that holds:
-    /// - [`TakeError::UnknownDomain`]: the configuration has no relationship with the receipt's domain,
+    /// - [`TakeError::UnknownDomain`]: the configuration has no relationship with the receipt's
+    ///   domain,
     /// - [`TakeError::WrongEndpoint`]: that relationship has another endpoint,
     /// - [`TakeError::Full`]: the receipt is not held, and 65,536 are,
-    /// - [`TakeError::NoMemory`]: memory ran out. Never where the receipt and its offers are within [`Closure::room`].
+    /// - [`TakeError::NoMemory`]: memory ran out. Never where the receipt and its offers are within
+    ///   [`Closure::room`].
     fn take(&mut self, receipt: Receipt) -> Result<Taken, Refused>
         ensures { Takes (state self.old) receipt (state self.new) result };
 
-    /// Takes all receipts and all records of distrust of another closure, or none, and returns how many receipts were
-    /// not held.
+    /// Takes all receipts and all records of distrust of another closure, or none, and returns how
+    /// many receipts were not held.
     ///
     /// # Errors
     /// What is held stays. `ConfigDiffers` comes first; of the others the first that holds:
     /// - [`TakeError::ConfigDiffers`]: the other's configuration has another digest,
-    /// - [`TakeError::UnknownDomain`]: the configuration, which then is another one of the same digest, has no
-    ///   relationship with the domain of a receipt of the other, or does not have the domain of a record of the other,
+    /// - [`TakeError::UnknownDomain`]: the configuration, which then is another one of the same
+    ///   digest, has no relationship with the domain of a receipt of the other, or does not have
+    ///   the domain of a record of the other,
     /// - [`TakeError::WrongEndpoint`]: the same of the endpoint of a receipt,
     /// - [`TakeError::Full`]: there would be more than 65,536 receipts, or more than 4,096 records,
     /// - [`TakeError::NoMemory`]: memory ran out.
@@ -74,15 +83,17 @@ pub trait Closure: Drop {
     /// - [`TakeError::UnknownDomain`]: the domain is none of the configuration,
     /// - [`TakeError::Full`]: the record is not held, and 4,096 are.
     fn distrust(&mut self, domain: &TrustDomain, key: KeyId) -> Result<Distrusted, TakeError>
-        ensures meaning { TakesDistrust (state self.old).meaning (record { domain = domain.now; key = key }) (state self.new).meaning result }
+        ensures meaning { TakesDistrust (state self.old).meaning
+            (record { domain = domain.now; key = key }) (state self.new).meaning result }
         ensures room { (state self.new).room ≡ (state self.old).room };
 
     /// Whether the document is accepted as one of this domain.
     fn is_accepted(&self, domain: &TrustDomain, document: &Document) -> bool
-        ensures { IsTrue result ↔ IsMember (state self.now).meaning (document_of domain.now document.now) };
+        ensures { IsTrue result
+            ↔ IsMember (state self.now).meaning (document_of domain.now document.now) };
 
-    /// The accepted documents of the domain, each once, rising by rank, where an absent one comes first, and then by
-    /// canonical text.
+    /// The accepted documents of the domain, each once, rising by rank, where an absent one comes
+    /// first, and then by canonical text.
     fn accepted(&self, domain: &TrustDomain) -> Accepted<'_>
         ensures { IsAcceptedList (state self.now).meaning domain.now result };
 
@@ -113,13 +124,15 @@ pub trait Closure: Drop {
     fn try_reserve(&mut self, receipts: usize, offers: usize) -> Result<(), NoMemory>
         ensures meaning { (state self.new).meaning ≡ (state self.old).meaning }
         ensures room { IsRoomier (state self.old).room (state self.new).room }
-        ensures ok { OnOk result (IsRoomier (record { receipts = receipts; offers = offers }) (state self.new).room) }
+        ensures ok { OnOk result
+            (IsRoomier (record { receipts = receipts; offers = offers }) (state self.new).room) }
 
         // It is refused only where there was not so much room already.
-        ensures within { IsRoomier (record { receipts = receipts; offers = offers }) (state self.old).room → IsOk result };
+        ensures within { IsRoomier (record { receipts = receipts; offers = offers })
+            (state self.old).room → IsOk result };
 
-    /// For how many receipts more there is room, and for how many offers of them. Within it, a receipt is never refused
-    /// for lack of memory.
+    /// For how many receipts more there is room, and for how many offers of them. Within it, a
+    /// receipt is never refused for lack of memory.
     fn room(&self) -> (usize, usize)
         ensures receipts { result.0 ≡ (state self.now).room.receipts }
         ensures offers { result.1 ≡ (state self.now).room.offers };

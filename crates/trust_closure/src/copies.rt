@@ -1,12 +1,14 @@
 //! Copies of what another closure holds and this one does not.
-ghost use Rattle.std.specs.Prelude.{◌≡◌, ◌+◌, ◌<◌, length, Contains, MatchBool, MatchOption, MatchResult};
+ghost use Rattle.std.specs.Prelude.{◌≡◌, ◌+◌, ◌<◌, length, Contains, MatchBool, MatchOption};
+ghost use Rattle.std.specs.Prelude.{MatchResult};
 ghost use Rattle.fed_config.specs.Configuration.{HasDomain};
 ghost use Rattle.receipt_core.specs.declared.distrust.Distrust.{Distrust};
 ghost use Rattle.receipt_core.specs.Receipt.{Receipt};
 ghost use Rattle.receipt_core.specs.Acceptance.{IsFitting};
 ghost use Rattle.trust_closure.specs.Held.{meaning_of};
 ghost use Rattle.trust_closure.specs.Refusals.{RefusesMerge, all_receipts, all_records};
-ghost use Rattle.trust_closure.specs.Merge.{IsMergeable, HasNew, AreCopies, IsShare, MisfitsOne, offers_count};
+ghost use Rattle.trust_closure.specs.Merge.{IsMergeable, HasNew, AreCopies, IsShare, MisfitsOne};
+ghost use Rattle.trust_closure.specs.Merge.{offers_count};
 
 use crate::closure::NoMemory;
 use crate::error::TakeError;
@@ -16,7 +18,8 @@ use fed_config::Config;
 use receipt_core::Receipt;
 use std::alloc::AllocError;
 
-/// What is to be taken in: copies of the receipts that are not held, and how many offers they have together.
+/// What is to be taken in: copies of the receipts that are not held, and how many offers they have
+/// together.
 #[derive(Drop)]
 pub(crate) struct Share {
     pub(crate) copies: Vec<Receipt>,
@@ -26,9 +29,11 @@ pub(crate) struct Share {
 /// Copies what the one does not hold of the receipts that the other holds.
 ///
 /// # Errors
-/// As [`crate::Closure::merge`] tells. No receipt is copied before all causes but lack of memory are ruled out.
+/// As [`crate::Closure::merge`] tells. No receipt is copied before all causes but lack of memory
+/// are ruled out.
 pub(crate) fn share_of(held: &Held, other: &Held) -> Result<Share, TakeError>
-    ensures { MatchResult result (IsShare (meaning_of held.now) (meaning_of other.now)) (RefusesMerge (meaning_of held.now) (meaning_of other.now)) }
+    ensures { MatchResult result (IsShare (meaning_of held.now) (meaning_of other.now))
+        (RefusesMerge (meaning_of held.now) (meaning_of other.now)) }
 {
     judge(held, other)?;
     match copy_share(held, other) {
@@ -39,7 +44,8 @@ pub(crate) fn share_of(held: &Held, other: &Held) -> Result<Share, TakeError>
 
 /// Whether all may be taken in, but for memory.
 fn judge(held: &Held, other: &Held) -> Result<(), TakeError>
-    ensures { MatchResult result (λ _. IsMergeable (meaning_of held.now) (meaning_of other.now)) (RefusesMerge (meaning_of held.now) (meaning_of other.now)) }
+    ensures { MatchResult result (λ _. IsMergeable (meaning_of held.now) (meaning_of other.now))
+        (RefusesMerge (meaning_of held.now) (meaning_of other.now)) }
 {
     let config = held.config();
     if config.digest() != other.config().digest() {
@@ -74,7 +80,9 @@ fn knows_all(config: &Config, records: Distrusts<'_>) -> bool
 
 /// Whether each receipt fits: an unknown domain is reported before another endpoint.
 fn fit_all(config: &Config, receipts: Receipts<'_>) -> Result<(), TakeError>
-    ensures { MatchResult result (λ _. (r : Receipt) → Contains receipts.entry r → IsFitting config.now r) (MisfitsOne config.now receipts.entry) }
+    ensures { MatchResult result
+        (λ _. (r : Receipt) → Contains receipts.entry r → IsFitting config.now r)
+        (MisfitsOne config.now receipts.entry) }
 {
     let mut all_fit = true;
     for receipt in receipts {
@@ -94,7 +102,8 @@ fn fit_all(config: &Config, receipts: Receipts<'_>) -> Result<(), TakeError>
 
 /// How many receipts of the other are not held.
 fn new_receipts(held: &Held, other: &Held) -> usize
-    ensures { length (all_receipts (meaning_of held.now) (meaning_of other.now)) ≡ length held.now.held + result }
+    ensures { length (all_receipts (meaning_of held.now) (meaning_of other.now))
+        ≡ length held.now.held + result }
 {
     let _valid = held.config();
     let _other_valid = other.config();
@@ -109,7 +118,8 @@ fn new_receipts(held: &Held, other: &Held) -> usize
 
 /// How many records of distrust of the other are not held.
 fn new_records(held: &Held, other: &Held) -> usize
-    ensures { length (all_records (meaning_of held.now) (meaning_of other.now)) ≡ length held.now.records + result }
+    ensures { length (all_records (meaning_of held.now) (meaning_of other.now))
+        ≡ length held.now.records + result }
 {
     let _valid = held.config();
     let _other_valid = other.config();
@@ -124,7 +134,8 @@ fn new_records(held: &Held, other: &Held) -> usize
 
 fn copy_share(held: &Held, other: &Held) -> Result<Share, NoMemory>
     requires { IsMergeable (meaning_of held.now) (meaning_of other.now) }
-    ensures { MatchResult result (IsShare (meaning_of held.now) (meaning_of other.now)) (λ _. HasNew (meaning_of held.now) (meaning_of other.now)) }
+    ensures { MatchResult result (IsShare (meaning_of held.now) (meaning_of other.now))
+        (λ _. HasNew (meaning_of held.now) (meaning_of other.now)) }
 {
     let copies = copies_of_new(held, other)?;
     match offers_of_all(&copies) {
@@ -135,7 +146,9 @@ fn copy_share(held: &Held, other: &Held) -> Result<Share, NoMemory>
 
 /// Copies of the receipts of the other that are not held.
 fn copies_of_new(held: &Held, other: &Held) -> Result<Vec<Receipt>, NoMemory>
-    ensures { MatchResult result (λ v. AreCopies (meaning_of held.now) (meaning_of other.now) v.items) (λ _. HasNew (meaning_of held.now) (meaning_of other.now)) }
+    ensures { MatchResult result
+        (λ v. AreCopies (meaning_of held.now) (meaning_of other.now) v.items)
+        (λ _. HasNew (meaning_of held.now) (meaning_of other.now)) }
 {
     let _valid = held.config();
     let _other_valid = other.config();
@@ -151,7 +164,8 @@ fn copies_of_new(held: &Held, other: &Held) -> Result<Vec<Receipt>, NoMemory>
 
 /// How many offers the receipts have together, if that is a number of 64 bits.
 fn offers_of_all(receipts: &[Receipt]) -> Option<usize>
-    ensures { MatchOption result (0 < length receipts.now) (λ offers. offers_count receipts.now ≡ offers) }
+    ensures { MatchOption result (0 < length receipts.now)
+        (λ offers. offers_count receipts.now ≡ offers) }
 {
     let mut offers: usize = 0;
     for receipt in receipts {

@@ -25,8 +25,9 @@ use label_net::Wiring;
 use receipt_core::Receipt;
 use spiffe_name::TrustDomain;
 
-/// Holds a receipt that is absent, at its place, and returns how many documents of domains are accepted now and were not
-/// before. There is room for it: it takes no memory, and looks at its own edges and at what is marked from now on.
+/// Holds a receipt that is absent, at its place, and returns how many documents of domains are
+/// accepted now and were not before. There is room for it: it takes no memory, and looks at its own
+/// edges and at what is marked from now on.
 pub(crate) fn add(
     held: &mut Held,
     pairs: &mut Pairs,
@@ -42,13 +43,18 @@ pub(crate) fn add(
     requires nodes { 0 < wiring.old.nodes }
     requires edges { length (offers_of (pair_of receipt)) < wiring.old.edges }
     ensures indexed { IsIndexed held.new pairs.new wiring.new }
-    ensures held { held.new ≡ record held.old { arrived = held.old.arrived ++ receipt ∷ []; held = with_receipt receipt held.old.held } }
+    ensures held { held.new
+        ≡ record held.old {
+          arrived = held.old.arrived ++ receipt ∷ [];
+          held = with_receipt receipt held.old.held;
+        } }
     ensures gain { IsGain (meaning_of held.old) (meaning_of held.new) result }
     ensures front { take (length wiring.old.marked) wiring.new.marked ≡ wiring.old.marked }
     ensures firsts { length pairs.new.firsts ≡ length pairs.old.firsts + 1 }
     ensures pairs_room { pairs.new.capacity ≡ pairs.old.capacity }
     ensures nodes { wiring.old.nodes ≡ wiring.new.nodes + 1 }
-    ensures edges { wiring.old.edges ≤ wiring.new.edges + (length (offers_of (pair_of receipt)) + 1) }
+    ensures edges { wiring.old.edges
+        ≤ wiring.new.edges + (length (offers_of (pair_of receipt)) + 1) }
 {
     let count = wiring.reach().marked().len();
     place_receipt(held, pairs, wiring, place, receipt);
@@ -72,13 +78,18 @@ fn place_receipt(
     requires nodes { 0 < wiring.old.nodes }
     requires edges { length (offers_of (pair_of receipt)) < wiring.old.edges }
     ensures built { IsBuilt held.new pairs.new wiring.new }
-    ensures held { held.new ≡ record held.old { arrived = held.old.arrived ++ receipt ∷ []; held = with_receipt receipt held.old.held } }
+    ensures held { held.new
+        ≡ record held.old {
+          arrived = held.old.arrived ++ receipt ∷ [];
+          held = with_receipt receipt held.old.held;
+        } }
     ensures firsts { (first : ℕ) × (pairs.new.firsts ≡ pairs.old.firsts ++ first ∷ []) }
     ensures counts { pairs.new.counts ≡ pairs.old.counts ++ 0 ∷ [] }
     ensures front { take (length wiring.old.marked) wiring.new.marked ≡ wiring.old.marked }
     ensures pairs_room { pairs.new.capacity ≡ pairs.old.capacity }
     ensures nodes { wiring.old.nodes ≡ wiring.new.nodes + 1 }
-    ensures edges { wiring.old.edges ≤ wiring.new.edges + (length (offers_of (pair_of receipt)) + 1) }
+    ensures edges { wiring.old.edges
+        ≤ wiring.new.edges + (length (offers_of (pair_of receipt)) + 1) }
 {
     let seeds = held.config().seeds();
     pairs.add(seeds, held.arrived(), receipt.domain(), receipt.document());
@@ -112,7 +123,8 @@ pub(crate) fn lose(
 ) -> Result<Distrusted, TakeError>
     requires indexed { IsIndexed held.old pairs.old wiring.old }
     ensures indexed { IsIndexed held.new pairs.new wiring.new }
-    ensures meaning { TakesDistrust (meaning_of held.old) (record { domain = domain.now; key = key }) (meaning_of held.new) result }
+    ensures meaning { TakesDistrust (meaning_of held.old)
+        (record { domain = domain.now; key = key }) (meaning_of held.new) result }
     ensures work { (spare : Spare) → Works (indexed_of held.old wiring.old spare turns.old)
         (record { domain = domain.now; key = key })
         (indexed_of held.new wiring.new spare turns.new) result }

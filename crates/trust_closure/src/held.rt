@@ -1,9 +1,11 @@
 //! What a closure holds: its configuration, receipts, and records of distrust.
-ghost use Rattle.std.specs.Prelude.{◌≡◌, ℕ, ◌+◌, ◌<◌, ◌≤◌, ◌↔◌, [], ◌∷◌, ◌++◌, length, Contains, IsTrue, IsOk, OnOk, IfOk, MatchResult};
+ghost use Rattle.std.specs.Prelude.{◌≡◌, ℕ, ◌+◌, ◌<◌, ◌≤◌, ◌↔◌, [], ◌∷◌, ◌++◌, length, Contains};
+ghost use Rattle.std.specs.Prelude.{IsTrue, IsOk, OnOk, IfOk, MatchResult};
 ghost use Rattle.fed_config.specs.Configuration.{IsConfiguration};
 ghost use Rattle.receipt_core.specs.Receipt.{IsReceipt, with_receipt};
 ghost use Rattle.receipt_core.specs.Acceptance.{IsFitting, IsMeaning};
-ghost use Rattle.trust_closure.specs.Held.{Hoard, meaning_of, IsAbsent, Stands, Repels, Misfits, AddsOrRefuses, addition_result};
+ghost use Rattle.trust_closure.specs.Held.{Hoard, meaning_of, IsAbsent, Stands, Repels, Misfits};
+ghost use Rattle.trust_closure.specs.Held.{AddsOrRefuses, addition_result};
 ghost use Rattle.trust_closure.specs.Views.{receipts_in};
 
 use crate::closure::NoMemory;
@@ -32,8 +34,8 @@ pub(crate) enum Standing {
     Absent(usize),
 }
 
-/// The configuration, the receipts in order of arrival, beside their order by lines and that by the first byte of their
-/// ids, and the records of distrust in their order.
+/// The configuration, the receipts in order of arrival, beside their order by lines and that by the
+/// first byte of their ids, and the records of distrust in their order.
 #[derive(Drop)]
 pub(crate) struct Held {
     config: Config,
@@ -64,7 +66,9 @@ impl Model for Held {
 impl Held {
     /// Holds nothing, with room for all records.
     pub(crate) fn new(alloc: Global, config: &Config) -> Result<Held, NoMemory>
-        ensures { IfOk result (λ h. (meaning_of h ≡ record { config = config.now; held = []; records = [] }) × (h.arrived ≡ [])) }
+        ensures { IfOk result (λ h.
+            (meaning_of h ≡ record { config = config.now; held = []; records = [] })
+            × (h.arrived ≡ [])) }
     {
         // That the configuration is well formed stands on this call.
         let _ = config.domains();
@@ -87,7 +91,8 @@ impl Held {
 
     /// Whether the receipt fits, and is held.
     pub(crate) fn standing(&self, receipt: &Receipt) -> Result<Standing, TakeError>
-        ensures { MatchResult result (Stands (meaning_of self.now) receipt.now) (Repels (meaning_of self.now) receipt.now) }
+        ensures { MatchResult result (Stands (meaning_of self.now) receipt.now)
+            (Repels (meaning_of self.now) receipt.now) }
     {
         if let Err(why) = fit(&self.config, receipt) {
             return Err(why);
@@ -121,7 +126,10 @@ impl Held {
     pub(crate) fn insert(&mut self, place: usize, receipt: Receipt)
         requires absent { IsAbsent (meaning_of self.old) receipt place }
         requires room { length self.old.arrived < self.old.capacity }
-        ensures { self.new ≡ record self.old { arrived = self.old.arrived ++ receipt ∷ []; held = with_receipt receipt self.old.held } }
+        ensures { self.new ≡ record self.old {
+          arrived = self.old.arrived ++ receipt ∷ [];
+          held = with_receipt receipt self.old.held;
+        } }
     {
         let spot = self
             .buckets
@@ -136,7 +144,8 @@ impl Held {
         domain: &TrustDomain,
         key: KeyId,
     ) -> Result<Addition, TakeError>
-        ensures meaning { AddsOrRefuses (meaning_of self.old) (record { domain = domain.now; key = key }) (meaning_of self.new) result }
+        ensures meaning { AddsOrRefuses (meaning_of self.old)
+            (record { domain = domain.now; key = key }) (meaning_of self.new) result }
         ensures arrived { self.new.arrived ≡ self.old.arrived }
         ensures capacity { self.new.capacity ≡ self.old.capacity }
     {
@@ -202,7 +211,8 @@ impl Held {
 
     /// Whether the key is distrusted in the domain.
     pub(crate) fn is_distrusted(&self, domain: &TrustDomain, key: KeyId) -> bool
-        ensures { IsTrue result ↔ Contains self.now.records (record { domain = domain.now; key = key }) }
+        ensures { IsTrue result
+            ↔ Contains self.now.records (record { domain = domain.now; key = key }) }
     {
         match self.config.domain_no(domain) {
             Some(number) => self.records.holds(&record_of(&key.0, number)),
@@ -228,7 +238,8 @@ impl LabelTest for Held {
 
 /// Whether the configuration has a relationship with the receipt's domain, and its endpoint.
 pub(crate) fn fit(config: &Config, receipt: &Receipt) -> Result<(), TakeError>
-    ensures fits { MatchResult result (λ _. IsFitting config.now receipt.now) (Misfits config.now receipt.now) }
+    ensures fits { MatchResult result (λ _. IsFitting config.now receipt.now)
+        (Misfits config.now receipt.now) }
     ensures form { IsReceipt receipt.now }
 {
     let Some(relationship) = config.relationship(receipt.domain()) else {

@@ -1,10 +1,12 @@
 //! Takes and distrusts over an index.
-ghost use Rattle.std.specs.Prelude.{◌≡◌, ℕ, ◌+◌, ◌^◌, ◌<◌, ◌≤◌, ◌∷◌, ◌++◌, [], length, take, IsOk, OnOk};
+ghost use Rattle.std.specs.Prelude.{◌≡◌, ℕ, ◌+◌, ◌^◌, ◌<◌, ◌≤◌, ◌∷◌, ◌++◌, [], length, take, IsOk};
+ghost use Rattle.std.specs.Prelude.{OnOk};
 ghost use Rattle.receipt_core.specs.Receipt.{pair_of, offers_of, with_receipt};
 ghost use Rattle.trust_closure.specs.Changes.{Takes};
 ghost use Rattle.trust_closure.specs.Refusals.{IsRoomier};
 ghost use Rattle.trust_closure.specs.Held.{meaning_of};
-ghost use Rattle.trust_closure.specs.Indexed.{IsIndexedClosure, Reserves, ArrivesLast, room_of, closure_state};
+ghost use Rattle.trust_closure.specs.Indexed.{IsIndexedClosure, Reserves, ArrivesLast, room_of};
+ghost use Rattle.trust_closure.specs.Indexed.{closure_state};
 
 use crate::error::TakeError;
 use crate::grow::add;
@@ -35,7 +37,8 @@ pub(crate) fn take_into(
 ) -> Result<Taken, Refused>
     requires { IsIndexedClosure held.old pairs.old wiring.old spare.old }
     ensures kept { IsIndexedClosure held.new pairs.new wiring.new spare.new }
-    ensures takes { Takes (closure_state held.old spare.old) receipt (closure_state held.new spare.new) result }
+    ensures takes { Takes (closure_state held.old spare.old) receipt
+        (closure_state held.new spare.new) result }
     ensures arrived { ArrivesLast held.old.arrived receipt held.new.arrived result }
     ensures marked { take (length wiring.old.marked) wiring.new.marked ≡ wiring.old.marked }
 {
@@ -69,9 +72,12 @@ pub(crate) fn reserve(
     offers: usize,
 ) -> Result<(), AllocError>
     requires { IsIndexedClosure held.old pairs.old wiring.old spare.old }
-    ensures reserves { Reserves held.old held.new pairs.old pairs.new wiring.old wiring.new spare.old spare.new }
-    ensures ok { OnOk result (IsRoomier (record { receipts = receipts; offers = offers }) (room_of spare.new)) }
-    ensures within { IsRoomier (record { receipts = receipts; offers = offers }) (room_of spare.old) → IsOk result }
+    ensures reserves { Reserves held.old held.new pairs.old pairs.new wiring.old wiring.new
+        spare.old spare.new }
+    ensures ok { OnOk result
+        (IsRoomier (record { receipts = receipts; offers = offers }) (room_of spare.new)) }
+    ensures within { IsRoomier (record { receipts = receipts; offers = offers }) (room_of spare.old)
+        → IsOk result }
 {
     if receipts <= spare.receipts && offers <= spare.offers {
         return Ok(());

@@ -2,7 +2,8 @@
 ghost use Rattle.std.specs.Prelude.{◌≡◌, ℕ, ◌↔◌, length, IsTrue, IsOk, OnOk, IfOk};
 ghost use Rattle.receipt_core.specs.Acceptance.{IsMeaning, IsMember};
 ghost use Rattle.wait_index.specs.Net.{ListsReached};
-ghost use Rattle.trust_closure.specs.Views.{IsAcceptedList, IsPendingCount, document_of, receipts_in};
+ghost use Rattle.trust_closure.specs.Views.{IsAcceptedList, IsPendingCount, document_of};
+ghost use Rattle.trust_closure.specs.Views.{receipts_in};
 ghost use Rattle.trust_closure.specs.Changes.{empty_of, Takes, TakesDistrust, Merges};
 ghost use Rattle.trust_closure.specs.Refusals.{IsRoomier};
 ghost use Rattle.trust_closure.specs.Work.{Works, MergesOnce};
@@ -27,8 +28,8 @@ use std::alloc::Global;
 use std::marker::Model;
 use wait_index::Reach;
 
-/// A closure over an index of its receipts: a take within room looks at the receipt's own edges and at what is accepted
-/// from now on, and never at all receipts.
+/// A closure over an index of its receipts: a take within room looks at the receipt's own edges and
+/// at what is accepted from now on, and never at all receipts.
 #[derive(Drop)]
 pub struct IndexedClosure {
     held: Held,
@@ -53,7 +54,8 @@ impl Model for IndexedClosure {
 impl IndexedClosure {
     ghost use Rattle.trust_closure.specs.Indexed.{IsIndexOf, GrowsAtItsEnd};
 
-    /// A closure of the configuration that holds no receipt and no record of distrust. It makes room for all records.
+    /// A closure of the configuration that holds no receipt and no record of distrust. It makes
+    /// room for all records.
     ///
     /// # Errors
     /// Memory ran out.
@@ -104,8 +106,8 @@ impl IndexedClosure {
         )
     }
 
-    /// Takes all receipts and all records of distrust of another closure, or none, and returns how many receipts were
-    /// not held.
+    /// Takes all receipts and all records of distrust of another closure, or none, and returns how
+    /// many receipts were not held.
     ///
     /// # Errors
     /// What is held stays. The causes and their order are those of [`crate::Closure::merge`].
@@ -122,7 +124,8 @@ impl IndexedClosure {
     /// labels of the key are closed at once, and [`turns`](IndexedClosure::turns) tells how many
     /// edges that looked at.
     pub fn distrust(&mut self, domain: &TrustDomain, key: KeyId) -> Result<Distrusted, TakeError>
-        ensures meaning { TakesDistrust self.old.state.meaning (record { domain = domain.now; key = key }) self.new.state.meaning result }
+        ensures meaning { TakesDistrust self.old.state.meaning
+            (record { domain = domain.now; key = key }) self.new.state.meaning result }
         ensures work { Works self.old (record { domain = domain.now; key = key }) self.new result }
         ensures room { self.new.state.room ≡ self.old.state.room }
     {
@@ -138,15 +141,16 @@ impl IndexedClosure {
 
     /// Whether the document is accepted as one of this domain.
     pub fn is_accepted(&self, domain: &TrustDomain, document: &Document) -> bool
-        ensures { IsTrue result ↔ IsMember self.now.state.meaning (document_of domain.now document.now) }
+        ensures { IsTrue result
+            ↔ IsMember self.now.state.meaning (document_of domain.now document.now) }
     {
         let seeds = self.held.config().seeds();
         self.pairs
             .is_raised(seeds, self.held.arrived(), domain, document)
     }
 
-    /// The accepted documents of the domain, each once, rising by rank, where an absent one comes first, and then by
-    /// canonical text.
+    /// The accepted documents of the domain, each once, rising by rank, where an absent one comes
+    /// first, and then by canonical text.
     pub fn accepted(&self, domain: &TrustDomain) -> Accepted<'_>
         ensures { IsAcceptedList self.now.state.meaning domain.now result }
     {
@@ -197,8 +201,10 @@ impl IndexedClosure {
     pub fn try_reserve(&mut self, receipts: usize, offers: usize) -> Result<(), NoMemory>
         ensures meaning { self.new.state.meaning ≡ self.old.state.meaning }
         ensures room { IsRoomier self.old.state.room self.new.state.room }
-        ensures ok { OnOk result (IsRoomier (record { receipts = receipts; offers = offers }) self.new.state.room) }
-        ensures within { IsRoomier (record { receipts = receipts; offers = offers }) self.old.state.room → IsOk result }
+        ensures ok { OnOk result
+            (IsRoomier (record { receipts = receipts; offers = offers }) self.new.state.room) }
+        ensures within { IsRoomier (record { receipts = receipts; offers = offers })
+            self.old.state.room → IsOk result }
         ensures arrived { self.new.arrived ≡ self.old.arrived }
         ensures net { self.new.wired.net ≡ self.old.wired.net }
         ensures marked { self.new.wired.marked ≡ self.old.wired.marked }

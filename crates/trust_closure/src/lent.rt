@@ -21,8 +21,8 @@ pub struct Receipts<'a> {
     lent: Lent<'a, Receipt>,
 }
 
-/// Accepted documents of one domain, each once, rising by rank, where an absent one comes first, and then by canonical
-/// text.
+/// Accepted documents of one domain, each once, rising by rank, where an absent one comes first,
+/// and then by canonical text.
 #[derive(Drop)]
 pub struct Accepted<'a> {
     numbers: Numbers<'a>,
@@ -148,7 +148,8 @@ impl<'a> Iterator for Accepted<'a> {
 impl<'a> Iterator for Distrusts<'a> {
     type Item = (&'a TrustDomain, &'a KeyId);
 
-    ghost next_gives = { YieldsFirstBy (λ item. record { domain = item.0.now; key = item.1.now }) (λ rest. rest) };
+    ghost next_gives = { YieldsFirstBy (λ item. record { domain = item.0.now; key = item.1.now })
+        (λ rest. rest) };
 
     ghost remaining = { item_count (λ rest. rest) };
 

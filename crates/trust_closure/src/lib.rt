@@ -1,4 +1,5 @@
-//! Which documents a replica accepts, by its configuration, its receipts and its records of distrust.
+//! Which documents a replica accepts, by its configuration, its receipts and its records of
+//! distrust.
 #![tactic(auto)]
 
 mod both;

@@ -54,7 +54,8 @@ pub(crate) trait Mergeable {
     fn make_room(&mut self, receipts: usize, offers: usize) -> Result<(), NoMemory>
         ensures meaning { (state self.new).meaning ≡ (state self.old).meaning }
         ensures room { IsRoomier (state self.old).room (state self.new).room }
-        ensures ok { OnOk result (IsRoomier (record { receipts = receipts; offers = offers }) (state self.new).room) }
+        ensures ok { OnOk result
+            (IsRoomier (record { receipts = receipts; offers = offers }) (state self.new).room) }
         ensures within { IsRoomier (record { receipts = receipts; offers = offers })
             (state self.old).room → IsOk result }
         ensures work { (records : List Distrust) (count : ℕ) → IsWork self.new records count
@@ -62,8 +63,8 @@ pub(crate) trait Mergeable {
         ensures turns { turns self.new ≡ turns self.old };
 }
 
-/// Takes all receipts and all records of distrust of another closure, or none, and returns how many receipts were not
-/// held. All memory is there before the first of them is taken.
+/// Takes all receipts and all records of distrust of another closure, or none, and returns how many
+/// receipts were not held. All memory is there before the first of them is taken.
 ///
 /// # Errors
 /// As [`crate::Closure::merge`] tells.
@@ -99,7 +100,8 @@ pub(crate) fn hold_all(held: &mut Held, records: Distrusts<'_>) -> bool
     let left = held.records_left();
     for (domain, key) in records {
         let _valid = held.config();
-        // The domain is one of the configuration, and there are not too many, so it is never refused.
+        // The domain is one of the configuration, and there are not too many, so it is never
+        // refused.
         let _ = held.add_record(domain, *key);
     }
     held.records_left() < left

@@ -1,4 +1,5 @@
-//! Documents of domains by number: those of the configuration, and then those of the receipts in order of arrival.
+//! Documents of domains by number: those of the configuration, and then those of the receipts in
+//! order of arrival.
 ghost use Rattle.std.specs.Prelude.{◌≡◌, ◌<◌, length, slice_get, Some};
 ghost use Rattle.std.specs.Option.{option_map};
 ghost use Rattle.trust_closure.specs.Nodes.{pairs_of};
@@ -15,7 +16,8 @@ pub(crate) fn document_at<'a>(
     number: usize,
 ) -> &'a Document
     requires { number < length (pairs_of seeds.now receipts.now) }
-    ensures { option_map (λ p. p.document) (slice_get (pairs_of seeds.now receipts.now) number) ≡ Some result.now }
+    ensures { option_map (λ p. p.document) (slice_get (pairs_of seeds.now receipts.now) number)
+        ≡ Some result.now }
 {
     if number < seeds.len() {
         &seeds[number].document
@@ -31,7 +33,8 @@ pub(crate) fn domain_at<'a>(
     number: usize,
 ) -> &'a TrustDomain
     requires { number < length (pairs_of seeds.now receipts.now) }
-    ensures { option_map (λ p. p.domain) (slice_get (pairs_of seeds.now receipts.now) number) ≡ Some result.now }
+    ensures { option_map (λ p. p.domain) (slice_get (pairs_of seeds.now receipts.now) number)
+        ≡ Some result.now }
 {
     if number < seeds.len() {
         &seeds[number].domain

@@ -1,5 +1,6 @@
 //! Different documents of domains in order.
-ghost use Rattle.std.specs.Prelude.{◌≡◌, ℕ, ◌+◌, ◌^◌, ◌<◌, ◌≤◌, ◌↔◌, ◌∷◌, ◌++◌, [], length, IsTrue, OnOk};
+ghost use Rattle.std.specs.Prelude.{◌≡◌, ℕ, ◌+◌, ◌^◌, ◌<◌, ◌≤◌, ◌↔◌, ◌∷◌, ◌++◌, [], length, IsTrue};
+ghost use Rattle.std.specs.Prelude.{OnOk};
 ghost use Rattle.std.specs.List.{All};
 ghost use Rattle.trust_closure.specs.Nodes.{pairs_of, is_raised};
 ghost use Rattle.trust_closure.specs.NodeCounts.{flags_of, count_at, nodes_with, AddsNodes};
@@ -20,9 +21,10 @@ use std::cmp::Ordering;
 use std::marker::Model;
 use wait_index::NodeNo;
 
-/// The documents of domains that the nodes have, each different one once in their order, by the number of its first node;
-/// that number for each node; and for each node a count, which says of a first one how many marked
-/// nodes have its document. A document is accepted where its count is not 0.
+/// The documents of domains that the nodes have, each different one once in their order, by the
+/// number of its first node; that number for each node; and for each node a count, which says of a
+/// first one how many marked nodes have its document. A document is accepted where its count is not
+/// 0.
 #[derive(Drop)]
 pub(crate) struct Pairs {
     order: Order,
@@ -59,7 +61,8 @@ impl<'a> Probe for SoughtPair<'a> {
     ghost use Rattle.trust_closure.specs.Pairs.{pair_cmp, pair_at};
     ghost use Rattle.trust_closure.specs.Views.{document_of};
 
-    ghost compared = { λ s number. pair_cmp (pair_at (pairs_of s.seeds.now s.receipts.now) number) (document_of s.domain.now s.document.now) };
+    ghost compared = { λ s number. pair_cmp (pair_at (pairs_of s.seeds.now s.receipts.now) number)
+        (document_of s.domain.now s.document.now) };
 
     ghost knows = { λ s number. number < length (pairs_of s.seeds.now s.receipts.now) };
 
@@ -88,7 +91,8 @@ impl<'a> Probe for SoughtDomain<'a> {
     ghost use Rattle.trust_closure.specs.Nodes.{pairs_of};
     ghost use Rattle.trust_closure.specs.Pairs.{pair_at};
 
-    ghost compared = { λ s number. domain_cmp (pair_at (pairs_of s.seeds.now s.receipts.now) number).domain s.domain.now };
+    ghost compared = { λ s number. domain_cmp
+        (pair_at (pairs_of s.seeds.now s.receipts.now) number).domain s.domain.now };
 
     ghost knows = { λ s number. number < length (pairs_of s.seeds.now s.receipts.now) };
 
@@ -97,7 +101,8 @@ impl<'a> Probe for SoughtDomain<'a> {
     }
 }
 
-/// Documents are ordered by rank and then by canonical text, which is read only where the ranks are equal.
+/// Documents are ordered by rank and then by canonical text, which is read only where the ranks are
+/// equal.
 fn compare_documents(a: &Document, b: &Document) -> Ordering
     ensures { result ≡ document_cmp a.now b.now }
 {
@@ -156,7 +161,8 @@ impl Pairs {
         requires pairing { IsPairing (pairs_of seeds.now receipts.now) self.old }
         requires room { length self.old.firsts < self.old.capacity }
         requires few { length self.old.firsts < 2 ^ 32 }
-        ensures pairing { IsPairing (pairs_of seeds.now receipts.now ++ document_of domain.now document.now ∷ []) self.new }
+        ensures pairing { IsPairing
+            (pairs_of seeds.now receipts.now ++ document_of domain.now document.now ∷ []) self.new }
         ensures counts { self.new.counts ≡ self.old.counts ++ 0 ∷ [] }
         ensures firsts { (first : ℕ) × (self.new.firsts ≡ self.old.firsts ++ first ∷ []) }
         ensures capacity { self.new.capacity ≡ self.old.capacity }
@@ -228,7 +234,9 @@ impl Pairs {
         document: &Document,
     ) -> bool
         requires { IsPairing (pairs_of seeds.now receipts.now) self.now }
-        ensures { IsTrue result ↔ HasRaised (pairs_of seeds.now receipts.now) self.now (document_of domain.now document.now) }
+        ensures { IsTrue result
+            ↔ HasRaised (pairs_of seeds.now receipts.now) self.now
+            (document_of domain.now document.now) }
     {
         let _form = document.canonical();
         let sought = SoughtPair {
@@ -267,12 +275,17 @@ impl Pairs {
     }
 }
 
-/// The first number of what is sought, which is added as `number` where it is not there. There is room for it.
+/// The first number of what is sought, which is added as `number` where it is not there. There is
+/// room for it.
 fn first_number(order: &mut Order, sought: &SoughtPair<'_>, number: u32) -> u32
-    requires known { All (λ n. n < length (pairs_of sought.now.seeds.now sought.now.receipts.now)) order.old.items }
-    requires rising { AreRising (pairs_of sought.now.seeds.now sought.now.receipts.now) order.old.items }
+    requires known { All (λ n. n < length (pairs_of sought.now.seeds.now sought.now.receipts.now))
+        order.old.items }
+    requires rising { AreRising (pairs_of sought.now.seeds.now sought.now.receipts.now)
+        order.old.items }
     requires room { length order.old.items < order.old.capacity }
-    ensures first { PutsFirst (pairs_of sought.now.seeds.now sought.now.receipts.now) (document_of sought.now.domain.now sought.now.document.now) number order.old.items order.new.items result }
+    ensures first { PutsFirst (pairs_of sought.now.seeds.now sought.now.receipts.now)
+        (document_of sought.now.domain.now sought.now.document.now) number order.old.items
+        order.new.items result }
     ensures capacity { order.new.capacity ≡ order.old.capacity }
 {
     match order.find(sought) {

@@ -1,5 +1,6 @@
 //! Takes and distrusts by rounds over all receipts.
-ghost use Rattle.std.specs.Prelude.{◌≡◌, ℕ, ◌+◌, ◌^◌, ◌<◌, ◌≤◌, ◌↔◌, ◌∷◌, ◌++◌, [], false, List, length, vec_capacity, Contains, IsOk, OnOk};
+ghost use Rattle.std.specs.Prelude.{◌≡◌, ℕ, ◌+◌, ◌^◌, ◌<◌, ◌≤◌, ◌↔◌, ◌∷◌, ◌++◌, [], false, List};
+ghost use Rattle.std.specs.Prelude.{length, vec_capacity, Contains, IsOk, OnOk};
 ghost use Rattle.receipt_core.specs.Receipt.{Receipt, distrust_cmp, with_receipt};
 ghost use Rattle.receipt_core.specs.Rising.{with_items};
 ghost use Rattle.trust_closure.specs.Merge.{AreKnown};
@@ -9,7 +10,9 @@ ghost use Rattle.trust_closure.specs.Held.{Hoard, meaning_of, IsAbsent};
 ghost use Rattle.trust_closure.specs.Indexed.{IsBefore};
 ghost use Rattle.trust_closure.specs.Nodes.{is_raised};
 ghost use Rattle.receipt_core.specs.declared.distrust.Distrust.{Distrust};
-ghost use Rattle.trust_closure.specs.Plain.{AreSeedOffers, IsSet, HasPlainFlags, WasSettled, AreSound, AreReleased, HasSpare, IsPlainClosure, plain_state, IsRoomierPaired};
+ghost use Rattle.trust_closure.specs.Plain.{AreSeedOffers, IsSet, HasPlainFlags, WasSettled};
+ghost use Rattle.trust_closure.specs.Plain.{AreSound, AreReleased, HasSpare, IsPlainClosure};
+ghost use Rattle.trust_closure.specs.Plain.{plain_state, IsRoomierPaired};
 
 use crate::error::TakeError;
 use crate::flags::lower_all;
@@ -37,9 +40,12 @@ pub(crate) fn take_into(
     spare: &mut usize,
     receipt: Receipt,
 ) -> Result<Taken, Refused>
-    requires { IsPlainClosure held.old pairs.old seed_offers.now released.old.items (vec_capacity released.old) spare.old }
-    ensures kept { IsPlainClosure held.new pairs.new seed_offers.now released.new.items (vec_capacity released.new) spare.new }
-    ensures takes { Takes (plain_state held.old spare.old) receipt (plain_state held.new spare.new) result }
+    requires { IsPlainClosure held.old pairs.old seed_offers.now released.old.items
+        (vec_capacity released.old) spare.old }
+    ensures kept { IsPlainClosure held.new pairs.new seed_offers.now released.new.items
+        (vec_capacity released.new) spare.new }
+    ensures takes { Takes (plain_state held.old spare.old) receipt (plain_state held.new spare.new)
+        result }
 {
     let place = match held.standing(&receipt) {
         Ok(Standing::Present) => return Ok(Taken::Already),
@@ -68,8 +74,10 @@ pub(crate) fn reserve(
     spare: &mut usize,
     receipts: usize,
 ) -> Result<(), AllocError>
-    requires { IsPlainClosure held.old pairs.old seed_offers.now released.old.items (vec_capacity released.old) spare.old }
-    ensures kept { IsPlainClosure held.new pairs.new seed_offers.now released.new.items (vec_capacity released.new) spare.new }
+    requires { IsPlainClosure held.old pairs.old seed_offers.now released.old.items
+        (vec_capacity released.old) spare.old }
+    ensures kept { IsPlainClosure held.new pairs.new seed_offers.now released.new.items
+        (vec_capacity released.new) spare.new }
     ensures meaning { meaning_of held.new ≡ meaning_of held.old }
     ensures roomier { spare.old ≤ spare.new }
     ensures ok { OnOk result (receipts ≤ spare.new) }
@@ -79,8 +87,8 @@ pub(crate) fn reserve(
     grow(held, pairs, released, spare, receipts)
 }
 
-/// Holds a receipt that is absent, at its place, and returns how many documents of domains are accepted now and were not
-/// before. There is room for it.
+/// Holds a receipt that is absent, at its place, and returns how many documents of domains are
+/// accepted now and were not before. There is room for it.
 pub(crate) fn add(
     held: &mut Held,
     pairs: &mut Pairs,
@@ -96,7 +104,11 @@ pub(crate) fn add(
     requires released_room { length released.old.items < vec_capacity released.old }
     requires few { length pairs.old.firsts < 2 ^ 32 }
     ensures settled { HasPlainFlags held.new pairs.new seed_offers.now released.new.items }
-    ensures held { held.new ≡ record held.old { arrived = held.old.arrived ++ receipt ∷ []; held = with_receipt receipt held.old.held } }
+    ensures held { held.new
+        ≡ record held.old {
+          arrived = held.old.arrived ++ receipt ∷ [];
+          held = with_receipt receipt held.old.held;
+        } }
     ensures gain { IsGain (meaning_of held.old) (meaning_of held.new) result }
     ensures firsts { length pairs.new.firsts ≡ length pairs.old.firsts + 1 }
     ensures capacity { pairs.new.capacity ≡ pairs.old.capacity }
@@ -128,7 +140,11 @@ fn place_receipt(
     requires few { length pairs.old.firsts < 2 ^ 32 }
     ensures set { IsSet held.new pairs.new seed_offers.now released.new.items }
     ensures sound { AreSound (meaning_of held.new) held.new.arrived released.new.items }
-    ensures held { held.new ≡ record held.old { arrived = held.old.arrived ++ receipt ∷ []; held = with_receipt receipt held.old.held } }
+    ensures held { held.new
+        ≡ record held.old {
+          arrived = held.old.arrived ++ receipt ∷ [];
+          held = with_receipt receipt held.old.held;
+        } }
     ensures firsts { (first : ℕ) × (pairs.new.firsts ≡ pairs.old.firsts ++ first ∷ []) }
     ensures counts { pairs.new.counts ≡ pairs.old.counts ++ 0 ∷ [] }
     ensures capacity { pairs.new.capacity ≡ pairs.old.capacity }
@@ -156,7 +172,8 @@ pub(crate) fn lose(
 ) -> Result<Distrusted, TakeError>
     requires settled { HasPlainFlags held.old pairs.old seed_offers.now released.old.items }
     ensures settled { HasPlainFlags held.new pairs.new seed_offers.now released.new.items }
-    ensures meaning { TakesDistrust (meaning_of held.old) (record { domain = domain.now; key = key }) (meaning_of held.new) result }
+    ensures meaning { TakesDistrust (meaning_of held.old)
+        (record { domain = domain.now; key = key }) (meaning_of held.new) result }
     ensures arrived { held.new.arrived ≡ held.old.arrived }
     ensures held_capacity { held.new.capacity ≡ held.old.capacity }
     ensures firsts { pairs.new.firsts ≡ pairs.old.firsts }
@@ -248,10 +265,12 @@ fn grow(
     spare: &mut usize,
     receipts: usize,
 ) -> Result<(), AllocError>
-    requires spare { HasSpare held.old pairs.old (length released.old.items) (vec_capacity released.old) spare.old }
+    requires spare { HasSpare held.old pairs.old (length released.old.items)
+        (vec_capacity released.old) spare.old }
     requires counts { length pairs.old.counts ≡ length pairs.old.firsts }
     requires numbers { length pairs.old.numbers ≤ length pairs.old.firsts }
-    ensures spare { HasSpare held.new pairs.new (length released.new.items) (vec_capacity released.new) spare.new }
+    ensures spare { HasSpare held.new pairs.new (length released.new.items)
+        (vec_capacity released.new) spare.new }
     ensures held { held.new ≡ record held.old { capacity = held.new.capacity } }
     ensures pairs { IsRoomierPaired pairs.old pairs.new }
     ensures released { released.new.items ≡ released.old.items }

@@ -1,7 +1,8 @@
 //! The closure that anybody can read.
 ghost use Rattle.std.specs.Prelude.{◌≡◌, ℕ, ◌↔◌, length, IsTrue, IsOk, OnOk, IfOk};
 ghost use Rattle.receipt_core.specs.Acceptance.{IsMeaning, IsMember};
-ghost use Rattle.trust_closure.specs.Views.{IsAcceptedList, IsPendingCount, document_of, receipts_in};
+ghost use Rattle.trust_closure.specs.Views.{IsAcceptedList, IsPendingCount, document_of};
+ghost use Rattle.trust_closure.specs.Views.{receipts_in};
 ghost use Rattle.trust_closure.specs.Changes.{empty_of, Takes, TakesDistrust, Merges};
 ghost use Rattle.trust_closure.specs.Refusals.{IsRoomier};
 
@@ -23,8 +24,8 @@ use spiffe_name::TrustDomain;
 use std::alloc::Global;
 use std::marker::Model;
 
-/// A closure that finds what is accepted by rounds: whatever an accepted document vouches for is accepted, until a round
-/// over all receipts finds nothing more.
+/// A closure that finds what is accepted by rounds: whatever an accepted document vouches for is
+/// accepted, until a round over all receipts finds nothing more.
 #[derive(Drop)]
 pub struct PlainClosure {
     held: Held,
@@ -43,11 +44,13 @@ impl Model for PlainClosure {
 
     ghost view = { λ c. plain_state c.held c.spare };
 
-    ghost invariant = { λ c. IsPlainClosure c.held c.pairs c.seed_offers.items c.released.items (vec_capacity c.released) c.spare };
+    ghost invariant = { λ c. IsPlainClosure c.held c.pairs c.seed_offers.items c.released.items
+        (vec_capacity c.released) c.spare };
 }
 
 impl PlainClosure {
-    /// A closure of the configuration that holds no receipt and no record of distrust. It makes room for all records.
+    /// A closure of the configuration that holds no receipt and no record of distrust. It makes
+    /// room for all records.
     ///
     /// # Errors
     /// Memory ran out.
@@ -83,7 +86,8 @@ impl PlainClosure {
     ///
     /// # Errors
     /// The receipt comes back, and what is held stays. Of these the first that holds:
-    /// - [`TakeError::UnknownDomain`]: the configuration has no relationship with the receipt's domain,
+    /// - [`TakeError::UnknownDomain`]: the configuration has no relationship with the receipt's
+    ///   domain,
     /// - [`TakeError::WrongEndpoint`]: that relationship has another endpoint,
     /// - [`TakeError::Full`]: the receipt is not held, and 65,536 are,
     /// - [`TakeError::NoMemory`]: memory ran out. Never where there is room for one receipt more.
@@ -100,8 +104,8 @@ impl PlainClosure {
         )
     }
 
-    /// Takes all receipts and all records of distrust of another closure, or none, and returns how many receipts were
-    /// not held.
+    /// Takes all receipts and all records of distrust of another closure, or none, and returns how
+    /// many receipts were not held.
     ///
     /// # Errors
     /// What is held stays. The causes and their order are those of [`crate::Closure::merge`].
@@ -118,7 +122,8 @@ impl PlainClosure {
     /// - [`TakeError::UnknownDomain`]: the domain is none of the configuration,
     /// - [`TakeError::Full`]: the record is not held, and 4,096 are.
     pub fn distrust(&mut self, domain: &TrustDomain, key: KeyId) -> Result<Distrusted, TakeError>
-        ensures meaning { TakesDistrust self.old.meaning (record { domain = domain.now; key = key }) self.new.meaning result }
+        ensures meaning { TakesDistrust self.old.meaning (record { domain = domain.now; key = key })
+            self.new.meaning result }
         ensures room { self.new.room ≡ self.old.room }
     {
         lose(
@@ -140,8 +145,8 @@ impl PlainClosure {
             .is_raised(seeds, self.held.arrived(), domain, document)
     }
 
-    /// The accepted documents of the domain, each once, rising by rank, where an absent one comes first, and then by
-    /// canonical text.
+    /// The accepted documents of the domain, each once, rising by rank, where an absent one comes
+    /// first, and then by canonical text.
     pub fn accepted(&self, domain: &TrustDomain) -> Accepted<'_>
         ensures { IsAcceptedList self.now.meaning domain.now result }
     {
@@ -192,8 +197,10 @@ impl PlainClosure {
     pub fn try_reserve(&mut self, receipts: usize, _offers: usize) -> Result<(), NoMemory>
         ensures meaning { self.new.meaning ≡ self.old.meaning }
         ensures room { IsRoomier self.old.room self.new.room }
-        ensures ok { OnOk result (IsRoomier (record { receipts = receipts; offers = _offers }) self.new.room) }
-        ensures within { IsRoomier (record { receipts = receipts; offers = _offers }) self.old.room → IsOk result }
+        ensures ok { OnOk result
+            (IsRoomier (record { receipts = receipts; offers = _offers }) self.new.room) }
+        ensures within { IsRoomier (record { receipts = receipts; offers = _offers }) self.old.room
+            → IsOk result }
     {
         reserve(
             &mut self.held,

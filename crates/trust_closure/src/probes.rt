@@ -66,7 +66,8 @@ impl<'a> Probe for SpotInBuckets<'a> {
     ghost use Rattle.sorted_order.specs.Stock.{compared_at};
     ghost use Rattle.trust_closure.specs.Held.{bucket_cmp};
 
-    ghost compared = { λ sought number. compared_at (λ r. bucket_cmp r sought.receipt.now) sought.receipts.now number };
+    ghost compared = { λ sought number. compared_at (λ r. bucket_cmp r sought.receipt.now)
+        sought.receipts.now number };
 
     ghost knows = { λ sought number. number < length sought.receipts.now };
 
@@ -85,7 +86,8 @@ impl<'a> Probe for InBucket<'a> {
     ghost use Rattle.sorted_order.specs.Stock.{compared_at};
     ghost use Rattle.trust_closure.specs.Held.{bucket_of};
 
-    ghost compared = { λ sought number. compared_at (λ r. nat_cmp (bucket_of r) sought.bucket) sought.receipts.now number };
+    ghost compared = { λ sought number. compared_at (λ r. nat_cmp (bucket_of r) sought.bucket)
+        sought.receipts.now number };
 
     ghost knows = { λ sought number. number < length sought.receipts.now };
 

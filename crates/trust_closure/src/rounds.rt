@@ -1,5 +1,6 @@
 //! Rounds over all receipts: what a document that is had vouches for is had too.
-ghost use Rattle.std.specs.Prelude.{◌≡◌, ℕ, ◌+◌, ◌^◌, ◌<◌, ◌≤◌, ◌↔◌, true, false, length, Contains, IsTrue, Some, slice_get, slice_set};
+ghost use Rattle.std.specs.Prelude.{◌≡◌, ℕ, ◌+◌, ◌^◌, ◌<◌, ◌≤◌, ◌↔◌, true, false, length, Contains};
+ghost use Rattle.std.specs.Prelude.{IsTrue, Some, slice_get, slice_set};
 ghost use Rattle.std.specs.List.{All};
 ghost use Rattle.receipt_core.specs.Receipt.{Receipt, need_of};
 ghost use Rattle.receipt_core.specs.Acceptance.{IsMeaning};
@@ -7,14 +8,17 @@ ghost use Rattle.trust_closure.specs.Nodes.{is_raised};
 ghost use Rattle.trust_closure.specs.NodeCounts.{flags_of, count_at};
 ghost use Rattle.trust_closure.specs.Flags.{raised_count};
 ghost use Rattle.trust_closure.specs.Held.{meaning_of};
-ghost use Rattle.trust_closure.specs.Plain.{AreSeedOffers, IsOffered, IsOfferedBelow, IsVouched, AreSound, AreQuietBelow, AreReleased, IsHadNode, IsFirstHad};
+ghost use Rattle.trust_closure.specs.Plain.{AreSeedOffers, IsOffered, IsOfferedBelow, IsVouched};
+ghost use Rattle.trust_closure.specs.Plain.{AreSound, AreQuietBelow, AreReleased, IsHadNode};
+ghost use Rattle.trust_closure.specs.Plain.{IsFirstHad};
 
 use crate::held::Held;
 use crate::pairs::Pairs;
 use receipt_core::{Receipt, Triple};
 use wait_index::NodeNo;
 
-/// Rounds until one raises no flag: then the flags are those of the receipts that an accepted document vouches for.
+/// Rounds until one raises no flag: then the flags are those of the receipts that an accepted
+/// document vouches for.
 pub(crate) fn spread(held: &Held, seed_offers: &[Triple], released: &mut [bool])
     requires offers { AreSeedOffers held.now.config.seeds seed_offers.now }
     requires size { length released.old ≡ length held.now.arrived }
@@ -27,14 +31,18 @@ pub(crate) fn spread(held: &Held, seed_offers: &[Triple], released: &mut [bool])
     while round(held, seed_offers, released) > 0 {}
 }
 
-/// Raises the flags of receipts for which a document that is had vouches, in order of arrival, and returns how many.
+/// Raises the flags of receipts for which a document that is had vouches, in order of arrival, and
+/// returns how many.
 fn round(held: &Held, seed_offers: &[Triple], released: &mut [bool]) -> usize
     requires offers { AreSeedOffers held.now.config.seeds seed_offers.now }
     requires size { length released.old ≡ length held.now.arrived }
     requires same { (r : Receipt) → Contains held.now.held r ↔ Contains held.now.arrived r }
     ensures size { length released.new ≡ length released.old }
-    ensures sound { AreSound (meaning_of held.now) held.now.arrived released.old → AreSound (meaning_of held.now) held.now.arrived released.new }
-    ensures quiet { result ≡ 0 → AreQuietBelow held.now.records seed_offers.now held.now.arrived released.new (length held.now.arrived) }
+    ensures sound { AreSound (meaning_of held.now) held.now.arrived released.old
+        → AreSound (meaning_of held.now) held.now.arrived released.new }
+    ensures quiet { result ≡ 0
+        → AreQuietBelow held.now.records seed_offers.now held.now.arrived released.new
+        (length held.now.arrived) }
     ensures count { raised_count released.new ≡ raised_count released.old + result }
 {
     let _valid = held.config();
@@ -53,7 +61,8 @@ fn is_due(held: &Held, seed_offers: &[Triple], released: &[bool], place: usize) 
     requires size { length released.now ≡ length held.now.arrived }
     requires within { place < length released.now }
     ensures { (r : Receipt) → slice_get held.now.arrived place ≡ Some r
-        → IsTrue result ↔ ((is_raised released.now place ≡ false) × IsVouched held.now.records seed_offers.now held.now.arrived released.now r) }
+        → IsTrue result ↔ ((is_raised released.now place ≡ false)
+        × IsVouched held.now.records seed_offers.now held.now.arrived released.now r) }
 {
     !released[place] && is_vouched(held, seed_offers, released, &held.arrived()[place])
 }
@@ -61,7 +70,8 @@ fn is_due(held: &Held, seed_offers: &[Triple], released: &[bool], place: usize) 
 /// Whether a document that is had vouches for the receipt.
 fn is_vouched(held: &Held, seed_offers: &[Triple], released: &[bool], receipt: &Receipt) -> bool
     requires { length released.now ≡ length held.now.arrived }
-    ensures { IsTrue result ↔ IsVouched held.now.records seed_offers.now held.now.arrived released.now receipt.now }
+    ensures { IsTrue result
+        ↔ IsVouched held.now.records seed_offers.now held.now.arrived released.now receipt.now }
 {
     let need = receipt.need();
     !held.is_distrusted(&need.domain, need.key)
@@ -83,7 +93,8 @@ fn is_offered(
 
 fn is_offered_by_receipt(receipts: &[Receipt], released: &[bool], need: &Triple) -> bool
     requires { length released.now ≡ length receipts.now }
-    ensures { IsTrue result ↔ IsOfferedBelow receipts.now released.now need.now (length receipts.now) }
+    ensures { IsTrue result
+        ↔ IsOfferedBelow receipts.now released.now need.now (length receipts.now) }
 {
     for place in 0..receipts.len() {
         if released[place] && has_triple(receipts[place].offers(), need) {

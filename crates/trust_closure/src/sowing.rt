@@ -38,7 +38,8 @@ fn sow(
     requires sown { IsSown held.now earlier.now pairs.old seed_offers.old.items }
     requires few { length earlier.now < 4096 }
     requires arrived { held.now.arrived ≡ [] }
-    ensures { OnOk result (IsSown held.now (earlier.now ++ seed.now ∷ []) pairs.new seed_offers.new.items) }
+    ensures { OnOk result (IsSown held.now (earlier.now ++ seed.now ∷ []) pairs.new
+        seed_offers.new.items) }
 {
     let mut offers = offers_of(alloc, &seed.domain, &seed.document)?;
     pairs.try_reserve(1)?;

@@ -1,5 +1,6 @@
 //! The nodes of receipts and of configured documents in an index.
-ghost use Rattle.std.specs.Prelude.{◌≡◌, ℕ, ◌+◌, ◌<◌, ◌≤◌, ◌↔◌, ◌++◌, ◌∷◌, [], false, List, None, Some, length, take, IsTrue, OnOk, slice_get};
+ghost use Rattle.std.specs.Prelude.{◌≡◌, ℕ, ◌+◌, ◌<◌, ◌≤◌, ◌↔◌, ◌++◌, ◌∷◌, [], false, List, None};
+ghost use Rattle.std.specs.Prelude.{Some, length, take, IsTrue, OnOk, slice_get};
 ghost use Rattle.std.specs.List.{All};
 ghost use Rattle.fed_config.specs.Configuration.{HasDomain, AreDomains};
 ghost use Rattle.wait_index.specs.Net.{ListsReached, has_wait};
@@ -16,18 +17,22 @@ use receipt_core::{Receipt, Triple};
 use spiffe_name::TrustDomain;
 use wait_index::NodeNo;
 
-/// Adds the node of a receipt, which awaits what the receipt needs and offers what it offers. There is room for it.
+/// Adds the node of a receipt, which awaits what the receipt needs and offers what it offers. There
+/// is room for it.
 pub(crate) fn add_receipt(wiring: &mut Wiring, held: &Held, receipt: &Receipt)
     requires fits { IsFitting held.now.config receipt.now }
     requires nodes { 0 < wiring.old.nodes }
     requires edges { length (offers_of (pair_of receipt.now)) < wiring.old.edges }
-    ensures wired { (domains : List (List ℕ)) (spots : List (Spot Triple)) → AreDomains held.now.config domains
+    ensures wired { (domains : List (List ℕ)) (spots : List (Spot Triple))
+        → AreDomains held.now.config domains
         → IsWiringOf domains held.now.records spots wiring.old
-        → IsWiringOf domains held.now.records (spots ++ spot_of_receipt receipt.now ∷ []) wiring.new }
+        → IsWiringOf domains held.now.records (spots ++ spot_of_receipt receipt.now ∷ [])
+        wiring.new }
     ensures reached { ListsReached wiring.new.net wiring.new.marked }
     ensures front { take (length wiring.old.marked) wiring.new.marked ≡ wiring.old.marked }
     ensures nodes { wiring.old.nodes ≡ wiring.new.nodes + 1 }
-    ensures edges { wiring.old.edges ≤ wiring.new.edges + (length (offers_of (pair_of receipt.now)) + 1) }
+    ensures edges { wiring.old.edges
+        ≤ wiring.new.edges + (length (offers_of (pair_of receipt.now)) + 1) }
 {
     let node = wiring.add_node();
     await_triple(wiring, held, node, receipt.need());
@@ -40,10 +45,12 @@ fn await_triple(wiring: &mut Wiring, held: &Held, node: NodeNo, triple: &Triple)
     requires room { 0 < wiring.old.edges }
     requires node { node < length wiring.old.net.roots }
     requires once { has_wait wiring.old.net node ≡ false }
-    ensures wired { (domains : List (List ℕ)) (spots : List (Spot Triple)) (spot : Spot Triple) → AreDomains held.now.config domains
+    ensures wired { (domains : List (List ℕ)) (spots : List (Spot Triple)) (spot : Spot Triple)
+        → AreDomains held.now.config domains
         → node ≡ length spots → spot.awaits ≡ None
         → IsWiringOf domains held.now.records (spots ++ spot ∷ []) wiring.old
-        → IsWiringOf domains held.now.records (spots ++ record spot { awaits = Some triple.now } ∷ []) wiring.new }
+        → IsWiringOf domains held.now.records
+        (spots ++ record spot { awaits = Some triple.now } ∷ []) wiring.new }
     ensures widens { Widens 1 wiring.old wiring.new }
     ensures reached { ListsReached wiring.new.net wiring.new.marked }
 {
@@ -57,10 +64,12 @@ pub(crate) fn offer_triples(wiring: &mut Wiring, held: &Held, node: NodeNo, trip
     requires room { length triples.now ≤ wiring.old.edges }
     requires node { node < length wiring.old.net.roots }
     requires reached { ListsReached wiring.old.net wiring.old.marked }
-    ensures wired { (domains : List (List ℕ)) (spots : List (Spot Triple)) (spot : Spot Triple) → AreDomains held.now.config domains
+    ensures wired { (domains : List (List ℕ)) (spots : List (Spot Triple)) (spot : Spot Triple)
+        → AreDomains held.now.config domains
         → node ≡ length spots
         → IsWiringOf domains held.now.records (spots ++ spot ∷ []) wiring.old
-        → IsWiringOf domains held.now.records (spots ++ record spot { offers = spot.offers ++ triples.now } ∷ []) wiring.new }
+        → IsWiringOf domains held.now.records
+        (spots ++ record spot { offers = spot.offers ++ triples.now } ∷ []) wiring.new }
     ensures widens { Widens (length triples.now) wiring.old wiring.new }
     ensures reached { ListsReached wiring.new.net wiring.new.marked }
 {
@@ -74,10 +83,12 @@ fn offer_triple(wiring: &mut Wiring, held: &Held, node: NodeNo, triple: &Triple)
     requires domain { HasDomain held.now.config triple.now.domain }
     requires room { 0 < wiring.old.edges }
     requires node { node < length wiring.old.net.roots }
-    ensures wired { (domains : List (List ℕ)) (spots : List (Spot Triple)) (spot : Spot Triple) → AreDomains held.now.config domains
+    ensures wired { (domains : List (List ℕ)) (spots : List (Spot Triple)) (spot : Spot Triple)
+        → AreDomains held.now.config domains
         → node ≡ length spots
         → IsWiringOf domains held.now.records (spots ++ spot ∷ []) wiring.old
-        → IsWiringOf domains held.now.records (spots ++ record spot { offers = spot.offers ++ triple.now ∷ [] } ∷ []) wiring.new }
+        → IsWiringOf domains held.now.records
+        (spots ++ record spot { offers = spot.offers ++ triple.now ∷ [] } ∷ []) wiring.new }
     ensures widens { Widens 1 wiring.old wiring.new }
     ensures reached { ListsReached wiring.new.net wiring.new.marked }
 {
@@ -100,7 +111,8 @@ fn label_of(config: &Config, triple: &Triple) -> Label
 /// The number of a domain of the configuration.
 pub(crate) fn domain_number(config: &Config, domain: &TrustDomain) -> u32
     requires { HasDomain config.now domain.now }
-    ensures { (domains : List (List ℕ)) → AreDomains config.now domains → slice_get domains result ≡ Some domain.now }
+    ensures { (domains : List (List ℕ)) → AreDomains config.now domains
+        → slice_get domains result ≡ Some domain.now }
 {
     let _domains = config.domains();
     match config.domain_no(domain) {

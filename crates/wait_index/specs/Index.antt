@@ -8,7 +8,8 @@ pub record Last : Type 0 where
   pub fallen : List ℕ
   pub kept : ℕ
 
--- the net, the marked nodes, how many nodes, labels and edges more there is room for, and what the last close did
+-- the net, the marked nodes, how many nodes, labels and edges more there is room for, and what the
+-- last close did
 pub record Index : Type 0 where
   pub net : Net
   pub marked : List ℕ

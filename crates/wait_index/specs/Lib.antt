@@ -1,4 +1,5 @@
--- What a caller cites stands in the first three; `Inside` has what the index keeps and its invariants.
+-- What a caller cites stands in the first three; `Inside` has what the index keeps and its
+-- invariants.
 pub mod Net
 pub mod Index
 pub mod Edge

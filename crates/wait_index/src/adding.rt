@@ -2,8 +2,11 @@
 ghost use Rattle.std.specs.Prelude.{◌≡◌, ℕ, ◌+◌, ◌^◌, ◌<◌, ◌≤◌, ◌⊎◌, true, false, length, take};
 ghost use Rattle.wait_index.specs.Inside.Capacity.{graph_capacity};
 ghost use Rattle.wait_index.specs.Inside.Fall.{IsSettled};
-ghost use Rattle.wait_index.specs.Net.{with_node, with_label, with_offer, with_wait, with_root, has_wait};
-ghost use Rattle.wait_index.specs.Inside.Tally.{net_of, tally_of, marks_capacity, HasSizes, is_marked_in, is_open_in, support_in, Supports, FollowsWait};
+ghost use Rattle.wait_index.specs.Net.{with_node, with_label, with_offer, with_wait, with_root};
+ghost use Rattle.wait_index.specs.Net.{has_wait};
+ghost use Rattle.wait_index.specs.Inside.Tally.{net_of, tally_of, marks_capacity, HasSizes};
+ghost use Rattle.wait_index.specs.Inside.Tally.{is_marked_in, is_open_in, support_in, Supports};
+ghost use Rattle.wait_index.specs.Inside.Tally.{FollowsWait};
 
 use crate::graph::Graph;
 use crate::marks::Marks;
@@ -13,10 +16,12 @@ impl Marks {
     pub(crate) fn add_root(&mut self, graph: &mut Graph, node: usize)
         requires settled { IsSettled (net_of graph.old) (tally_of self.old) }
         requires node { node < length graph.old.roots.items }
-        requires few { length graph.old.offers.edges.items + length graph.old.waits.edges.items < 2 ^ 63 }
+        requires few { length graph.old.offers.edges.items + length graph.old.waits.edges.items
+            < 2 ^ 63 }
         ensures net { net_of graph.new ≡ with_root (net_of graph.old) node }
         ensures settled { IsSettled (net_of graph.new) (tally_of self.new) }
-        ensures front { take (length self.old.marked.items.items) self.new.marked.items.items ≡ self.old.marked.items.items }
+        ensures front { take (length self.old.marked.items.items) self.new.marked.items.items
+            ≡ self.old.marked.items.items }
         ensures graph_room { graph_capacity graph.new ≡ graph_capacity graph.old }
         ensures room { marks_capacity self.new ≡ marks_capacity self.old }
     {
@@ -32,10 +37,12 @@ impl Marks {
         requires node { node < length graph.old.roots.items }
         requires label { label < length graph.old.closed.items }
         requires room { length graph.old.offers.edges.items < (graph_capacity graph.old).offers }
-        requires few { length graph.old.offers.edges.items + length graph.old.waits.edges.items + 1 < 2 ^ 63 }
+        requires few { length graph.old.offers.edges.items + length graph.old.waits.edges.items + 1
+            < 2 ^ 63 }
         ensures net { net_of graph.new ≡ with_offer (net_of graph.old) node label }
         ensures settled { IsSettled (net_of graph.new) (tally_of self.new) }
-        ensures front { take (length self.old.marked.items.items) self.new.marked.items.items ≡ self.old.marked.items.items }
+        ensures front { take (length self.old.marked.items.items) self.new.marked.items.items
+            ≡ self.old.marked.items.items }
         ensures graph_room { graph_capacity graph.new ≡ graph_capacity graph.old }
         ensures room { marks_capacity self.new ≡ marks_capacity self.old }
     {
@@ -52,8 +59,10 @@ impl Marks {
         requires label { label < length graph.now.closed.items }
         requires visits { self.old.visits + 1 + length graph.now.waits.edges.items < 2 ^ 64 }
         requires support { support_in (tally_of self.old) label + 1 < 2 ^ 64 }
-        ensures followed { ((is_marked_in (tally_of self.old) node ≡ true) × Supports (net_of graph.now) label (tally_of self.old) (tally_of self.new))
-            ⊎ ((is_marked_in (tally_of self.old) node ≡ false) × (tally_of self.new ≡ tally_of self.old)) }
+        ensures followed { ((is_marked_in (tally_of self.old) node ≡ true)
+            × Supports (net_of graph.now) label (tally_of self.old) (tally_of self.new))
+            ⊎ ((is_marked_in (tally_of self.old) node ≡ false)
+            × (tally_of self.new ≡ tally_of self.old)) }
         ensures room { marks_capacity self.new ≡ marks_capacity self.old }
     {
         if self.marked.holds(node) {
@@ -68,10 +77,12 @@ impl Marks {
         requires node { node < length graph.old.roots.items }
         requires once { has_wait (net_of graph.old) node ≡ false }
         requires room { length graph.old.waits.edges.items < (graph_capacity graph.old).waits }
-        requires few { length graph.old.offers.edges.items + length graph.old.waits.edges.items + 1 < 2 ^ 63 }
+        requires few { length graph.old.offers.edges.items + length graph.old.waits.edges.items + 1
+            < 2 ^ 63 }
         ensures net { net_of graph.new ≡ with_wait (net_of graph.old) label node }
         ensures settled { IsSettled (net_of graph.new) (tally_of self.new) }
-        ensures front { take (length self.old.marked.items.items) self.new.marked.items.items ≡ self.old.marked.items.items }
+        ensures front { take (length self.old.marked.items.items) self.new.marked.items.items
+            ≡ self.old.marked.items.items }
         ensures graph_room { graph_capacity graph.new ≡ graph_capacity graph.old }
         ensures room { marks_capacity self.new ≡ marks_capacity self.old }
     {

@@ -1,11 +1,16 @@
-//! How labels are closed: what they alone reach is taken back, and what is reached otherwise follows
-//! again.
-ghost use Rattle.std.specs.Prelude.{◌≡◌, ℕ, ◌+◌, ◌*◌, ◌^◌, ◌<◌, ◌≤◌, true, false, [], Bool, List, length, slice_index, take, vec_capacity, All, Contains};
+//! How labels are closed: what they alone reach is taken back, and what is reached otherwise
+//! follows again.
+ghost use Rattle.std.specs.Prelude.{◌≡◌, ℕ, ◌+◌, ◌*◌, ◌^◌, ◌<◌, ◌≤◌, true, false, [], Bool, List};
+ghost use Rattle.std.specs.Prelude.{length, slice_index, take, vec_capacity, All, Contains};
 ghost use Rattle.wait_index.specs.Inside.Capacity.{graph_capacity};
-ghost use Rattle.wait_index.specs.Inside.Fall.{CanFall, HasFallen, IsFalling, IsSettled, ListsFallen, with_fallen};
-ghost use Rattle.wait_index.specs.Net.{with_all_closed, ClosesIn, HasReachOf, TellsFallen, edges_at};
+ghost use Rattle.wait_index.specs.Inside.Fall.{CanFall, HasFallen, IsFalling, IsSettled};
+ghost use Rattle.wait_index.specs.Inside.Fall.{ListsFallen, with_fallen};
+ghost use Rattle.wait_index.specs.Net.{with_all_closed, ClosesIn, HasReachOf, TellsFallen};
+ghost use Rattle.wait_index.specs.Net.{edges_at};
 ghost use Rattle.wait_index.specs.Inside.Step.{Follows};
-ghost use Rattle.wait_index.specs.Inside.Tally.{net_of, tally_of, marks_capacity, HasSizes, is_marked_in, is_open_in, Falls, Touches, TouchesAll, Withdraws, WithdrawsAll};
+ghost use Rattle.wait_index.specs.Inside.Tally.{net_of, tally_of, marks_capacity, HasSizes};
+ghost use Rattle.wait_index.specs.Inside.Tally.{is_marked_in, is_open_in, Falls, Touches};
+ghost use Rattle.wait_index.specs.Inside.Tally.{TouchesAll, Withdraws, WithdrawsAll};
 
 use crate::graph::Graph;
 use crate::last_close::LastClose;
@@ -22,15 +27,22 @@ impl Marks {
     ) -> usize
         requires settled { IsSettled (net_of graph.old) (tally_of self.old) }
         requires labels { All (λ label. label < length graph.old.closed.items) labels.now }
-        requires few { length graph.old.offers.edges.items + length graph.old.waits.edges.items < 2 ^ 63 }
+        requires few { length graph.old.offers.edges.items + length graph.old.waits.edges.items
+            < 2 ^ 63 }
         requires last_room { length graph.old.roots.items ≤ vec_capacity last.old.fallen }
         ensures net { net_of graph.new ≡ with_all_closed (net_of graph.old) labels.now }
         ensures settled { IsSettled (net_of graph.new) (tally_of self.new) }
-        ensures turns { ClosesIn (net_of graph.old) labels.now self.old.visits self.new.visits result }
-        ensures near { (reach : ℕ → Bool) → HasReachOf (net_of graph.old) labels.now reach → result ≤ 2 * edges_at (net_of graph.old) reach }
-        ensures shut { ((label : ℕ) → Contains labels.now label → is_open_in (tally_of self.old) label ≡ false) → (result ≡ 0) × (tally_of self.new ≡ tally_of self.old) }
-        ensures fallen { TellsFallen (net_of graph.old) labels.now last.new.fallen.items last.new.kept self.new.marked.items.items }
-        ensures many { length last.new.fallen.items + last.new.kept ≡ length self.old.marked.items.items }
+        ensures turns { ClosesIn (net_of graph.old) labels.now self.old.visits self.new.visits
+            result }
+        ensures near { (reach : ℕ → Bool) → HasReachOf (net_of graph.old) labels.now reach
+            → result ≤ 2 * edges_at (net_of graph.old) reach }
+        ensures shut { ((label : ℕ) → Contains labels.now label
+            → is_open_in (tally_of self.old) label ≡ false)
+            → (result ≡ 0) × (tally_of self.new ≡ tally_of self.old) }
+        ensures fallen { TellsFallen (net_of graph.old) labels.now last.new.fallen.items
+            last.new.kept self.new.marked.items.items }
+        ensures many { length last.new.fallen.items + last.new.kept
+            ≡ length self.old.marked.items.items }
         ensures graph_room { graph_capacity graph.new ≡ graph_capacity graph.old }
         ensures room { marks_capacity self.new ≡ marks_capacity self.old }
         ensures last_room { vec_capacity last.new.fallen ≡ vec_capacity last.old.fallen }
@@ -76,10 +88,13 @@ impl Marks {
 
     /// Follows again what is reached otherwise.
     fn follow_again(&mut self, graph: &Graph)
-        requires follows { Follows (net_of graph.now) (tally_of self.old) (length self.old.marked.items.items) 0 0 }
-        requires few { length graph.now.offers.edges.items + length graph.now.waits.edges.items < 2 ^ 63 }
+        requires follows { Follows (net_of graph.now) (tally_of self.old)
+            (length self.old.marked.items.items) 0 0 }
+        requires few { length graph.now.offers.edges.items + length graph.now.waits.edges.items
+            < 2 ^ 63 }
         ensures settled { IsSettled (net_of graph.now) (tally_of self.new) }
-        ensures front { take (length self.old.marked.items.items) self.new.marked.items.items ≡ self.old.marked.items.items }
+        ensures front { take (length self.old.marked.items.items) self.new.marked.items.items
+            ≡ self.old.marked.items.items }
         ensures visits { self.old.visits ≤ self.new.visits }
         ensures room { marks_capacity self.new ≡ marks_capacity self.old }
     {
@@ -93,10 +108,12 @@ impl Marks {
         ghost closing: { List ℕ }
         requires falling { IsFalling (net_of graph.now) closing (tally_of self.old) 0 0 0 }
         requires listed { ListsFallen (net_of graph.now) (tally_of self.old) last.old.fallen.items }
-        requires last_room { length last.old.fallen.items + length self.old.marked.items.items ≤ vec_capacity last.old.fallen }
+        requires last_room { length last.old.fallen.items + length self.old.marked.items.items
+            ≤ vec_capacity last.old.fallen }
         ensures fallen { HasFallen (net_of graph.now) closing (tally_of self.new) }
         ensures listed { ListsFallen (net_of graph.now) (tally_of self.new) last.new.fallen.items }
-        ensures many { length last.new.fallen.items + length self.new.marked.items.items ≡ length last.old.fallen.items + length self.old.marked.items.items }
+        ensures many { length last.new.fallen.items + length self.new.marked.items.items
+            ≡ length last.old.fallen.items + length self.old.marked.items.items }
         ensures capacity { marks_capacity self.new ≡ marks_capacity self.old }
         ensures last_room { vec_capacity last.new.fallen ≡ vec_capacity last.old.fallen }
     {
@@ -114,11 +131,14 @@ impl Marks {
         requires falling { IsFalling (net_of graph.now) closing (tally_of self.old) index 0 0 }
         requires index { index < length self.old.touched.items.items }
         requires listed { ListsFallen (net_of graph.now) (tally_of self.old) last.old.fallen.items }
-        requires last_room { length last.old.fallen.items + length self.old.marked.items.items ≤ vec_capacity last.old.fallen }
+        requires last_room { length last.old.fallen.items + length self.old.marked.items.items
+            ≤ vec_capacity last.old.fallen }
         ensures falling { IsFalling (net_of graph.now) closing (tally_of self.new) (index + 1) 0 0 }
-        ensures front { take (length self.old.touched.items.items) self.new.touched.items.items ≡ self.old.touched.items.items }
+        ensures front { take (length self.old.touched.items.items) self.new.touched.items.items
+            ≡ self.old.touched.items.items }
         ensures listed { ListsFallen (net_of graph.now) (tally_of self.new) last.new.fallen.items }
-        ensures many { length last.new.fallen.items + length self.new.marked.items.items ≡ length last.old.fallen.items + length self.old.marked.items.items }
+        ensures many { length last.new.fallen.items + length self.new.marked.items.items
+            ≡ length last.old.fallen.items + length self.old.marked.items.items }
         ensures capacity { marks_capacity self.new ≡ marks_capacity self.old }
         ensures last_room { vec_capacity last.new.fallen ≡ vec_capacity last.old.fallen }
     {
@@ -140,7 +160,8 @@ impl Marks {
         requires marked { is_marked_in (tally_of self.old) node ≡ true }
         requires last_room { length last.old.fallen.items < vec_capacity last.old.fallen }
         ensures falls { Falls (net_of graph.now) node (tally_of self.old) (tally_of self.new) }
-        ensures listed { last.new.fallen.items ≡ with_fallen (net_of graph.now) node last.old.fallen.items }
+        ensures listed { last.new.fallen.items
+            ≡ with_fallen (net_of graph.now) node last.old.fallen.items }
         ensures capacity { marks_capacity self.new ≡ marks_capacity self.old }
         ensures last_room { vec_capacity last.new.fallen ≡ vec_capacity last.old.fallen }
     {
@@ -155,7 +176,8 @@ impl Marks {
     fn withdraw_offers(&mut self, graph: &Graph, node: usize)
         requires can { CanFall (net_of graph.now) (tally_of self.old) node }
         requires node { node < length graph.now.roots.items }
-        ensures withdrawn { WithdrawsAll (net_of graph.now) node (tally_of self.old) (tally_of self.new) }
+        ensures withdrawn { WithdrawsAll (net_of graph.now) node (tally_of self.old)
+            (tally_of self.new) }
         ensures capacity { marks_capacity self.new ≡ marks_capacity self.old }
     {
         let mut link = graph.offers.newest[node];
@@ -184,11 +206,15 @@ impl Marks {
 
     /// Opens each touched label again to which a followed edge still leads.
     pub(crate) fn restore(&mut self, graph: &Graph)
-        requires follows { Follows (net_of graph.now) (tally_of self.old) (length self.old.marked.items.items) 0 0 }
-        requires few { length graph.now.offers.edges.items + length graph.now.waits.edges.items < 2 ^ 63 }
-        ensures follows { Follows (net_of graph.now) (tally_of self.new) (length self.old.marked.items.items) 0 0 }
+        requires follows { Follows (net_of graph.now) (tally_of self.old)
+            (length self.old.marked.items.items) 0 0 }
+        requires few { length graph.now.offers.edges.items + length graph.now.waits.edges.items
+            < 2 ^ 63 }
+        ensures follows { Follows (net_of graph.now) (tally_of self.new)
+            (length self.old.marked.items.items) 0 0 }
         ensures untouched { self.new.touched.items.items ≡ [] }
-        ensures front { take (length self.old.marked.items.items) self.new.marked.items.items ≡ self.old.marked.items.items }
+        ensures front { take (length self.old.marked.items.items) self.new.marked.items.items
+            ≡ self.old.marked.items.items }
         ensures visits { self.old.visits ≤ self.new.visits }
         ensures capacity { marks_capacity self.new ≡ marks_capacity self.old }
     {

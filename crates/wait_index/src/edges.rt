@@ -1,6 +1,7 @@
 //! Edges in the order in which they were added, with a list of the edges of each owner through
 //! them.
-ghost use Rattle.std.specs.Prelude.{◌≡◌, ℕ, ◌+◌, ◌<◌, ◌≤◌, [], ◌∷◌, ◌++◌, length, IsOk, OnOk, ◌==◌, vec_len, vec_capacity};
+ghost use Rattle.std.specs.Prelude.{◌≡◌, ℕ, ◌+◌, ◌<◌, ◌≤◌, [], ◌∷◌, ◌++◌, length, IsOk, OnOk, ◌==◌};
+ghost use Rattle.std.specs.Prelude.{vec_len, vec_capacity};
 ghost use Rattle.std.specs.List.{list_any};
 ghost use Rattle.wait_index.specs.Inside.Links.{AreLinked};
 
@@ -24,7 +25,8 @@ pub(crate) struct Edges {
 }
 
 impl Edges {
-    ghost use Rattle.wait_index.specs.Inside.Room.{GrowsEdges, HasEdgesRoom, owners_room, edges_room};
+    ghost use Rattle.wait_index.specs.Inside.Room.{GrowsEdges, HasEdgesRoom, owners_room};
+    ghost use Rattle.wait_index.specs.Inside.Room.{edges_room};
 
     pub(crate) fn new(alloc: Global) -> Self
         ensures edges { result.edges.items ≡ [] }

@@ -1,5 +1,6 @@
 //! The nodes, labels and edges of an index.
-ghost use Rattle.std.specs.Prelude.{◌≡◌, ℕ, ◌+◌, ◌^◌, ◌<◌, ◌≤◌, true, false, [], ◌∷◌, ◌++◌, length, All, OnOk, IsOk, vec_capacity};
+ghost use Rattle.std.specs.Prelude.{◌≡◌, ℕ, ◌+◌, ◌^◌, ◌<◌, ◌≤◌, true, false, [], ◌∷◌, ◌++◌, length};
+ghost use Rattle.std.specs.Prelude.{All, OnOk, IsOk, vec_capacity};
 ghost use Rattle.wait_index.specs.Inside.Shape.{IsShaped};
 
 use crate::edges::{Edge, Edges};
@@ -16,12 +17,14 @@ pub(crate) struct Graph {
     pub(crate) closed: Vec<bool>,
     pub(crate) offers: Edges,
     pub(crate) waits: Edges,
-    ghost shaped: { IsShaped roots.items closed.items offers.edges.items offers.newest.items waits.edges.items waits.newest.items },
+    ghost shaped: { IsShaped roots.items closed.items offers.edges.items offers.newest.items
+        waits.edges.items waits.newest.items },
 }
 
 impl Graph {
     ghost use Rattle.wait_index.specs.Inside.Capacity.{graph_capacity, GrowsGraph, HasGraphRoom};
-    ghost use Rattle.wait_index.specs.Net.{with_node, with_label, with_offer, with_wait, with_root, with_closed, with_all_closed, has_wait};
+    ghost use Rattle.wait_index.specs.Net.{with_node, with_label, with_offer, with_wait, with_root};
+    ghost use Rattle.wait_index.specs.Net.{with_closed, with_all_closed, has_wait};
     ghost use Rattle.wait_index.specs.Inside.Tally.{net_of};
 
     pub(crate) fn new(alloc: Global) -> Self
@@ -61,7 +64,9 @@ impl Graph {
         requires { length self.old.offers.edges.items + length self.old.waits.edges.items < 2 ^ 63 }
         ensures grows { GrowsGraph self.old self.new }
         ensures room { graph_capacity self.new ≡ graph_capacity self.old }
-        ensures ok { OnOk result (length self.new.offers.edges.items + length self.new.waits.edges.items + edges < 2 ^ 63) }
+        ensures ok { OnOk result
+            (length self.new.offers.edges.items + length self.new.waits.edges.items + edges
+            < 2 ^ 63) }
     {
         let most = MOST_EDGES - self.offers.edges.len() - self.waits.edges.len();
         if edges > most {

@@ -1,5 +1,6 @@
 //! A set of labels in the order in which they were put in.
-ghost use Rattle.std.specs.Prelude.{◌≡◌, ℕ, ◌+◌, ◌<◌, ◌≤◌, true, false, [], ◌∷◌, ◌++◌, length, slice_set, MatchOption, OnOk, vec_capacity};
+ghost use Rattle.std.specs.Prelude.{◌≡◌, ℕ, ◌+◌, ◌<◌, ◌≤◌, true, false, [], ◌∷◌, ◌++◌, length};
+ghost use Rattle.std.specs.Prelude.{slice_set, MatchOption, OnOk, vec_capacity};
 ghost use Rattle.wait_index.specs.Inside.Listing.{IsListing, holds};
 
 use crate::number::LabelNo;
@@ -63,7 +64,8 @@ impl LabelSet {
         requires label { label < length self.old.places.items }
         requires absent { holds self.old.places.items label ≡ false }
         ensures items { self.new.items.items ≡ self.old.items.items ++ label ∷ [] }
-        ensures places { self.new.places.items ≡ slice_set self.old.places.items label (length self.old.items.items + 1) }
+        ensures places { self.new.places.items
+            ≡ slice_set self.old.places.items label (length self.old.items.items + 1) }
         ensures items_room { vec_capacity self.new.items ≡ vec_capacity self.old.items }
         ensures places_room { vec_capacity self.new.places ≡ vec_capacity self.old.places }
     {

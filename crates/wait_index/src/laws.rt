@@ -1,39 +1,50 @@
 //! What holds of every net of nodes and labels.
-ghost use Rattle.std.specs.Prelude.{◌≡◌, ℕ, ◌+◌, ◌<◌, ◌≤◌, ◌↔◌, ◌⊎◌, ◌∷◌, Bool, true, false, List, length, Contains};
+ghost use Rattle.std.specs.Prelude.{◌≡◌, ℕ, ◌+◌, ◌<◌, ◌≤◌, ◌↔◌, ◌⊎◌, ◌∷◌, Bool, true, false, List};
+ghost use Rattle.std.specs.Prelude.{length, Contains};
 ghost use Rattle.wait_index.specs.Edge.{IsEdge};
-ghost use Rattle.wait_index.specs.Net.{Net, is_root, is_closed, IsReached, IsMore, IsClosedUnder, ClosesIn, with_closed, with_all_closed, visits_of};
+ghost use Rattle.wait_index.specs.Net.{Net, is_root, is_closed, IsReached, IsMore, IsClosedUnder};
+ghost use Rattle.wait_index.specs.Net.{ClosesIn, with_closed, with_all_closed, visits_of};
 
-/// What is reached is the least set that has the roots, and with a node each one that awaits what the
-/// node offers, by a label that is not closed.
+/// What is reached is the least set that has the roots, and with a node each one that awaits what
+/// the node offers, by a label that is not closed.
 pub fn least()
     ensures roots { (net : Net) (node : ℕ) → is_root net node ≡ true → IsReached net node }
-    ensures steps { (net : Net) (node label next i j : ℕ) → IsReached net node → IsEdge net.offers i node label
+    ensures steps { (net : Net) (node label next i j : ℕ) → IsReached net node
+        → IsEdge net.offers i node label
         → is_closed net label ≡ false → IsEdge net.waits j label next → IsReached net next }
-    ensures least { (net : Net) (nodes : ℕ → Bool) → IsClosedUnder net nodes → (node : ℕ) → IsReached net node → nodes node ≡ true }
+    ensures least { (net : Net) (nodes : ℕ → Bool) → IsClosedUnder net nodes → (node : ℕ)
+        → IsReached net node → nodes node ≡ true }
 {}
 
 /// A net with more roots and edges, and no label closed that was not, reaches no less.
 pub fn more_reaches_no_less()
-    ensures { (old new : Net) → IsMore old new → (node : ℕ) → IsReached old node → IsReached new node }
+    ensures { (old new : Net) → IsMore old new → (node : ℕ) → IsReached old node
+        → IsReached new node }
 {}
 
 /// After labels were closed one after another, those and the ones that were closed before are
 /// closed. So the order does not matter.
 pub fn closes_in_any_order()
-    ensures one_by_one { (net : Net) (label : ℕ) (labels : List ℕ) → with_all_closed (with_closed net label) labels ≡ with_all_closed net (label ∷ labels) }
+    ensures one_by_one { (net : Net) (label : ℕ) (labels : List ℕ)
+        → with_all_closed (with_closed net label) labels ≡ with_all_closed net (label ∷ labels) }
     ensures closed { (net : Net) (labels : List ℕ) (label : ℕ) → label < length net.closed →
-        ((is_closed (with_all_closed net labels) label ≡ true) ↔ ((is_closed net label ≡ true) ⊎ Contains labels label)) }
-    ensures order { (net : Net) (labels others : List ℕ) → ((label : ℕ) → (Contains labels label ↔ Contains others label))
+        ((is_closed (with_all_closed net labels) label ≡ true)
+        ↔ ((is_closed net label ≡ true) ⊎ Contains labels label)) }
+    ensures order { (net : Net) (labels others : List ℕ)
+        → ((label : ℕ) → (Contains labels label ↔ Contains others label))
         → with_all_closed net labels ≡ with_all_closed net others }
 {}
 
 /// The turns are at most the edges: until a label is closed no edge is followed twice.
 pub fn no_edge_twice()
-    ensures { (net : Net) (nodes : List ℕ) → visits_of net nodes ≤ length net.offers + length net.waits }
+    ensures { (net : Net) (nodes : List ℕ)
+        → visits_of net nodes ≤ length net.offers + length net.waits }
 {}
 
 /// A close has one number of turns, whatever way it took, and however its labels are listed.
 pub fn one_number_of_turns()
-    ensures { (net : Net) (labels others : List ℕ) (before after count other : ℕ) → ((label : ℕ) → (Contains labels label ↔ Contains others label))
-        → ClosesIn net labels before after count → ClosesIn net others before after other → count ≡ other }
+    ensures { (net : Net) (labels others : List ℕ) (before after count other : ℕ)
+        → ((label : ℕ) → (Contains labels label ↔ Contains others label))
+        → ClosesIn net labels before after count → ClosesIn net others before after other
+        → count ≡ other }
 {}

@@ -1,8 +1,10 @@
 //! The marked nodes and open labels of a graph, and how they spread.
-ghost use Rattle.std.specs.Prelude.{◌≡◌, ℕ, ◌+◌, ◌^◌, ◌<◌, ◌≤◌, true, false, [], ◌∷◌, ◌++◌, length, slice_index, min, vec_capacity, OnOk, IsOk};
+ghost use Rattle.std.specs.Prelude.{◌≡◌, ℕ, ◌+◌, ◌^◌, ◌<◌, ◌≤◌, true, false, [], ◌∷◌, ◌++◌, length};
+ghost use Rattle.std.specs.Prelude.{slice_index, min, vec_capacity, OnOk, IsOk};
 ghost use Rattle.wait_index.specs.Inside.Capacity.{GrowsMarks, HasMarksRoom};
 ghost use Rattle.wait_index.specs.Inside.Step.{Follows, Spreads};
-ghost use Rattle.wait_index.specs.Inside.Tally.{net_of, tally_of, marks_capacity, HasSizes, MarksNode, Releases, SettlesLabel, Supports};
+ghost use Rattle.wait_index.specs.Inside.Tally.{net_of, tally_of, marks_capacity, HasSizes};
+ghost use Rattle.wait_index.specs.Inside.Tally.{MarksNode, Releases, SettlesLabel, Supports};
 
 use crate::graph::Graph;
 use crate::label_set::LabelSet;
@@ -57,7 +59,8 @@ impl Marks {
     /// Adds a node that is not marked.
     pub(crate) fn add_node(&mut self)
         requires { length self.old.marked.places.items < (marks_capacity self.old).nodes }
-        ensures tally { tally_of self.new ≡ record (tally_of self.old) { places = self.old.marked.places.items ++ 0 ∷ [] } }
+        ensures tally { tally_of self.new
+            ≡ record (tally_of self.old) { places = self.old.marked.places.items ++ 0 ∷ [] } }
         ensures capacity { marks_capacity self.new ≡ marks_capacity self.old }
     {
         self.marked.add_node();
@@ -85,8 +88,10 @@ impl Marks {
     pub(crate) fn follow_all(&mut self, graph: &Graph, cursor: usize)
         requires follows { Follows (net_of graph.now) (tally_of self.old) cursor 0 0 }
         requires cursor { cursor ≤ length self.old.marked.items.items }
-        requires few { length graph.now.offers.edges.items + length graph.now.waits.edges.items < 2 ^ 63 }
-        ensures follows { Follows (net_of graph.now) (tally_of self.new) (length self.new.marked.items.items) 0 0 }
+        requires few { length graph.now.offers.edges.items + length graph.now.waits.edges.items
+            < 2 ^ 63 }
+        ensures follows { Follows (net_of graph.now) (tally_of self.new)
+            (length self.new.marked.items.items) 0 0 }
         ensures spreads { Spreads (tally_of self.old) (tally_of self.new) }
         ensures capacity { marks_capacity self.new ≡ marks_capacity self.old }
     {
@@ -101,7 +106,8 @@ impl Marks {
     fn follow_offers(&mut self, graph: &Graph, cursor: usize)
         requires follows { Follows (net_of graph.now) (tally_of self.old) cursor 0 0 }
         requires cursor { cursor < length self.old.marked.items.items }
-        requires few { length graph.now.offers.edges.items + length graph.now.waits.edges.items < 2 ^ 63 }
+        requires few { length graph.now.offers.edges.items + length graph.now.waits.edges.items
+            < 2 ^ 63 }
         ensures follows { Follows (net_of graph.now) (tally_of self.new) (cursor + 1) 0 0 }
         ensures spreads { Spreads (tally_of self.old) (tally_of self.new) }
         ensures capacity { marks_capacity self.new ≡ marks_capacity self.old }
@@ -121,7 +127,8 @@ impl Marks {
         requires label { label < length graph.now.closed.items }
         requires visits { self.old.visits + 1 + length graph.now.waits.edges.items < 2 ^ 64 }
         requires support { slice_index self.old.support.items label + 1 < 2 ^ 64 }
-        ensures supported { Supports (net_of graph.now) label (tally_of self.old) (tally_of self.new) }
+        ensures supported { Supports (net_of graph.now) label (tally_of self.old)
+            (tally_of self.new) }
         ensures capacity { marks_capacity self.new ≡ marks_capacity self.old }
     {
         self.visits += 1;
@@ -134,7 +141,8 @@ impl Marks {
         requires sizes { HasSizes (net_of graph.now) (tally_of self.old) }
         requires label { label < length graph.now.closed.items }
         requires visits { self.old.visits + length graph.now.waits.edges.items < 2 ^ 64 }
-        ensures settled { SettlesLabel (net_of graph.now) label (tally_of self.old) (tally_of self.new) }
+        ensures settled { SettlesLabel (net_of graph.now) label (tally_of self.old)
+            (tally_of self.new) }
         ensures capacity { marks_capacity self.new ≡ marks_capacity self.old }
     {
         if self.support[label] > 0 && !graph.closed[label] && !self.opened[label] {
@@ -148,7 +156,8 @@ impl Marks {
         requires sizes { HasSizes (net_of graph.now) (tally_of self.old) }
         requires label { label < length graph.now.closed.items }
         requires visits { self.old.visits + length graph.now.waits.edges.items < 2 ^ 64 }
-        ensures released { Releases (net_of graph.now) label (tally_of self.old) (tally_of self.new) }
+        ensures released { Releases (net_of graph.now) label (tally_of self.old)
+            (tally_of self.new) }
         ensures capacity { marks_capacity self.new ≡ marks_capacity self.old }
     {
         let mut link = graph.waits.newest[label];

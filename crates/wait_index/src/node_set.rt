@@ -1,5 +1,6 @@
 //! A set of nodes in the order in which they were put in.
-ghost use Rattle.std.specs.Prelude.{◌≡◌, ℕ, ◌+◌, ◌<◌, ◌≤◌, ◌==◌, ◌&&◌, not, true, false, [], ◌∷◌, ◌++◌, length, slice_set, OnOk, vec_capacity};
+ghost use Rattle.std.specs.Prelude.{◌≡◌, ℕ, ◌+◌, ◌<◌, ◌≤◌, ◌==◌, ◌&&◌, not, true, false, [], ◌∷◌};
+ghost use Rattle.std.specs.Prelude.{◌++◌, length, slice_set, OnOk, vec_capacity};
 ghost use Rattle.wait_index.specs.Inside.Listing.{IsListing, holds};
 
 use crate::number::NodeNo;
@@ -63,7 +64,8 @@ impl NodeSet {
         requires node { node < length self.old.places.items }
         requires absent { holds self.old.places.items node ≡ false }
         ensures items { self.new.items.items ≡ self.old.items.items ++ node ∷ [] }
-        ensures places { self.new.places.items ≡ slice_set self.old.places.items node (length self.old.items.items + 1) }
+        ensures places { self.new.places.items
+            ≡ slice_set self.old.places.items node (length self.old.items.items + 1) }
         ensures items_room { vec_capacity self.new.items ≡ vec_capacity self.old.items }
         ensures places_room { vec_capacity self.new.places ≡ vec_capacity self.old.places }
     {
@@ -75,7 +77,8 @@ impl NodeSet {
     pub(crate) fn remove(&mut self, node: usize)
         requires node { node < length self.old.places.items }
         requires present { holds self.old.places.items node ≡ true }
-        ensures held { (n : ℕ) → holds self.new.places.items n ≡ (holds self.old.places.items n && not (n == node)) }
+        ensures held { (n : ℕ) → holds self.new.places.items n
+            ≡ (holds self.old.places.items n && not (n == node)) }
         ensures size { length self.new.places.items ≡ length self.old.places.items }
         ensures items_room { vec_capacity self.new.items ≡ vec_capacity self.old.items }
         ensures places_room { vec_capacity self.new.places ≡ vec_capacity self.old.places }

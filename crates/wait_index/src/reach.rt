@@ -1,5 +1,7 @@
 //! The index as its callers see it.
-ghost use Rattle.std.specs.Prelude.{◌≡◌, ℕ, ◌+◌, ◌-◌, ◌*◌, ◌<◌, ◌≤◌, ◌↔◌, true, false, [], ◌∷◌, Bool, length, take, max, All, IsTrue, IsOk, OnOk, OnErr, Contains};
+ghost use Rattle.std.specs.Prelude.{◌≡◌, ℕ, ◌+◌, ◌-◌, ◌*◌, ◌<◌, ◌≤◌, ◌↔◌, true, false, [], ◌∷◌};
+ghost use Rattle.std.specs.Prelude.{Bool, length, take, max, All, IsTrue, IsOk, OnOk, OnErr};
+ghost use Rattle.std.specs.Prelude.{Contains};
 
 use crate::graph::Graph;
 use crate::last_close::LastClose;
@@ -38,7 +40,10 @@ impl Model for Reach {
 }
 
 impl Reach {
-    ghost use Rattle.wait_index.specs.Net.{with_node, with_label, with_offer, with_wait, with_root, with_closed, with_all_closed, has_wait, is_closed, IsReached, IsOpen, ListsReached, visits_of, ClosesIn, HasReachOf, TellsFallen, edges_at};
+    ghost use Rattle.wait_index.specs.Net.{with_node, with_label, with_offer, with_wait, with_root};
+    ghost use Rattle.wait_index.specs.Net.{with_closed, with_all_closed, has_wait, is_closed};
+    ghost use Rattle.wait_index.specs.Net.{IsReached, IsOpen, ListsReached, visits_of, ClosesIn};
+    ghost use Rattle.wait_index.specs.Net.{HasReachOf, TellsFallen, edges_at};
 
     /// An index without nodes, labels and room.
     pub fn new(alloc: Global) -> Self
@@ -79,7 +84,8 @@ impl Reach {
         ensures last { self.new.last ≡ self.old.last }
 
         // It is refused only where there was not so much room already.
-        ensures within { nodes ≤ self.old.room.nodes → labels ≤ self.old.room.labels → edges ≤ self.old.room.edges → IsOk result }
+        ensures within { nodes ≤ self.old.room.nodes → labels ≤ self.old.room.labels
+            → edges ≤ self.old.room.edges → IsOk result }
     {
         if self.room.covers(nodes, labels, edges) {
             return Ok(());
@@ -306,7 +312,8 @@ impl Reach {
         &self.marks.marked.items
     }
 
-    /// The nodes that the last close unmarked, each once. Those that it marked again are among them.
+    /// The nodes that the last close unmarked, each once. Those that it marked again are among
+    /// them.
     pub fn fallen(&self) -> &[NodeNo]
         ensures { result.now ≡ self.now.last.fallen }
     {

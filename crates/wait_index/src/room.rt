@@ -12,7 +12,8 @@ pub struct Room {
 impl Room {
     /// Whether there is room for this many.
     pub(crate) fn covers(self, nodes: usize, labels: usize, edges: usize) -> bool
-        ensures { IsTrue result ↔ ((nodes ≤ self.nodes) × (labels ≤ self.labels) × (edges ≤ self.edges)) }
+        ensures { IsTrue result
+            ↔ ((nodes ≤ self.nodes) × (labels ≤ self.labels) × (edges ≤ self.edges)) }
     {
         nodes <= self.nodes && labels <= self.labels && edges <= self.edges
     }

@@ -1,5 +1,6 @@
 -- What a clause reads of the bytes that a line buffer read ahead.
-use Rattle.std.specs.Prelude.{◌≡◌, ℕ, ◌+◌, ◌<◌, ◌++◌, ◌∷◌, List, Option, length, take, drop, slice_range, vec_len, MatchOption}
+use Rattle.std.specs.Prelude.{◌≡◌, ℕ, ◌+◌, ◌<◌, ◌++◌, ◌∷◌, List, Option, length, take, drop}
+use Rattle.std.specs.Prelude.{slice_range, vec_len, MatchOption}
 use Rattle.byte_lines.specs.Lines.{HasNoFeed}
 use Rattle.byte_lines.specs.declared.read_ahead.ReadAhead.{ReadAhead}
 

@@ -1,5 +1,6 @@
 -- What the steps of a line buffer do.
-use Rattle.std.specs.Prelude.{◌≡◌, ℕ, ◌<◌, ◌≤◌, ◌++◌, ◌∷◌, List, [], length, false, true, Option, Result, Ok, Err, IfOk, IsErrOf}
+use Rattle.std.specs.Prelude.{◌≡◌, ℕ, ◌<◌, ◌≤◌, ◌++◌, ◌∷◌, List, [], length, false, true, Option}
+use Rattle.std.specs.Prelude.{Result, Ok, Err, IfOk, IsErrOf}
 use Rattle.std.specs.Io.KnownBytes.{Keeps, IsAtEnd}
 use Rattle.std.specs.declared.alloc.AllocError.{AllocError}
 use Rattle.byte_lines.specs.Lines.{HasNoFeed, HasLine, HasNoLine, HasMore}
@@ -20,11 +21,16 @@ FindsIn old new given TooLong = ((text : List ℕ) × HasLine old new text × (8
 FindsIn old new given Cut = HasNoLine old × HasMore old × IsAtEnd new
 FindsIn old new given End = IsAtEnd old × IsAtEnd new
 
-pub record TakesFound {S : Type 0} (remaining : S → Option (List ℕ)) (budget : S → ℕ) (old : LineBuf) (before : S) (new : LineBuf) (after : S) (result : Result Found DeviceError) : Type 0 where
-  pub finds : IfOk result (FindsIn (stream_of remaining old before) (stream_of remaining new after) new.line.items)
-  pub keeps : IsErrOf result NoMemory → Keeps (stream_of remaining old before) (stream_of remaining new after)
+pub record TakesFound {S : Type 0} (remaining : S → Option (List ℕ)) (budget : S → ℕ)
+    (old : LineBuf) (before : S) (new : LineBuf) (after : S)
+    (result : Result Found DeviceError) : Type 0 where
+  pub finds : IfOk result
+      (FindsIn (stream_of remaining old before) (stream_of remaining new after) new.line.items)
+  pub keeps : IsErrOf result NoMemory
+      → Keeps (stream_of remaining old before) (stream_of remaining new after)
   pub spends : left_of budget new after ≤ left_of budget old before
-  pub falls : IfOk result (λ found. (found ≡ End → ⊥) → left_of budget new after < left_of budget old before)
+  pub falls : IfOk result
+      (λ found. (found ≡ End → ⊥) → left_of budget new after < left_of budget old before)
 
 -- a text without a line feed that is longer than a line may be was passed
 pub record SkipsText (old new : List ℕ) : Type 0 where
@@ -34,7 +40,10 @@ pub record SkipsText (old new : List ℕ) : Type 0 where
   pub parts : old ≡ text ++ new
 
 abbrev pub GathersLine : LineBuf → LineBuf → Result Gathered AllocError → Type 0
-GathersLine old new (Ok Part) = (kept new ≡ kept old) × (ahead_of new.ahead ≡ []) × (new.is_given ≡ false)
-GathersLine old new (Ok Line) = (kept old ≡ new.line.items ++ (10 ∷ kept new)) × (new.is_given ≡ true)
-GathersLine old new (Ok TooMuch) = SkipsText (kept old) (ahead_of new.ahead) × (new.line.items ≡ []) × (new.is_given ≡ false)
+GathersLine old new (Ok Part) = (kept new ≡ kept old) × (ahead_of new.ahead ≡ [])
+    × (new.is_given ≡ false)
+GathersLine old new (Ok Line) = (kept old ≡ new.line.items ++ (10 ∷ kept new))
+    × (new.is_given ≡ true)
+GathersLine old new (Ok TooMuch) = SkipsText (kept old) (ahead_of new.ahead) × (new.line.items ≡ [])
+    × (new.is_given ≡ false)
 GathersLine old new (Err e) = (kept new ≡ kept old)

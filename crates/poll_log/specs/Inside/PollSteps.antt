@@ -1,12 +1,15 @@
 -- Steps of reading polls
-use Rattle.std.specs.Prelude.{◌≡◌, ℕ, ◌==◌, ◌++◌, ◌∷◌, List, Bool, not, Option, Some, None, ⊤, slice_get, Result, Ok, Err, length}
+use Rattle.std.specs.Prelude.{◌≡◌, ℕ, ◌==◌, ◌++◌, ◌∷◌, List, Bool, not, Option, Some, None, ⊤}
+use Rattle.std.specs.Prelude.{slice_get, Result, Ok, Err, length}
 use Rattle.std.specs.List.{AllPass, AllZip}
 use Rattle.byte_lines.specs.Lines.{Lines, lines_of}
 use Rattle.poll_log.specs.Polling.{RecordsPoll, Poll, Standing, polled_domains, log_of}
-use Rattle.poll_log.specs.PollLines.{HasMoment, SaysPoll, Tells, TellsNoMoment, TellsNothing, ToldPoll, poll_of}
+use Rattle.poll_log.specs.PollLines.{HasMoment, SaysPoll, Tells, TellsNoMoment, TellsNothing}
+use Rattle.poll_log.specs.PollLines.{ToldPoll, poll_of}
 use Rattle.poll_log.specs.declared.lines.Parts.{Parts}
 use Rattle.poll_log.specs.declared.error.PollError.{PollError}
-use Rattle.poll_log.specs.declared.error.PollError.TheVariants.{NoRelationship, PastRange, NoMemory, BadLine, BadMoment, Io}
+use Rattle.poll_log.specs.declared.error.PollError.TheVariants.{NoRelationship, PastRange, NoMemory}
+use Rattle.poll_log.specs.declared.error.PollError.TheVariants.{BadLine, BadMoment, Io}
 
 abbrev pub is_no_space : ℕ → Bool
 is_no_space b = not (b == 32)
@@ -31,17 +34,21 @@ pub record AddsLine (old : List Standing) (text : List ℕ) (new : List Standing
   pub moment : HasMoment told
   pub adds : RecordsPoll old (poll_of told) new
 
-abbrev pub RecordsLine : List Standing → List ℕ → ℕ → List Standing → Result (Unit {0}) PollError → Type 0
+abbrev pub RecordsLine : List Standing → List ℕ → ℕ → List Standing → Result (Unit {0}) PollError
+    → Type 0
 RecordsLine old text number new (Ok done) = AddsLine old text new
-RecordsLine old text number new (Err (BadLine n)) = (n ≡ number) × TellsNothing (polled_domains old) text
-RecordsLine old text number new (Err (BadMoment n)) = (n ≡ number) × TellsNoMoment (polled_domains old) text
+RecordsLine old text number new (Err (BadLine n)) = (n ≡ number)
+    × TellsNothing (polled_domains old) text
+RecordsLine old text number new (Err (BadMoment n)) = (n ≡ number)
+    × TellsNoMoment (polled_domains old) text
 RecordsLine old text number new (Err NoRelationship) = ⊥
 RecordsLine old text number new (Err PastRange) = ⊥
 RecordsLine old text number new (Err NoMemory) = ⊥
 RecordsLine old text number new (Err Io) = ⊥
 
 -- These are the lines so far, which say these polls, and those that are left.
-pub record ReadLines (domains : List (List ℕ)) (all left : Lines) (polls : List Poll) (number : ℕ) : Type 0 where
+pub record ReadLines (domains : List (List ℕ)) (all left : Lines) (polls : List Poll)
+    (number : ℕ) : Type 0 where
   pub front : List (List ℕ)
   pub say : AllZip (SaysPoll domains) front polls
   pub whole : all.whole ≡ front ++ left.whole
@@ -51,10 +58,12 @@ pub record ReadLines (domains : List (List ℕ)) (all left : Lines) (polls : Lis
 abbrev pub ReadTo : List (List ℕ) → Option (List ℕ) → Option (List ℕ) → List Poll → ℕ → Type 0
 ReadTo domains None new polls number = ⊤
 ReadTo domains (Some xs) None polls number = ⊥
-ReadTo domains (Some xs) (Some ys) polls number = ReadLines domains (lines_of xs) (lines_of ys) polls number
+ReadTo domains (Some xs) (Some ys) polls number = ReadLines domains (lines_of xs) (lines_of ys)
+    polls number
 
 -- the log is that of the polls so far, which so many lines said
-pub record HasRead (domains : List (List ℕ)) (old new : Option (List ℕ)) (log : List Standing) (number : ℕ) : Type 0 where
+pub record HasRead (domains : List (List ℕ)) (old new : Option (List ℕ)) (log : List Standing)
+    (number : ℕ) : Type 0 where
   pub polls : List Poll
   pub is : log ≡ log_of domains polls
   pub lines : ReadTo domains old new polls number

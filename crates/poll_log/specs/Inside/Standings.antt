@@ -1,5 +1,6 @@
 -- A log as the code holds it
-use Rattle.std.specs.Prelude.{◌≡◌, ℕ, ◌+◌, min, ℤ, Bool, if◌then◌else◌, List, Contains, Option, Some, None, slice_get}
+use Rattle.std.specs.Prelude.{◌≡◌, ℕ, ◌+◌, min, ℤ, Bool, if◌then◌else◌, List, Contains, Option}
+use Rattle.std.specs.Prelude.{Some, None, slice_get}
 use Rattle.std.specs.Option.{option_map}
 use Rattle.jiff.specs.Types.{Timestamp}
 use Rattle.spiffe_name.specs.TrustDomain.{IsDomainText}
@@ -10,11 +11,19 @@ abbrev pub nanos_of : Timestamp → ℤ
 nanos_of t = t.nanosecond
 
 abbrev pub kept_standing : held.Standing → Standing
-kept_standing s = record { domain = s.domain; last = option_map nanos_of s.last; failures = s.failures }
+kept_standing s = record {
+  domain = s.domain;
+  last = option_map nanos_of s.last;
+  failures = s.failures;
+}
 
 -- what is kept after one more poll
 abbrev pub after : Standing → ℤ → Bool → Standing
-after s moment ok = record { domain = s.domain; last = Some moment; failures = if ok then 0 else min s.failures 11 + 1 }
+after s moment ok = record {
+  domain = s.domain;
+  last = Some moment;
+  failures = if ok then 0 else min s.failures 11 + 1;
+}
 
 abbrev pub AreNames : List (List ℕ) → Type 0
 AreNames domains = (domain : List ℕ) → Contains domains domain → IsDomainText domain

@@ -13,7 +13,12 @@ pub record GraphCapacity : Type 0 where
   pub waits : ℕ
 
 abbrev pub graph_capacity : Graph → GraphCapacity
-graph_capacity g = record { nodes = min (vec_capacity g.roots) (owners_room g.offers); labels = min (vec_capacity g.closed) (owners_room g.waits); offers = edges_room g.offers; waits = edges_room g.waits }
+graph_capacity g = record {
+  nodes = min (vec_capacity g.roots) (owners_room g.offers);
+  labels = min (vec_capacity g.closed) (owners_room g.waits);
+  offers = edges_room g.offers;
+  waits = edges_room g.waits;
+}
 
 -- the same net, and no less room
 pub record GrowsGraph (old new : Graph) : Type 0 where
@@ -23,7 +28,8 @@ pub record GrowsGraph (old new : Graph) : Type 0 where
   pub offers : (graph_capacity old).offers ≤ (graph_capacity new).offers
   pub waits : (graph_capacity old).waits ≤ (graph_capacity new).waits
 
--- There is room for so many nodes, labels and edges of each kind more, and the turns of two passes over all edges fit a word.
+-- There is room for so many nodes, labels and edges of each kind more, and the turns of two passes
+-- over all edges fit a word.
 pub record HasGraphRoom (g : Graph) (more_nodes more_labels more_edges : ℕ) : Type 0 where
   pub nodes : length g.roots.items + more_nodes ≤ (graph_capacity g).nodes
   pub labels : length g.closed.items + more_labels ≤ (graph_capacity g).labels
@@ -42,4 +48,5 @@ pub record HasMarksRoom (m : Marks) (more_nodes more_labels : ℕ) : Type 0 wher
   pub nodes : length m.marked.places.items + more_nodes ≤ (marks_capacity m).nodes
   pub support : length m.support.items + more_labels ≤ vec_capacity m.support
   pub opened : length m.opened.items + more_labels ≤ vec_capacity m.opened
-  pub touched : length m.touched.places.items + more_labels ≤ min (vec_capacity m.touched.items) (vec_capacity m.touched.places)
+  pub touched : length m.touched.places.items + more_labels
+      ≤ min (vec_capacity m.touched.items) (vec_capacity m.touched.places)

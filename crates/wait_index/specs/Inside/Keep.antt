@@ -10,10 +10,18 @@ use Rattle.wait_index.specs.Index.{Index}
 use Rattle.wait_index.specs.Inside.Tally.{net_of, tally_of, marks_capacity}
 
 abbrev pub index_of : Graph → Marks → Room → LastClose → Index
-index_of graph marks room last = record { net = net_of graph; marked = marks.marked.items.items; room = room; last = record { fallen = last.fallen.items; kept = last.kept } }
+index_of graph marks room
+    last = record {
+      net = net_of graph;
+      marked = marks.marked.items.items;
+      room = room;
+      last = record { fallen = last.fallen.items; kept = last.kept };
+    }
 
--- All edges that can be followed are, the turns of two passes over the edges fit a word, and the vectors have the room.
-pub record IsStoredIndex (graph : Graph) (marks : Marks) (room : Room) (last : LastClose) : Type 0 where
+-- All edges that can be followed are, the turns of two passes over the edges fit a word, and the
+-- vectors have the room.
+pub record IsStoredIndex (graph : Graph) (marks : Marks) (room : Room)
+    (last : LastClose) : Type 0 where
   pub settled : IsSettled (net_of graph) (tally_of marks)
   pub few : length graph.offers.edges.items + length graph.waits.edges.items + room.edges < 2 ^ 63
   pub nodes : length graph.roots.items + room.nodes ≤ (graph_capacity graph).nodes

@@ -18,5 +18,6 @@ pub record IsLast (edges : List Edge) (owner n link : ℕ) : Type 0 where
 pub record AreLinked (edges : List Edge) (newest earlier : List ℕ) : Type 0 where
   pub owners : (i : ℕ) → i < length edges → from_at edges i < length newest
   pub links : length earlier ≡ length edges
-  pub last : (owner : ℕ) → owner < length newest → IsLast edges owner (length edges) (slice_index newest owner)
+  pub last : (owner : ℕ) → owner < length newest
+      → IsLast edges owner (length edges) (slice_index newest owner)
   pub before : (i : ℕ) → i < length edges → IsLast edges (from_at edges i) i (slice_index earlier i)

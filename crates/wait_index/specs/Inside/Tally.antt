@@ -1,5 +1,7 @@
 -- What is kept about the marked nodes and open labels of a net, as plain lists
-use Rattle.std.specs.Prelude.{◌≡◌, ℕ, ◌+◌, ◌-◌, ◌<◌, ◌==◌, ◌&&◌, ◌||◌, Bool, true, false, not, min, List, length, slice_index, slice_index_or, slice_set, take, vec_capacity, ◌⊎◌, Contains}
+use Rattle.std.specs.Prelude.{◌≡◌, ℕ, ◌+◌, ◌-◌, ◌<◌, ◌==◌, ◌&&◌, ◌||◌, Bool, true, false, not, min}
+use Rattle.std.specs.Prelude.{List, length, slice_index, slice_index_or, slice_set, take}
+use Rattle.std.specs.Prelude.{vec_capacity, ◌⊎◌, Contains}
 use Rattle.wait_index.specs.declared.graph.Graph.{Graph}
 use Rattle.wait_index.specs.declared.marks.Marks.{Marks}
 use Rattle.wait_index.specs.Inside.Count.{count_below}
@@ -8,10 +10,16 @@ use Rattle.wait_index.specs.Inside.Listing.{holds}
 use Rattle.wait_index.specs.Net.{Net, is_closed, is_root}
 
 abbrev pub net_of : Graph → Net
-net_of graph = record { roots = graph.roots.items; closed = graph.closed.items; offers = graph.offers.edges.items; waits = graph.waits.edges.items }
+net_of graph = record {
+  roots = graph.roots.items;
+  closed = graph.closed.items;
+  offers = graph.offers.edges.items;
+  waits = graph.waits.edges.items;
+}
 
--- the marked nodes with the place of each, how many followed offer edges lead to each label, whether the wait
--- edges of each label are followed, the labels whose wait edges are to be looked at again, and the turns
+-- the marked nodes with the place of each, how many followed offer edges lead to each label,
+-- whether the wait edges of each label are followed, the labels whose wait edges are to be looked
+-- at again, and the turns
 pub record Tally : Type 0 where
   pub marked : List ℕ
   pub places : List ℕ
@@ -22,7 +30,15 @@ pub record Tally : Type 0 where
   pub visits : ℕ
 
 abbrev pub tally_of : Marks → Tally
-tally_of m = record { marked = m.marked.items.items; places = m.marked.places.items; support = m.support.items; opened = m.opened.items; touched = m.touched.items.items; touched_places = m.touched.places.items; visits = m.visits }
+tally_of m = record {
+  marked = m.marked.items.items;
+  places = m.marked.places.items;
+  support = m.support.items;
+  opened = m.opened.items;
+  touched = m.touched.items.items;
+  touched_places = m.touched.places.items;
+  visits = m.visits;
+}
 
 -- how many nodes, and how many labels, there is room for in all
 pub record Capacity : Type 0 where
@@ -30,7 +46,12 @@ pub record Capacity : Type 0 where
   pub labels : ℕ
 
 abbrev pub marks_capacity : Marks → Capacity
-marks_capacity m = record { nodes = min (vec_capacity m.marked.items) (vec_capacity m.marked.places); labels = min (min (vec_capacity m.support) (vec_capacity m.opened)) (min (vec_capacity m.touched.items) (vec_capacity m.touched.places)) }
+marks_capacity m = record {
+  nodes = min (vec_capacity m.marked.items)
+      (vec_capacity m.marked.places);
+  labels = min (min (vec_capacity m.support) (vec_capacity m.opened))
+      (min (vec_capacity m.touched.items) (vec_capacity m.touched.places));
+}
 
 -- one entry for each node, and one for each label
 pub record HasSizes (net : Net) (t : Tally) : Type 0 where
@@ -60,7 +81,8 @@ offer_count_of net node = count_below (λ i. from_at net.offers i == node) (leng
 
 -- how many offer edges the node has to the label
 abbrev pub offers_between : Net → ℕ → ℕ → ℕ
-offers_between net node label = count_below (λ i. (from_at net.offers i == node) && (to_at net.offers i == label)) (length net.offers)
+offers_between net node label = count_below
+    (λ i. (from_at net.offers i == node) && (to_at net.offers i == label)) (length net.offers)
 
 -- What one function does
 
@@ -79,8 +101,10 @@ pub record MarksNode (node : ℕ) (old new : Tally) : Type 0 where
 pub record Releases (net : Net) (label : ℕ) (old new : Tally) : Type 0 where
   pub front : take (length old.marked) new.marked ≡ old.marked
   pub kept : (n : ℕ) → is_marked_in old n ≡ true → is_marked_in new n ≡ true
-  pub all : (i : ℕ) → i < length net.waits → from_at net.waits i ≡ label → is_marked_in new (to_at net.waits i) ≡ true
-  pub only : (n : ℕ) → is_marked_in new n ≡ true → (is_marked_in old n ≡ true) ⊎ ((i : ℕ) × IsEdge net.waits i label n)
+  pub all : (i : ℕ) → i < length net.waits → from_at net.waits i ≡ label
+      → is_marked_in new (to_at net.waits i) ≡ true
+  pub only : (n : ℕ) → is_marked_in new n ≡ true
+      → (is_marked_in old n ≡ true) ⊎ ((i : ℕ) × IsEdge net.waits i label n)
   pub size : length new.places ≡ length old.places
   pub support : new.support ≡ old.support
   pub opened : new.opened ≡ old.opened
@@ -90,7 +114,8 @@ pub record Releases (net : Net) (label : ℕ) (old new : Tally) : Type 0 where
 
 -- the label stays as it is
 pub record Leaves (net : Net) (label : ℕ) (old new : Tally) : Type 0 where
-  pub why : (support_in old label ≡ 0) ⊎ ((is_closed net label ≡ true) ⊎ (is_open_in old label ≡ true))
+  pub why : (support_in old label ≡ 0)
+      ⊎ ((is_closed net label ≡ true) ⊎ (is_open_in old label ≡ true))
   pub same : new ≡ old
 
 -- the label is opened, and its wait edges are followed
@@ -106,13 +131,18 @@ SettlesLabel net label old new = Leaves net label old new ⊎ Opens net label ol
 
 -- one offer edge to the label is followed
 abbrev pub Supports : Net → ℕ → Tally → Tally → Type 0
-Supports net label old new = SettlesLabel net label (record old { support = slice_set old.support label (support_in old label + 1); visits = old.visits + 1 }) new
+Supports net label old new = SettlesLabel net label
+    (record old {
+      support = slice_set old.support label (support_in old label + 1);
+      visits = old.visits + 1;
+    }) new
 
 -- where the label is open, its wait edges are to be looked at
 pub record Touches (label : ℕ) (old new : Tally) : Type 0 where
   pub same : new ≡ record old { touched = new.touched; touched_places = new.touched_places }
   pub front : take (length old.touched) new.touched ≡ old.touched
-  pub touched : (l : ℕ) → is_touched_in new l ≡ (is_touched_in old l || ((l == label) && is_open_in old label))
+  pub touched : (l : ℕ) → is_touched_in new l
+      ≡ (is_touched_in old l || ((l == label) && is_open_in old label))
   pub size : length new.touched_places ≡ length old.touched_places
 
 -- the wait edges of the labels that are open are to be looked at
@@ -120,17 +150,20 @@ pub record TouchesAll (labels : List ℕ) (old new : Tally) : Type 0 where
   pub same : new ≡ record old { touched = new.touched; touched_places = new.touched_places }
   pub kept : (l : ℕ) → is_touched_in old l ≡ true → is_touched_in new l ≡ true
   pub all : (l : ℕ) → Contains labels l → is_open_in old l ≡ true → is_touched_in new l ≡ true
-  pub only : (l : ℕ) → is_touched_in new l ≡ true → (is_touched_in old l ≡ true) ⊎ (Contains labels l × (is_open_in old l ≡ true))
+  pub only : (l : ℕ) → is_touched_in new l ≡ true
+      → (is_touched_in old l ≡ true) ⊎ (Contains labels l × (is_open_in old l ≡ true))
   pub size : length new.touched_places ≡ length old.touched_places
 
--- one offer edge to the label is taken back: where the label is open, its wait edges are to be looked at
+-- one offer edge to the label is taken back: where the label is open, its wait edges are to be
+-- looked at
 pub record Withdraws (label : ℕ) (old new : Tally) : Type 0 where
   pub marked : new.marked ≡ old.marked
   pub places : new.places ≡ old.places
   pub support : new.support ≡ slice_set old.support label (support_in old label - 1)
   pub opened : new.opened ≡ old.opened
   pub front : take (length old.touched) new.touched ≡ old.touched
-  pub touched : (l : ℕ) → is_touched_in new l ≡ (is_touched_in old l || ((l == label) && is_open_in old label))
+  pub touched : (l : ℕ) → is_touched_in new l
+      ≡ (is_touched_in old l || ((l == label) && is_open_in old label))
   pub size : length new.touched_places ≡ length old.touched_places
   pub visits : new.visits ≡ old.visits - 1
 
@@ -138,13 +171,17 @@ pub record Withdraws (label : ℕ) (old new : Tally) : Type 0 where
 pub record WithdrawsAll (net : Net) (node : ℕ) (old new : Tally) : Type 0 where
   pub marked : new.marked ≡ old.marked
   pub places : new.places ≡ old.places
-  pub support : (l : ℕ) → l < length old.support → support_in new l + offers_between net node l ≡ support_in old l
+  pub support : (l : ℕ) → l < length old.support
+      → support_in new l + offers_between net node l ≡ support_in old l
   pub supports : length new.support ≡ length old.support
   pub opened : new.opened ≡ old.opened
   pub front : take (length old.touched) new.touched ≡ old.touched
   pub kept : (l : ℕ) → is_touched_in old l ≡ true → is_touched_in new l ≡ true
-  pub all : (i : ℕ) → i < length net.offers → from_at net.offers i ≡ node → is_open_in old (to_at net.offers i) ≡ true → is_touched_in new (to_at net.offers i) ≡ true
-  pub only : (l : ℕ) → is_touched_in new l ≡ true → (is_touched_in old l ≡ true) ⊎ ((is_open_in old l ≡ true) × ((i : ℕ) × IsEdge net.offers i node l))
+  pub all : (i : ℕ) → i < length net.offers → from_at net.offers i ≡ node
+      → is_open_in old (to_at net.offers i) ≡ true → is_touched_in new (to_at net.offers i) ≡ true
+  pub only : (l : ℕ) → is_touched_in new l ≡ true
+      → (is_touched_in old l ≡ true)
+      ⊎ ((is_open_in old l ≡ true) × ((i : ℕ) × IsEdge net.offers i node l))
   pub size : length new.touched_places ≡ length old.touched_places
   pub visits : new.visits + offer_count_of net node ≡ old.visits
 
@@ -160,8 +197,13 @@ pub record UnmarksNode (node : ℕ) (old new : Tally) : Type 0 where
 
 -- a node that is no root is no longer marked, and its offer edges are taken back; a root stays
 abbrev pub Falls : Net → ℕ → Tally → Tally → Type 0
-Falls net node old new = ((is_root net node ≡ true) × (new ≡ old)) ⊎ ((is_root net node ≡ false) × ((between : Tally) × UnmarksNode node old between × WithdrawsAll net node between new))
+Falls net node old new = ((is_root net node ≡ true) × (new ≡ old))
+    ⊎ ((is_root net node ≡ false)
+    × ((between : Tally) × UnmarksNode node old between × WithdrawsAll net node between new))
 
 -- where the label is open, one wait edge from it is followed: the node is marked
 abbrev pub FollowsWait : ℕ → ℕ → Tally → Tally → Type 0
-FollowsWait label node old new = ((is_open_in old label ≡ true) × MarksNode node (record old { visits = old.visits + 1 }) new) ⊎ ((is_open_in old label ≡ false) × (new ≡ old))
+FollowsWait label node old
+    new = ((is_open_in old label ≡ true)
+    × MarksNode node (record old { visits = old.visits + 1 }) new)
+    ⊎ ((is_open_in old label ≡ false) × (new ≡ old))
