@@ -9,8 +9,10 @@ use crate::session::tell_session;
 use crate::stop::Stop;
 use byte_lines::{LineBuf, MemSink, MemSource, Sink, Source};
 use fed_config::Config;
-use replica_gossip::{PullFault, pull, read_have, serve_one, write_answer, write_have};
-use replica_sync::{SyncError, answer, have, read_snapshot, write_snapshot};
+use replica_sync::{
+    PullFault, SyncError, answer, have, pull, read_have, read_snapshot, serve_one, write_answer,
+    write_have, write_snapshot,
+};
 use std::alloc::{AllocError, Global};
 use trust_closure::Closure;
 

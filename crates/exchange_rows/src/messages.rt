@@ -4,8 +4,7 @@ use crate::stop::Stop;
 use byte_lines::{LineBuf, MemSink, Sink, Source, write_all};
 use fed_config::ConfigId;
 use receipt_core::{Distrust, Receipt, ReceiptId};
-use replica_gossip::{read_give, read_have, write_have};
-use replica_sync::{Give, Have, SyncError};
+use replica_sync::{Give, Have, SyncError, read_give, read_have, write_have};
 use std::alloc::{AllocError, Global};
 
 /// More messages than any row has.

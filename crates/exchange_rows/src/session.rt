@@ -5,8 +5,7 @@ use crate::places::AMPLE_ROOM;
 use crate::replica::{replica, tell_held};
 use crate::stop::Stop;
 use byte_lines::{MemSink, Sink};
-use replica_gossip::{pull, serve_one, write_have};
-use replica_sync::{SyncError, have, write_snapshot};
+use replica_sync::{SyncError, have, pull, serve_one, write_have, write_snapshot};
 use std::alloc::Global;
 use trust_closure::Closure;
 

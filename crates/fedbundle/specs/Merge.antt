@@ -6,7 +6,7 @@ use Rattle.byte_lines.specs.Device.{AppendsBeginning}
 use Rattle.trust_closure.specs.Changes.{HeldAndRoom, HasMerged, HasRefusedMerge}
 use Rattle.trust_closure.specs.declared.error.TakeError.{TakeError}
 use Rattle.replica_sync.specs.Snapshots.{IsSnapshot, RefusesSnapshot}
-use Rattle.replica_sync.specs.declared.error.SyncError.{SyncError}
+use Rattle.replica_core.specs.declared.error.SyncError.{SyncError}
 use Rattle.fedbundle.specs.Counts.{counted}
 use Rattle.fedbundle.specs.declared.error.CommandError.{CommandError}
 use Rattle.fedbundle.specs.declared.error.CommandError.TheVariants.{Sync, Take}

@@ -4,8 +4,8 @@ use Rattle.std.specs.Prelude.{◌≡◌, ℕ, List, Option, Ok, Err}
 use Rattle.std.specs.Io.KnownBytes.{Appends}
 use Rattle.receipt_core.specs.Acceptance.{Meaning}
 use Rattle.byte_lines.specs.Device.{AppendsBeginning}
-use Rattle.replica_gossip.specs.Pulling.{Pulls}
-use Rattle.replica_gossip.specs.declared.pulling.PullFault.{PullFault}
+use Rattle.replica_sync.specs.Pulling.{Pulls}
+use Rattle.replica_sync.specs.declared.pulling.PullFault.{PullFault}
 use Rattle.fedbundle.specs.Merge.{count_text}
 use Rattle.fedbundle.specs.declared.error.CommandError.{CommandError}
 use Rattle.fedbundle.specs.declared.error.CommandError.TheVariants.{Pull}

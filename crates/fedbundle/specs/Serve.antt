@@ -1,8 +1,8 @@
 -- What a session that is served does to its two devices.
 use Rattle.std.specs.Prelude.{◌≡◌, ℕ, List, codes, Option, Result, Ok, Err}
 use Rattle.receipt_core.specs.Acceptance.{Meaning}
-use Rattle.replica_gossip.specs.Questions.{ServesAll, ServesUpTo}
-use Rattle.replica_sync.specs.declared.error.SyncError.{SyncError}
+use Rattle.replica_sync.specs.Questions.{ServesAll, ServesUpTo}
+use Rattle.replica_core.specs.declared.error.SyncError.{SyncError}
 use Rattle.fedbundle.specs.Counts.{counted}
 use Rattle.fedbundle.specs.declared.error.CommandError.{CommandError}
 use Rattle.fedbundle.specs.declared.error.CommandError.TheVariants.{Sync}

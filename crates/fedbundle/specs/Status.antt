@@ -7,9 +7,9 @@ use Rattle.trust_closure.specs.declared.error.TakeError.TheVariants.{NoMemory as
 use Rattle.bundle_view.specs.declared.observe_error.ObserveError.TheVariants.{Take as TakeFailed}
 use Rattle.poll_log.specs.declared.error.PollError.TheVariants.{NoMemory as NoMemoryToPoll}
 use Rattle.poll_log.specs.declared.error.PollError.TheVariants.{Io as PollIo}
-use Rattle.replica_sync.specs.declared.error.SyncError.{SyncError}
-use Rattle.replica_sync.specs.declared.error.SyncError.TheVariants.{NoMemory as NoMemoryToSync}
-use Rattle.replica_sync.specs.declared.error.SyncError.TheVariants.{Io as SyncIo}
+use Rattle.replica_core.specs.declared.error.SyncError.{SyncError}
+use Rattle.replica_core.specs.declared.error.SyncError.TheVariants.{NoMemory as NoMemoryToSync}
+use Rattle.replica_core.specs.declared.error.SyncError.TheVariants.{Io as SyncIo}
 use Rattle.byte_lines.specs.declared.error.DeviceError.{DeviceError}
 use Rattle.byte_lines.specs.declared.error.DeviceError.TheVariants.{Io as SourceFailed}
 use Rattle.byte_lines.specs.declared.error.DeviceError.TheVariants.{NoMemory as NoMemoryForBytes}

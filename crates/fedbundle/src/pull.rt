@@ -1,14 +1,14 @@
 //! `pull`: what another replica holds, asked for and taken.
 ghost use Rattle.std.specs.Prelude.{◌≡◌, ◌⊎◌, true, IfErr, IsErrOf, OnOk};
-ghost use Rattle.replica_gossip.specs.declared.pulling.PullFault.{PullFault};
-ghost use Rattle.replica_sync.specs.declared.error.SyncError.TheVariants.{Io as DeviceFailed};
+ghost use Rattle.replica_sync.specs.declared.pulling.PullFault.{PullFault};
+ghost use Rattle.replica_core.specs.declared.error.SyncError.TheVariants.{Io as DeviceFailed};
 ghost use Rattle.fedbundle.specs.Pull.{BeginsPulled, Pulled, PulledBefore};
 ghost use Rattle.fedbundle.specs.declared.error.CommandError.TheVariants.{Io, Pull};
 
 use crate::counts::write_counted;
 use crate::error::CommandError;
 use byte_lines::{Sink, Source};
-use replica_gossip::pull;
+use replica_sync::pull;
 use std::alloc::Global;
 use trust_closure::Closure;
 

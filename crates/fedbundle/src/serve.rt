@@ -2,14 +2,14 @@
 ghost use Rattle.std.specs.Prelude.{◌≡◌, ◌⊎◌, true, IfErr, IsErrOf, OnOk};
 ghost use Rattle.std.specs.Io.KnownBytes.{Appends};
 ghost use Rattle.byte_lines.specs.Device.{AppendsBeginning};
-ghost use Rattle.replica_sync.specs.declared.error.SyncError.TheVariants.{Io as DeviceFailed};
+ghost use Rattle.replica_core.specs.declared.error.SyncError.TheVariants.{Io as DeviceFailed};
 ghost use Rattle.fedbundle.specs.Serve.{ServesSession, served_text};
 ghost use Rattle.fedbundle.specs.declared.error.CommandError.TheVariants.{Io, Sync};
 
 use crate::counts::write_counted;
 use crate::error::CommandError;
 use byte_lines::{Sink, Source};
-use replica_gossip::serve_one;
+use replica_sync::serve_one;
 use std::alloc::Global;
 use trust_closure::Closure;
 

@@ -4,7 +4,8 @@
 //! return, and shown by runs of the program.
 use byte_lines::{FromRead, FromWrite};
 use fed_config::Config;
-use replica_sync::{SyncError, read_snapshot, write_snapshot};
+use replica_core::SyncError;
+use replica_sync::{read_snapshot, write_snapshot};
 use std::alloc::{AllocError, Global};
 use std::fs::{File, Files, OpenFile, OpenOptions};
 use std::io::BufWriter;

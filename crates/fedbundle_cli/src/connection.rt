@@ -1,7 +1,7 @@
 // Connections with other replicas, and how long they may keep this one.
 use crate::stop::Stop;
 use fedbundle::CommandError;
-use replica_sync::SyncError;
+use replica_core::SyncError;
 use std::io;
 use std::io::{ErrorKind, Read, Write};
 use std::net::{SocketAddr, TcpListener, TcpStream};

@@ -9,16 +9,19 @@ use Rattle.fed_config.specs.Configuration.{Configuration, IsConfiguration}
 use Rattle.receipt_core.specs.Acceptance.{Meaning, IsMeaning}
 use Rattle.byte_lines.specs.Lines.{Lines, lines_of, with_line, with_byte, before, HasLine, HasNoFeed, HasMore}
 use Rattle.byte_lines.proofs.StreamFacts.{lines_of-line, lines_of-rest}
-use Rattle.replica_sync.specs.Snapshots.{Begins, HasBadFirst, HasBadLine, HasMoreBehind, IsSnapshot, IsTold, RefusesFirst, RefusesHeader, RefusesNext, RefusesPlace, RefusesSnapshot, begun_text, count_line, count_of, digits_of, ended, header_line, held_lines, snapshot_text, text_of_lines, version_of}
-use Rattle.replica_sync.specs.declared.error.SyncError.{SyncError}
-use Rattle.replica_sync.specs.declared.error.SyncError.TheVariants.{BadHeader, ConfigDiffers, VersionDiffers, NotCanonical, NotRising, BadCount, Truncated, Refused, Io, NoMemory}
+use Rattle.replica_sync.specs.Snapshots.{Begins, HasBadFirst, HasBadLine, HasMoreBehind, IsSnapshot, IsTold, RefusesFirst, RefusesHeader, RefusesNext}
+use Rattle.replica_sync.specs.Snapshots.{RefusesPlace, RefusesSnapshot, begun_text, count_line, count_of, digits_of, ended, header_line, held_lines}
+use Rattle.replica_sync.specs.Snapshots.{snapshot_text, text_of_lines, version_of}
+use Rattle.replica_core.specs.declared.error.SyncError.{SyncError}
+use Rattle.replica_core.specs.declared.error.SyncError.TheVariants.{BadHeader, ConfigDiffers, VersionDiffers, NotCanonical, NotRising, BadCount, Truncated}
+use Rattle.replica_core.specs.declared.error.SyncError.TheVariants.{Refused, Io, NoMemory}
 use Rattle.replica_sync.specs.declared.format.Format.{Format}
 use Rattle.replica_sync.specs.declared.format.Format.TheVariants.{First, Second}
 use Rattle.replica_sync.proofs.CountFacts.{IsThird, is_count, no_count, no_fault_of_count, third_held}
 use Rattle.replica_sync.proofs.DigestFacts.{is_first_line, short_first, feedless_first}
 use Rattle.replica_sync.proofs.FeedFacts.{Feedless}
 use Rattle.replica_sync.proofs.HeaderFacts.{one_header}
-use Rattle.replica_sync.proofs.HeldFacts.{all_back}
+use Rattle.replica_core.proofs.RisingLists.{all_back}
 use Rattle.replica_sync.proofs.NextFacts.{no_fault_of_held}
 use Rattle.replica_sync.proofs.OneFacts.{feedless_behind, feedless_count, feedless_held, formats_apart, held_back, lines_back}
 use Rattle.replica_sync.proofs.WritingFacts.{lines_append}

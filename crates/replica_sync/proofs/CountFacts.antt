@@ -7,8 +7,9 @@ use Rattle.receipt_core.specs.declared.distrust.Distrust.{Distrust}
 use Rattle.receipt_core.specs.Receipt.{Receipt, line, distrust_line}
 use Rattle.receipt_core.specs.Acceptance.{Meaning, IsMeaning}
 use Rattle.replica_sync.specs.Snapshots.{IsCountLine, RefusesPlace, count_beginning, count_line, count_of, records_part}
-use Rattle.replica_sync.specs.declared.error.SyncError.{SyncError}
-use Rattle.replica_sync.specs.declared.error.SyncError.TheVariants.{BadHeader, ConfigDiffers, VersionDiffers, NotCanonical, NotRising, BadCount, Truncated, Refused, Io, NoMemory}
+use Rattle.replica_core.specs.declared.error.SyncError.{SyncError}
+use Rattle.replica_core.specs.declared.error.SyncError.TheVariants.{BadHeader, ConfigDiffers, VersionDiffers, NotCanonical, NotRising, BadCount, Truncated}
+use Rattle.replica_core.specs.declared.error.SyncError.TheVariants.{Refused, Io, NoMemory}
 use Rattle.replica_sync.specs.declared.format.Format.{Format}
 use Rattle.replica_sync.specs.declared.format.Format.TheVariants.{First, Second}
 

@@ -4,7 +4,8 @@ use Rattle.std.proofs.lemmas.List.{append_cancel_left, append_cancel_right, take
 use Rattle.std.proofs.Math.Seq.{drop-append_seam, take-append_seam}
 use Rattle.std.specs.Prelude.{decimal}
 use Rattle.std.proofs.lemmas.Fmt.{decimal_injective}
-use Rattle.replica_sync.specs.Snapshots.{IsSplit, IsHeader, header_of, count_beginning}
+use Rattle.replica_sync.specs.Inside.Reading.{IsSplit}
+use Rattle.replica_sync.specs.Snapshots.{IsHeader, header_of, count_beginning}
 use Rattle.replica_sync.specs.declared.format.Format.{Format}
 
 abbrev first_label : List ℕ

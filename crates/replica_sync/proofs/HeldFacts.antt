@@ -12,15 +12,18 @@ use Rattle.std.proofs.lemmas.List.Sums.{fold-append}
 use Rattle.receipt_core.specs.declared.distrust.Distrust.{Distrust}
 use Rattle.receipt_core.specs.Receipt.{Receipt, IsReceipt, line, receipt_cmp, IsDistrust, distrust_line, distrust_cmp}
 use Rattle.receipt_core.specs.Acceptance.{Meaning, IsMeaning}
-use Rattle.receipt_core.specs.Rising.{with_item, placed}
+use Rattle.receipt_core.specs.Rising.{with_item}
 use Rattle.receipt_core.proofs.RisingFacts.{turned}
-use Rattle.replica_sync.specs.Entries.{TakesEntryText, IsAbove, IsWanted, entry_line, with_entry}
+use Rattle.replica_sync.specs.Inside.EntrySteps.{TakesEntryText}
+use Rattle.replica_sync.specs.Entries.{IsAbove, IsWanted, entry_line}
+use Rattle.replica_core.specs.Absorbing.{with_entry}
 use Rattle.replica_sync.specs.Snapshots.{IsTold, held_lines, last_of, last_line, wanted_of}
-use Rattle.replica_sync.specs.Reading.{IsFurther}
-use Rattle.replica_sync.specs.declared.entry.Entry.{Entry}
-use Rattle.replica_sync.specs.declared.entry.Entry.TheVariants.{Record, Receipt as AReceipt}
+use Rattle.replica_sync.specs.Inside.Reading.{IsFurther}
+use Rattle.replica_core.specs.declared.entry.Entry.{Entry}
+use Rattle.replica_core.specs.declared.entry.Entry.TheVariants.{Record, Receipt as AReceipt}
 use Rattle.replica_sync.specs.declared.format.Format.{Format}
 use Rattle.replica_sync.specs.declared.format.Format.TheVariants.{First, Second}
+use Rattle.replica_core.proofs.RisingLists.{all_back, all_front, at_end, rising_append, rising_cons, rising_head, rising_nil, rising_tail}
 
 abbrev pub text_cmp : List ℕ → List ℕ → Ordering
 text_cmp = slice_cmp nat_cmp
@@ -28,42 +31,6 @@ text_cmp = slice_cmp nat_cmp
 -- all are less than the text
 abbrev pub AllBelow : List ℕ → List (List ℕ) → Type 0
 AllBelow text = AllByRecursion (λ y. text_cmp y text ≡ Less)
-
--- ---- rising lists of texts
-
-rising_nil : {A : Type 0} (cmp : A → A → Ordering) → IsStrictlySortedBy cmp []
-unfolding IsStrictlySortedBy
-rising_nil cmp = tt
-
-rising_cons : {A : Type 0} (cmp : A → A → Ordering) (x : A) (xs : List A) → AllByRecursion (λ y. cmp x y ≡ Less) xs → IsStrictlySortedBy cmp xs → IsStrictlySortedBy cmp (x ∷ xs)
-unfolding IsStrictlySortedBy
-rising_cons cmp x xs above rising = (above, rising)
-
-pub rising_head : {A : Type 0} (cmp : A → A → Ordering) (x : A) (xs : List A) → IsStrictlySortedBy cmp (x ∷ xs) → AllByRecursion (λ y. cmp x y ≡ Less) xs
-unfolding IsStrictlySortedBy
-rising_head cmp x xs rising = rising.0
-
-pub rising_tail : {A : Type 0} (cmp : A → A → Ordering) (x : A) (xs : List A) → IsStrictlySortedBy cmp (x ∷ xs) → IsStrictlySortedBy cmp xs
-unfolding IsStrictlySortedBy
-rising_tail cmp x xs rising = rising.1
-
-all_append : {A : Type 0} (P : A → Type 0) (xs ys : List A) → AllByRecursion P xs → AllByRecursion P ys → AllByRecursion P (xs ++ ys)
-all_append P [] ys h k = k
-all_append P (x ∷ xs) ys h k = (h.0, all_append P xs ys h.1 k)
-
-pub all_front : {A : Type 0} (P : A → Type 0) (xs ys : List A) → AllByRecursion P (xs ++ ys) → AllByRecursion P xs
-all_front P [] ys h = tt
-all_front P (x ∷ xs) ys h = (h.0, all_front P xs ys h.1)
-
-pub all_back : {A : Type 0} (P : A → Type 0) (xs ys : List A) → AllByRecursion P (xs ++ ys) → AllByRecursion P ys
-all_back P [] ys h = h
-all_back P (x ∷ xs) ys h = all_back P xs ys h.1
-
-rising_append : {A : Type 0} (cmp : A → A → Ordering) (xs ys : List A) → IsStrictlySortedBy cmp xs → IsStrictlySortedBy cmp ys → AllByRecursion (λ x. AllByRecursion (λ y. cmp x y ≡ Less) ys) xs
-    → IsStrictlySortedBy cmp (xs ++ ys)
-rising_append cmp [] ys p q between = q
-rising_append cmp (x ∷ xs) ys p q between =
-    rising_cons cmp x (xs ++ ys) (all_append (λ y. cmp x y ≡ Less) xs ys (rising_head cmp x xs p) between.0) (rising_append cmp xs ys (rising_tail cmp x xs p) q between.1)
 
 -- the order of the items is that of their texts
 module _ {A : Type 0} (P : A → Type 0) (cmp : A → A → Ordering) (text : A → List ℕ) (same : (a b : A) → P a → P b → text_cmp (text a) (text b) ≡ cmp a b) where
@@ -96,12 +63,6 @@ below_last [] text rising h = tt
 below_last (x ∷ []) text rising h = (h, tt)
 below_last (x ∷ (y ∷ xs)) text rising h =
     (below_head x text (y ∷ xs) rising h, below_last (y ∷ xs) text (rising_tail text_cmp x (y ∷ xs) rising) h)
-
--- ---- an item above all others
-
-pub at_end : {A : Type 0} (cmp : A → A → Ordering) (item : A) (set : List A) → AllByRecursion (λ y. cmp item y ≡ Greater) set → with_item cmp item set ≡ set ++ item ∷ []
-at_end cmp item [] h = refl
-at_end cmp item (head ∷ rest) h = ap (λ o. placed o item head rest (with_item cmp item rest)) h.0 ∙ ap (λ longer. head ∷ longer) (at_end cmp item rest h.1)
 
 same_line : (r s : Receipt) → IsReceipt r → IsReceipt s → text_cmp (line r) (line s) ≡ receipt_cmp r s
 same_line r s p q = refl

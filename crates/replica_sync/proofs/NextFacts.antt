@@ -1,62 +1,34 @@
 -- What may stand at a line's place in a snapshot, and that such a line has no fault.
 use Rattle.std.proofs.Common.{◌≡◌, ◌≢◌, ℕ, ◌+◌, ◌≤◌, ◌⊎◌, inl, inr, List, [], ◌∷◌, ◌++◌, length, length-append, map, fold, refl, ap, sym, ◌∙◌, subst, arith}
 use Rattle.std.proofs.lemmas.Bool.{cases_lt}
-use Rattle.std.specs.List.{AllByRecursion, Contains}
+use Rattle.std.specs.List.{AllByRecursion}
 use Rattle.std.specs.List.Sorted.{IsStrictlySortedBy}
-use Rattle.std.specs.Cmp.{tied_itself}
-use Rattle.std.specs.Cmp.Lexicographic.{on_texts}
-use Rattle.std.specs.declared.cmp.Ordering.TheVariants.{Less, Equal}
-use Rattle.fed_config.specs.Configuration.{Configuration, IsConfiguration, HasDomain, relationship_cmp}
-use Rattle.fed_config.specs.declared.relationship.Relationship.{Relationship}
+use Rattle.std.specs.declared.cmp.Ordering.TheVariants.{Less}
+use Rattle.fed_config.specs.Configuration.{IsConfiguration, HasDomain}
 use Rattle.receipt_core.specs.declared.distrust.Distrust.{Distrust}
 use Rattle.receipt_core.specs.Order.{receipt_total, distrust_total}
 use Rattle.receipt_core.specs.Receipt.{Receipt, IsReceipt, line, IsDistrust, distrust_line}
 use Rattle.receipt_core.specs.Acceptance.{IsFitting, Meaning, IsMeaning}
 use Rattle.receipt_core.proofs.LineFacts.{one_line, one_record, record_first, distrust_order}
 use Rattle.receipt_core.proofs.ReadFacts.{length-line, no_long_record}
-use Rattle.trust_closure.specs.Refusals.{IsOfWrongEndpoint}
 use Rattle.trust_closure.specs.declared.error.TakeError.{TakeError}
 use Rattle.trust_closure.specs.declared.error.TakeError.TheVariants.{UnknownDomain, WrongEndpoint, Full, NoMemory as NoTakeMemory, ConfigDiffers as OtherConfig}
-use Rattle.replica_sync.specs.Entries.{IsAbove, IsEntry, IsWanted, RefusesEntry, entry_line}
+use Rattle.replica_sync.specs.Entries.{IsAbove, IsEntry, IsWanted, entry_line}
+use Rattle.replica_core.specs.Absorbing.{RefusesEntry}
 use Rattle.replica_sync.specs.Snapshots.{IsTold, RefusesPlace, held_lines, last_line, wanted_of}
-use Rattle.replica_sync.specs.declared.entry.Entry.{Entry}
-use Rattle.replica_sync.specs.declared.entry.Entry.TheVariants.{Record, Receipt as AReceipt}
-use Rattle.replica_sync.specs.declared.entry.Wanted.TheVariants.{Either}
-use Rattle.replica_sync.specs.declared.error.SyncError.{SyncError}
-use Rattle.replica_sync.specs.declared.error.SyncError.TheVariants.{BadHeader, ConfigDiffers, VersionDiffers, NotCanonical, NotRising, BadCount, Truncated, Refused, Io, NoMemory}
+use Rattle.replica_core.specs.declared.entry.Entry.{Entry}
+use Rattle.replica_core.specs.declared.entry.Entry.TheVariants.{Record, Receipt as AReceipt}
+use Rattle.replica_sync.specs.declared.entry_line.Wanted.TheVariants.{Either}
+use Rattle.replica_core.specs.declared.error.SyncError.{SyncError}
+use Rattle.replica_core.specs.declared.error.SyncError.TheVariants.{BadHeader, ConfigDiffers, VersionDiffers, NotCanonical, NotRising, BadCount, Truncated}
+use Rattle.replica_core.specs.declared.error.SyncError.TheVariants.{Refused, Io, NoMemory}
 use Rattle.replica_sync.specs.declared.format.Format.{Format}
 use Rattle.replica_sync.specs.declared.format.Format.TheVariants.{First, Second}
-use Rattle.replica_sync.proofs.HeldFacts.{all_back, lines_rise, rising_head, rising_tail, text_cmp}
-use Rattle.replica_sync.proofs.Members.{contains-cases, contains-none, each-from}
+use Rattle.replica_core.proofs.RisingLists.{all_back, rising_head, rising_tail}
+use Rattle.replica_sync.proofs.HeldFacts.{lines_rise, text_cmp}
 use Rattle.replica_sync.proofs.OneFacts.{apart}
 use Rattle.replica_sync.proofs.CountFacts.{IsThird, no_count, third_line, third_record}
-
--- ---- a domain has one relationship
-
-same_relationship : (xs : List Relationship) (a b : Relationship) → IsStrictlySortedBy relationship_cmp xs → Contains xs a → Contains xs b → a.domain ≡ b.domain → a ≡ b
-same_relationship [] a b rising has holds e = absurd (contains-none a has)
-same_relationship (x ∷ xs) a b rising has holds e =
-    let tied : relationship_cmp a b ≡ Equal = ap (λ d. relationship_cmp a (record b { domain = d })) (sym e) ∙ tied_itself (on_texts (λ (r : Relationship). r.domain)) a in
-    let back : relationship_cmp b a ≡ Equal = ap (λ d. relationship_cmp b (record a { domain = d })) e ∙ tied_itself (on_texts (λ (r : Relationship). r.domain)) b in
-    elim (contains-cases x xs a has) [
-      | inl first ↦ elim (contains-cases x xs b holds) [
-        | inl here ↦ first ∙ sym here
-        | inr later ↦
-            let below : relationship_cmp a b ≡ Less = subst (λ (r : Relationship). relationship_cmp r b ≡ Less) (sym first) (each-from (λ y. relationship_cmp x y ≡ Less) xs (rising_head relationship_cmp x xs rising) b later) in
-            absurd (cc)
-      ]
-      | inr after ↦ elim (contains-cases x xs b holds) [
-        | inl here ↦
-            let below : relationship_cmp b a ≡ Less = subst (λ (r : Relationship). relationship_cmp r a ≡ Less) (sym here) (each-from (λ y. relationship_cmp x y ≡ Less) xs (rising_head relationship_cmp x xs rising) a after) in
-            absurd (cc)
-        | inr later ↦ same_relationship xs a b (rising_tail relationship_cmp x xs rising) after later e
-      ]
-    ]
-
-pub fits_right : (c : Configuration) (r : Receipt) → IsConfiguration c → IsFitting c r → IsOfWrongEndpoint c r → ⊥
-fits_right c r is fits wrong =
-    let one : fits.relationship ≡ wrong.relationship = same_relationship c.relationships fits.relationship wrong.relationship is.rising_relationships fits.has wrong.has (fits.domain ∙ sym wrong.domain) in
-    wrong.other (sym (ap (λ (x : Relationship). x.endpoint) one) ∙ fits.endpoint)
+use Rattle.replica_core.proofs.FitFacts.{fits_right}
 
 -- ---- one more line of what is held
 

@@ -16,7 +16,8 @@ use Rattle.receipt_core.specs.Acceptance.{Meaning, IsMeaning}
 use Rattle.byte_lines.specs.Lines.{Lines, lines_of, with_line}
 use Rattle.byte_lines.proofs.StreamFacts.{lines_of-line}
 use Rattle.receipt_core.proofs.LineFacts.{one_line, one_record, record_first}
-use Rattle.replica_sync.specs.Snapshots.{IsSnapshot, header_line, header_of, digits_of, count_line, count_of, count_beginning, records_part, ended, text_of_lines, held_lines, snapshot_text}
+use Rattle.replica_sync.specs.Snapshots.{IsSnapshot, header_line, header_of, digits_of, count_line, count_of, count_beginning, records_part, ended}
+use Rattle.replica_sync.specs.Snapshots.{text_of_lines, held_lines, snapshot_text}
 use Rattle.replica_sync.specs.declared.format.Format.{Format}
 use Rattle.replica_sync.specs.declared.format.Format.TheVariants.{First, Second}
 use Rattle.replica_sync.proofs.WritingFacts.{lines_append}

@@ -4,11 +4,13 @@ use Rattle.std.specs.Prelude.{IfSome, IfErr, IsErrAnd, Result, Ok, Err}
 use Rattle.std.specs.Io.KnownBytes.{Consumes, IsAtEnd, prepend_known}
 use Rattle.fed_config.specs.Configuration.{Configuration}
 use Rattle.receipt_core.specs.Acceptance.{Meaning}
-use Rattle.replica_sync.specs.Snapshots.{IsSnapshot, HasFaultBehind, RefusesNext, RefusesSnapshot, begun_text, count_line, ended, header_line, held_lines, text_of_lines}
-use Rattle.replica_sync.specs.Reading.{FailsBehind, HoldsAll, RefusesEnd}
+use Rattle.replica_sync.specs.Snapshots.{IsSnapshot, HasFaultBehind, RefusesNext, RefusesSnapshot, begun_text, count_line, ended, header_line, held_lines}
+use Rattle.replica_sync.specs.Snapshots.{text_of_lines}
+use Rattle.replica_sync.specs.Inside.Reading.{FailsBehind, HoldsAll, RefusesEnd}
 use Rattle.replica_sync.specs.declared.format.Format.{Format}
-use Rattle.replica_sync.specs.declared.error.SyncError.{SyncError}
-use Rattle.replica_sync.specs.declared.error.SyncError.TheVariants.{BadHeader, ConfigDiffers, VersionDiffers, NotCanonical, NotRising, BadCount, Truncated, Refused, Io, NoMemory}
+use Rattle.replica_core.specs.declared.error.SyncError.{SyncError}
+use Rattle.replica_core.specs.declared.error.SyncError.TheVariants.{BadHeader, ConfigDiffers, VersionDiffers, NotCanonical, NotRising, BadCount, Truncated}
+use Rattle.replica_core.specs.declared.error.SyncError.TheVariants.{Refused, Io, NoMemory}
 
 -- ---- what is consumed
 

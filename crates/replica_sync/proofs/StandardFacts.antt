@@ -1,9 +1,14 @@
--- First and last lines of snapshots, said of the definitions: a slip in one of these does not check.
-use Rattle.std.proofs.Common.{◌≡◌, [], ◌∷◌, codes, refl}
+-- First and last lines of snapshots and texts of messages, said of the definitions: a slip in one of
+-- these does not check.
+use Rattle.std.proofs.Common.{◌≡◌, [], ◌∷◌, Some, None, codes, refl}
 use Rattle.std.specs.Fmt.{digits}
+use Rattle.hex.specs.Hex.{encode_with}
+use Rattle.replica_core.specs.Session.{Question, Reply}
 use Rattle.replica_sync.specs.declared.format.Format.TheVariants.{First, Second}
 use Rattle.replica_sync.specs.Snapshots.{header_of, count_of}
-use Rattle.replica_sync.specs.State.{joined, no_state}
+use Rattle.replica_sync.specs.Messages.{Asked, asked_text, GiveHeader, told_text, question_text, reply_text}
+
+-- ---- snapshots
 
 pub first_line : header_of (codes "12ab") (codes "2") ≡ codes "{\"config\":\"12ab\",\"format\":2}"
 unfolding header_of
@@ -19,6 +24,45 @@ pub last_line_without_records : count_of First 2 0 ≡ codes "{\"count\":2}"
 unfolding count_of digits
 last_line_without_records = refl
 
--- nothing is gained from nothing
-pub joined_with_nothing : joined no_state no_state ≡ no_state
-joined_with_nothing = refl
+-- ---- questions
+
+abbrev asks_nothing : Question
+asks_nothing = record { bucket = 0; config = 18 ∷ 171 ∷ []; ids = [] }
+
+abbrev names_two : Question
+names_two = record { bucket = 97; config = 18 ∷ 171 ∷ []; ids = (1 ∷ 35 ∷ []) ∷ (255 ∷ 0 ∷ []) ∷ [] }
+
+-- one line, with its line feed
+pub question_without_ids : question_text asks_nothing ≡ codes "{\"bucket\":0,\"config\":\"12ab\",\"format\":2,\"have\":[],\"of\":256}\n"
+unfolding asked_text digits encode_with
+question_without_ids = refl
+
+-- ids in quotes, a comma between them
+pub question_with_ids : question_text names_two ≡ codes "{\"bucket\":97,\"config\":\"12ab\",\"format\":2,\"have\":[\"0123\",\"ff00\"],\"of\":256}\n"
+unfolding asked_text digits encode_with
+question_with_ids = refl
+
+-- another format and number of buckets is told apart
+pub question_of_one_bucket : asked_text (record { question = asks_nothing; format = 1; buckets = 1 }) ≡ codes "{\"bucket\":0,\"config\":\"12ab\",\"format\":1,\"have\":[],\"of\":1}"
+unfolding asked_text digits encode_with
+question_of_one_bucket = refl
+
+-- ---- answers
+
+-- an answer with nothing to give is its first line
+pub empty_answer : reply_text (record { bucket = 255; config = 18 ∷ 171 ∷ []; content = record { held = []; records = [] } })
+    ≡ codes "{\"bucket\":255,\"config\":\"12ab\",\"count\":0,\"distrusts\":0,\"format\":2,\"of\":256}\n"
+unfolding told_text digits encode_with
+empty_answer = refl
+
+-- receipts are counted before records
+pub first_line_of_an_answer : told_text (record { bucket = 97; config = 18 ∷ 171 ∷ []; count = 2; distrusts = Some 1; format = 2; buckets = 256 })
+    ≡ codes "{\"bucket\":97,\"config\":\"12ab\",\"count\":2,\"distrusts\":1,\"format\":2,\"of\":256}"
+unfolding told_text digits encode_with
+first_line_of_an_answer = refl
+
+-- the first format tells no records
+pub first_line_without_records : told_text (record { bucket = 0; config = 18 ∷ 171 ∷ []; count = 2; distrusts = None; format = 1; buckets = 1 })
+    ≡ codes "{\"bucket\":0,\"config\":\"12ab\",\"count\":2,\"format\":1,\"of\":1}"
+unfolding told_text digits encode_with
+first_line_without_records = refl

@@ -8,8 +8,9 @@ use Rattle.receipt_core.specs.Acceptance.{Meaning}
 use Rattle.receipt_core.specs.Receipt.{line, distrust_line}
 use Rattle.replica_sync.specs.Snapshots.{snapshot_text, header_line, count_line, ended, text_of_lines}
 use Rattle.replica_sync.specs.declared.format.Format.TheVariants.{Second}
-use Rattle.replica_sync.specs.Writing.{Writes, WrittenSoFar, IsOfWriting}
-use Rattle.replica_sync.specs.declared.error.SyncError.{SyncError}
+use Rattle.replica_sync.specs.Writing.{Writes, IsOfWriting}
+use Rattle.replica_sync.specs.Inside.WritingSteps.{WrittenSoFar}
+use Rattle.replica_core.specs.declared.error.SyncError.{SyncError}
 
 pub started : (none : (old : Option (List ℕ)) → Appends old old []) (old : Option (List ℕ)) (whole : List ℕ) → WrittenSoFar old old whole whole
 started none old whole = record { done = []; appended = none old; parts = refl }

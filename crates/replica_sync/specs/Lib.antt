@@ -1,11 +1,11 @@
-pub mod State
-pub mod World
-pub mod Convergence
+-- What a caller cites stands in the first eight; `Inside` has what the records of the code say, and
+-- the steps of reading, writing and sessions.
 pub mod Entries
 pub mod Snapshots
-pub mod Reading
 pub mod Writing
-pub mod Session
-pub mod Lacking
-pub mod Absorbing
-pub mod Playing
+pub mod Messages
+pub mod FirstLines
+pub mod Questions
+pub mod Answers
+pub mod Pulling
+pub mod Inside

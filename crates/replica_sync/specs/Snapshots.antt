@@ -10,15 +10,15 @@ use Rattle.receipt_core.specs.Receipt.{line, distrust_line}
 use Rattle.receipt_core.specs.Acceptance.{Meaning, IsMeaning}
 use Rattle.byte_lines.specs.Lines.{HasLine, HasNoLine, HasMore}
 use Rattle.replica_sync.specs.Entries.{RefusesEntryLine}
-use Rattle.replica_sync.specs.declared.entry.Wanted.{Wanted}
-use Rattle.replica_sync.specs.declared.entry.Wanted.TheVariants.{Receipts, Either}
+use Rattle.replica_sync.specs.declared.entry_line.Wanted.{Wanted}
+use Rattle.replica_sync.specs.declared.entry_line.Wanted.TheVariants.{Receipts, Either}
 use Rattle.replica_sync.specs.declared.format.Format.{Format}
 use Rattle.replica_sync.specs.declared.format.Format.TheVariants.{First, Second}
-use Rattle.replica_sync.specs.declared.error.SyncError.{SyncError}
-use Rattle.replica_sync.specs.declared.error.SyncError.TheVariants.{BadHeader, ConfigDiffers}
-use Rattle.replica_sync.specs.declared.error.SyncError.TheVariants.{VersionDiffers, NotCanonical}
-use Rattle.replica_sync.specs.declared.error.SyncError.TheVariants.{NotRising, BadCount, Truncated}
-use Rattle.replica_sync.specs.declared.error.SyncError.TheVariants.{Refused, Io, NoMemory}
+use Rattle.replica_core.specs.declared.error.SyncError.{SyncError}
+use Rattle.replica_core.specs.declared.error.SyncError.TheVariants.{BadHeader, ConfigDiffers}
+use Rattle.replica_core.specs.declared.error.SyncError.TheVariants.{VersionDiffers, NotCanonical}
+use Rattle.replica_core.specs.declared.error.SyncError.TheVariants.{NotRising, BadCount, Truncated}
+use Rattle.replica_core.specs.declared.error.SyncError.TheVariants.{Refused, Io, NoMemory}
 
 -- ---- the text
 
@@ -106,11 +106,6 @@ is_lower_hex_digit b = (nat_le 48 b && nat_le b 57) || (nat_le 97 b && nat_le b 
 pub record AreDigits (digits : List ℕ) : Type 0 where
   pub size : length digits ≡ 64
   pub each : AllPass is_lower_hex_digit digits
-
--- It has the parts of a first line.
-pub record IsSplit (text digits number : List ℕ) : Type 0 where
-  pub whole : text ≡ header_of digits number
-  pub size : length digits ≡ 64
 
 -- It is spelt as a first line is, with these digits and this number.
 pub record IsHeader (text digits : List ℕ) (version : ℕ) : Type 0 where

@@ -1,12 +1,12 @@
 -- What a call that writes does to a sink.
-use Rattle.std.specs.Prelude.{◌≡◌, ℕ, ◌++◌, List, Option, Result, OnOk, IfErr}
+use Rattle.std.specs.Prelude.{ℕ, List, Option, Result, OnOk, IfErr}
 use Rattle.std.specs.Io.KnownBytes.{Appends}
 use Rattle.byte_lines.specs.Device.{AppendsBeginning}
-use Rattle.replica_sync.specs.declared.error.SyncError.{SyncError}
-use Rattle.replica_sync.specs.declared.error.SyncError.TheVariants.{BadHeader, ConfigDiffers}
-use Rattle.replica_sync.specs.declared.error.SyncError.TheVariants.{VersionDiffers, NotCanonical}
-use Rattle.replica_sync.specs.declared.error.SyncError.TheVariants.{NotRising, BadCount, Truncated}
-use Rattle.replica_sync.specs.declared.error.SyncError.TheVariants.{Refused, Io, NoMemory}
+use Rattle.replica_core.specs.declared.error.SyncError.{SyncError}
+use Rattle.replica_core.specs.declared.error.SyncError.TheVariants.{BadHeader, ConfigDiffers}
+use Rattle.replica_core.specs.declared.error.SyncError.TheVariants.{VersionDiffers, NotCanonical}
+use Rattle.replica_core.specs.declared.error.SyncError.TheVariants.{NotRising, BadCount, Truncated}
+use Rattle.replica_core.specs.declared.error.SyncError.TheVariants.{Refused, Io, NoMemory}
 
 -- The sink failed, or memory ran out.
 abbrev pub IsOfWriting : SyncError → Type 0
@@ -27,9 +27,3 @@ pub record Writes {T : Type 0} (old new : Option (List ℕ)) (text : List ℕ)
   pub all : OnOk result (Appends old new text)
   pub begun : AppendsBeginning old new text
   pub cause : IfErr result IsOfWriting
-
--- Of the whole text all but the rest was written.
-pub record WrittenSoFar (old now : Option (List ℕ)) (rest whole : List ℕ) : Type 0 where
-  pub done : List ℕ
-  pub appended : Appends old now done
-  pub parts : whole ≡ done ++ rest

@@ -4,14 +4,15 @@ ghost use Rattle.std.specs.Prelude.{MatchOption, MatchResult};
 ghost use Rattle.std.specs.Io.KnownBytes.{Consumes};
 ghost use Rattle.byte_lines.specs.Streams.{stream_of};
 ghost use Rattle.replica_sync.specs.Snapshots.{RefusesFirst, ended, is_io, IsHeader, IsNoHeader};
-ghost use Rattle.replica_sync.specs.Snapshots.{IsSplit, RefusesHeader, header_line, count_of};
+ghost use Rattle.replica_sync.specs.Inside.Reading.{IsSplit};
+ghost use Rattle.replica_sync.specs.Snapshots.{RefusesHeader, header_line, count_of};
 ghost use Rattle.replica_sync.specs.Snapshots.{digits_of, records_part, version_of};
 
-use crate::error::SyncError;
 use crate::format::Format;
 use crate::number::{are_digits, read_number};
 use byte_lines::{Line, LineBuf, Source, push_digits, push_number};
 use fed_config::Config;
+use replica_core::SyncError;
 use std::alloc::{AllocError, Global};
 
 /// The first line's digest, as its digits, and its number.

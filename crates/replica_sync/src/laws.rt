@@ -1,83 +1,21 @@
-//! What is so of every world of replicas, and of every snapshot.
-ghost use Rattle.std.specs.Prelude.{◌≡◌, ◌≢◌, ℕ, ◌<◌, ◌≤◌, ◌++◌, ◌∷◌, [], List, Bool, Some, true};
-ghost use Rattle.std.specs.Prelude.{length};
+//! What is so of every snapshot and of every stream of messages; the law of worlds is handed on. A
+//! call that needs a law calls its function, which does nothing, and cites what it ensures.
+ghost use Rattle.std.specs.Prelude.{◌≡◌, ◌≢◌, List, Option, Some, ℕ};
+ghost use Rattle.std.specs.Io.KnownBytes.{Consumes};
 ghost use Rattle.fed_config.specs.Configuration.{Configuration, IsConfiguration};
-ghost use Rattle.receipt_core.specs.Receipt.{Pair};
-ghost use Rattle.receipt_core.specs.Acceptance.{Meaning, IsMeaning, IsMember, IsClosed};
-ghost use Rattle.replica_sync.specs.State.{State, no_state, meaning_of_state};
-ghost use Rattle.replica_sync.specs.World.{rules_of, run};
-ghost use Rattle.replica_sync.specs.Convergence.{AreEvents, Lacks, ComesFrom, IsPartOf, Exchange};
-ghost use Rattle.replica_sync.specs.Convergence.{HasAll, Settles, at_answer, after_taking};
+ghost use Rattle.receipt_core.specs.Acceptance.{Meaning};
+ghost use Rattle.trust_closure.specs.declared.error.TakeError.{TakeError};
+ghost use Rattle.replica_core.specs.Session.{Question, Reply};
+ghost use Rattle.replica_core.specs.declared.error.SyncError.{SyncError};
+ghost use Rattle.replica_core.specs.declared.error.SyncError.TheVariants.{Io, NoMemory, Refused};
+ghost use Rattle.replica_sync.specs.Messages.{question_text, reply_text};
+ghost use Rattle.replica_sync.specs.FirstLines.{IsOwn};
+ghost use Rattle.replica_sync.specs.Questions.{IsAskable, RefusesQuestion, ServesAll, ServesUpTo};
+ghost use Rattle.replica_sync.specs.Answers.{IsAnswer, RefusesGive};
+ghost use Rattle.replica_sync.specs.Pulling.{PullsAll, PullsUpTo};
 ghost use Rattle.replica_sync.specs.Snapshots.{IsSnapshot, RefusesSnapshot};
-ghost use Rattle.replica_sync.specs.declared.error.SyncError.{SyncError};
-ghost use Rattle.replica_sync.specs.declared.error.SyncError.TheVariants.{Io, NoMemory};
-ghost use Rattle.replica_sync.specs.declared.event.Event.{Event};
-ghost use Rattle.replica_sync.specs.declared.event.Event.TheVariants.{Save, Restart};
 
-/// Of `n` replicas with one configuration, whatever list of events happens to them: messages may be
-/// lost, repeated, late and in any order, and replicas may restart.
-///
-/// - `comes`, `saved_comes`: what a replica holds or saved was taken, or distrusted, at some
-///   replica.
-/// - `means`, `closed`, `least`: what it holds is what a closure can mean, and what that accepts is
-///   the least set.
-/// - `grows`, `restarts`, `saves`, `never_saved`: only a restart takes anything away, and it gives
-///   what was saved last.
-/// - `exchanged`: who takes another's whole answer to its own question holds each receipt of the
-///   bucket that the other held when it answered, or one with its id, and each record.
-/// - `agreed`: replicas that each took, in quiet, the whole answers of all others about all buckets
-///   hold the same, and so all that is written of what they hold is the same.
-pub fn world()
-    ensures comes { (config : Configuration) (n : ℕ) (events : List Event) (i : ℕ)
-        → ComesFrom n events ((run (rules_of config n) events).now i) }
-    ensures saved_comes { (config : Configuration) (n : ℕ) (events : List Event) (i : ℕ)
-        → ComesFrom n events ((run (rules_of config n) events).saved i) }
-
-    ensures means { (config : Configuration) (n : ℕ) (events : List Event) (i : ℕ)
-        → AreEvents events
-        → IsMeaning (meaning_of_state config ((run (rules_of config n) events).now i)) }
-    ensures closed { (config : Configuration) (n : ℕ) (events : List Event) (i : ℕ)
-        → let m = meaning_of_state config ((run (rules_of config n) events).now i) in IsClosed m
-        (IsMember m) }
-    ensures least { (config : Configuration) (n : ℕ) (events : List Event) (i : ℕ)
-        (set : Pair → Bool)
-        → let m = meaning_of_state config ((run (rules_of config n) events).now i) in
-        IsClosed m (λ p. set p ≡ true) → (p : Pair) → IsMember m p → set p ≡ true }
-
-    ensures grows { (config : Configuration) (n : ℕ) (events : List Event) (event : Event) (i : ℕ)
-        → event ≢ Restart i
-        → IsPartOf ((run (rules_of config n) events).now i)
-        ((run (rules_of config n) (events ++ event ∷ [])).now i) }
-    ensures restarts { (config : Configuration) (n : ℕ) (events : List Event) (i : ℕ) → i < n
-        → (run (rules_of config n) (events ++ Restart i ∷ [])).now i
-        ≡ (run (rules_of config n) events).saved i }
-    ensures saves { (config : Configuration) (n : ℕ) (events since : List Event) (i : ℕ) → i < n
-        → Lacks since (Save i)
-        → (run (rules_of config n) (events ++ Save i ∷ since)).saved i
-        ≡ (run (rules_of config n) events).now i }
-    ensures never_saved { (config : Configuration) (n : ℕ) (events : List Event) (i : ℕ)
-        → Lacks events (Save i)
-        → (run (rules_of config n) events).saved i ≡ no_state }
-
-    ensures exchanged { (config : Configuration) (n : ℕ) (first since : List Event) (i j bucket : ℕ)
-        → AreEvents first → AreEvents since → i < n → j < n → bucket ≤ 255
-        → (x : Exchange (rules_of config n) (run (rules_of config n) first) i j bucket since)
-        → HasAll bucket ((at_answer (rules_of config n) (run (rules_of config n) first)
-        x.course).now j)
-        ((after_taking (rules_of config n) (run (rules_of config n) first) x.course).now i) }
-
-    ensures agreed { (config : Configuration) (n : ℕ) (first since : List Event) (i j : ℕ)
-        → AreEvents first → i < n → j < n
-        → Settles (rules_of config n) (run (rules_of config n) first) since
-        → (run (rules_of config n) (first ++ since)).now i
-        ≡ (run (rules_of config n) (first ++ since)).now j }
-    ensures same_texts { (config : Configuration) (n : ℕ) (first since : List Event) (i j : ℕ)
-        (text : State → List ℕ)
-        → AreEvents first → i < n → j < n
-        → Settles (rules_of config n) (run (rules_of config n) first) since
-        → text ((run (rules_of config n) (first ++ since)).now i)
-        ≡ text ((run (rules_of config n) (first ++ since)).now j) }
-{}
+pub use replica_core::laws::world;
 
 /// What a stream says is one: it is the text of one set at most, and none that a replica of a valid
 /// configuration reads has a fault. Only a source that fails, or lack of memory, may keep it from
@@ -91,4 +29,64 @@ pub fn snapshots()
     ensures read { (config : Configuration) (bytes : List ℕ) (m : Meaning) (e : SyncError)
         → IsConfiguration config → e ≢ Io → e ≢ NoMemory
         → IsSnapshot config (Some bytes) m → RefusesSnapshot config (Some bytes) e → ⊥ }
+{}
+
+/// What a stream asks is one, and a question that a line can ask is read. Only a source that fails,
+/// or lack of memory, may keep it from being read.
+///
+/// - `one`: of two questions that it begins with, both are the same, and so is what follows them.
+/// - `read`: where it begins with a question, of the configuration if one is wanted, it has no
+///   fault there.
+pub fn questions()
+    ensures one { (bytes : List ℕ) (p q : Question) (left rest : Option (List ℕ))
+        → IsAskable p → IsAskable q
+        → Consumes (Some bytes) left (question_text p)
+        → Consumes (Some bytes) rest (question_text q)
+        → (p ≡ q) × (left ≡ rest) }
+    ensures read { (config : Option Configuration) (bytes : List ℕ) (q : Question)
+        (left new : Option (List ℕ)) (e : SyncError)
+        → IsAskable q → IsOwn config q.config → e ≢ Io → e ≢ NoMemory
+        → Consumes (Some bytes) left (question_text q) → RefusesQuestion config (Some bytes) new e
+        → ⊥ }
+{}
+
+/// What a stream answers is one, and an answer that is there to its last byte is read. Only a
+/// source that fails, or lack of memory, may keep it from being read.
+///
+/// - `one`: of two answers that it begins with, both are the same, and so is what follows them.
+/// - `read`: where it begins with a whole answer, it has no fault before that answer's end.
+pub fn answers()
+    ensures one { (bytes : List ℕ) (a b : Reply) (left rest : Option (List ℕ))
+        → IsAnswer a → IsAnswer b
+        → Consumes (Some bytes) left (reply_text a) → Consumes (Some bytes) rest (reply_text b)
+        → (a ≡ b) × (left ≡ rest) }
+    ensures read { (bytes : List ℕ) (a : Reply) (left new : Option (List ℕ)) (e : SyncError)
+        → IsAnswer a → e ≢ Io → e ≢ NoMemory
+        → Consumes (Some bytes) left (reply_text a) → RefusesGive (Some bytes) new e → ⊥ }
+{}
+
+/// No session is both carried out and ended by a fault of its stream, and what it does is
+/// determined by the bytes that are read. Only a device that fails, lack of memory, or a line whose
+/// receipt or record the replica cannot hold, ends it otherwise.
+///
+/// - `served`: a stream that is wholly questions of the configuration has no fault, behind
+///   whichever of them.
+/// - `served_once`: it is this many questions, and no other number of them.
+/// - `pulled`: a stream that begins with answers about all buckets has no fault in them, but that
+///   what a line says is refused.
+/// - `pulled_once`: what is held after them is one.
+pub fn sessions()
+    ensures served { (m : Meaning) (bytes : List ℕ) (old new before after : Option (List ℕ))
+        (count : ℕ) (e : SyncError) → e ≢ Io → e ≢ NoMemory
+        → ServesAll m (Some bytes) old new count → ServesUpTo m (Some bytes) before after e → ⊥ }
+    ensures served_once { (m : Meaning) (bytes : List ℕ) (old new before after : Option (List ℕ))
+        (count number : ℕ) → ServesAll m (Some bytes) old new count
+        → ServesAll m (Some bytes) before after number → count ≡ number }
+    ensures pulled { (m : Meaning) (bytes : List ℕ) (old new before after : Option (List ℕ))
+        (held kept : Meaning) (e : SyncError) → e ≢ Io → e ≢ NoMemory
+        → ((n : ℕ) (why : TakeError) → e ≢ Refused n why)
+        → PullsAll m (Some bytes) old held new → PullsUpTo m (Some bytes) before kept after e → ⊥ }
+    ensures pulled_once { (m : Meaning) (bytes : List ℕ) (old new before after : Option (List ℕ))
+        (held kept : Meaning) → PullsAll m (Some bytes) old held new
+        → PullsAll m (Some bytes) before kept after → held ≡ kept }
 {}

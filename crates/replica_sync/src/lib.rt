@@ -1,37 +1,36 @@
-//! How replicas come to hold the same receipts.
+//! All texts by which replicas come to hold the same receipts, and the sessions of which they are
+//! parts: snapshots, questions and answers. What these say is in `replica_core`.
 #![tactic(auto)]
 
-mod absorbing;
-mod answering;
-mod asking;
-pub mod entry;
-mod error;
-mod event;
+mod answer_reader;
+mod answer_writer;
+mod entry_line;
 mod format;
-mod gathering;
-mod give;
+mod give_header_reader;
+mod have_fields;
+mod have_line_reader;
 mod header;
-mod joining;
-mod judging;
+mod id_list;
 pub mod laws;
-mod message;
-pub mod number;
-mod places;
-mod playing;
-mod question;
-mod reply;
+mod number;
+mod pulling;
+mod question_reader;
+mod question_writer;
+mod scanner;
+mod serving;
 mod snapshot_reader;
 mod snapshot_writer;
-mod world;
+mod spelling;
+mod taking;
 
-pub use absorbing::absorb;
-pub use answering::answer;
-pub use asking::have;
-pub use error::SyncError;
-pub use event::Event;
-pub use give::Give;
-pub use question::Have;
-pub use reply::{Answer, Lacking};
+pub use answer_reader::read_give;
+pub use answer_writer::write_answer;
+pub use pulling::{PullFault, pull};
+pub use question_reader::read_have;
+pub use question_writer::write_have;
+pub use replica_core::{
+    Answer, Event, Give, Have, Lacking, SyncError, absorb, answer, have, run_world,
+};
+pub use serving::serve_one;
 pub use snapshot_reader::read_snapshot;
 pub use snapshot_writer::write_snapshot;
-pub use world::run_world;

@@ -3,12 +3,11 @@ ghost use Rattle.std.specs.Prelude.{◌≡◌, ◌↔◌, ◌^◌, ◌<◌, ℕ,
 ghost use Rattle.jwk_set.specs.Forms.{FindsMember};
 ghost use Rattle.replica_sync.specs.Snapshots.{AreDigits, is_lower_hex_digit};
 
-pub use byte_lines::{push_digits, push_number};
 use itoa::Buffer;
 use std::str;
 
 /// The number of these decimal digits: `0`, or without a leading zero, and at most 2^64 - 1.
-pub fn read_number(text: &[u8]) -> Option<u64>
+pub(crate) fn read_number(text: &[u8]) -> Option<u64>
     ensures { FindsMember result (λ n. (n < 2 ^ 64) × (text.now ≡ decimal n)) }
 {
     let number = parsed(text)?;

@@ -7,16 +7,16 @@ ghost use Rattle.byte_lines.specs.Streams.{stream_of, left_of};
 ghost use Rattle.replica_sync.specs.Snapshots.{IsSnapshot, IsTold, RefusesNext, RefusesPlace};
 ghost use Rattle.replica_sync.specs.Snapshots.{RefusesSnapshot, count_of, is_io, last_line};
 ghost use Rattle.replica_sync.specs.Snapshots.{next_number, wanted_of};
-ghost use Rattle.replica_sync.specs.Reading.{FailsBehind, HoldsAll, Judges, RefusesEnd};
-ghost use Rattle.replica_sync.specs.Reading.{StepsThroughSnapshot};
+ghost use Rattle.replica_sync.specs.Inside.Reading.{FailsBehind, HoldsAll, Judges, RefusesEnd};
+ghost use Rattle.replica_sync.specs.Inside.Reading.{StepsThroughSnapshot};
 ghost use Rattle.trust_closure.specs.Changes.{empty_of};
 
-use crate::entry::{Wanted, take_line};
-use crate::error::SyncError;
+use crate::entry_line::{Wanted, take_line};
 use crate::format::Format;
 use crate::header::{read_first, write_count};
 use byte_lines::{Line, LineBuf, Source};
 use fed_config::Config;
+use replica_core::SyncError;
 use std::alloc::{AllocError, Global};
 use trust_closure::Closure;
 

@@ -4,12 +4,12 @@ ghost use Rattle.receipt_core.specs.Receipt.{distrust_line, line};
 ghost use Rattle.replica_sync.specs.Snapshots.{ended, is_io, snapshot_text, text_of_lines};
 ghost use Rattle.replica_sync.specs.Writing.{Writes};
 
-use crate::error::SyncError;
 use crate::format::Format;
 use crate::header::{write_count, write_header};
 use byte_lines::{Sink, write_all};
 use jwk_set::KeyId;
 use receipt_core::Distrust;
+use replica_core::SyncError;
 use spiffe_name::TrustDomain;
 use std::alloc::{AllocError, Global};
 use trust_closure::Closure;

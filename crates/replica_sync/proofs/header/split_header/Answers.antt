@@ -1,6 +1,6 @@
 use Rattle.replica_sync.proofs.HeaderFacts.{has_first, long_rest, behind_second, behind_third, split_whole}
 use Rattle.std.proofs.Common.{List, ℕ, ◌∙◌, sym, subst}
-use Rattle.replica_sync.specs.Snapshots.{IsSplit}
+use Rattle.replica_sync.specs.Inside.Reading.{IsSplit}
 use Rattle.replica_sync.proofs.header.split_header.Goals as goal
 
 pub returns-in_default : goal.returns-in_default

@@ -1,8 +1,8 @@
 use Rattle.std.proofs.Common.{◌≡◌, List, ℕ, ◌∙◌, ap, sym, subst}
 use Rattle.receipt_core.specs.Order.{receipt_total, distrust_total}
-use Rattle.replica_sync.specs.Entries.{TakesEntryText}
+use Rattle.replica_sync.specs.Inside.EntrySteps.{TakesEntryText}
 use Rattle.replica_sync.specs.Snapshots.{wanted_of, held_lines, last_of, last_line}
-use Rattle.replica_sync.specs.Reading.{IsFurther}
+use Rattle.replica_sync.specs.Inside.Reading.{IsFurther}
 use Rattle.replica_sync.proofs.HeldFacts.{further, last_pushed}
 use Rattle.replica_sync.proofs.snapshot_reader.judge.Goals as goal
 

@@ -2,7 +2,7 @@
 use Rattle.std.proofs.Common.{◌≡◌}
 use Rattle.byte_lines.specs.Streams.{stream_of, left_of}
 use Rattle.replica_sync.specs.Snapshots.{last_line, next_number}
-use Rattle.replica_sync.specs.Reading.{Holds}
+use Rattle.replica_sync.specs.Inside.Reading.{Holds}
 use Rattle.replica_sync.proofs.snapshot_reader.read_held.Given as goal
 
 abbrev pub invariant-lines : goal.invariant-lines

@@ -4,7 +4,7 @@ use Rattle.std.proofs.lemmas.List.Concat.{flat_map-cons}
 use Rattle.byte_lines.specs.Device.{AppendsBeginning}
 use Rattle.receipt_core.specs.Receipt.{Receipt, line}
 use Rattle.replica_sync.specs.Snapshots.{ended, text_of_lines}
-use Rattle.replica_sync.specs.declared.error.SyncError.TheVariants.{NoMemory}
+use Rattle.replica_core.specs.declared.error.SyncError.TheVariants.{NoMemory}
 use Rattle.replica_sync.proofs.WritingFacts.{begun_before, begun_in, finished, nothing, one_more, refused_write}
 use Rattle.replica_sync.proofs.snapshot_writer.put_receipts.Goals as goal
 

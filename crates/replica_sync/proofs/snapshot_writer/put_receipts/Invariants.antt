@@ -2,7 +2,7 @@
 use Rattle.std.proofs.Common.{◌≡◌, map}
 use Rattle.receipt_core.specs.Receipt.{line}
 use Rattle.replica_sync.specs.Snapshots.{text_of_lines}
-use Rattle.replica_sync.specs.Writing.{WrittenSoFar}
+use Rattle.replica_sync.specs.Inside.WritingSteps.{WrittenSoFar}
 use Rattle.replica_sync.proofs.snapshot_writer.put_receipts.Given as goal
 
 abbrev pub invariant-receipts : goal.invariant-receipts

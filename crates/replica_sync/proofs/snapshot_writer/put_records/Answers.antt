@@ -5,7 +5,7 @@ use Rattle.byte_lines.specs.Device.{AppendsBeginning}
 use Rattle.receipt_core.specs.declared.distrust.Distrust.{Distrust}
 use Rattle.receipt_core.specs.Receipt.{distrust_line}
 use Rattle.replica_sync.specs.Snapshots.{ended, text_of_lines}
-use Rattle.replica_sync.specs.declared.error.SyncError.TheVariants.{NoMemory}
+use Rattle.replica_core.specs.declared.error.SyncError.TheVariants.{NoMemory}
 use Rattle.replica_sync.proofs.WritingFacts.{begun_before, begun_in, finished, nothing, one_more, refused_write}
 use Rattle.replica_sync.proofs.snapshot_writer.put_records.Goals as goal
 

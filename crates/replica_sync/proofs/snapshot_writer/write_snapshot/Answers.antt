@@ -4,7 +4,7 @@ use Rattle.byte_lines.specs.Device.{AppendsBeginning}
 use Rattle.receipt_core.specs.Receipt.{line, distrust_line}
 use Rattle.replica_sync.specs.Snapshots.{header_line, count_line, ended, text_of_lines}
 use Rattle.replica_sync.specs.declared.format.Format.TheVariants.{Second}
-use Rattle.replica_sync.specs.declared.error.SyncError.TheVariants.{NoMemory}
+use Rattle.replica_core.specs.declared.error.SyncError.TheVariants.{NoMemory}
 use Rattle.replica_sync.proofs.WritingFacts.{nothing, refused_write, in_records, in_receipts, in_count, four, parts_of_text}
 use Rattle.replica_sync.proofs.snapshot_writer.write_snapshot.Goals as goal
 

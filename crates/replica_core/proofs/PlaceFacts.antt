@@ -1,0 +1,169 @@
+-- Whether an item is held, and whether there is a place for it.
+use Rattle.std.proofs.Common.{◌≡◌, ◌≢◌, ℕ, ◌+◌, ◌-◌, ◌<◌, ◌≤◌, inl, inr, Bool, true, false, ◌||◌, List, [], ◌∷◌, length, refl, sym, ap, ◌∙◌, subst, arith, eq-eqb}
+use Rattle.std.specs.Prelude.{◌↔◌, Contains, IsTrue, slice_index_or}
+use Rattle.std.specs.declared.cmp.Ordering.{Ordering}
+use Rattle.std.specs.declared.cmp.Ordering.TheVariants.{Less, Equal, Greater}
+use Rattle.std.specs.List.{AllByRecursion, list_any}
+use Rattle.std.specs.Ordering.{eq_by_cmp, is_eq}
+use Rattle.std.specs.Cmp.{Equal-is, tied_itself}
+use Rattle.receipt_core.specs.declared.distrust.Distrust.{Distrust}
+use Rattle.receipt_core.specs.Receipt.{Receipt, receipt_id_of}
+use Rattle.trust_closure.specs.Views.{is_in_bucket, receipts_in}
+use Rattle.receipt_core.specs.Rising.{placed, with_item, with_items}
+use Rattle.receipt_core.specs.Sets.{AreSets, Always}
+use Rattle.replica_core.specs.Inside.Places.{HasPlaces, HasNoPlace, HasPlace}
+use Rattle.replica_core.proofs.Members.{contains-here, contains-later, contains-cases, contains-none, each-from, any-from, filter-from, filter-to}
+
+-- ---- whether it is among items
+
+-- It is among all exactly if it is among the rest.
+pub record IsSought {X : Type 0} (all rest : List X) (x : X) : Type 0 where
+  pub within : Contains rest x → Contains all x
+  pub left : Contains all x → Contains rest x
+
+pub IsSought-next : {X : Type 0} (all rest later : List X) (y x : X) → IsSought all rest x → rest ≡ y ∷ later → y ≢ x → IsSought all later x
+IsSought-next {X} all rest later y x sought e other = record {
+  within = λ h. sought.within (subst (λ (xs : List X). Contains xs x) (sym e) (contains-later y later x h));
+  left = λ h. elim (contains-cases y later x (subst (λ (xs : List X). Contains xs x) e (sought.left h))) [
+    | inl same ↦ absurd (other (sym same))
+    | inr more ↦ more
+  ];
+}
+
+pub IsSought-found : {X : Type 0} (all rest later : List X) (y x : X) → IsSought all rest x → rest ≡ y ∷ later → y ≡ x → Contains all x
+IsSought-found {X} all rest later y x sought e same =
+    sought.within (subst (λ (xs : List X). Contains xs x) (sym e) (subst (Contains (y ∷ later)) same (contains-here y later)))
+
+pub IsSought-end : {X : Type 0} (all rest : List X) (x : X) → IsSought all rest x → rest ≡ [] → Contains all x → ⊥
+IsSought-end {X} all rest x sought e h = contains-none x (subst (λ (xs : List X). Contains xs x) e (sought.left h))
+
+pub refuted : (b : Bool) (Q : Type 0) → b ≡ false → IsTrue b ↔ Q → Q → ⊥
+refuted b Q e iff q = let t = iff.1 q in let f : false ≡ true = sym e ∙ t in absurd (cc)
+
+-- who is looked for among those of its bucket is looked for among all
+pub bucket-has : (all held : List Receipt) (r : Receipt) (id : List ℕ) → id ≡ receipt_id_of r → all ≡ receipts_in (slice_index_or id 0 0) held → Contains held r → Contains all r
+bucket-has all held r id i e has =
+    let first = slice_index_or id 0 0 in
+    subst (λ (xs : List Receipt). Contains xs r) (sym e)
+    (filter-to (is_in_bucket first) held r has (eq-eqb (slice_index_or (receipt_id_of r) 0 0) first (ap (λ t. slice_index_or t 0 0) (sym i))))
+
+pub bucket-only : (all held : List Receipt) (r : Receipt) (id : List ℕ) → all ≡ receipts_in (slice_index_or id 0 0) held → Contains all r → Contains held r
+bucket-only all held r id e has =
+    (filter-from (is_in_bucket (slice_index_or id 0 0)) held r (subst (λ (xs : List Receipt). Contains xs r) e has)).0
+
+-- ---- whether it is among those before it, or held
+
+pub always : (xs : List Distrust) → AllByRecursion Always xs
+always [] = tt
+always (x ∷ xs) = (tt, always xs)
+
+or-first : (a b : Bool) → a ≡ true → (a || b) ≡ true
+or-first true b e = refl
+or-first false b e = absurd (cc)
+
+or-second : (a b : Bool) → b ≡ true → (a || b) ≡ true
+or-second true b e = refl
+or-second false b e = e
+
+has-any : {X : Type 0} (p : X → Bool) (xs : List X) (x : X) → p x ≡ true → Contains xs x → list_any p xs ≡ true
+has-any p [] x e has = absurd (contains-none x has)
+has-any p (y ∷ ys) x e has = elim (contains-cases y ys x has) [
+  | inl same ↦ or-first (p y) (list_any p ys) (ap p (sym same) ∙ e)
+  | inr later ↦ or-second (p y) (list_any p ys) (has-any p ys x e later)
+]
+
+module _ {X : Type 0} (P : X → Type 0) (cmp : X → X → Ordering) (sets : AreSets P cmp) where
+  -- items that are not told apart are the same
+  pub tied-same : (a b : X) → P a → P b → eq_by_cmp cmp a b ≡ true → a ≡ b
+  tied-same a b p q e = sets.exact a b p q ((Equal-is (cmp a b)).0 e)
+
+  pub same-tied : (a b : X) → a ≡ b → eq_by_cmp cmp a b ≡ true
+  same-tied a b e = ap is_eq (ap (λ y. cmp a y) (sym e) ∙ tied_itself sets.total a)
+
+  pub same-iff : (a b : X) (found : Bool) → P a → P b → found ≡ eq_by_cmp cmp a b → IsTrue found ↔ (a ≡ b)
+  same-iff a b found p q value = (λ t. tied-same a b p q (sym value ∙ t), λ e. value ∙ same-tied a b e)
+
+  pub among-held : (before set : List X) (x : X) (b : Bool) → AllByRecursion P before → AllByRecursion P set → b ≡ true → IsTrue b ↔ Contains set x
+      → IsTrue true ↔ Contains (with_items cmp before set) x
+  among-held before set x b all these e iff = (λ t. (sets.all_members before set x all these).1 (inr (iff.0 e)), λ h. refl)
+
+  any-same : (before : List X) (x : X) → AllByRecursion P before → P x → list_any (λ y. eq_by_cmp cmp y x) before ≡ true → Contains before x
+  any-same [] x all p e = absurd (cc)
+  any-same (y ∷ ys) x all p e =
+      let found = any-from (λ z. eq_by_cmp cmp z x) (y ∷ ys) e in
+      subst (Contains (y ∷ ys)) (tied-same found.0 x (each-from P (y ∷ ys) all found.0 found.1) p found.2) found.1
+
+  pub among-before : (before set : List X) (x : X) (b found : Bool) → AllByRecursion P before → AllByRecursion P set → P x → b ≡ false → IsTrue b ↔ Contains set x
+      → found ≡ list_any (λ y. eq_by_cmp cmp y x) before → IsTrue found ↔ Contains (with_items cmp before set) x
+  among-before before set x b found all these p e iff value = (
+    λ t. (sets.all_members before set x all these).1 (inl (any-same before x all p (sym value ∙ t))),
+    λ h. elim ((sets.all_members before set x all these).0 h) [
+      | inl here ↦ value ∙ has-any (λ y. eq_by_cmp cmp y x) before x (same-tied x x refl) here
+      | inr old ↦ absurd (let t = iff.1 old in let f : false ≡ true = sym e ∙ t in cc)
+    ],
+  )
+
+-- ---- places
+
+placed_grows : {X : Type 0} (o : Ordering) (x h : X) (t longer : List X) → length t ≤ length longer → length longer ≤ length t + 1
+    → (length t + 1 ≤ length (placed o x h t longer)) × (length (placed o x h t longer) ≤ length t + 2)
+placed_grows Less x h t longer more few = (omega arith, omega arith)
+placed_grows Equal x h t longer more few = (omega arith, omega arith)
+placed_grows Greater x h t longer more few = (omega arith, omega arith)
+
+-- a set with one more is as long, or one longer
+pub with_item-grows : {X : Type 0} (cmp : X → X → Ordering) (x : X) (xs : List X) → (length xs ≤ length (with_item cmp x xs)) × (length (with_item cmp x xs) ≤ length xs + 1)
+with_item-grows cmp x [] = (omega arith, omega arith)
+with_item-grows cmp x (h ∷ t) =
+    let rest = with_item-grows cmp x t in
+    let all = placed_grows (cmp x h) x h t (with_item cmp x t) rest.0 rest.1 in
+    (omega (arith, all.0), omega (arith, all.1))
+
+pub with_items-grows : {X : Type 0} (cmp : X → X → Ordering) (items xs : List X) → length xs ≤ length (with_items cmp items xs)
+with_items-grows cmp [] xs = omega arith
+with_items-grows cmp (i ∷ items) xs = let first = with_item-grows cmp i xs in let rest = with_items-grows cmp items (with_item cmp i xs) in omega (arith, first.0)
+
+-- there are enough places, whether or not it is held
+pub place-ample : {X : Type 0} (cmp : X → X → Ordering) (limit : ℕ) (set : List X) (x : X) (free left : ℕ) → 0 < left → HasPlaces limit (length set) free left → left ≤ free
+    → HasPlace cmp limit set x left (free - 1)
+place-ample cmp limit set x free left some places ample =
+    let few = places.few in
+    let grows = with_item-grows cmp x set in
+    record {
+      place = inr (omega (arith, few));
+      after = record { few = omega (arith, few, grows.1); exact = inl (omega (arith, ample)) };
+    }
+
+-- it is held, and takes no place
+pub place-held : {X : Type 0} (cmp : X → X → Ordering) (limit : ℕ) (set : List X) (x : X) (free left : ℕ) → HasPlaces limit (length set) free left → Contains set x → with_item cmp x set ≡ set
+    → HasPlace cmp limit set x left free
+place-held {X} cmp limit set x free left places has same =
+    let few = places.few in
+    let size = ap (λ (xs : List X). length xs) same in
+    record {
+      place = inl has;
+      after = record {
+        few = omega (arith, few, size);
+        exact = elim places.exact [ inl ample ↦ inl (omega (arith, ample)) | inr exact ↦ inr (omega (arith, exact, size)) ];
+      };
+    }
+
+-- it is new, and takes one
+pub place-new : {X : Type 0} (cmp : X → X → Ordering) (limit : ℕ) (set : List X) (x : X) (free left : ℕ) → HasPlaces limit (length set) free left → free < left → free ≢ 0
+    → length (with_item cmp x set) ≡ length set + 1 → HasPlace cmp limit set x left (free - 1)
+place-new cmp limit set x free left places scarce some longer =
+    let few = places.few in
+    record {
+      place = inr (omega (arith, few, some));
+      after = record {
+        few = omega (arith, few, some, longer);
+        exact = elim places.exact [ inl ample ↦ absurd (omega (arith, ample, scarce)) | inr exact ↦ inr (omega (arith, exact, some, longer)) ];
+      };
+    }
+
+-- it is new, and there is none
+pub place-none : {X : Type 0} (limit : ℕ) (set : List X) (x : X) (free left : ℕ) → HasPlaces limit (length set) free left → free < left → free ≡ 0 → (Contains set x → ⊥) → HasNoPlace limit set x
+place-none limit set x free left places scarce none lacks = record {
+  unheld = lacks;
+  full = elim places.exact [ inl ample ↦ absurd (omega (arith, ample, scarce)) | inr exact ↦ omega (arith, exact, none) ];
+}

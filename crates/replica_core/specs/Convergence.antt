@@ -1,0 +1,125 @@
+-- What is so of every list of events.
+use Rattle.std.specs.Prelude.{◌≡◌, ◌≢◌, ℕ, ◌<◌, ◌≤◌, ⊤, true, List, ◌∷◌, ◌++◌, length, Contains}
+use Rattle.std.specs.Prelude.{slice_get, Some}
+use Rattle.std.specs.List.{AllByRecursion}
+use Rattle.receipt_core.specs.declared.distrust.Distrust.{Distrust}
+use Rattle.receipt_core.specs.Receipt.{Receipt, IsReceipt, IsDistrust, receipt_id_of}
+use Rattle.replica_core.specs.State.{State, joined, is_within_limits, bucket_of_id}
+use Rattle.replica_core.specs.World.{World, Rules, answer, happens, run_from}
+use Rattle.replica_core.specs.declared.event.Event.{Event}
+use Rattle.replica_core.specs.declared.event.Event.TheVariants.{Take, Revoke, Ask, Answer, Absorb}
+use Rattle.replica_core.specs.declared.event.Event.TheVariants.{Part, Join, Save, Restart}
+
+-- what is taken is a receipt, and what is revoked a record
+abbrev pub IsEvent : Event → Type 0
+IsEvent (Take i r) = IsReceipt r
+IsEvent (Revoke i x) = IsDistrust x
+IsEvent (Ask i b) = ⊤
+IsEvent (Answer j k) = ⊤
+IsEvent (Absorb i k) = ⊤
+IsEvent (Part i k m) = ⊤
+IsEvent (Join i j) = ⊤
+IsEvent (Save i) = ⊤
+IsEvent (Restart i) = ⊤
+
+abbrev pub AreEvents : List Event → Type 0
+AreEvents = AllByRecursion IsEvent
+
+abbrev pub Lacks : List Event → Event → Type 0
+Lacks events event = Contains events event → ⊥
+
+-- one of so many replicas took the receipt, or came to hold the record
+abbrev pub WasTaken : ℕ → List Event → Receipt → Type 0
+WasTaken replicas events r = (i : ℕ) × (i < replicas) × Contains events (Take i r)
+
+abbrev pub WasRevoked : ℕ → List Event → Distrust → Type 0
+WasRevoked replicas events x = (i : ℕ) × (i < replicas) × Contains events (Revoke i x)
+
+pub record ComesFrom (replicas : ℕ) (events : List Event) (state : State) : Type 0 where
+  pub receipts : (r : Receipt) → Contains state.held r → WasTaken replicas events r
+  pub distrusts : (x : Distrust) → Contains state.records x → WasRevoked replicas events x
+
+-- all that the one holds the other holds too
+pub record IsPartOf (state other : State) : Type 0 where
+  pub receipts : (r : Receipt) → Contains state.held r → Contains other.held r
+  pub distrusts : (x : Distrust) → Contains state.records x → Contains other.records x
+
+-- ---- an exchange about one bucket
+
+-- The events have a question of the asker about the bucket, an answer of the answerer to it, and
+-- the asker's taking of that answer. What comes before the question, between question and answer,
+-- and between answer and taking is free.
+pub record Course (asker answerer bucket : ℕ) (events : List Event) : Type 0 where
+  pub before : List Event
+  pub asked : List Event
+  pub answered : List Event
+  pub after : List Event
+  pub question_place : ℕ
+  pub answer_place : ℕ
+  pub order : events ≡ before
+      ++ (Ask asker bucket ∷ asked
+      ++ (Answer answerer question_place ∷ answered ++ (Absorb asker answer_place ∷ after)))
+
+-- the worlds at the question, at the answer and at the taking
+abbrev pub at_question : {asker answerer bucket : ℕ} {events : List Event} → Rules → World
+    → Course asker answerer bucket events → World
+at_question rules start c = run_from rules start c.before
+
+abbrev pub at_answer : {asker answerer bucket : ℕ} {events : List Event} → Rules → World
+    → Course asker answerer bucket events → World
+at_answer {asker = asker} {bucket = bucket} rules start c = run_from rules
+    (happens rules (at_question rules start c) (Ask asker bucket)) c.asked
+
+abbrev pub at_taking : {asker answerer bucket : ℕ} {events : List Event} → Rules → World
+    → Course asker answerer bucket events → World
+at_taking {answerer = answerer} rules start c = run_from rules
+    (happens rules (at_answer rules start c) (Answer answerer c.question_place)) c.answered
+
+abbrev pub after_taking : {asker answerer bucket : ℕ} {events : List Event} → Rules → World
+    → Course asker answerer bucket events → World
+after_taking {asker = asker} rules start c = happens rules (at_taking rules start c)
+    (Absorb asker c.answer_place)
+
+-- The answer is to that question, the taking is of that answer, whole, and the asker doesn't
+-- restart in between.
+pub record Exchange (rules : Rules) (start : World) (asker answerer bucket : ℕ)
+    (events : List Event) : Type 0 where
+  pub course : Course asker answerer bucket events
+  pub asked_at : course.question_place ≡ length (at_question rules start course).sent
+  pub answered_at : course.answer_place ≡ length (at_answer rules start course).sent
+  pub whole : (content : State)
+      → slice_get (at_taking rules start course).sent course.answer_place
+      ≡ Some (answer answerer course.question_place content)
+      → is_within_limits (joined ((at_taking rules start course).now asker) content) ≡ true
+  pub no_restart : Lacks course.asked (Restart asker)
+  pub none_later : Lacks course.answered (Restart asker)
+
+-- of the bucket's receipts the other has each, or one with its id, and it has all records
+pub record HasAll (bucket : ℕ) (given taken : State) : Type 0 where
+  pub receipts : (r : Receipt) → Contains given.held r → bucket_of_id r ≡ bucket
+      → (s : Receipt) × Contains taken.held s × (receipt_id_of s ≡ receipt_id_of r)
+  pub distrusts : (x : Distrust) → Contains given.records x → Contains taken.records x
+
+-- ---- when all have the same
+
+-- no receipt is taken and no key distrusted, nobody restarts, and what was sent before the place is
+-- not taken
+abbrev pub IsQuiet : ℕ → Event → Type 0
+IsQuiet place (Take i r) = ⊥
+IsQuiet place (Revoke i x) = ⊥
+IsQuiet place (Ask i b) = ⊤
+IsQuiet place (Answer j k) = ⊤
+IsQuiet place (Absorb i k) = place ≤ k
+IsQuiet place (Part i k m) = place ≤ k
+IsQuiet place (Join i j) = ⊤
+IsQuiet place (Save i) = ⊤
+IsQuiet place (Restart i) = ⊥
+
+-- Since a moment it is quiet, no two receipts that were held anywhere then have one id, and each
+-- replica has had, from each other one, its whole answer about each bucket.
+pub record Settles (rules : Rules) (start : World) (since : List Event) : Type 0 where
+  pub quiet : (event : Event) → Contains since event → IsQuiet (length start.sent) event
+  pub one_id : (i j : ℕ) (r s : Receipt) → Contains (start.now i).held r
+      → Contains (start.now j).held s → receipt_id_of r ≡ receipt_id_of s → r ≡ s
+  pub exchanges : (i j bucket : ℕ) → i < rules.replicas → j < rules.replicas → i ≢ j → bucket ≤ 255
+      → Exchange rules start i j bucket since

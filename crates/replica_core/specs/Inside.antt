@@ -1,0 +1,3 @@
+-- Worlds as the code plays them, and places for more receipts and records
+pub mod Places
+pub mod Playing

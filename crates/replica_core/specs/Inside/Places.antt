@@ -1,0 +1,21 @@
+-- Places for more receipts and records.
+use Rattle.std.specs.Prelude.{◌+◌, ◌-◌, ◌<◌, Contains, List, length, ℕ, ◌≡◌, ◌≤◌, ◌⊎◌}
+use Rattle.std.specs.declared.cmp.Ordering.{Ordering}
+use Rattle.receipt_core.specs.Rising.{with_item}
+
+-- Of the places so many are free, where so many are held already and so many items are left:
+-- exactly so many, or at least so many and enough for all that are left.
+pub record HasPlaces (limit held free left : ℕ) : Type 0 where
+  pub few : held + free ≤ limit
+  pub exact : (left ≤ free) ⊎ (held + free ≡ limit)
+
+-- It is not among them, and they are as many as may be.
+pub record HasNoPlace {X : Type 0} (limit : ℕ) (set : List X) (item : X) : Type 0 where
+  pub unheld : Contains set item → ⊥
+  pub full : limit ≤ length set
+
+-- It may be held, and then so many places are free for the others.
+pub record HasPlace {X : Type 0} (cmp : X → X → Ordering) (limit : ℕ) (set : List X) (item : X)
+    (left more : ℕ) : Type 0 where
+  pub place : Contains set item ⊎ (length set < limit)
+  pub after : HasPlaces limit (length (with_item cmp item set)) more (left - 1)

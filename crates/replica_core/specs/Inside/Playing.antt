@@ -1,0 +1,74 @@
+-- Worlds whose replicas are closures in memory.
+use Rattle.std.specs.Prelude.{◌≡◌, ℕ, ◌≤◌, cond, List, length, map, Option}
+use Rattle.std.specs.Prelude.{Some, None, ⊤}
+use Rattle.std.specs.List.{AllByRecursion}
+use Rattle.std.specs.List.Sorted.{IsStrictlySortedBy}
+use Rattle.fed_config.specs.Configuration.{Configuration, HasDomain}
+use Rattle.receipt_core.specs.declared.distrust.Distrust.{Distrust}
+use Rattle.receipt_core.specs.Receipt.{Receipt, receipt_cmp, distrust_cmp}
+use Rattle.receipt_core.specs.Acceptance.{Meaning, IsFitting}
+use Rattle.replica_core.specs.State.{State, joined, is_within_limits}
+use Rattle.replica_core.specs.World.{Message, question, answer, World, rules_of, happens, AreOf}
+use Rattle.replica_core.specs.declared.event.Event.{Event}
+use Rattle.replica_core.specs.declared.message.Content.{Content}
+use Rattle.replica_core.specs.declared.message.Message.{Message as Sent}
+use Rattle.replica_core.specs.declared.message.Message.TheVariants.{Question, Answer}
+use Rattle.replica_core.specs.declared.playing.Playing.{Playing}
+
+-- all this is gained, or nothing where that would be too much
+abbrev pub grown : State → State → State
+grown state gain = cond (is_within_limits (joined state gain)) (joined state gain) state
+
+-- ---- messages
+
+abbrev pub content_of : Content → State
+content_of c = record { held = c.receipts.items; records = c.records.items }
+
+abbrev pub message_of : Sent → Message
+message_of (Question asker have) = question asker have.bucket have.ids
+message_of (Answer answerer place content) = answer answerer place (content_of content)
+
+abbrev pub answered : Option Message → Option State
+answered None = None
+answered (Some (question asker bucket ids)) = None
+answered (Some (answer answerer place content)) = Some content
+
+abbrev pub asked : Option Message → Option (ℕ × List (List ℕ))
+asked None = None
+asked (Some (question asker bucket ids)) = Some (bucket, ids)
+asked (Some (answer answerer place content)) = None
+
+-- A closure of the configuration can hold these receipts: they fit, they rise, and they are not too
+-- many.
+pub record CanHold (config : Configuration) (receipts : List Receipt) : Type 0 where
+  pub fitting : AllByRecursion (IsFitting config) receipts
+  pub rising : IsStrictlySortedBy receipt_cmp receipts
+  pub few : length receipts ≤ 65536
+
+-- the same of records of distrust
+pub record CanHoldRecords (config : Configuration) (records : List Distrust) : Type 0 where
+  pub domains : AllByRecursion (λ x. HasDomain config x.domain) records
+  pub rising : IsStrictlySortedBy distrust_cmp records
+  pub few : length records ≤ 4096
+
+-- what is answered can be held
+abbrev pub IsSound : Configuration → Message → Type 0
+IsSound config (question asker bucket ids) = ⊤
+IsSound config (answer answerer place content) = CanHold config content.held
+    × CanHoldRecords config content.records
+
+-- ---- worlds
+
+-- The closures mean what the replicas hold and saved, and the messages are those that were sent.
+pub record Plays {A : Type 0} (meaning : A → Meaning) (config : Configuration) (n : ℕ)
+    (playing : Playing A) (w : World) : Type 0 where
+  pub held : AreOf meaning config n playing.held.items w.now
+  pub saved : AreOf meaning config n playing.saved.items w.saved
+  pub sent : map message_of playing.sent.items ≡ w.sent
+  pub sound : AllByRecursion (IsSound config) w.sent
+
+-- after the event it stands for what the world is then
+abbrev pub StandsForEvent : {A : Type 0} → (A → Meaning) → Configuration → Playing A → Playing A
+    → Event → Type 0
+StandsForEvent meaning config old new event = (n : ℕ) (w : World) → Plays meaning config n old w
+    → Plays meaning config n new (happens (rules_of config n) w event)

@@ -1,0 +1,149 @@
+-- Replicas of one configuration, what happens to them, and the messages between them.
+use Rattle.std.specs.Prelude.{ℕ, ◌+◌, Bool, true, false, cond, ◌==◌, ◌&&◌, nat_le, List, [], ◌∷◌}
+use Rattle.std.specs.Prelude.{◌<◌, length, slice_index_or, ◌≡◌}
+use Rattle.std.specs.Prelude.{◌++◌, fold, slice_get, Option, Some, None, bytes_eq}
+use Rattle.std.specs.List.{list_any}
+use Rattle.spiffe_name.specs.SpiffeId.{Id}
+use Rattle.fed_config.specs.Configuration.{Configuration}
+use Rattle.fed_config.specs.declared.relationship.Relationship.{Relationship}
+use Rattle.fed_config.specs.declared.seed.Seed.{Seed}
+use Rattle.receipt_core.specs.Receipt.{Receipt}
+use Rattle.replica_core.specs.State.{State, no_state, joined, is_within_limits, ids_held}
+use Rattle.replica_core.specs.State.{meaning_of_state}
+use Rattle.replica_core.specs.State.{receipts_lacking, first_of}
+use Rattle.replica_core.specs.declared.event.Event.{Event}
+use Rattle.replica_core.specs.declared.event.Event.TheVariants.{Take, Revoke, Ask, Answer, Absorb}
+use Rattle.replica_core.specs.declared.event.Event.TheVariants.{Part, Join, Save, Restart}
+use Rattle.receipt_core.specs.Acceptance.{Meaning}
+
+-- A question names the ids that the asker holds of a bucket; an answer to it has all records of the
+-- answerer, and the receipts of the bucket that it holds beyond those named.
+pub data Message : Type 0 where
+  question : (asker bucket : ℕ) (ids : List (List ℕ)) → Message
+  answer : (answerer question : ℕ) (content : State) → Message
+
+-- what each replica holds, what each saved last, and every message that was ever sent
+pub record World : Type 0 where
+  pub now : ℕ → State
+  pub saved : ℕ → State
+  pub sent : List Message
+
+abbrev pub empty_world : World
+empty_world = record { now = λ replica. no_state; saved = λ replica. no_state; sent = [] }
+
+-- ---- the rules of a world
+
+pub record Rules : Type 0 where
+  pub replicas : ℕ
+  pub fits : Receipt → Bool
+  pub knows : List ℕ → Bool
+
+abbrev pub same_id : Id → Id → Bool
+same_id a b = bytes_eq a.text b.text && bytes_eq a.domain b.domain && bytes_eq a.path b.path
+
+-- a relationship of the configuration has the receipt's domain and endpoint
+abbrev pub is_fitting : Configuration → Receipt → Bool
+is_fitting config r = list_any
+    (λ (other : Relationship). bytes_eq other.domain r.domain && same_id other.endpoint r.endpoint)
+    config.relationships
+
+-- the domain is one of the configuration
+abbrev pub is_known : Configuration → List ℕ → Bool
+is_known config domain = cond
+    (list_any (λ (r : Relationship). bytes_eq r.domain domain) config.relationships) true
+    (cond (list_any (λ (r : Relationship). bytes_eq r.endpoint.domain domain) config.relationships)
+    true
+    (list_any (λ (s : Seed). bytes_eq s.domain domain) config.seeds))
+
+abbrev pub rules_of : Configuration → ℕ → Rules
+rules_of config replicas =
+    record { replicas = replicas; fits = is_fitting config; knows = is_known config }
+
+abbrev pub is_replica : Rules → ℕ → Bool
+is_replica rules replica = nat_le (replica + 1) rules.replicas
+
+-- ---- what an event does
+
+pub data Effect : Type 0 where
+  nothing : Effect
+  gains : (replica : ℕ) (gain : State) → Effect
+  sends : (message : Message) → Effect
+  saves : (replica : ℕ) → Effect
+  restarts : (replica : ℕ) → Effect
+
+abbrev pub where_so : Bool → Effect → Effect
+where_so true effect = effect
+where_so false effect = nothing
+
+abbrev pub replies : State → ℕ → ℕ → Option Message → Effect
+replies state replica place None = nothing
+replies state replica place (Some (question asker bucket ids)) = sends
+    (answer replica place (record
+    { held = receipts_lacking state bucket ids; records = state.records }))
+replies state replica place (Some (answer answerer other content)) = nothing
+
+abbrev pub takes_whole : ℕ → Option Message → Effect
+takes_whole replica None = nothing
+takes_whole replica (Some (question asker bucket ids)) = nothing
+takes_whole replica (Some (answer answerer place content)) = gains replica content
+
+abbrev pub takes_part : ℕ → ℕ → Option Message → Effect
+takes_part replica count None = nothing
+takes_part replica count (Some (question asker bucket ids)) = nothing
+takes_part replica count (Some (answer answerer place content)) = gains replica
+    (first_of count content)
+
+-- Messages count from 0. Nothing happens where what an event names is not there, or is a message of
+-- another kind.
+abbrev pub effect_of : Rules → World → Event → Effect
+effect_of rules w (Take i r) = where_so (is_replica rules i && rules.fits r)
+    (gains i (record { held = r ∷ []; records = [] }))
+effect_of rules w (Revoke i x) = where_so (is_replica rules i && rules.knows x.domain)
+    (gains i (record { held = []; records = x ∷ [] }))
+effect_of rules w (Ask i b) = where_so (is_replica rules i && nat_le b 255)
+    (sends (question i b (ids_held (w.now i) b)))
+effect_of rules w (Answer j k) = where_so (is_replica rules j)
+    (replies (w.now j) j k (slice_get w.sent k))
+effect_of rules w (Absorb i k) = where_so (is_replica rules i) (takes_whole i (slice_get w.sent k))
+effect_of rules w (Part i k m) = where_so (is_replica rules i) (takes_part i m (slice_get w.sent k))
+effect_of rules w (Join i j) = where_so (is_replica rules i && is_replica rules j)
+    (gains i (w.now j))
+effect_of rules w (Save i) = where_so (is_replica rules i) (saves i)
+effect_of rules w (Restart i) = where_so (is_replica rules i) (restarts i)
+
+abbrev pub at_replica : ℕ → State → (ℕ → State) → ℕ → State
+at_replica replica state states other = cond (other == replica) state (states other)
+
+abbrev pub with_state : World → ℕ → State → World
+with_state w replica state = record w { now = at_replica replica state w.now }
+
+-- a replica that would come to hold too much gains nothing
+abbrev pub gained : Bool → World → ℕ → State → World
+gained true w replica state = with_state w replica state
+gained false w replica state = w
+
+abbrev pub apply : World → Effect → World
+apply w nothing = w
+apply w (gains i gain) = gained (is_within_limits (joined (w.now i) gain)) w i
+    (joined (w.now i) gain)
+apply w (sends message) = record w { sent = w.sent ++ message ∷ [] }
+apply w (saves i) = record w { saved = at_replica i (w.now i) w.saved }
+apply w (restarts i) = with_state w i (w.saved i)
+
+abbrev pub happens : Rules → World → Event → World
+happens rules w event = apply w (effect_of rules w event)
+
+abbrev pub run_from : Rules → World → List Event → World
+run_from rules w events = fold (happens rules) w events
+
+abbrev pub run : Rules → List Event → World
+run rules events = run_from rules empty_world events
+
+-- ---- closures in memory
+
+-- There are so many closures, and each means what the state of its number says.
+pub record AreOf {A : Type 0} (meaning : A → Meaning) (config : Configuration) (n : ℕ)
+    (closures : List A) (states : ℕ → State) : Type 0 where
+  pub count : length closures ≡ n
+  pub each : (i : ℕ) (c : A) → i < n
+      → meaning (slice_index_or closures i c) ≡ meaning_of_state config (states i)

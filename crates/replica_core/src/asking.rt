@@ -1,0 +1,64 @@
+//! What a replica has of a bucket.
+ghost use Rattle.std.specs.Prelude.{◌≡◌, ◌↔◌, IsTrue, IfOk, IfErr, map, Contains};
+ghost use Rattle.std.specs.List.Sorted.{IsStrictlySortedBy};
+ghost use Rattle.receipt_core.specs.Receipt.{receipt_id_of};
+ghost use Rattle.trust_closure.specs.Views.{receipts_in};
+ghost use Rattle.replica_core.specs.State.{id_cmp, ids_held};
+ghost use Rattle.replica_core.specs.Session.{question_of, state_of};
+ghost use Rattle.replica_core.specs.declared.error.SyncError.TheVariants.{NoMemory};
+
+use crate::error::SyncError;
+use crate::question::Have;
+use receipt_core::ReceiptId;
+use std::alloc::{AllocError, Global};
+use trust_closure::Closure;
+
+/// What the closure holds of the bucket.
+///
+/// # Errors
+/// [`SyncError::NoMemory`]: memory ran out.
+pub fn have<C: Closure>(alloc: Global, closure: &C, bucket: u8) -> Result<Have, SyncError>
+    ensures ok { IfOk result (λ h. h ≡ question_of (C.state closure.now).meaning bucket) }
+    ensures refused { IfErr result (λ e. e ≡ NoMemory) }
+{
+    Ok(Have {
+        bucket,
+        config: closure.config().digest(),
+        ids: ids_of(alloc, closure, bucket)?,
+    })
+}
+
+// The ids of the bucket's receipts, rising, each once.
+fn ids_of<C: Closure>(alloc: Global, closure: &C, bucket: u8) -> Result<Vec<ReceiptId>, AllocError>
+    ensures { IfOk result (λ ids. map (λ id. id.0) ids.items
+        ≡ ids_held (state_of (C.state closure.now).meaning) bucket) }
+{
+    let mut ids = gathered(alloc, closure, bucket)?;
+    ids.sort_unstable();
+    ids.dedup();
+    Ok(ids)
+}
+
+// The same in the order of the receipts' lines.
+fn gathered<C: Closure>(
+    alloc: Global,
+    closure: &C,
+    bucket: u8,
+) -> Result<Vec<ReceiptId>, AllocError>
+    ensures { IfOk result (λ ids. map (λ id. id.0) ids.items
+        ≡ map receipt_id_of (receipts_in bucket (C.state closure.now).meaning.held)) }
+{
+    let mut ids = Vec::new(alloc);
+    for receipt in closure.receipts_of(bucket) {
+        ids.push(receipt.id())?;
+    }
+    Ok(ids)
+}
+
+/// Whether the id is among these.
+pub(crate) fn is_named(ids: &[ReceiptId], id: &ReceiptId) -> bool
+    requires { IsStrictlySortedBy id_cmp (map (λ id. id.0) ids.now) }
+    ensures { IsTrue result ↔ Contains (map (λ id. id.0) ids.now) id.now.0 }
+{
+    ids.binary_search(id).is_ok()
+}

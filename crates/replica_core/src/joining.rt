@@ -1,0 +1,41 @@
+//! Records and receipts that are welcome are taken.
+ghost use Rattle.std.specs.Prelude.{◌≡◌};
+ghost use Rattle.receipt_core.specs.Receipt.{receipt_cmp, distrust_cmp};
+ghost use Rattle.receipt_core.specs.Rising.{with_items};
+ghost use Rattle.trust_closure.specs.Refusals.{IsRoomier};
+ghost use Rattle.replica_core.specs.Absorbing.{AreWelcome, of_records, of_receipts, room_for};
+
+use receipt_core::{Distrust, Receipt};
+use trust_closure::Closure;
+
+/// Distrusts all of these, which are welcome.
+pub(crate) fn distrust_all<C: Closure>(closure: &mut C, records: &[Distrust])
+    requires { AreWelcome (C.state closure.old).meaning (of_records records.now) }
+    ensures meaning { (C.state closure.new).meaning
+        ≡ record (C.state closure.old).meaning
+        { records = with_items distrust_cmp records.now (C.state closure.old).meaning.records } }
+    ensures room { (C.state closure.new).room ≡ (C.state closure.old).room }
+{
+    receipt_core::laws::sets();
+    for record in records {
+        let _valid = closure.config();
+        // It is welcome, so it is never refused.
+        let _ = closure.distrust(&record.domain, record.key);
+    }
+}
+
+/// Takes all of these, which are welcome, and for which there is room.
+pub(crate) fn take_all<C: Closure>(closure: &mut C, receipts: Vec<Receipt>)
+    requires welcome { AreWelcome (C.state closure.old).meaning (of_receipts receipts.items) }
+    requires room { IsRoomier (room_for receipts.items) (C.state closure.old).room }
+    ensures { (C.state closure.new).meaning
+        ≡ record (C.state closure.old).meaning
+        { held = with_items receipt_cmp receipts.items (C.state closure.old).meaning.held } }
+{
+    receipt_core::laws::sets();
+    for receipt in receipts {
+        let _valid = closure.config();
+        // It is welcome, and there is room, so it is never refused.
+        let _ = closure.take(receipt);
+    }
+}

@@ -1,0 +1,95 @@
+//! Which records and receipts a closure would refuse, were it given one after another.
+ghost use Rattle.std.specs.Prelude.{◌≡◌, ◌+◌, ◌^◌, ◌<◌, List, MatchOption, MatchResult, length};
+ghost use Rattle.receipt_core.specs.declared.distrust.Distrust.{Distrust};
+ghost use Rattle.receipt_core.specs.Receipt.{IsReceipt};
+ghost use Rattle.receipt_core.specs.Acceptance.{IsFitting};
+ghost use Rattle.trust_closure.specs.Held.{Misfits};
+ghost use Rattle.replica_core.specs.Absorbing.{AreWelcome, IsFirstRefused, of_records, of_receipts};
+
+use crate::places::{place_for_receipt, place_for_record};
+use fed_config::Config;
+use receipt_core::{Distrust, Receipt};
+use trust_closure::{Closure, TakeError};
+
+/// The most records of distrust that are held.
+const MOST_RECORDS: usize = 4_096;
+
+/// The most receipts that are held.
+const MOST_RECEIPTS: usize = 65_536;
+
+/// Which of the records is the first that is not welcome, where the first has number 2, and why it
+/// is not.
+pub(crate) fn first_record<C: Closure>(
+    closure: &C,
+    records: &[Distrust],
+) -> Option<(u64, TakeError)>
+    requires { length records.now + 2 < 2 ^ 64 }
+    ensures { MatchOption result (AreWelcome (C.state closure.now).meaning (of_records records.now))
+        (λ p. IsFirstRefused (C.state closure.now).meaning (of_records records.now) p.0 p.1) }
+{
+    receipt_core::laws::sets();
+    let config = closure.config();
+    let _form = config.domains();
+    let mut free = MOST_RECORDS - closure.distrusts().count();
+    let mut place: usize = 0;
+    for record in records {
+        if config.domain_no(&record.domain).is_none() {
+            return Some((place as u64 + 2, TakeError::UnknownDomain));
+        }
+        let left = records.len() - place;
+        match place_for_record(closure, &records[..place], free, left, record) {
+            Some(more) => free = more,
+            None => return Some((place as u64 + 2, TakeError::Full)),
+        }
+        place += 1;
+    }
+    None
+}
+
+/// Which of the receipts is the first that is not welcome, where the first has number 2, and why it
+/// is not. Records make no difference.
+pub(crate) fn first_receipt<C: Closure>(
+    closure: &C,
+    receipts: &[Receipt],
+) -> Option<(u64, TakeError)>
+    requires { length receipts.now + 2 < 2 ^ 64 }
+    ensures { (records : List Distrust)
+        → MatchOption result (AreWelcome
+        (record (C.state closure.now).meaning { records = records }) (of_receipts receipts.now))
+        (λ p. IsFirstRefused (record (C.state closure.now).meaning { records = records })
+        (of_receipts receipts.now) p.0 p.1) }
+{
+    receipt_core::laws::sets();
+    let config = closure.config();
+    let _form = config.domains();
+    let mut free = MOST_RECEIPTS - closure.receipt_count();
+    let mut place: usize = 0;
+    for receipt in receipts {
+        if let Err(why) = fit(config, receipt) {
+            return Some((place as u64 + 2, why));
+        }
+        let left = receipts.len() - place;
+        match place_for_receipt(closure, &receipts[..place], free, left, receipt) {
+            Some(more) => free = more,
+            None => return Some((place as u64 + 2, TakeError::Full)),
+        }
+        place += 1;
+    }
+    None
+}
+
+// Whether the receipt's domain has a relationship, and that has the receipt's endpoint.
+fn fit(config: &Config, receipt: &Receipt) -> Result<(), TakeError>
+    ensures fits { MatchResult result (λ _. IsFitting config.now receipt.now)
+        (Misfits config.now receipt.now) }
+    ensures form { IsReceipt receipt.now }
+{
+    let Some(relationship) = config.relationship(receipt.domain()) else {
+        return Err(TakeError::UnknownDomain);
+    };
+    if relationship.endpoint.as_str() == receipt.endpoint().as_str() {
+        Ok(())
+    } else {
+        Err(TakeError::WrongEndpoint)
+    }
+}

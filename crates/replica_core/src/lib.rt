@@ -1,0 +1,32 @@
+//! What a replica holds, asks, answers and takes, as values, and the world of replicas: events on
+//! what they hold, and what converges. No text is known here.
+#![tactic(auto)]
+
+mod absorbing;
+mod answering;
+mod asking;
+mod entry;
+mod error;
+mod event;
+mod gathering;
+mod give;
+mod joining;
+mod judging;
+pub mod laws;
+mod message;
+mod places;
+mod playing;
+mod question;
+mod reply;
+mod world;
+
+pub use absorbing::absorb;
+pub use answering::answer;
+pub use asking::have;
+pub use entry::Entry;
+pub use error::SyncError;
+pub use event::Event;
+pub use give::Give;
+pub use question::Have;
+pub use reply::{Answer, Lacking};
+pub use world::run_world;

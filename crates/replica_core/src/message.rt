@@ -1,0 +1,106 @@
+//! Messages between replicas that are played in memory.
+ghost use Rattle.std.specs.Prelude.{◌≡◌, IfOk, map, slice_get, take};
+ghost use Rattle.std.specs.Option.{option_copied, option_map};
+ghost use Rattle.receipt_core.specs.Acceptance.{IsMeaning};
+ghost use Rattle.replica_core.specs.Session.{reply_of};
+ghost use Rattle.replica_core.specs.Inside.Playing.{content_of, message_of, answered, asked};
+
+use crate::answering::answer;
+use crate::question::Have;
+use crate::reply::Lacking;
+use receipt_core::{Distrust, Receipt};
+use std::alloc::{AllocError, Global};
+use trust_closure::{Closure, Distrusts, NoMemory};
+
+/// A message, which stays once it was sent.
+#[derive(Debug, Drop)]
+pub(crate) enum Message {
+    /// What the asker has of a bucket.
+    Question {
+        asker: usize,
+        have: Have,
+    },
+    /// What the answerer answered to the question at this place.
+    Answer {
+        answerer: usize,
+        question: usize,
+        content: Content,
+    },
+}
+
+/// The records and receipts of an answer, each in their order.
+#[derive(Debug, Drop)]
+pub(crate) struct Content {
+    pub(crate) records: Vec<Distrust>,
+    pub(crate) receipts: Vec<Receipt>,
+}
+
+/// What the closure answers to the question, copied.
+pub(crate) fn told<C: Closure>(alloc: Global, closure: &C, have: &Have) -> Result<Content, NoMemory>
+    ensures copies { IfOk result
+        (λ c. content_of c ≡ (reply_of (C.state closure.now).meaning have.now).content) }
+    ensures valid { IsMeaning (C.state closure.now).meaning }
+{
+    let _config = closure.config();
+    let (records, receipts) = answer(closure, have).into_parts();
+    Ok(Content {
+        records: copied_records(alloc, records)?,
+        receipts: copied_receipts(alloc, receipts)?,
+    })
+}
+
+fn copied_records(alloc: Global, distrusts: Distrusts<'_>) -> Result<Vec<Distrust>, AllocError>
+    ensures { IfOk result (λ v. v.items ≡ distrusts.entry) }
+{
+    let mut records = Vec::new(alloc);
+    for (domain, key) in distrusts {
+        records.push(Distrust {
+            domain: domain.try_clone(alloc)?,
+            key: *key,
+        })?;
+    }
+    Ok(records)
+}
+
+fn copied_receipts(alloc: Global, lacking: Lacking<'_>) -> Result<Vec<Receipt>, AllocError>
+    ensures { IfOk result (λ v. v.items ≡ lacking.entry) }
+{
+    let mut receipts = Vec::new(alloc);
+    for receipt in lacking {
+        receipts.push(receipt.try_clone(alloc)?)?;
+    }
+    Ok(receipts)
+}
+
+/// The question at the place, if one is there.
+pub(crate) fn question_at(sent: &[Message], place: usize) -> Option<&Have>
+    ensures { option_map (λ q. (q.now.bucket, q.now.ids)) result
+        ≡ asked (slice_get (map message_of sent.now) place) }
+{
+    match sent.get(place) {
+        Some(Message::Question { have, .. }) => Some(have),
+        _ => None,
+    }
+}
+
+/// The content of the answer at the place, if one is there.
+pub(crate) fn answer_at(sent: &[Message], place: usize) -> Option<&Content>
+    ensures { option_map (λ c. content_of c.now) result
+        ≡ answered (slice_get (map message_of sent.now) place) }
+{
+    match sent.get(place) {
+        Some(Message::Answer { content, .. }) => Some(content),
+        _ => None,
+    }
+}
+
+/// The first of the items, as many as asked for, or all where there are fewer.
+pub(crate) fn first<T>(items: &[T], count: usize) -> &[T]
+    ensures { result.now ≡ take count items.now }
+{
+    if count < items.len() {
+        &items[..count]
+    } else {
+        items
+    }
+}

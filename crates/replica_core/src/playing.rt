@@ -1,0 +1,268 @@
+//! What events do to replicas that are closures in memory.
+ghost use Rattle.std.specs.Prelude.{◌≡◌, ℕ, ◌+◌, cond, nat_le, IfOk, OnOk};
+ghost use Rattle.fed_config.specs.Configuration.{Configuration};
+ghost use Rattle.replica_core.specs.State.{State, no_state};
+ghost use Rattle.replica_core.specs.Session.{state_of, question_of};
+ghost use Rattle.replica_core.specs.World.{World, empty_world, apply, gains, where_so, rules_of};
+ghost use Rattle.replica_core.specs.World.{is_replica, at_replica, AreOf};
+ghost use Rattle.replica_core.specs.Inside.Playing.{Plays, StandsForEvent};
+ghost use Rattle.replica_core.specs.declared.event.Event.{Event};
+
+use crate::asking::have;
+use crate::gathering::{copied, gathered, grow, offer_receipt, offer_record};
+use crate::message::{Message, answer_at, first, question_at, told};
+use crate::question::Have;
+use fed_config::Config;
+use receipt_core::{Distrust, Receipt};
+use std::alloc::{AllocError, Global};
+use trust_closure::{Closure, NoMemory};
+
+/// What each replica holds and what it saved last, by its number, and every message that was sent.
+#[derive(Drop)]
+pub(crate) struct Playing<C> {
+    pub(crate) held: Vec<C>,
+    pub(crate) saved: Vec<C>,
+    pub(crate) sent: Vec<Message>,
+}
+
+/// So many replicas that hold nothing, before anything happens.
+pub(crate) fn start<C: Closure>(
+    alloc: Global,
+    config: &Config,
+    n: usize,
+) -> Result<Playing<C>, NoMemory>
+    ensures { IfOk result (λ p. Plays (λ c. (C.state c).meaning) config.now n p empty_world) }
+{
+    Ok(Playing {
+        held: empty_closures(alloc, config, n)?,
+        saved: empty_closures(alloc, config, n)?,
+        sent: Vec::new(alloc),
+    })
+}
+
+fn empty_closures<C: Closure>(alloc: Global, config: &Config, n: usize) -> Result<Vec<C>, NoMemory>
+    ensures { IfOk result (λ v. AreOf (λ c. (C.state c).meaning) config.now n v.items
+        (λ i. no_state)) }
+{
+    let mut closures = Vec::new(alloc);
+    for _ in 0..n {
+        closures.push(C::new(alloc, config)?)?;
+    }
+    Ok(closures)
+}
+
+/// What [`Event::Take`](crate::Event::Take) does.
+pub(crate) fn take<C: Closure>(
+    alloc: Global,
+    config: &Config,
+    playing: &mut Playing<C>,
+    replica: usize,
+    receipt: &Receipt,
+) -> Result<(), NoMemory>
+    ensures { OnOk result (StandsForEvent (λ c. (C.state c).meaning) config.now playing.old
+        playing.new (Event.Take replica receipt.now)) }
+{
+    let mut more = C::new(alloc, config)?;
+    offer_receipt(alloc, &mut more, receipt)?;
+    gain(playing, replica, &more)
+}
+
+/// What [`Event::Revoke`](crate::Event::Revoke) does.
+pub(crate) fn revoke<C: Closure>(
+    alloc: Global,
+    config: &Config,
+    playing: &mut Playing<C>,
+    replica: usize,
+    distrust: &Distrust,
+) -> Result<(), NoMemory>
+    ensures { OnOk result (StandsForEvent (λ c. (C.state c).meaning) config.now playing.old
+        playing.new (Event.Revoke replica distrust.now)) }
+{
+    let mut more = C::new(alloc, config)?;
+    offer_record(&mut more, distrust);
+    gain(playing, replica, &more)
+}
+
+/// What [`Event::Ask`](crate::Event::Ask) does.
+pub(crate) fn ask<C: Closure>(
+    alloc: Global,
+    playing: &mut Playing<C>,
+    replica: usize,
+    bucket: u8,
+) -> Result<(), NoMemory>
+    ensures { (config : Configuration)
+        → OnOk result (StandsForEvent (λ c. (C.state c).meaning) config playing.old playing.new
+        (Event.Ask replica bucket)) }
+{
+    let Some(closure) = playing.held.get(replica) else {
+        return Ok(());
+    };
+    let have = question(alloc, closure, bucket)?;
+    playing.sent.push(Message::Question {
+        asker: replica,
+        have,
+    })?;
+    Ok(())
+}
+
+// What the closure asks about the bucket. Nothing but lack of memory keeps it from asking.
+fn question<C: Closure>(alloc: Global, closure: &C, bucket: u8) -> Result<Have, NoMemory>
+    ensures { IfOk result (λ h. h ≡ question_of (C.state closure.now).meaning bucket) }
+{
+    match have(alloc, closure, bucket) {
+        Ok(have) => Ok(have),
+        Err(_) => Err(AllocError),
+    }
+}
+
+/// What [`Event::Answer`](crate::Event::Answer) does.
+pub(crate) fn answer<C: Closure>(
+    alloc: Global,
+    playing: &mut Playing<C>,
+    replica: usize,
+    question: usize,
+) -> Result<(), NoMemory>
+    ensures { (config : Configuration)
+        → OnOk result (StandsForEvent (λ c. (C.state c).meaning) config playing.old playing.new
+        (Event.Answer replica question)) }
+{
+    let Some(closure) = playing.held.get(replica) else {
+        return Ok(());
+    };
+    let Some(have) = question_at(playing.sent.as_slice(), question) else {
+        return Ok(());
+    };
+    let content = told(alloc, closure, have)?;
+    playing.sent.push(Message::Answer {
+        answerer: replica,
+        question,
+        content,
+    })?;
+    Ok(())
+}
+
+/// What [`Event::Absorb`](crate::Event::Absorb) does.
+pub(crate) fn absorb<C: Closure>(
+    alloc: Global,
+    config: &Config,
+    playing: &mut Playing<C>,
+    replica: usize,
+    answer: usize,
+) -> Result<(), NoMemory>
+    ensures { OnOk result (StandsForEvent (λ c. (C.state c).meaning) config.now playing.old
+        playing.new (Event.Absorb replica answer)) }
+{
+    let Some(content) = answer_at(playing.sent.as_slice(), answer) else {
+        return Ok(());
+    };
+    let records = content.records.as_slice();
+    let receipts = content.receipts.as_slice();
+    let more: C = gathered(alloc, config, records, receipts)?;
+    gain(playing, replica, &more)
+}
+
+/// What [`Event::Part`](crate::Event::Part) does.
+pub(crate) fn part<C: Closure>(
+    alloc: Global,
+    config: &Config,
+    playing: &mut Playing<C>,
+    replica: usize,
+    answer: usize,
+    count: usize,
+) -> Result<(), NoMemory>
+    ensures { OnOk result (StandsForEvent (λ c. (C.state c).meaning) config.now playing.old
+        playing.new (Event.Part replica answer count)) }
+{
+    let Some(content) = answer_at(playing.sent.as_slice(), answer) else {
+        return Ok(());
+    };
+    let records = content.records.as_slice();
+    let receipts = content.receipts.as_slice();
+    let others = count.saturating_sub(records.len());
+    let more: C = gathered(
+        alloc,
+        config,
+        first(records, count),
+        first(receipts, others),
+    )?;
+    gain(playing, replica, &more)
+}
+
+/// What [`Event::Join`](crate::Event::Join) does.
+pub(crate) fn join<C: Closure>(
+    alloc: Global,
+    playing: &mut Playing<C>,
+    replica: usize,
+    other: usize,
+) -> Result<(), NoMemory>
+    ensures { (config : Configuration)
+        → OnOk result (StandsForEvent (λ c. (C.state c).meaning) config playing.old playing.new
+        (Event.Join replica other)) }
+{
+    let Some(closure) = playing.held.get(other) else {
+        return Ok(());
+    };
+    let more = copied(alloc, closure)?;
+    gain(playing, replica, &more)
+}
+
+/// What [`Event::Save`](crate::Event::Save) does.
+pub(crate) fn save<C: Closure>(
+    alloc: Global,
+    playing: &mut Playing<C>,
+    replica: usize,
+) -> Result<(), NoMemory>
+    ensures { (config : Configuration)
+        → OnOk result (StandsForEvent (λ c. (C.state c).meaning) config playing.old playing.new
+        (Event.Save replica)) }
+{
+    copy_at(alloc, &playing.held, &mut playing.saved, replica)
+}
+
+/// What [`Event::Restart`](crate::Event::Restart) does.
+pub(crate) fn restart<C: Closure>(
+    alloc: Global,
+    playing: &mut Playing<C>,
+    replica: usize,
+) -> Result<(), NoMemory>
+    ensures { (config : Configuration)
+        → OnOk result (StandsForEvent (λ c. (C.state c).meaning) config playing.old playing.new
+        (Event.Restart replica)) }
+{
+    copy_at(alloc, &playing.saved, &mut playing.held, replica)
+}
+
+// The replica gains all that the closure holds, or nothing where that would be too much.
+fn gain<C: Closure>(playing: &mut Playing<C>, replica: usize, more: &C) -> Result<(), NoMemory>
+    ensures { (n : ℕ) (w : World) (config : Configuration)
+        → (C.state more.now).meaning.config ≡ config
+        → Plays (λ c. (C.state c).meaning) config n playing.old w
+        → OnOk result (Plays (λ c. (C.state c).meaning) config n playing.new
+        (apply w (where_so (is_replica (rules_of config n) replica)
+        (gains replica (state_of (C.state more.now).meaning))))) }
+{
+    if replica < playing.held.len() {
+        grow(&mut playing.held[replica], more)?;
+    }
+    Ok(())
+}
+
+// Of two lists of closures, the one at this place of the second becomes a copy of that of the
+// first.
+fn copy_at<C: Closure>(
+    alloc: Global,
+    from: &Vec<C>,
+    to: &mut Vec<C>,
+    place: usize,
+) -> Result<(), NoMemory>
+    ensures { (config : Configuration) (n : ℕ) (given states : ℕ → State)
+        → AreOf (λ c. (C.state c).meaning) config n from.now.items given
+        → AreOf (λ c. (C.state c).meaning) config n to.old.items states
+        → OnOk result (AreOf (λ c. (C.state c).meaning) config n to.new.items
+        (cond (nat_le (place + 1) n) (at_replica place (given place) states) states)) }
+{
+    if place < from.len() && place < to.len() {
+        to[place] = copied(alloc, &from[place])?;
+    }
+    Ok(())
+}

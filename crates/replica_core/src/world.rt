@@ -1,0 +1,68 @@
+//! Lists of events, played on replicas in memory.
+ghost use Rattle.std.specs.Prelude.{IfOk, OnOk};
+ghost use Rattle.replica_core.specs.World.{rules_of, run, AreOf};
+ghost use Rattle.replica_core.specs.Inside.Playing.{StandsForEvent};
+
+use crate::event::Event;
+use crate::playing::{
+    Playing, absorb, answer, ask, join, part, restart, revoke, save, start, take,
+};
+use fed_config::Config;
+use std::alloc::Global;
+use trust_closure::{Closure, IndexedClosure, NoMemory};
+
+/// Lets the events happen, one after another, to `n` replicas of one configuration, which hold
+/// nothing at first, and answers what each then holds, by its number. It is a model of replicas
+/// that talk: to try what may happen to them, and for tests. It is not made for speed.
+///
+/// An event that names no replica, or no message of its kind, changes nothing. The same is so of a
+/// receipt or a record that does not fit the configuration, and of a gain by which a replica would
+/// hold more than 65,536 receipts or 4,096 records of distrust. Messages stay: an answer may be
+/// taken late, more than once, in part, or never.
+///
+/// # Errors
+/// Memory ran out, which ends the play.
+pub fn run_world(
+    alloc: Global,
+    config: &Config,
+    n: usize,
+    events: &[Event],
+) -> Result<Vec<IndexedClosure>, NoMemory>
+    ensures { IfOk result (λ closures. AreOf (λ c. c.state.meaning) config.now n closures.items
+        (run (rules_of config.now n) events.now).now) }
+{
+    let mut playing: Playing<IndexedClosure> = start(alloc, config, n)?;
+    for event in events {
+        play(alloc, config, &mut playing, event)?;
+    }
+    Ok(playing.held)
+}
+
+fn play<C: Closure>(
+    alloc: Global,
+    config: &Config,
+    playing: &mut Playing<C>,
+    event: &Event,
+) -> Result<(), NoMemory>
+    ensures { OnOk result (StandsForEvent (λ c. (C.state c).meaning) config.now playing.old
+        playing.new event.now) }
+{
+    match event {
+        Event::Take { replica, receipt } => take(alloc, config, playing, *replica, receipt),
+        Event::Revoke { replica, record } => revoke(alloc, config, playing, *replica, record),
+        Event::Ask { replica, bucket } => ask(alloc, playing, *replica, *bucket),
+        Event::Answer { replica, question } => answer(alloc, playing, *replica, *question),
+        Event::Absorb {
+            replica,
+            answer: place,
+        } => absorb(alloc, config, playing, *replica, *place),
+        Event::Part {
+            replica,
+            answer: place,
+            count,
+        } => part(alloc, config, playing, *replica, *place, *count),
+        Event::Join { replica, other } => join(alloc, playing, *replica, *other),
+        Event::Save { replica } => save(alloc, playing, *replica),
+        Event::Restart { replica } => restart(alloc, playing, *replica),
+    }
+}

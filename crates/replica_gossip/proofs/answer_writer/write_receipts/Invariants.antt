@@ -1,7 +1,0 @@
-use Rattle.std.specs.List.{flat_map}
-use Rattle.replica_gossip.specs.Messages.{receipt_text}
-use Rattle.replica_gossip.proofs.Written.{Wrote}
-use Rattle.replica_gossip.proofs.answer_writer.write_receipts.Given as goal
-
-abbrev pub invariant-loop-receipt : goal.invariant-loop-receipt
-invariant-loop-receipt g l = Wrote (g.W.Sink.contents l.initial.sink) (g.W.Sink.contents l.sink) (flat_map receipt_text l.initial.receipt-iterator) (flat_map receipt_text l.receipt-iterator)

@@ -1,8 +1,0 @@
-use Rattle.replica_gossip.proofs.AskableFacts.{one-question, question-read}
-use Rattle.replica_gossip.proofs.laws.questions.Goals as goal
-
-pub returns-clause-one : goal.returns-clause-one
-returns-clause-one c = one-question
-
-pub returns-clause-read : goal.returns-clause-read
-returns-clause-read c = question-read

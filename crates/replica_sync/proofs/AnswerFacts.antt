@@ -1,0 +1,91 @@
+-- An answer: its first line, and the lines behind it.
+use Rattle.std.proofs.Common.{◌≡◌, ◌∙◌, ℕ, ◌+◌, ◌⊎◌, inl, inr, List, ◌++◌, length, refl, sym, ap, subst, Option, Some}
+use Rattle.std.specs.Io.KnownBytes.{Consumes}
+use Rattle.fed_config.specs.Configuration.{Configuration, config_id_of}
+use Rattle.receipt_core.specs.Acceptance.{Meaning}
+use Rattle.replica_core.specs.State.{State, no_state}
+use Rattle.replica_core.specs.Session.{Reply}
+use Rattle.replica_sync.specs.Snapshots.{ended, text_of_lines}
+use Rattle.replica_core.specs.declared.error.SyncError.{SyncError}
+use Rattle.replica_core.specs.declared.error.SyncError.TheVariants.{Io, NoMemory}
+use Rattle.replica_sync.proofs.SnapshotFacts.{consumes_both}
+use Rattle.replica_sync.specs.Messages.{told_of, told_text, reply_text}
+use Rattle.replica_sync.specs.FirstLines.{Expected, IsGiveHeader}
+use Rattle.replica_sync.specs.Answers.{RefusesHead, content_lines}
+use Rattle.replica_sync.specs.Inside.Spelling.{HasHead, TellsHead, told_by_head}
+use Rattle.replica_sync.specs.Inside.Taking.{StopsReply, StopsWithin, TakesLines, TakesReply}
+use Rattle.replica_sync.specs.declared.give_header_reader.Head.{Head}
+use Rattle.replica_sync.proofs.ContentFacts.{text_of_content}
+
+-- what a session wants
+abbrev pub wish : Configuration → ℕ → Option Expected
+wish config bucket = Some (record { config = config; bucket = bucket })
+
+abbrev pub reply_with : Configuration → ℕ → State → Reply
+reply_with config bucket content = record { bucket = bucket; config = config_id_of config; content = content }
+
+told_is : (config : Configuration) (bucket : ℕ) (text : List ℕ) (h : Head) (content : State) → TellsHead (wish config bucket) text h → length content.held ≡ h.count → length content.records ≡ h.distrusts
+    → told_by_head h ≡ told_of (reply_with config bucket content)
+told_is config bucket text h content tells receipts records =
+    λ i. record { bucket = tells.tells.about i; config = tells.own i; count = sym receipts i; distrusts = Some (sym records i); format = 2; buckets = 256 }
+
+reply_is : (config : Configuration) (bucket : ℕ) (text : List ℕ) (h : Head) (content : State) → TellsHead (wish config bucket) text h → length content.held ≡ h.count → length content.records ≡ h.distrusts
+    → ended text ++ text_of_lines (content_lines content) ≡ reply_text (reply_with config bucket content)
+reply_is config bucket text h content tells receipts records =
+    ap (λ (t : List ℕ). ended t ++ text_of_lines (content_lines content)) (tells.tells.line.spelt ∙ ap told_text (told_is config bucket text h content tells receipts records))
+    ∙ ap (λ (t : List ℕ). ended (told_text (told_of (reply_with config bucket content))) ++ t) (text_of_content content)
+
+pub answer_taken : (m : Meaning) (config : Configuration) (bucket before : ℕ) (h : Head) (stream middle left : Option (List ℕ)) (new : Meaning) (read : ℕ) → config ≡ m.config → HasHead (wish config bucket) stream middle h
+    → TakesLines m middle h.count h.distrusts (before + 1) new left read → TakesReply m bucket stream before new left read
+answer_taken m config bucket before h stream middle left new read same head lines =
+    let tells : TellsHead (wish m.config bucket) head.text h = subst (λ (k : Configuration). TellsHead (wish k bucket) head.text h) same head.tells in
+    record {
+      reply = reply_with m.config bucket lines.content;
+      is = record {
+        own = refl;
+        about = refl;
+        answer = record {
+          told = subst IsGiveHeader (told_is m.config bucket head.text h lines.content tells lines.receipts lines.records) tells.tells.line.is;
+          valid = lines.taken.begun.valid;
+          rising = lines.taken.begun.rising;
+        };
+      };
+      text = subst (Consumes stream left) (reply_is m.config bucket head.text h lines.content tells lines.receipts lines.records)
+          (consumes_both stream middle left (ended head.text) (text_of_lines (content_lines lines.content)) head.is.1 lines.taken.text);
+      meaning = lines.taken.meaning;
+      read_is = lines.read_is;
+    }
+
+pub answer_stops : (m : Meaning) (config : Configuration) (bucket first : ℕ) (h : Head) (stream middle : Option (List ℕ)) (new : Meaning) (e : SyncError) → config ≡ m.config → HasHead (wish config bucket) stream middle h
+    → StopsWithin m middle h.count h.distrusts first new e → StopsReply m bucket first stream new e
+answer_stops m config bucket first h stream middle new e same head stops =
+    let tells : TellsHead (wish m.config bucket) head.text h = subst (λ (k : Configuration). TellsHead (wish k bucket) head.text h) same head.tells in
+    record {
+      content = stops.content;
+      cause = inr (record {
+        count = h.count;
+        distrusts = h.distrusts;
+        further = stops.left;
+        after = stops.after;
+        begins = record {
+          first = head.text;
+          heads = record { told = told_by_head h; tells = tells.tells; own = tells.own; spoken = (refl, refl); receipts = refl; records = refl };
+          begun = stops.taken.begun;
+          text = consumes_both stream middle stops.left (ended head.text) (text_of_lines (content_lines stops.content)) head.is.1 stops.taken.text;
+        };
+        cause = stops.cause;
+      });
+      meaning = stops.taken.meaning;
+    }
+
+pub answer_refused : (m : Meaning) (config : Configuration) (bucket first : ℕ) (stream after : Option (List ℕ)) (e : SyncError) → config ≡ m.config → RefusesHead (wish config bucket) stream after e → StopsReply m bucket first stream m e
+answer_refused m config bucket first stream after e same refused = record {
+  content = no_state;
+  cause = inl (record { after = after; cause = subst (λ (k : Configuration). RefusesHead (wish k bucket) stream after e) same refused; none = refl });
+  meaning = refl;
+}
+
+-- nothing of it is read where the question is not written
+pub answer_unread : (m : Meaning) (bucket first : ℕ) (stream : Option (List ℕ)) (e : SyncError) → (e ≡ Io) ⊎ (e ≡ NoMemory) → StopsReply m bucket first stream m e
+answer_unread m bucket first stream e (inl failed) = answer_refused m m.config bucket first stream stream e refl (subst (RefusesHead (wish m.config bucket) stream stream) (sym failed) tt)
+answer_unread m bucket first stream e (inr refused) = answer_refused m m.config bucket first stream stream e refl (subst (RefusesHead (wish m.config bucket) stream stream) (sym refused) tt)

@@ -1,0 +1,119 @@
+-- No first line has a line feed, and the first line of a stream is one.
+use Rattle.std.proofs.Common.{◌≡◌, ◌≢◌, ℕ, ◌<◌, ◌^◌, ◌==◌, ◌&&◌, not, Bool, true, List, [], ◌∷◌, ◌++◌, codes, decimal, Option, None, Some, refl, ap, sym, ◌∙◌, subst, arith}
+use Rattle.std.specs.List.{AllByRecursion, join_by}
+use Rattle.std.proofs.lemmas.Bool.{and_parts}
+use Rattle.std.proofs.lemmas.List.{append_cancel_left}
+use Rattle.std.proofs.lemmas.List.Elements.{All-from_recursion}
+use Rattle.hex.specs.Hex.{encode_lower}
+use Rattle.byte_lines.specs.Lines.{Lines, lines_of, with_line, HasLine, HasNoFeed}
+use Rattle.receipt_core.specs.Receipt.{IsDigest}
+use Rattle.receipt_core.proofs.HexFacts.{Above-encode_lower}
+use Rattle.byte_lines.proofs.StreamFacts.{lines_of-line, lines_of-rest}
+use Rattle.replica_sync.specs.Snapshots.{ended}
+use Rattle.replica_sync.proofs.FeedFacts.{Feedless, feedless_both, feedless_decimal}
+use Rattle.replica_sync.specs.Messages.{Asked, GiveHeader, asked_text, distrusts_part, quoted, told_text}
+use Rattle.replica_sync.specs.FirstLines.{IsAsked, IsRecordCount, IsGiveHeader}
+use Rattle.replica_sync.proofs.HaveLineFacts.{small-bucket}
+use Rattle.replica_sync.proofs.IdListFacts.{later_text}
+
+-- ---- texts without a line feed
+
+abbrev is_feedless : List ℕ → Bool
+is_feedless [] = true
+is_feedless (b ∷ bytes) = not (b == 10) && is_feedless bytes
+
+feedless-by : (bytes : List ℕ) → is_feedless bytes ≡ true → Feedless bytes
+feedless-by [] h = tt
+feedless-by (b ∷ bytes) h =
+    let parts = and_parts (not (b == 10)) (is_feedless bytes) h in
+    ((λ e. let no : not (10 == 10) ≡ true = subst (λ x. not (x == 10) ≡ true) e parts.0 in cc), feedless-by bytes parts.1)
+
+above-feed : (text : List ℕ) → AllByRecursion (λ b. 34 < b) text → Feedless text
+above-feed [] h = tt
+above-feed (b ∷ text) h = ((λ e. let above = h.0 in omega (arith, above, e)), above-feed text h.1)
+
+feedless-digest : (digest : List ℕ) → IsDigest digest → Feedless (encode_lower digest)
+feedless-digest digest is = above-feed (encode_lower digest) (Above-encode_lower digest is.octets)
+
+feedless-quoted : (id : List ℕ) → IsDigest id → Feedless (quoted id)
+feedless-quoted id is =
+    feedless_both (codes "\"") (encode_lower id ++ codes "\"") (feedless-by (codes "\"") refl)
+    (feedless_both (encode_lower id) (codes "\"") (feedless-digest id is) (feedless-by (codes "\"") refl))
+
+feedless-later : (ids : List (List ℕ)) → AllByRecursion IsDigest ids → Feedless (later_text ids)
+feedless-later [] h = tt
+feedless-later (id ∷ ids) h =
+    feedless_both (codes "," ++ quoted id) (later_text ids) (feedless_both (codes ",") (quoted id) (feedless-by (codes ",") refl) (feedless-quoted id h.0)) (feedless-later ids h.1)
+
+feedless-ids : (ids : List (List ℕ)) → AllByRecursion IsDigest ids → Feedless (join_by quoted (codes ",") ids)
+feedless-ids [] h = tt
+feedless-ids (id ∷ ids) h = feedless_both (quoted id) (later_text ids) (feedless-quoted id h.0) (feedless-later ids h.1)
+
+feedless-part : (format : ℕ) (distrusts : Option ℕ) → IsRecordCount format distrusts → Feedless (distrusts_part distrusts)
+feedless-part format None h = tt
+feedless-part format (Some n) h = feedless_both (codes ",\"distrusts\":") (decimal n) (feedless-by (codes ",\"distrusts\":") refl) (feedless_decimal n h)
+
+-- a label, and then more
+labelled : (label rest : List ℕ) → is_feedless label ≡ true → Feedless rest → Feedless (label ++ rest)
+labelled label rest plain h = feedless_both label rest (feedless-by label plain) h
+
+-- ---- first lines
+
+feedless-asked : (a : Asked) → IsAsked a → Feedless (asked_text a)
+unfolding asked_text
+feedless-asked a is =
+    labelled (codes "{\"bucket\":") _ refl (feedless_both (decimal a.question.bucket) _ (feedless_decimal a.question.bucket (small-bucket a is))
+    (labelled (codes ",\"config\":\"") _ refl (feedless_both (encode_lower a.question.config) _ (feedless-digest a.question.config is.config)
+    (labelled (codes "\",\"format\":") _ refl (feedless_both (decimal a.format) _ (feedless_decimal a.format is.format)
+    (labelled (codes ",\"have\":[") _ refl (feedless_both (join_by quoted (codes ",") a.question.ids) _ (feedless-ids a.question.ids is.ids)
+    (labelled (codes "],\"of\":") _ refl (feedless_both (decimal a.buckets) _ (feedless_decimal a.buckets is.buckets) (feedless-by (codes "}") refl))))))))))
+
+feedless-told : (t : GiveHeader) → IsGiveHeader t → Feedless (told_text t)
+unfolding told_text
+feedless-told t is =
+    let few : t.bucket < 2 ^ 64 = let below = is.bucket in let many = is.buckets in omega (arith, below, many) in
+    labelled (codes "{\"bucket\":") _ refl (feedless_both (decimal t.bucket) _ (feedless_decimal t.bucket few)
+    (labelled (codes ",\"config\":\"") _ refl (feedless_both (encode_lower t.config) _ (feedless-digest t.config is.config)
+    (labelled (codes "\",\"count\":") _ refl (feedless_both (decimal t.count) _ (feedless_decimal t.count is.count)
+    (feedless_both (distrusts_part t.distrusts) _ (feedless-part t.format t.distrusts is.records)
+    (labelled (codes ",\"format\":") _ refl (feedless_both (decimal t.format) _ (feedless_decimal t.format is.format)
+    (labelled (codes ",\"of\":") _ refl (feedless_both (decimal t.buckets) _ (feedless_decimal t.buckets is.buckets) (feedless-by (codes "}") refl)))))))))))
+
+plain : (text : List ℕ) → Feedless text → HasNoFeed text
+plain text h = All-from_recursion (λ b. b ≢ 10) text h
+
+pub plain-asked : (a : Asked) → IsAsked a → HasNoFeed (asked_text a)
+plain-asked a is = plain (asked_text a) (feedless-asked a is)
+
+pub plain-told : (t : GiveHeader) → IsGiveHeader t → HasNoFeed (told_text t)
+plain-told t is = plain (told_text t) (feedless-told t is)
+
+-- ---- the first line of a stream
+
+-- Two texts with the same first line, and the same behind it.
+pub record IsSameLine (text other after since : List ℕ) : Type 0 where
+  pub line : text ≡ other
+  pub rest : after ≡ since
+
+first-of : (bytes text after : List ℕ) → HasNoFeed text → bytes ≡ ended text ++ after → lines_of bytes ≡ with_line text (lines_of after)
+first-of bytes text after none e = ap lines_of e ∙ lines_of-line text after none
+
+pub same-line : (bytes text other after since : List ℕ) → HasNoFeed text → HasNoFeed other → bytes ≡ ended text ++ after → bytes ≡ ended other ++ since → IsSameLine text other after since
+same-line bytes text other after since p q e f =
+    let both : with_line text (lines_of after) ≡ with_line other (lines_of since) = sym (first-of bytes text after p e) ∙ first-of bytes other since q f in
+    let wholes : text ∷ (lines_of after).whole ≡ other ∷ (lines_of since).whole = ap (λ (l : Lines). l.whole) both in
+    let heads : text ≡ other = cc in
+    record { line = heads; rest = append_cancel_left (ended other) after since (ap (λ t. ended t ++ after) (sym heads) ∙ sym e ∙ f) }
+
+-- a stream that begins with a line has a first line
+pub no-first : (bytes text after : List ℕ) → HasNoFeed text → bytes ≡ ended text ++ after → HasNoFeed bytes → ⊥
+no-first bytes text after p e none =
+    let lines : [] ≡ text ∷ (lines_of after).whole = ap (λ (l : Lines). l.whole) (sym (lines_of-rest bytes none) ∙ first-of bytes text after p e) in
+    cc
+
+-- the first line of a stream is the one that it begins with
+pub is-first : (bytes text after other : List ℕ) (new : Option (List ℕ)) → HasNoFeed text → bytes ≡ ended text ++ after → HasLine (Some bytes) new other → (other ≡ text) × (new ≡ Some after)
+is-first bytes text after other None p e is = absurd is.1
+is-first bytes text after other (Some since) p e is =
+    let same = same-line bytes other text since after is.0 p is.1 e in
+    (same.line, ap Some same.rest)

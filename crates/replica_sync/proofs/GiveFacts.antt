@@ -1,0 +1,368 @@
+-- A stream begins with one answer at most, and one that begins with a whole answer has no fault before its end.
+use Rattle.std.proofs.Common.{◌≡◌, ◌≢◌, ℕ, ◌+◌, ◌<◌, ◌≤◌, ◌^◌, ◌⊎◌, inl, inr, List, [], ◌∷◌, ◌++◌, codes, decimal, length, length-append, map, fold, Option, None, Some, refl, ap, sym, ◌∙◌, subst, arith, append_assoc, append-nil}
+use Rattle.std.proofs.lemmas.Fmt.{length-decimal-le}
+use Rattle.std.proofs.lemmas.List.{append_cancel_left, length-map}
+use Rattle.std.specs.Io.KnownBytes.{Consumes}
+use Rattle.std.specs.List.{AllByRecursion}
+use Rattle.std.specs.List.Sorted.{IsStrictlySortedBy}
+use Rattle.std.specs.declared.cmp.Ordering.TheVariants.{Less}
+use Rattle.hex.specs.Hex.{encode_lower}
+use Rattle.byte_lines.specs.Lines.{Lines, lines_of, HasLine, HasNoFeed, HasNoLine}
+use Rattle.receipt_core.specs.Receipt.{IsDistrust, IsReceipt, distrust_line, line}
+use Rattle.receipt_core.proofs.HexFacts.{length-encode_lower}
+use Rattle.byte_lines.proofs.StreamFacts.{lines_of-line, lines_of-rest}
+use Rattle.replica_core.specs.State.{State}
+use Rattle.replica_core.specs.Session.{Reply}
+use Rattle.replica_sync.specs.Entries.{IsAbove, IsEntry, IsNextEntry, entry_line}
+use Rattle.replica_sync.specs.Snapshots.{ended, last_of, text_of_lines}
+use Rattle.replica_core.specs.declared.entry.Entry.{Entry}
+use Rattle.replica_core.specs.declared.entry.Entry.TheVariants.{Record, Receipt as AReceipt}
+use Rattle.replica_sync.specs.declared.entry_line.Wanted.{Wanted}
+use Rattle.replica_sync.specs.declared.entry_line.Wanted.TheVariants.{Records, Receipts, Either}
+use Rattle.replica_core.specs.declared.error.SyncError.{SyncError}
+use Rattle.replica_core.specs.declared.error.SyncError.TheVariants.{BadHeader, ConfigDiffers, VersionDiffers, NotCanonical, NotRising, BadCount, Truncated}
+use Rattle.replica_core.specs.declared.error.SyncError.TheVariants.{Refused, Io, NoMemory}
+use Rattle.replica_sync.proofs.FeedFacts.{Feedless, feedless_line, feedless_record}
+use Rattle.replica_core.proofs.RisingLists.{all_back, rising_head, rising_tail}
+use Rattle.replica_sync.proofs.HeldFacts.{text_cmp}
+use Rattle.replica_sync.proofs.OneFacts.{held_back, lines_back}
+use Rattle.replica_sync.specs.Messages.{GiveHeader, distrusts_part, reply_text, told_of, told_text}
+use Rattle.replica_sync.specs.FirstLines.{Expected, HasBadFirstLine, IsAbout, IsOwn, IsRecordCount, IsGiveHeader, IsToldLine, RefusesTold, config_of}
+use Rattle.replica_sync.specs.Answers.{AnswerBegins, IsAnswer, IsBegun, IsContent, HasBadNext, RefusesGive, RefusesHead, RefusesNextEntry, Wants, content_lines}
+use Rattle.replica_sync.specs.Answers.{refused_text}
+use Rattle.replica_sync.proofs.AskableFacts.{first-cause, no-other}
+use Rattle.replica_sync.proofs.ContentFacts.{text_of_content}
+use Rattle.replica_sync.proofs.FeedlessFacts.{no-first, plain-told, same-line}
+use Rattle.replica_sync.proofs.FirstLineFacts.{one-told}
+use Rattle.replica_sync.proofs.GatherFacts.{short-entry}
+
+-- ---- the first line
+
+told-line : (r : Reply) → IsAnswer r → IsToldLine (told_text (told_of r)) (told_of r)
+told-line r is = record { is = is.told; spelt = refl }
+
+short-number : (n : ℕ) → n < 2 ^ 64 → length (decimal n) ≤ 20
+short-number n h = length-decimal-le 20 n (omega arith) (omega (arith, h)) h
+
+short-part : (t : GiveHeader) → IsGiveHeader t → length (distrusts_part t.distrusts) ≤ 33
+short-part t is = by-count t.distrusts is.records
+  where
+    by-count : (d : Option ℕ) → IsRecordCount t.format d → length (distrusts_part d) ≤ 33
+    by-count None h = omega arith
+    by-count (Some n) h = let few = short-number n h in let both = length-append (codes ",\"distrusts\":") (decimal n) in omega (arith, few, both)
+
+parts-length : (b c n d f k : List ℕ)
+    → length (codes "{\"bucket\":" ++ (b ++ (codes ",\"config\":\"" ++ (c ++ (codes "\",\"count\":" ++ (n ++ (d ++ (codes ",\"format\":" ++ (f ++ (codes ",\"of\":" ++ (k ++ codes "}")))))))))))
+    ≡ length b + length c + length n + length d + length f + length k + 48
+parts-length b c n d f k = simp length-append (omega arith)
+
+short-told : (t : GiveHeader) → IsGiveHeader t → length (told_text t) ≤ 8388608
+unfolding told_text
+short-told t is =
+    let whole = parts-length (decimal t.bucket) (encode_lower t.config) (decimal t.count) (distrusts_part t.distrusts) (decimal t.format) (decimal t.buckets) in
+    let bucket = short-number t.bucket (let below = is.bucket in let many = is.buckets in omega (arith, below, many)) in
+    let config = length-encode_lower t.config is.config in
+    let count = short-number t.count is.count in
+    let part = short-part t is in
+    let format = short-number t.format is.format in
+    let buckets = short-number t.buckets is.buckets in
+    omega (arith, whole, bucket, config, count, part, format, buckets)
+
+no-bad-told : (expected : Option Expected) (r : Reply) (e : SyncError) → IsAnswer r → IsAbout expected r.bucket → IsOwn (config_of expected) r.config → e ≢ NoMemory
+    → ((e ≡ BadHeader) × (8388608 < length (told_text (told_of r)))) ⊎ RefusesTold expected (told_text (told_of r)) e → ⊥
+no-bad-told expected r e is about own ample (inl long) = let more = long.1 in let short = short-told (told_of r) is.told in omega (arith, more, short)
+no-bad-told expected r BadHeader is about own ample (inr none) = none (told_of r) (record { line = told-line r is; about = about })
+no-bad-told expected r ConfigDiffers is about own ample (inr h) =
+    let same = one-told (told_text (told_of r)) h.told (told_of r) h.tells.line (told-line r is) in
+    no-other (config_of expected) r.config h.told.config own (ap (λ (t : GiveHeader). t.config) same) h.other
+no-bad-told expected r VersionDiffers is about own ample (inr h) =
+    let same = one-told (told_text (told_of r)) h.told (told_of r) h.tells.line (told-line r is) in
+    h.unspoken (ap (λ (t : GiveHeader). t.format) same, ap (λ (t : GiveHeader). t.buckets) same)
+no-bad-told expected r (NotCanonical n) is about own ample (inr h) = h
+no-bad-told expected r (NotRising n) is about own ample (inr h) = h
+no-bad-told expected r BadCount is about own ample (inr h) = h
+no-bad-told expected r Truncated is about own ample (inr h) = h
+no-bad-told expected r (Refused n why) is about own ample (inr h) = h
+no-bad-told expected r Io is about own ample (inr h) = h
+no-bad-told expected r NoMemory is about own ample (inr h) = ample refl
+
+-- ---- the lines behind it
+
+-- the answer's first line, and the lines behind it
+pub in-lines : (bytes : List ℕ) (r : Reply) (rest : List ℕ) → bytes ≡ reply_text r ++ rest → bytes ≡ ended (told_text (told_of r)) ++ (text_of_lines (content_lines r.content) ++ rest)
+in-lines bytes r rest e =
+    e ∙ append_assoc (ended (told_text (told_of r))) _ rest ∙ ap (λ t. ended (told_text (told_of r)) ++ (t ++ rest)) (sym (text_of_content r.content))
+
+feedless-all : {A : Type 0} (P : A → Type 0) (text : A → List ℕ) → ((a : A) → P a → Feedless (text a)) → (xs : List A) (later : List (List ℕ)) → AllByRecursion P xs → AllByRecursion Feedless later
+    → AllByRecursion Feedless (map text xs ++ later)
+feedless-all P text each [] later h k = k
+feedless-all P text each (x ∷ xs) later h k = (each x h.0, feedless-all P text each xs later h.1 k)
+
+feedless-content : (content : State) → IsContent content → AllByRecursion Feedless (content_lines content)
+feedless-content content is =
+    feedless-all IsDistrust distrust_line (λ x h. feedless_record x) content.records (map line content.held) is.records
+    (subst (AllByRecursion Feedless) (append-nil (map line content.held)) (feedless-all IsReceipt line feedless_line content.held [] is.receipts tt))
+
+count-lines : (content : State) → length (content_lines content) ≡ length content.records + length content.held
+count-lines content =
+    let both = length-append (map distrust_line content.records) (map line content.held) in
+    let records = length-map content.records distrust_line in
+    let receipts = length-map content.held line in
+    omega (arith, both, records, receipts)
+
+same-lines : (m k : State) (rest after : List ℕ) → IsContent m → IsContent k → text_of_lines (content_lines m) ++ rest ≡ text_of_lines (content_lines k) ++ after
+    → content_lines m ++ (lines_of rest).whole ≡ content_lines k ++ (lines_of after).whole
+same-lines m k rest after is valid e =
+    ap (λ (l : Lines). l.whole) (sym (lines_back (content_lines m) rest (feedless-content m is)) ∙ ap lines_of e ∙ lines_back (content_lines k) after (feedless-content k valid))
+
+-- ---- one answer
+
+same-front : (xs ys us vs : List (List ℕ)) → length xs ≡ length ys → xs ++ us ≡ ys ++ vs → (xs ≡ ys) × (us ≡ vs)
+same-front [] [] us vs n e = (refl, e)
+same-front [] (y ∷ ys) us vs n e = absurd (omega (arith, n))
+same-front (x ∷ xs) [] us vs n e = absurd (omega (arith, n))
+same-front (x ∷ xs) (y ∷ ys) us vs n e =
+    let head : x ≡ y = cc in
+    let tail : xs ++ us ≡ ys ++ vs = cc in
+    let later = same-front xs ys us vs (omega (arith, n)) tail in
+    ((λ i. head i ∷ later.0 i), later.1)
+
+some-once : (m n : ℕ) → Some m ≡ Some n → m ≡ n
+some-once m n e = cc
+
+-- Both are one answer, and the same follows them.
+pub record IsSameReply (a b : Reply) (left rest : List ℕ) : Type 0 where
+  pub reply : a ≡ b
+  pub behind : left ≡ rest
+
+pub same-reply : (bytes : List ℕ) (a b : Reply) (left rest : List ℕ) → IsAnswer a → IsAnswer b → bytes ≡ reply_text a ++ left → bytes ≡ reply_text b ++ rest → IsSameReply a b left rest
+same-reply bytes a b left rest is valid e f =
+    let first = same-line bytes (told_text (told_of a)) (told_text (told_of b)) _ _ (plain-told (told_of a) is.told) (plain-told (told_of b) valid.told) (in-lines bytes a left e) (in-lines bytes b rest f) in
+    let told : told_of a ≡ told_of b = one-told (told_text (told_of a)) (told_of a) (told_of b) (told-line a is) (record { is = valid.told; spelt = first.line }) in
+    let receipts : length a.content.held ≡ length b.content.held = ap (λ (t : GiveHeader). t.count) told in
+    let records : length a.content.records ≡ length b.content.records = some-once _ _ (ap (λ (t : GiveHeader). t.distrusts) told) in
+    let many = count-lines a.content in
+    let many_too = count-lines b.content in
+    let lines = same-front (content_lines a.content) (content_lines b.content) _ _ (omega (arith, receipts, records, many, many_too)) (same-lines a.content b.content left rest is.valid valid.valid first.rest) in
+    let sets = held_back a.content.records b.content.records a.content.held b.content.held is.valid.records valid.valid.records is.valid.receipts valid.valid.receipts lines.0 in
+    record {
+      reply = λ i. record { bucket = (told i).bucket; config = (told i).config; content = record { held = sets.receipts i; records = sets.records i } };
+      behind = append_cancel_left (text_of_lines (content_lines b.content)) left rest (ap (λ (ls : List (List ℕ)). text_of_lines ls ++ left) (sym lines.0) ∙ first.rest);
+    }
+
+pub one-reply : (bytes : List ℕ) (a b : Reply) (left rest : Option (List ℕ)) → IsAnswer a → IsAnswer b → Consumes (Some bytes) left (reply_text a) → Consumes (Some bytes) rest (reply_text b) → (a ≡ b) × (left ≡ rest)
+one-reply bytes a b None rest is valid e f = absurd e
+one-reply bytes a b (Some left) None is valid e f = absurd f
+one-reply bytes a b (Some left) (Some rest) is valid e f =
+    let same = same-reply bytes a b left rest is valid e f in
+    (same.reply, ap Some same.behind)
+
+-- ---- the line behind a beginning
+
+-- behind the fewer lines stands one more of the others
+record HasFurther (xs us ys : List (List ℕ)) : Type 0 where
+  pub text : List ℕ
+  pub later : List (List ℕ)
+  pub behind : List (List ℕ)
+  pub whole : ys ≡ xs ++ text ∷ later
+  pub rest : us ≡ text ∷ behind
+
+further : (xs us ys vs : List (List ℕ)) → xs ++ us ≡ ys ++ vs → length xs < length ys → HasFurther xs us ys
+further [] us [] vs e less = absurd (omega (arith, less))
+further [] us (y ∷ ys) vs e less = record { text = y; later = ys; behind = ys ++ vs; whole = refl; rest = e }
+further (x ∷ xs) us [] vs e less = absurd (omega (arith, less))
+further (x ∷ xs) us (y ∷ ys) vs e less =
+    let head : x ≡ y = cc in
+    let tail : xs ++ us ≡ ys ++ vs = cc in
+    let more = further xs us ys vs tail (omega (arith, less)) in
+    record { text = more.text; later = more.later; behind = more.behind; whole = (λ i. sym head i ∷ more.whole i); rest = more.rest }
+
+-- the text is that of such an item
+record StandsAt {A : Type 0} (P : A → Type 0) (f : A → List ℕ) (text : List ℕ) : Type 0 where
+  pub it : A
+  pub is : P it
+  pub spelt : text ≡ f it
+
+stands-at : {A : Type 0} (P : A → Type 0) (f : A → List ℕ) (xs : List A) (us ys vs : List (List ℕ)) (text : List ℕ) → AllByRecursion P xs → map f xs ++ us ≡ ys ++ text ∷ vs → length ys < length xs → StandsAt P f text
+stands-at P f [] us ys vs text h e less = absurd (omega (arith, less))
+stands-at P f (x ∷ xs) us [] vs text h e less = record { it = x; is = h.0; spelt = cc }
+stands-at P f (x ∷ xs) us (y ∷ ys) vs text h e less =
+    let tail : map f xs ++ us ≡ ys ++ text ∷ vs = cc in
+    stands-at P f xs us ys vs text h.1 tail (omega (arith, less))
+
+entry-at : (wanted : Wanted) (count distrusts : ℕ) (whole content : State) (text : List ℕ) (later : List (List ℕ)) → IsContent whole → IsBegun count distrusts content → count ≡ length whole.held → distrusts ≡ length whole.records
+    → Wants count distrusts content wanted → content_lines whole ≡ content_lines content ++ text ∷ later → (entry : Entry) × IsEntry wanted text entry
+entry-at Records count distrusts whole content text later is begun receipts records wants e =
+    let none : content_lines content ≡ map distrust_line content.records = ap (λ held. map distrust_line content.records ++ map line held) (begun.order wants) ∙ append-nil (map distrust_line content.records) in
+    let few = length-map content.records distrust_line in
+    let at = stands-at IsDistrust distrust_line whole.records (map line whole.held) (map distrust_line content.records) later text is.records (e ∙ ap (λ ls. ls ++ text ∷ later) none) (omega (arith, few, records, wants)) in
+    (Record at.it, record { is = at.is; spelt = at.spelt })
+entry-at Receipts count distrusts whole content text later is begun receipts records wants e =
+    let all = wants.0 in
+    let more = wants.1 in
+    let many = length-map whole.records distrust_line in
+    let many_too = length-map content.records distrust_line in
+    let behind = (same-front (map distrust_line whole.records) (map distrust_line content.records) (map line whole.held) (map line content.held ++ text ∷ later) (omega (arith, many, many_too, all, records))
+    (e ∙ append_assoc (map distrust_line content.records) (map line content.held) (text ∷ later))).1 in
+    let few = length-map content.held line in
+    let at = stands-at IsReceipt line whole.held [] (map line content.held) later text is.receipts (append-nil (map line whole.held) ∙ behind) (omega (arith, few, receipts, more)) in
+    (AReceipt at.it, record { is = at.is; spelt = at.spelt })
+entry-at Either count distrusts whole content text later is begun receipts records wants e = absurd wants
+
+above-nothing : (entry : Entry) → IsAbove [] (entry_line entry)
+unfolding line distrust_line
+above-nothing (Record x) = refl
+above-nothing (AReceipt r) = refl
+
+last-above : (before text : List ℕ) (xs later : List (List ℕ)) → text_cmp before text ≡ Less → IsStrictlySortedBy text_cmp (xs ++ text ∷ later)
+    → text_cmp (fold (λ (l : List ℕ) (line : List ℕ). line) before xs) text ≡ Less
+last-above before text [] later h rising = h
+last-above before text (x ∷ xs) later h rising =
+    last-above x text xs later (all_back (λ y. text_cmp x y ≡ Less) xs (text ∷ later) (rising_head text_cmp x (xs ++ text ∷ later) rising)).0 (rising_tail text_cmp x (xs ++ text ∷ later) rising)
+
+-- It is the line behind this beginning of the whole.
+pub record IsGood (whole content : State) (wanted : Wanted) (text : List ℕ) : Type 0 where
+  pub entry : Entry
+  pub next : IsNextEntry wanted (last_of (content_lines content)) text entry
+  pub later : List (List ℕ)
+  pub lines : content_lines whole ≡ content_lines content ++ text ∷ later
+
+-- So much of the answer, and what follows it in the stream.
+record IsPart (whole content : State) (count distrusts : ℕ) (rest after : List ℕ) : Type 0 where
+  pub begun : IsBegun count distrusts content
+  pub receipts : count ≡ length whole.held
+  pub records : distrusts ≡ length whole.records
+  pub lines : content_lines content ++ (lines_of rest).whole ≡ content_lines whole ++ (lines_of after).whole
+
+fewer : (count distrusts : ℕ) (whole content : State) (wanted : Wanted) → IsBegun count distrusts content → count ≡ length whole.held → distrusts ≡ length whole.records → Wants count distrusts content wanted
+    → length (content_lines content) < length (content_lines whole)
+fewer count distrusts whole content Records begun receipts records wants =
+    let few = count-lines content in
+    let many = count-lines whole in
+    let held = begun.receipts in
+    omega (arith, few, many, held, receipts, records, wants)
+fewer count distrusts whole content Receipts begun receipts records wants =
+    let few = count-lines content in
+    let many = count-lines whole in
+    let all = wants.0 in
+    let more = wants.1 in
+    omega (arith, few, many, all, more, receipts, records)
+fewer count distrusts whole content Either begun receipts records wants = absurd wants
+
+module _ (whole content : State) (count distrusts : ℕ) (rest after : List ℕ) (valid : IsContent whole) (rising : IsStrictlySortedBy text_cmp (content_lines whole)) (part : IsPart whole content count distrusts rest after) where
+  next-line : (wanted : Wanted) → Wants count distrusts content wanted → HasFurther (content_lines content) (lines_of rest).whole (content_lines whole)
+  next-line wanted wants =
+      further (content_lines content) (lines_of rest).whole (content_lines whole) (lines_of after).whole part.lines (fewer count distrusts whole content wanted part.begun part.receipts part.records wants)
+
+  good-line : (wanted : Wanted) (text : List ℕ) (later : List (List ℕ)) → Wants count distrusts content wanted → content_lines whole ≡ content_lines content ++ text ∷ later → IsGood whole content wanted text
+  good-line wanted text later wants lines =
+      let found = entry-at wanted count distrusts whole content text later valid part.begun part.receipts part.records wants lines in
+      record {
+        entry = found.0;
+        next = record {
+          is = found.1;
+          above = last-above [] text (content_lines content) later (subst (IsAbove []) (sym found.1.spelt) (above-nothing found.0)) (subst (IsStrictlySortedBy text_cmp) lines rising);
+        };
+        later = later;
+        lines = lines;
+      }
+
+  good-next : (wanted : Wanted) (text : List ℕ) (new : Option (List ℕ)) → Wants count distrusts content wanted → HasLine (Some rest) new text → IsGood whole content wanted text
+  good-next wanted text None wants is = absurd is.1
+  good-next wanted text (Some since) wants is =
+      let more = next-line wanted wants in
+      let lines = ap (λ (l : Lines). l.whole) (ap lines_of is.1 ∙ lines_of-line text since is.0) in
+      let heads : text ∷ (lines_of since).whole ≡ more.text ∷ more.behind = sym lines ∙ more.rest in
+      let same : text ≡ more.text = cc in
+      good-line wanted text more.later wants (more.whole ∙ ap (λ t. content_lines content ++ t ∷ more.later) (sym same))
+
+  no-cut : (wanted : Wanted) → Wants count distrusts content wanted → HasNoLine (Some rest) → ⊥
+  no-cut wanted wants none =
+      let more = next-line wanted wants in
+      let nothing : [] ≡ more.text ∷ more.behind = sym (ap (λ (l : Lines). l.whole) (lines_of-rest rest none)) ∙ more.rest in
+      cc
+
+  module _ (refuses : Wanted → List ℕ → List ℕ → SyncError → Type 0) (e : SyncError)
+      (welcome : (wanted : Wanted) (text : List ℕ) → IsGood whole content wanted text → refuses wanted (last_of (content_lines content)) text e → ⊥) where
+    no-bad-next : (new : Option (List ℕ)) → HasBadNext refuses count distrusts content (Some rest) new e → ⊥
+    no-bad-next new h = welcome h.wanted h.text (good-next h.wanted h.text new h.wants h.is) h.cause
+
+  no-next-fault : (refuses : Wanted → List ℕ → List ℕ → SyncError → Type 0) (new : Option (List ℕ)) (e : SyncError)
+      → ((wanted : Wanted) (text : List ℕ) → IsGood whole content wanted text → refuses wanted (last_of (content_lines content)) text e → ⊥)
+      → e ≢ Io → e ≢ NoMemory → RefusesNextEntry refuses count distrusts content (Some rest) new e → ⊥
+  no-next-fault refuses new BadHeader welcome calm ample h = h
+  no-next-fault refuses new ConfigDiffers welcome calm ample h = h
+  no-next-fault refuses new VersionDiffers welcome calm ample h = h
+  no-next-fault refuses new (NotCanonical n) welcome calm ample h = no-bad-next refuses (NotCanonical n) welcome new h
+  no-next-fault refuses new (NotRising n) welcome calm ample h = no-bad-next refuses (NotRising n) welcome new h
+  no-next-fault refuses new BadCount welcome calm ample h = h
+  no-next-fault refuses new Truncated welcome calm ample h = no-cut h.wanted h.wants h.ends
+  no-next-fault refuses new (Refused n why) welcome calm ample h = no-bad-next refuses (Refused n why) welcome new h
+  no-next-fault refuses new Io welcome calm ample h = calm refl
+  no-next-fault refuses new NoMemory welcome calm ample h = ample refl
+
+-- ---- no fault
+
+module _ (expected : Option Expected) (bytes : List ℕ) (r : Reply) (after : List ℕ) (is : IsAnswer r) (about : IsAbout expected r.bucket) (own : IsOwn (config_of expected) r.config) (begins : bytes ≡ reply_text r ++ after) where
+  bad-first : (new : Option (List ℕ)) (e : SyncError) → e ≢ NoMemory → HasBadFirstLine (RefusesTold expected) (Some bytes) new e → ⊥
+  bad-first new e ample h =
+      no-bad-told expected r e is about own ample
+      (first-cause (RefusesTold expected) bytes (told_text (told_of r)) _ new e (plain-told (told_of r) is.told) (in-lines bytes r after begins) h)
+
+  pub no-head-fault : (new : Option (List ℕ)) (e : SyncError) → e ≢ Io → e ≢ NoMemory → RefusesHead expected (Some bytes) new e → ⊥
+  no-head-fault new BadHeader calm ample h = bad-first new BadHeader ample h
+  no-head-fault new ConfigDiffers calm ample h = bad-first new ConfigDiffers ample h
+  no-head-fault new VersionDiffers calm ample h = bad-first new VersionDiffers ample h
+  no-head-fault new (NotCanonical n) calm ample h = h
+  no-head-fault new (NotRising n) calm ample h = h
+  no-head-fault new BadCount calm ample h = h
+  no-head-fault new Truncated calm ample h = no-first bytes (told_text (told_of r)) _ (plain-told (told_of r) is.told) (in-lines bytes r after begins) h
+  no-head-fault new (Refused n why) calm ample h = h
+  no-head-fault new Io calm ample h = calm refl
+  no-head-fault new NoMemory calm ample h = ample refl
+
+  is-part : (count distrusts : ℕ) (content : State) (rest : List ℕ) → AnswerBegins expected (Some bytes) count distrusts content (Some rest) → IsPart r.content content count distrusts rest after
+  is-part count distrusts content rest b =
+      let line = b.heads.tells.line in
+      let first = same-line bytes b.first (told_text (told_of r)) _ _ (subst HasNoFeed (sym line.spelt) (plain-told b.heads.told line.is)) (plain-told (told_of r) is.told)
+      (b.text ∙ append_assoc (ended b.first) (text_of_lines (content_lines content)) rest) (in-lines bytes r after begins) in
+      let told : b.heads.told ≡ told_of r = one-told b.first b.heads.told (told_of r) line (record { is = is.told; spelt = first.line }) in
+      record {
+        begun = b.begun;
+        receipts = b.heads.receipts ∙ ap (λ (t : GiveHeader). t.count) told;
+        records = some-once distrusts (length r.content.records) (b.heads.records ∙ ap (λ (t : GiveHeader). t.distrusts) told);
+        lines = same-lines content r.content rest after b.begun.valid is.valid first.rest;
+      }
+
+  pub no-fault-behind : (refuses : Wanted → List ℕ → List ℕ → SyncError → Type 0) (count distrusts : ℕ) (content : State) (left new : Option (List ℕ)) (e : SyncError)
+      → ((wanted : Wanted) (text : List ℕ) → IsGood r.content content wanted text → refuses wanted (last_of (content_lines content)) text e → ⊥)
+      → e ≢ Io → e ≢ NoMemory → AnswerBegins expected (Some bytes) count distrusts content left → RefusesNextEntry refuses count distrusts content left new e → ⊥
+  no-fault-behind refuses count distrusts content None new e welcome calm ample b h = b.text
+  no-fault-behind refuses count distrusts content (Some rest) new e welcome calm ample b h =
+      no-next-fault r.content content count distrusts rest after is.valid is.rising (is-part count distrusts content rest b) refuses new e welcome calm ample h
+
+-- the text of a good line has no fault of its own
+no-text-fault : (whole content : State) (wanted : Wanted) (text : List ℕ) (e : SyncError) → e ≢ NoMemory → IsGood whole content wanted text → refused_text content wanted (last_of (content_lines content)) text e → ⊥
+no-text-fault whole content wanted text BadHeader ample good h = h
+no-text-fault whole content wanted text ConfigDiffers ample good h = h
+no-text-fault whole content wanted text VersionDiffers ample good h = h
+no-text-fault whole content wanted text (NotCanonical n) ample good h = elim (h.1) [
+  | inl long ↦ let short = short-entry wanted text good.entry good.next.is in omega (arith, long, short)
+  | inr none ↦ none good.entry good.next.is
+]
+no-text-fault whole content wanted text (NotRising n) ample good h = h.1.below good.next.above
+no-text-fault whole content wanted text BadCount ample good h = h
+no-text-fault whole content wanted text Truncated ample good h = h
+no-text-fault whole content wanted text (Refused n why) ample good h = h
+no-text-fault whole content wanted text Io ample good h = h
+no-text-fault whole content wanted text NoMemory ample good h = ample refl
+
+whole-read : (bytes : List ℕ) (r : Reply) (after : List ℕ) (new : Option (List ℕ)) (e : SyncError) → IsAnswer r → e ≢ Io → e ≢ NoMemory → bytes ≡ reply_text r ++ after → RefusesGive (Some bytes) new e → ⊥
+whole-read bytes r after new e is calm ample begins (inl head) = no-head-fault None bytes r after is tt tt begins new e calm ample head
+whole-read bytes r after new e is calm ample begins (inr fault) =
+    no-fault-behind None bytes r after is tt tt begins (refused_text fault.content) fault.count fault.distrusts fault.content fault.left new e
+    (λ wanted text. no-text-fault r.content fault.content wanted text e ample) calm ample fault.begins fault.cause
+
+pub reply-read : (bytes : List ℕ) (r : Reply) (left new : Option (List ℕ)) (e : SyncError) → IsAnswer r → e ≢ Io → e ≢ NoMemory → Consumes (Some bytes) left (reply_text r) → RefusesGive (Some bytes) new e → ⊥
+reply-read bytes r None new e is calm ample begins h = begins
+reply-read bytes r (Some after) new e is calm ample begins h = whole-read bytes r after new e is calm ample begins h

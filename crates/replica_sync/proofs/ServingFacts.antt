@@ -1,0 +1,136 @@
+-- Questions that are read, and sessions that are served.
+use Rattle.std.proofs.Common.{◌≡◌, ℕ, ◌+◌, ◌⊎◌, inl, inr, List, [], ◌∷◌, ◌++◌, length, Option, None, Some, ap, sym, ◌∙◌, subst, arith, length-append, append-nil}
+use Rattle.std.specs.Prelude.{IfSome}
+use Rattle.std.specs.List.{AllByRecursion, flat_map}
+use Rattle.std.specs.Io.KnownBytes.{Appends, Consumes, IsAtEnd}
+use Rattle.std.proofs.KnownBytes.{Appends-trans, Consumes-trans}
+use Rattle.std.proofs.lemmas.Grind.{flat_map-append}
+use Rattle.std.proofs.lemmas.List.{take_all}
+use Rattle.fed_config.specs.Configuration.{Configuration}
+use Rattle.receipt_core.specs.Acceptance.{Meaning}
+use Rattle.byte_lines.specs.Device.{AppendsBeginning}
+use Rattle.byte_lines.specs.Lines.{HasLine, HasNoLine, HasNoFeed}
+use Rattle.replica_core.specs.Session.{Question, reply_of}
+use Rattle.replica_core.specs.declared.error.SyncError.{SyncError}
+use Rattle.replica_core.specs.declared.error.SyncError.TheVariants.{BadHeader, ConfigDiffers, VersionDiffers, NotCanonical, NotRising, BadCount, Truncated}
+use Rattle.replica_core.specs.declared.error.SyncError.TheVariants.{Refused, Io, NoMemory}
+use Rattle.replica_sync.specs.Messages.{question_text, reply_text}
+use Rattle.replica_sync.specs.Questions.{Asks, IsQuestionOf, IsWritten, RefusesFurther, RefusesQuestion, ServesUpTo, replies_text}
+use Rattle.replica_sync.specs.Inside.Asking.{HasAsked, IsNoneAsked, RefusesHaveLine, RefusesSpoken, asking_by}
+use Rattle.replica_sync.specs.Inside.Serving.{FailsReading, FailsWriting, Served, ServesOne}
+use Rattle.replica_sync.specs.declared.have_fields.VersionedHave.{VersionedHave}
+use Rattle.replica_sync.proofs.Written.{begins-second}
+
+-- ---- one question
+
+pub refused-line : (old new : Option (List ℕ)) (text : List ℕ) (e : SyncError) → HasLine old new text → IsNoneAsked text e → RefusesHaveLine old new e
+refused-line old new text e is (inl none) = subst (RefusesHaveLine old new) (sym none.0) (record { text = text; is = is; cause = inr none.1 })
+refused-line old new text e is (inr memory) = subst (RefusesHaveLine old new) (sym memory) tt
+
+pub refused-question : (old new : Option (List ℕ)) (e : SyncError) → RefusesHaveLine old new e → RefusesQuestion None old new e
+refused-question old new BadHeader h = h
+refused-question old new ConfigDiffers h = absurd h
+refused-question old new VersionDiffers h = absurd h
+refused-question old new (NotCanonical n) h = h
+refused-question old new (NotRising n) h = h
+refused-question old new BadCount h = h
+refused-question old new Truncated h = h.0
+refused-question old new (Refused n why) h = h
+refused-question old new Io h = tt
+refused-question old new NoMemory h = tt
+
+pub no-line-at-end : (old : Option (List ℕ)) → IsAtEnd old → HasNoLine old
+no-line-at-end None h = tt
+no-line-at-end (Some xs) h = subst HasNoFeed (sym h) (λ i d below. absurd (omega arith))
+
+pub refused-further : (config : Configuration) (old new : Option (List ℕ)) (e : SyncError) → RefusesHaveLine old new e → RefusesFurther config old e
+refused-further config old new BadHeader h = (new, record { text = h.text; is = h.is; cause = h.cause })
+refused-further config old new ConfigDiffers h = absurd h
+refused-further config old new VersionDiffers h = absurd h
+refused-further config old new (NotCanonical n) h = h
+refused-further config old new (NotRising n) h = h
+refused-further config old new BadCount h = h
+refused-further config old new Truncated h = h
+refused-further config old new (Refused n why) h = h
+refused-further config old new Io h = tt
+refused-further config old new NoMemory h = tt
+
+pub unspoken-further : (config : Configuration) (old new : Option (List ℕ)) (a : VersionedHave) (e : SyncError) → HasAsked old new a → RefusesSpoken config a e → RefusesFurther config old e
+unspoken-further config old new a BadHeader h r = absurd r
+unspoken-further config old new a ConfigDiffers h r = (new, record { text = h.text; is = h.is; cause = inr (record { asked = asking_by a; line = h.line; other = r }) })
+unspoken-further config old new a VersionDiffers h r = (new, record { text = h.text; is = h.is; cause = inr (record { asked = asking_by a; line = h.line; own = r.0; unspoken = r.1 }) })
+unspoken-further config old new a (NotCanonical n) h r = r
+unspoken-further config old new a (NotRising n) h r = r
+unspoken-further config old new a BadCount h r = r
+unspoken-further config old new a Truncated h r = absurd r
+unspoken-further config old new a (Refused n why) h r = r
+unspoken-further config old new a Io h r = tt
+unspoken-further config old new a NoMemory h r = tt
+
+-- ---- a session
+
+all_both : (P : Question → Type 0) (xs ys : List Question) → AllByRecursion P xs → AllByRecursion P ys → AllByRecursion P (xs ++ ys)
+all_both P [] ys h k = k
+all_both P (x ∷ xs) ys h k = (h.0, all_both P xs ys h.1 k)
+
+one-more : {X : Type 0} (f : X → List ℕ) (xs : List X) (x : X) → flat_map f xs ++ f x ≡ flat_map f (xs ++ x ∷ [])
+one-more f xs x = ap (λ t. flat_map f xs ++ t) (sym (append-nil (f x))) ∙ sym (flat_map-append f xs (x ∷ []))
+
+abbrev answered : Meaning → Question → List ℕ
+answered m q = reply_text (reply_of m q)
+
+asks-more : (m : Meaning) (stream left next : Option (List ℕ)) (questions : List Question) (q : Question) → Asks m.config stream questions left → IsQuestionOf m.config q → Consumes left next (question_text q) → Asks m.config stream (questions ++ q ∷ []) next
+asks-more m stream left next questions q asks own text = record {
+  each = all_both (IsQuestionOf m.config) questions (q ∷ []) asks.each (own, tt);
+  text = subst (Consumes stream next) (one-more question_text questions q) (Consumes-trans stream left next (flat_map question_text questions) (question_text q) asks.text text);
+}
+
+pub served-more : (m : Meaning) (stream left next old now new : Option (List ℕ)) (count : ℕ) → Served m stream left old now count → ServesOne m left next now new → Served m stream next old new (count + 1)
+served-more m stream left next old now new count s one = record {
+  questions = s.questions ++ one.question ∷ [];
+  asks = asks-more m stream left next s.questions one.question s.asks one.own one.text;
+  number = let so_far = s.number in let both = length-append s.questions (one.question ∷ []) in omega (arith, so_far, both);
+  written = subst (Appends old new) (one-more (answered m) s.questions one.question) (Appends-trans old now new (replies_text m s.questions) (answered m one.question) s.written one.written);
+}
+
+no-more : (stream left : Option (List ℕ)) (text : List ℕ) → Consumes stream left text → IsAtEnd left → IfSome stream (λ bytes. bytes ≡ text)
+no-more None left text passed ends = tt
+no-more (Some bytes) None text passed ends = absurd passed
+no-more (Some bytes) (Some rest) text passed ends = passed ∙ ap (λ t. text ++ t) ends ∙ append-nil text
+
+and-nothing : (old now new : Option (List ℕ)) (text : List ℕ) → Appends old now text → Appends now new [] → Appends old new text
+and-nothing old now new text before nothing = subst (Appends old new) (append-nil text) (Appends-trans old now new text [] before nothing)
+
+begins-whole : (old new : Option (List ℕ)) (text : List ℕ) → Appends old new text → AppendsBeginning old new text
+begins-whole old new text all = (length text, subst (Appends old new) (sym (take_all (length text) text (omega arith))) all)
+
+is-written : (e : SyncError) (old new : Option (List ℕ)) (text : List ℕ) → Appends old new text → IsWritten e old new text
+is-written BadHeader old new text all = all
+is-written ConfigDiffers old new text all = all
+is-written VersionDiffers old new text all = all
+is-written (NotCanonical n) old new text all = all
+is-written (NotRising n) old new text all = all
+is-written BadCount old new text all = all
+is-written Truncated old new text all = all
+is-written (Refused n why) old new text all = all
+is-written Io old new text all = begins-whole old new text all
+is-written NoMemory old new text all = begins-whole old new text all
+
+served-fault : (m : Meaning) (stream next old new : Option (List ℕ)) (e : SyncError) (questions : List Question) → Asks m.config stream questions next → AppendsBeginning old new (replies_text m questions) → (e ≡ Io) ⊎ (e ≡ NoMemory)
+    → ServesUpTo m stream old new e
+served-fault m stream next old new e questions asks begun (inl io) =
+    subst (ServesUpTo m stream old new) (sym io) (record { questions = questions; left = next; asks = asks; cause = tt; written = begun })
+served-fault m stream next old new e questions asks begun (inr memory) =
+    subst (ServesUpTo m stream old new) (sym memory) (record { questions = questions; left = next; asks = asks; cause = tt; written = begun })
+
+pub served-up-to : (m : Meaning) (stream left next old now new : Option (List ℕ)) (count : ℕ) (e : SyncError) → Served m stream left old now count → FailsReading m left now new e ⊎ FailsWriting m left next now new e → ServesUpTo m stream old new e
+served-up-to m stream left next old now new count e s (inl fails) = record {
+  questions = s.questions;
+  left = left;
+  asks = s.asks;
+  cause = fails.cause;
+  written = is-written e old new _ (and-nothing old now new _ s.written fails.nothing);
+}
+served-up-to m stream left next old now new count e s (inr fails) =
+    served-fault m stream next old new e (s.questions ++ fails.question ∷ []) (asks-more m stream left next s.questions fails.question s.asks fails.own fails.text)
+    (subst (AppendsBeginning old new) (one-more (answered m) s.questions fails.question) (begins-second old now new (replies_text m s.questions) (answered m fails.question) s.written fails.begun)) fails.cause

@@ -1,0 +1,25 @@
+use Rattle.std.proofs.Common.{arith}
+use Rattle.replica_sync.proofs.SnapshotFacts.{refused_by}
+use Rattle.replica_sync.specs.Pulling.{PullsUpTo}
+use Rattle.replica_sync.proofs.PullingFacts.{asked_more, asked_stops}
+use Rattle.replica_sync.proofs.pulling.pull_all.Goals as goal
+
+pub returns-in_err-pull_bucket-clause-refused : goal.returns-in_err-pull_bucket-clause-refused
+returns-in_err-pull_bucket-clause-refused g c =
+    let old = (g.C.Closure.state c.args.closure.now).meaning in
+    let stream = g.R.Source.remaining c.args.source.now in
+    let before = g.W.Sink.contents c.args.sink.now in
+    let new = (g.C.Closure.state c.pull_bucket.new.closure).meaning in
+    let after = g.W.Sink.contents c.pull_bucket.new.sink in
+    let e = c.in_err-pull_bucket.field-0.0 in
+    refused_by c.from_residual.result (PullsUpTo old stream before new after) e c.from_residual.ensures.1
+    (asked_stops old stream before c.buckets.bucket _ _ _ _ new after e c.buckets-test.true c.buckets.invariant.asked c.in_err-pull_bucket.ensures.refused c.in_err-pull_bucket.ensures.asks)
+
+pub buckets-preserved : goal.buckets-preserved
+buckets-preserved g c =
+    let spent = c.in_ok-pull_bucket.ensures.counted in
+    let few = c.buckets.invariant.counted in
+    record {
+      asked = asked_more _ _ _ c.buckets.bucket _ _ _ _ _ _ _ _ c.buckets.invariant.asked c.in_ok-pull_bucket.ensures.ok c.in_ok-pull_bucket.ensures.asked;
+      counted = omega (arith, spent, few);
+    }

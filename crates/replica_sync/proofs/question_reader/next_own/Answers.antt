@@ -1,0 +1,13 @@
+use Rattle.std.proofs.lemmas.Result.{err_from_is_err_and}
+use Rattle.replica_sync.proofs.ServingFacts.{refused-further, unspoken-further}
+use Rattle.replica_sync.proofs.question_reader.next_own.Goals as goal
+
+pub returns-in_err-asking-clause-refused : goal.returns-in_err-asking-clause-refused
+returns-in_err-asking-clause-refused g c =
+    let p = err_from_is_err_and c.from_residual.result c.from_residual.ensures.1 in
+    rw (p.1, p.2) (refused-further c.args.config.now _ _ _ c.in_err-asking.ensures.refused)
+
+pub returns-in_err-own_question-in-Some-clause-refused : goal.returns-in_err-own_question-in-Some-clause-refused
+returns-in_err-own_question-in-Some-clause-refused g c =
+    let p = err_from_is_err_and c.from_residual-in_err-own_question-in-Some.result c.from_residual-in_err-own_question-in-Some.ensures.1 in
+    rw (p.1, p.2) (unspoken-further c.args.config.now _ _ c.in-Some.asking _ (rw c.in-Some.is at c.in_ok-asking.ensures.ok) c.in_err-own_question-in-Some.ensures)

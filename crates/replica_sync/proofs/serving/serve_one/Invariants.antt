@@ -1,0 +1,14 @@
+-- So many questions were answered, each of which took at least one byte.
+use Rattle.std.proofs.Common.{◌+◌, ◌^◌, ◌<◌}
+use Rattle.byte_lines.specs.Streams.{stream_of, left_of}
+use Rattle.replica_sync.specs.Inside.Serving.{Served}
+use Rattle.replica_sync.proofs.serving.serve_one.Given as goal
+
+abbrev pub invariant-questions : goal.invariant-questions
+invariant-questions g l = record {
+  served : Served (g.C.Closure.state l.closure).meaning (g.R.Source.remaining l.fn.source) (stream_of g.R.Source.remaining l.lines l.source) (g.W.Sink.contents l.fn.sink) (g.W.Sink.contents l.sink) l.count;
+  below : l.count + left_of g.R.Source.budget l.lines l.source < 2 ^ 64;
+}
+
+abbrev pub decreases-questions : goal.decreases-questions
+decreases-questions g l = left_of g.R.Source.budget l.lines l.source

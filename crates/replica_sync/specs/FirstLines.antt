@@ -1,0 +1,143 @@
+-- The first lines of messages, and what is wrong with those that are none.
+use Rattle.std.specs.Prelude.{◌≡◌, ◌≢◌, ℕ, ◌<◌, ◌^◌, ◌⊎◌, List, length, ⊤, Option, Some, None}
+use Rattle.std.specs.List.{AllByRecursion}
+use Rattle.fed_config.specs.Configuration.{Configuration, config_id_of}
+use Rattle.byte_lines.specs.Lines.{HasLine}
+use Rattle.receipt_core.specs.Receipt.{IsDigest}
+use Rattle.replica_core.specs.Session.{IsQuestion}
+use Rattle.replica_sync.specs.Messages.{Asked, asked_text, GiveHeader, told_text}
+use Rattle.replica_core.specs.declared.error.SyncError.{SyncError}
+use Rattle.replica_core.specs.declared.error.SyncError.TheVariants.{BadHeader, ConfigDiffers}
+use Rattle.replica_core.specs.declared.error.SyncError.TheVariants.{VersionDiffers, NotCanonical}
+use Rattle.replica_core.specs.declared.error.SyncError.TheVariants.{NotRising, BadCount, Truncated}
+use Rattle.replica_core.specs.declared.error.SyncError.TheVariants.{Refused, Io, NoMemory}
+
+-- the one format and the one number of buckets that are spoken
+abbrev pub IsSpoken : ℕ → ℕ → Type 0
+IsSpoken format buckets = (format ≡ 2) × (buckets ≡ 256)
+
+-- where a configuration is known, the digest is its
+abbrev pub IsOwn : Option Configuration → List ℕ → Type 0
+IsOwn None digest = ⊤
+IsOwn (Some config) digest = digest ≡ config_id_of config
+
+-- where a configuration is known, the digest is another one's
+abbrev pub IsOther : Option Configuration → List ℕ → Type 0
+IsOther None digest = ⊥
+IsOther (Some config) digest = digest ≢ config_id_of config
+
+-- ---- questions
+
+-- The bucket is one of so many, the numbers have 64 bits, digests 32 bytes, and the ids rise.
+pub record IsAsked (a : Asked) : Type 0 where
+  pub bucket : a.question.bucket < a.buckets
+  pub format : a.format < 2 ^ 64
+  pub buckets : a.buckets < 2 ^ 64
+  pub config : IsDigest a.question.config
+  pub ids : AllByRecursion IsDigest a.question.ids
+  pub rising : IsQuestion a.question
+
+-- It is spelt as a question's line, and says this.
+pub record IsAskedLine (text : List ℕ) (a : Asked) : Type 0 where
+  pub is : IsAsked a
+  pub spelt : text ≡ asked_text a
+
+-- It is a question's line of another configuration.
+pub record AsksOther (config : Option Configuration) (text : List ℕ) : Type 0 where
+  pub asked : Asked
+  pub line : IsAskedLine text asked
+  pub other : IsOther config asked.question.config
+
+-- It is one of this configuration, of another format or number of buckets.
+pub record AsksUnspoken (config : Option Configuration) (text : List ℕ) : Type 0 where
+  pub asked : Asked
+  pub line : IsAskedLine text asked
+  pub own : IsOwn config asked.question.config
+  pub unspoken : IsSpoken asked.format asked.buckets → ⊥
+
+-- what is wrong with the line where a question's is wanted
+abbrev pub RefusesAsked : Option Configuration → List ℕ → SyncError → Type 0
+RefusesAsked config text BadHeader = (asked : Asked) → IsAskedLine text asked → ⊥
+RefusesAsked config text ConfigDiffers = AsksOther config text
+RefusesAsked config text VersionDiffers = AsksUnspoken config text
+RefusesAsked config text (NotCanonical n) = ⊥
+RefusesAsked config text (NotRising n) = ⊥
+RefusesAsked config text BadCount = ⊥
+RefusesAsked config text Truncated = ⊥
+RefusesAsked config text (Refused n why) = ⊥
+RefusesAsked config text Io = ⊥
+RefusesAsked config text NoMemory = Unit {0}
+
+-- ---- answers
+
+-- what a session wants of an answer: this configuration's digest, and this bucket
+pub record Expected : Type 0 where
+  pub config : Configuration
+  pub bucket : ℕ
+
+abbrev pub config_of : Option Expected → Option Configuration
+config_of None = None
+config_of (Some expected) = Some expected.config
+
+abbrev pub IsAbout : Option Expected → ℕ → Type 0
+IsAbout None bucket = ⊤
+IsAbout (Some expected) bucket = bucket ≡ expected.bucket
+
+-- the number of records; the first format, and no other, tells none
+abbrev pub IsRecordCount : ℕ → Option ℕ → Type 0
+IsRecordCount format None = format ≡ 1
+IsRecordCount format (Some number) = number < 2 ^ 64
+
+-- The bucket is one of so many, the numbers have 64 bits, and the digest 32 bytes.
+pub record IsGiveHeader (t : GiveHeader) : Type 0 where
+  pub bucket : t.bucket < t.buckets
+  pub count : t.count < 2 ^ 64
+  pub records : IsRecordCount t.format t.distrusts
+  pub format : t.format < 2 ^ 64
+  pub buckets : t.buckets < 2 ^ 64
+  pub config : IsDigest t.config
+
+-- It is spelt as an answer's first line, and says this.
+pub record IsToldLine (text : List ℕ) (t : GiveHeader) : Type 0 where
+  pub is : IsGiveHeader t
+  pub spelt : text ≡ told_text t
+
+-- It is such a line about the bucket that is wanted.
+pub record TellsOf (expected : Option Expected) (text : List ℕ) (t : GiveHeader) : Type 0 where
+  pub line : IsToldLine text t
+  pub about : IsAbout expected t.bucket
+
+-- It is one of another configuration.
+pub record TellsOther (expected : Option Expected) (text : List ℕ) : Type 0 where
+  pub told : GiveHeader
+  pub tells : TellsOf expected text told
+  pub other : IsOther (config_of expected) told.config
+
+-- It is one of this configuration, of another format or number of buckets.
+pub record TellsUnspoken (expected : Option Expected) (text : List ℕ) : Type 0 where
+  pub told : GiveHeader
+  pub tells : TellsOf expected text told
+  pub own : IsOwn (config_of expected) told.config
+  pub unspoken : IsSpoken told.format told.buckets → ⊥
+
+-- what is wrong with the line where an answer's first is wanted
+abbrev pub RefusesTold : Option Expected → List ℕ → SyncError → Type 0
+RefusesTold expected text BadHeader = (told : GiveHeader) → TellsOf expected text told → ⊥
+RefusesTold expected text ConfigDiffers = TellsOther expected text
+RefusesTold expected text VersionDiffers = TellsUnspoken expected text
+RefusesTold expected text (NotCanonical n) = ⊥
+RefusesTold expected text (NotRising n) = ⊥
+RefusesTold expected text BadCount = ⊥
+RefusesTold expected text Truncated = ⊥
+RefusesTold expected text (Refused n why) = ⊥
+RefusesTold expected text Io = ⊥
+RefusesTold expected text NoMemory = Unit {0}
+
+-- ---- in a stream
+
+-- The stream's first line has a fault; one that is too long is none of a message. It is used up.
+pub record HasBadFirstLine (refuses : List ℕ → SyncError → Type 0) (old new : Option (List ℕ))
+    (e : SyncError) : Type 0 where
+  pub text : List ℕ
+  pub is : HasLine old new text
+  pub cause : ((e ≡ BadHeader) × (8388608 < length text)) ⊎ refuses text e

@@ -1,0 +1,10 @@
+-- What the records of the code say, and the steps of reading, writing and sessions
+pub mod EntrySteps
+pub mod Reading
+pub mod WritingSteps
+pub mod Spelling
+pub mod IdList
+pub mod Asking
+pub mod Gathering
+pub mod Taking
+pub mod Serving

@@ -1,0 +1,91 @@
+-- What the crate's records of first lines say.
+use Rattle.std.specs.Prelude.{◌≡◌, ◌<◌, ◌^◌, ℕ, List, map, Option, Some, None, IfSome}
+use Rattle.byte_lines.specs.Lines.{HasLine}
+use Rattle.receipt_core.specs.Receipt.{IsDigest}
+use Rattle.replica_core.specs.declared.error.SyncError.{SyncError}
+use Rattle.replica_core.specs.declared.error.SyncError.TheVariants.{BadHeader, ConfigDiffers}
+use Rattle.replica_core.specs.declared.error.SyncError.TheVariants.{VersionDiffers, NotCanonical}
+use Rattle.replica_core.specs.declared.error.SyncError.TheVariants.{NotRising, BadCount, Truncated}
+use Rattle.replica_core.specs.declared.error.SyncError.TheVariants.{Refused, Io, NoMemory}
+use Rattle.replica_sync.specs.Messages.{Asked, GiveHeader}
+use Rattle.replica_sync.specs.FirstLines.{Expected, IsAbout, IsOwn, IsOther, IsSpoken, TellsOf}
+use Rattle.replica_sync.specs.FirstLines.{config_of}
+use Rattle.replica_sync.specs.declared.spelling.HaveLine.{HaveLine}
+use Rattle.replica_sync.specs.declared.spelling.GiveHeaderLine.{GiveHeaderLine}
+use Rattle.replica_sync.specs.declared.give_header_reader.Expected.{Expected as Wish}
+use Rattle.replica_sync.specs.declared.give_header_reader.Head.{Head}
+
+abbrev pub asked_by : HaveLine → Asked
+asked_by a = record {
+  question =
+      record { bucket = a.bucket; config = a.config.0; ids = map (λ id. id.0) a.ids.now };
+  format = a.format;
+  buckets = a.buckets;
+}
+
+abbrev pub header_by : GiveHeaderLine → GiveHeader
+header_by t = record {
+  bucket = t.bucket;
+  config = t.config.0;
+  count = t.count;
+  distrusts = t.distrusts;
+  format = t.format;
+  buckets = t.buckets;
+}
+
+-- Its numbers have 64 bits, and its digest 32 bytes.
+pub record HasWords (t : GiveHeader) : Type 0 where
+  pub count : t.count < 2 ^ 64
+  pub distrusts : IfSome t.distrusts (λ n. n < 2 ^ 64)
+  pub format : t.format < 2 ^ 64
+  pub buckets : t.buckets < 2 ^ 64
+  pub config : IsDigest t.config
+
+abbrev pub expected_by : Option Wish → Option Expected
+expected_by None = None
+expected_by (Some wish) = Some (record { config = wish.config.now; bucket = wish.bucket })
+
+-- ---- the one format and number of buckets that are spoken
+
+abbrev pub told_by_head : Head → GiveHeader
+told_by_head h = record {
+  bucket = h.bucket;
+  config = h.config.0;
+  count = h.count;
+  distrusts = Some h.distrusts;
+  format = 2;
+  buckets = 256;
+}
+
+-- It is a first line that is read, and says this.
+pub record TellsHead (expected : Option Expected) (text : List ℕ) (h : Head) : Type 0 where
+  pub tells : TellsOf expected text (told_by_head h)
+  pub own : IsOwn (config_of expected) h.config.0
+
+-- The stream's first line is such a one. It is used up.
+pub record HasHead (expected : Option Expected) (old new : Option (List ℕ))
+    (h : Head) : Type 0 where
+  pub text : List ℕ
+  pub is : HasLine old new text
+  pub tells : TellsHead expected text h
+
+-- What is told is wanted, and is this.
+pub record IsHeadOf (expected : Option Expected) (t : GiveHeader) (h : Head) : Type 0 where
+  pub about : IsAbout expected t.bucket
+  pub own : IsOwn (config_of expected) t.config
+  pub same : t ≡ told_by_head h
+
+-- what is wrong with what is told
+abbrev pub RefusesSaid : Option Expected → GiveHeader → SyncError → Type 0
+RefusesSaid expected t BadHeader = IsAbout expected t.bucket → ⊥
+RefusesSaid expected t ConfigDiffers = IsAbout expected t.bucket
+    × IsOther (config_of expected) t.config
+RefusesSaid expected t VersionDiffers = IsAbout expected t.bucket
+    × IsOwn (config_of expected) t.config × (IsSpoken t.format t.buckets → ⊥)
+RefusesSaid expected t (NotCanonical n) = ⊥
+RefusesSaid expected t (NotRising n) = ⊥
+RefusesSaid expected t BadCount = ⊥
+RefusesSaid expected t Truncated = ⊥
+RefusesSaid expected t (Refused n why) = ⊥
+RefusesSaid expected t Io = ⊥
+RefusesSaid expected t NoMemory = ⊥

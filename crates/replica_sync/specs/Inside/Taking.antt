@@ -1,0 +1,134 @@
+-- How one answer is taken, line by line.
+use Rattle.std.specs.Prelude.{◌≡◌, ℕ, ◌+◌, ◌⊎◌, List, length, Option}
+use Rattle.std.specs.Io.KnownBytes.{Consumes}
+use Rattle.receipt_core.specs.Acceptance.{Meaning}
+use Rattle.byte_lines.specs.Lines.{HasLine, HasNoLine}
+use Rattle.replica_core.specs.State.{State, joined, meaning_of_state}
+use Rattle.replica_core.specs.Session.{Reply, state_of}
+use Rattle.replica_sync.specs.Snapshots.{text_of_lines}
+use Rattle.replica_sync.specs.Inside.EntrySteps.{TakesEntryText}
+use Rattle.replica_sync.specs.Entries.{RefusesEntryLine}
+use Rattle.replica_sync.specs.declared.entry_line.Wanted.{Wanted}
+use Rattle.replica_sync.specs.declared.entry_line.Wanted.TheVariants.{Records, Receipts, Either}
+use Rattle.replica_sync.specs.Messages.{reply_text}
+use Rattle.replica_sync.specs.Answers.{content_lines, IsBegun, RefusesNextEntry}
+use Rattle.replica_sync.specs.Pulling.{IsReply, RefusesAnswer, refused_line}
+use Rattle.replica_core.specs.declared.error.SyncError.{SyncError}
+use Rattle.replica_core.specs.declared.error.SyncError.TheVariants.{BadHeader, ConfigDiffers}
+use Rattle.replica_core.specs.declared.error.SyncError.TheVariants.{VersionDiffers, NotCanonical}
+use Rattle.replica_core.specs.declared.error.SyncError.TheVariants.{NotRising, BadCount, Truncated}
+use Rattle.replica_core.specs.declared.error.SyncError.TheVariants.{Refused, Io, NoMemory}
+
+-- what is held with what was gained
+abbrev pub meaning_gained : Meaning → State → Meaning
+meaning_gained m content = meaning_of_state m.config (joined (state_of m) content)
+
+-- ---- one line
+
+-- what the text says is held
+abbrev pub TakesHere : Wanted → Meaning → List ℕ → List ℕ → Meaning → Type 0
+TakesHere wanted old last text new = ((count : ℕ) × TakesEntryText wanted old last text new count)
+
+-- The text is the next line, and what it says is held.
+pub record TakesNext (wanted : Wanted) (old : Meaning) (last : List ℕ) (stream : Option (List ℕ))
+    (new : Meaning) (text : List ℕ) (left : Option (List ℕ)) : Type 0 where
+  pub is : HasLine stream left text
+  pub taken : TakesHere wanted old last text new
+
+-- what is wrong with the text where a line with this number is wanted; memory is wanted for it
+-- besides
+abbrev pub RefusesHere : Wanted → Meaning → List ℕ → ℕ → List ℕ → SyncError → Type 0
+RefusesHere wanted m last number text e = (e ≡ NoMemory)
+    ⊎ RefusesEntryLine wanted m last number text e
+
+-- The line has this fault, and nothing has changed.
+pub record HasRefusedHere (wanted : Wanted) (old : Meaning) (last : List ℕ) (number : ℕ)
+    (text : List ℕ) (new : Meaning) (e : SyncError) : Type 0 where
+  pub cause : RefusesHere wanted old last number text e
+  pub same : new ≡ old
+
+-- There is a line, and it has this fault.
+pub record HasBadEntryLine (wanted : Wanted) (m : Meaning) (last : List ℕ) (number : ℕ)
+    (stream left : Option (List ℕ)) (e : SyncError) : Type 0 where
+  pub text : List ℕ
+  pub is : HasLine stream left text
+  pub cause : RefusesEntryLine wanted m last number text e
+
+-- why no line is taken where one is wanted
+abbrev pub RefusesTakingLine : Wanted → Meaning → List ℕ → ℕ → Option (List ℕ) → Option (List ℕ)
+    → SyncError → Type 0
+RefusesTakingLine wanted m last number stream left BadHeader = ⊥
+RefusesTakingLine wanted m last number stream left ConfigDiffers = ⊥
+RefusesTakingLine wanted m last number stream left VersionDiffers = ⊥
+RefusesTakingLine wanted m last number stream left (NotCanonical n) = HasBadEntryLine wanted m last
+    number stream left (NotCanonical n)
+RefusesTakingLine wanted m last number stream left (NotRising n) = HasBadEntryLine wanted m last
+    number stream left (NotRising n)
+RefusesTakingLine wanted m last number stream left BadCount = ⊥
+RefusesTakingLine wanted m last number stream left Truncated = HasNoLine stream
+RefusesTakingLine wanted m last number stream left (Refused n why) = HasBadEntryLine wanted m last
+    number stream left (Refused n why)
+RefusesTakingLine wanted m last number stream left Io = Unit {0}
+RefusesTakingLine wanted m last number stream left NoMemory = Unit {0}
+
+-- No line is taken, and nothing has changed.
+pub record HasNotTaken (wanted : Wanted) (old : Meaning) (last : List ℕ) (number : ℕ)
+    (stream : Option (List ℕ)) (new : Meaning) (left : Option (List ℕ))
+    (e : SyncError) : Type 0 where
+  pub cause : RefusesTakingLine wanted old last number stream left e
+  pub same : new ≡ old
+
+-- ---- the lines of an answer
+
+-- which line comes next, where so many receipts and records are still to come, and how many then
+-- are
+abbrev pub IsNextOf : ℕ → ℕ → Wanted → ℕ → ℕ → Type 0
+IsNextOf receipts records Records receipts_then records_then = (records ≡ records_then + 1)
+    × (receipts ≡ receipts_then)
+IsNextOf receipts records Receipts receipts_then records_then = (records ≡ 0) × (records_then ≡ 0)
+    × (receipts ≡ receipts_then + 1)
+IsNextOf receipts records Either receipts_then records_then = ⊥
+
+-- Behind the first line of an answer with so many receipts and records: so much was taken.
+pub record HasTakenPart (old : Meaning) (stream : Option (List ℕ)) (count distrusts : ℕ)
+    (content : State) (new : Meaning) (left : Option (List ℕ)) : Type 0 where
+  pub begun : IsBegun count distrusts content
+  pub meaning : new ≡ meaning_gained old content
+  pub text : Consumes stream left (text_of_lines (content_lines content))
+
+-- All is taken; `first` is the number of the first line, and `read` that of the last one.
+pub record TakesLines (old : Meaning) (stream : Option (List ℕ)) (count distrusts first : ℕ)
+    (new : Meaning) (left : Option (List ℕ)) (read : ℕ) : Type 0 where
+  pub content : State
+  pub taken : HasTakenPart old stream count distrusts content new left
+  pub receipts : length content.held ≡ count
+  pub records : length content.records ≡ distrusts
+  pub read_is : read ≡ first + length content.records + length content.held
+
+-- So much is taken, and behind it is this fault.
+pub record StopsWithin (old : Meaning) (stream : Option (List ℕ)) (count distrusts first : ℕ)
+    (new : Meaning) (e : SyncError) : Type 0 where
+  pub content : State
+  pub left : Option (List ℕ)
+  pub after : Option (List ℕ)
+  pub taken : HasTakenPart old stream count distrusts content new left
+  pub cause : RefusesNextEntry (refused_line old.config (state_of old) first content) count
+      distrusts content left after e
+
+-- ---- an answer
+
+-- The stream begins with an answer about the bucket, and what it has is held.
+pub record TakesReply (old : Meaning) (bucket : ℕ) (stream : Option (List ℕ)) (before : ℕ)
+    (new : Meaning) (left : Option (List ℕ)) (read : ℕ) : Type 0 where
+  pub reply : Reply
+  pub is : IsReply old.config bucket reply
+  pub text : Consumes stream left (reply_text reply)
+  pub meaning : new ≡ meaning_gained old reply.content
+  pub read_is : read ≡ before + 1 + length reply.content.records + length reply.content.held
+
+-- It is not taken to its end; what the lines before the fault have is held.
+pub record StopsReply (old : Meaning) (bucket first : ℕ) (stream : Option (List ℕ)) (new : Meaning)
+    (e : SyncError) : Type 0 where
+  pub content : State
+  pub cause : RefusesAnswer old.config (state_of old) bucket first content stream e
+  pub meaning : new ≡ meaning_gained old content

@@ -1,0 +1,87 @@
+-- The texts of questions and answers: JSON without spaces, its members in the order of their names.
+use Rattle.std.specs.Prelude.{ℕ, List, [], ◌++◌, length, flat_map, codes, decimal, Option, Some}
+use Rattle.std.specs.Prelude.{None, Result, MatchResult}
+use Rattle.std.specs.Io.KnownBytes.{Appends}
+use Rattle.std.specs.List.{join_by}
+use Rattle.hex.specs.Hex.{encode_lower}
+use Rattle.receipt_core.specs.declared.distrust.Distrust.{Distrust}
+use Rattle.receipt_core.specs.Receipt.{Receipt, line, distrust_line}
+use Rattle.byte_lines.specs.Device.{AppendsBeginning}
+use Rattle.replica_core.specs.Session.{Question, Reply}
+use Rattle.replica_sync.specs.Snapshots.{ended}
+
+abbrev pub quoted : List ℕ → List ℕ
+quoted id = codes "\"" ++ (encode_lower id ++ codes "\"")
+
+-- what the line of a question says, of whatever format and number of buckets
+pub record Asked : Type 0 where
+  pub question : Question
+  pub format : ℕ
+  pub buckets : ℕ
+
+unfoldable pub asked_text : Asked → List ℕ
+asked_text a =
+    codes "{\"bucket\":" ++
+    (decimal a.question.bucket
+    ++ (codes ",\"config\":\""
+    ++ (encode_lower a.question.config ++ (codes "\",\"format\":" ++ (decimal a.format
+    ++ (codes ",\"have\":["
+    ++ (join_by quoted (codes ",") a.question.ids
+    ++ (codes "],\"of\":" ++ (decimal a.buckets ++ codes "}")))))))))
+
+-- what the first line of an answer says, of whatever format and number of buckets; in the first
+-- format it tells no records
+pub record GiveHeader : Type 0 where
+  pub bucket : ℕ
+  pub config : List ℕ
+  pub count : ℕ
+  pub distrusts : Option ℕ
+  pub format : ℕ
+  pub buckets : ℕ
+
+abbrev pub distrusts_part : Option ℕ → List ℕ
+distrusts_part None = []
+distrusts_part (Some n) = codes ",\"distrusts\":" ++ decimal n
+
+unfoldable pub told_text : GiveHeader → List ℕ
+told_text t =
+    codes "{\"bucket\":" ++
+    (decimal t.bucket ++ (codes ",\"config\":\""
+    ++ (encode_lower t.config ++ (codes "\",\"count\":" ++ (decimal t.count
+    ++ (distrusts_part t.distrusts
+    ++ (codes ",\"format\":"
+    ++ (decimal t.format ++ (codes ",\"of\":" ++ (decimal t.buckets ++ codes "}"))))))))))
+
+abbrev pub asked_of : Question → Asked
+asked_of q = record { question = q; format = 2; buckets = 256 }
+
+-- the question's one line, of format 2 with 256 buckets
+abbrev pub question_text : Question → List ℕ
+question_text q = ended (asked_text (asked_of q))
+
+abbrev pub told_of : Reply → GiveHeader
+told_of r = record {
+  bucket = r.bucket;
+  config = r.config;
+  count = length r.content.held;
+  distrusts = Some (length r.content.records);
+  format = 2;
+  buckets = 256;
+}
+
+abbrev pub record_text : Distrust → List ℕ
+record_text x = ended (distrust_line x)
+
+abbrev pub receipt_text : Receipt → List ℕ
+receipt_text r = ended (line r)
+
+-- the answer: its first line, a line for each record, and a line for each receipt
+abbrev pub reply_text : Reply → List ℕ
+reply_text r = ended (told_text (told_of r))
+    ++ (flat_map record_text r.content.records ++ flat_map receipt_text r.content.held)
+
+-- exactly the text was written; at a fault a beginning of it
+abbrev pub WritesText : {E : Type 0} → Option (List ℕ) → Option (List ℕ) → Result (Unit {0}) E
+    → List ℕ → Type 0
+WritesText old new result text = MatchResult result (λ done. Appends old new text)
+    (λ why. AppendsBeginning old new text)

@@ -1,0 +1,127 @@
+-- A session in which a replica asks about each bucket and takes what is answered.
+use Rattle.std.specs.Prelude.{◌≡◌, ℕ, ◌+◌, ◌<◌, ◌⊎◌, List, [], ◌∷◌, ◌++◌, length, flat_map, fold}
+use Rattle.std.specs.Prelude.{Option, Some, Result, Ok, Err}
+use Rattle.std.specs.Io.KnownBytes.{Appends, Consumes}
+use Rattle.fed_config.specs.Configuration.{Configuration, config_id_of}
+use Rattle.receipt_core.specs.Acceptance.{Meaning}
+use Rattle.replica_core.specs.State.{State, no_state, joined, meaning_of_state}
+use Rattle.replica_core.specs.Session.{Question, Reply, question_of, state_of}
+use Rattle.replica_sync.specs.Entries.{RefusesEntryLine}
+use Rattle.replica_sync.specs.declared.entry_line.Wanted.{Wanted}
+use Rattle.replica_core.specs.declared.error.SyncError.{SyncError}
+use Rattle.replica_sync.specs.Messages.{question_text, reply_text}
+use Rattle.replica_sync.specs.Answers.{IsAnswer, AnswerBegins, RefusesHead, RefusesNextEntry}
+use Rattle.replica_sync.specs.Answers.{next_entry_number}
+use Rattle.replica_sync.specs.Questions.{IsWritten}
+use Rattle.replica_sync.specs.declared.pulling.PullFault.{PullFault}
+
+-- It is an answer of this configuration about the bucket.
+pub record IsReply (config : Configuration) (bucket : ℕ) (reply : Reply) : Type 0 where
+  pub own : reply.config ≡ config_id_of config
+  pub about : reply.bucket ≡ bucket
+  pub answer : IsAnswer reply
+
+-- the answers about this bucket and those after it, one each
+abbrev pub AreReplies : Configuration → ℕ → List Reply → Type 0
+AreReplies config bucket [] = Unit {0}
+AreReplies config bucket (reply ∷ replies) = IsReply config bucket reply
+    × AreReplies config (bucket + 1) replies
+
+-- The stream begins with answers about the buckets from 0 on, and `left` is what follows them.
+pub record Session (config : Configuration) (stream : Option (List ℕ)) (replies : List Reply)
+    (left : Option (List ℕ)) : Type 0 where
+  pub each : AreReplies config 0 replies
+  pub text : Consumes stream left (flat_map reply_text replies)
+
+-- what is held after them
+abbrev pub after_replies : State → List Reply → State
+after_replies state replies = fold (λ held reply. joined held reply.content) state replies
+
+-- the question about the bucket of a replica that holds this
+abbrev pub question_in : Configuration → State → ℕ → Question
+question_in config state bucket = question_of (meaning_of_state config state) bucket
+
+-- The questions to which these are the answers: each has the ids that were held when it was asked.
+abbrev pub questions_of : Configuration → ℕ → State → List Reply → List Question
+questions_of config bucket state [] = []
+questions_of config bucket state (reply ∷ replies) = question_in config state bucket
+    ∷ questions_of config (bucket + 1) (joined state reply.content) replies
+
+-- how many lines they have
+abbrev pub line_count : List Reply → ℕ
+line_count [] = 0
+line_count (reply ∷ replies) = 1 + length reply.content.records + length reply.content.held
+    + line_count replies
+
+-- what is wrong with a line, where the replica held this before the answer and has taken so much of
+-- it
+abbrev pub refused_line : Configuration → State → ℕ → State → Wanted → List ℕ → List ℕ → SyncError
+    → Type 0
+refused_line config state first content wanted last text e = RefusesEntryLine wanted
+    (meaning_of_state config (joined state content)) last (next_entry_number first content) text e
+
+-- A good beginning of the answer, and behind it this fault.
+pub record FailsWithin (config : Configuration) (state : State) (bucket first : ℕ) (content : State)
+    (left : Option (List ℕ)) (e : SyncError) : Type 0 where
+  pub count : ℕ
+  pub distrusts : ℕ
+  pub further : Option (List ℕ)
+  pub after : Option (List ℕ)
+  pub begins : AnswerBegins (Some (record { config = config; bucket = bucket })) left count
+      distrusts content further
+  pub cause : RefusesNextEntry (refused_line config state first content) count distrusts content
+      further after e
+
+-- Its first line has a fault.
+pub record FailsFirst (config : Configuration) (bucket : ℕ) (content : State)
+    (left : Option (List ℕ)) (e : SyncError) : Type 0 where
+  pub after : Option (List ℕ)
+  pub cause : RefusesHead (Some (record { config = config; bucket = bucket })) left after e
+  pub none : content ≡ no_state
+
+-- why the answer about the bucket is not read to its end, where its first line has the number and
+-- so much of it was taken
+abbrev pub RefusesAnswer : Configuration → State → ℕ → ℕ → State → Option (List ℕ) → SyncError
+    → Type 0
+RefusesAnswer config state bucket first content left e = FailsFirst config bucket content left e
+    ⊎ FailsWithin config state bucket first content left e
+
+-- All buckets are asked about, and what the answers have is held now.
+pub record PullsAll (old : Meaning) (stream before : Option (List ℕ)) (new : Meaning)
+    (after : Option (List ℕ)) : Type 0 where
+  pub replies : List Reply
+  pub left : Option (List ℕ)
+  pub session : Session old.config stream replies left
+  pub all : length replies ≡ 256
+  pub meaning : new ≡ meaning_of_state old.config (after_replies (state_of old) replies)
+  pub asked : Appends before after
+      (flat_map question_text (questions_of old.config 0 (state_of old) replies))
+
+-- What the lines before the fault have is held now.
+pub record PullsUpTo (old : Meaning) (stream before : Option (List ℕ)) (new : Meaning)
+    (after : Option (List ℕ)) (e : SyncError) : Type 0 where
+  pub replies : List Reply
+  pub left : Option (List ℕ)
+  pub session : Session old.config stream replies left
+  pub few : length replies < 256
+  pub content : State
+  pub cause : RefusesAnswer old.config (after_replies (state_of old) replies) (length replies)
+      (line_count replies + 1) content left e
+  pub meaning : new ≡ meaning_of_state old.config
+      (joined (after_replies (state_of old) replies) content)
+  pub asked : IsWritten e before after
+      (flat_map question_text
+      (questions_of old.config 0 (state_of old) replies
+      ++ question_in old.config (after_replies (state_of old) replies) (length replies) ∷ []))
+
+-- so many receipts are held that were not
+abbrev pub HasGained : Meaning → Meaning → ℕ → Type 0
+HasGained old new count = length new.held ≡ length old.held + count
+
+-- what a call does that asks and takes
+abbrev pub Pulls : Meaning → Option (List ℕ) → Option (List ℕ) → Meaning → Option (List ℕ)
+    → Result ℕ PullFault → Type 0
+Pulls old stream before new after (Ok count) = PullsAll old stream before new after
+    × HasGained old new count
+Pulls old stream before new after (Err fault) = PullsUpTo old stream before new after fault.why
+    × HasGained old new fault.taken

@@ -1,0 +1,140 @@
+//! One line of a list of receipts and records of distrust.
+ghost use Rattle.std.specs.Prelude.{◌≡◌, MatchResult, length};
+ghost use Rattle.receipt_core.specs.Line.{RefusesRecord, RefusesReceiptLine as RefusesReceipt};
+ghost use Rattle.replica_sync.specs.Entries.{IsEntry, IsNextEntry};
+ghost use Rattle.replica_sync.specs.Inside.EntrySteps.{RefusesSpelling};
+ghost use Rattle.replica_sync.specs.Entries.{RefusesEntryText};
+ghost use Rattle.replica_sync.specs.Inside.EntrySteps.{TakesEntry, TakesEntryText};
+ghost use Rattle.replica_sync.specs.Inside.EntrySteps.{HasRefusedEntry, HasRefusedLine};
+
+use receipt_core::{Distrust, LineError, Receipt};
+use replica_core::{Entry, SyncError};
+use std::alloc::Global;
+use std::cmp::Ordering;
+use trust_closure::{Closure, Distrusted, TakeError, Taken};
+
+/// Which lines may stand at a place.
+#[derive(Clone, Copy, Debug)]
+pub(crate) enum Wanted {
+    Records,
+    Receipts,
+    Either,
+}
+
+/// Reads the line with this number, where `last` is the line before it, which is empty for the
+/// first, and takes what it says. Answers how many receipts are held now and were not.
+pub(crate) fn take_line<C: Closure>(
+    alloc: Global,
+    closure: &mut C,
+    wanted: Wanted,
+    last: &[u8],
+    number: u64,
+    text: &[u8],
+) -> Result<u64, SyncError>
+    ensures { MatchResult result
+        (TakesEntryText wanted (C.state closure.old).meaning last.now text.now
+        (C.state closure.new).meaning)
+        (HasRefusedLine wanted (C.state closure.old).meaning last.now number text.now
+        (C.state closure.new).meaning) }
+{
+    let entry = next_entry(alloc, wanted, last, number, text)?;
+    match take_entry(closure, entry) {
+        Ok(count) => Ok(count),
+        Err(TakeError::NoMemory) => Err(SyncError::NoMemory),
+        Err(why) => Err(SyncError::Refused(number, why)),
+    }
+}
+
+/// What the line with this number says, where `last` is the line before it, which is empty for the
+/// first.
+pub(crate) fn next_entry(
+    alloc: Global,
+    wanted: Wanted,
+    last: &[u8],
+    number: u64,
+    text: &[u8],
+) -> Result<Entry, SyncError>
+    ensures { MatchResult result (IsNextEntry wanted last.now text.now)
+        (RefusesEntryText wanted last.now number text.now) }
+{
+    match read_entry(alloc, wanted, text) {
+        Ok(entry) => {
+            if last.cmp(text) == Ordering::Less {
+                Ok(entry)
+            } else {
+                Err(SyncError::NotRising(number))
+            }
+        }
+        Err(LineError::NoMemory) => Err(SyncError::NoMemory),
+        Err(_) => Err(SyncError::NotCanonical(number)),
+    }
+}
+
+/// Takes what a line says, and returns how many receipts are held now and were not.
+fn take_entry<C: Closure>(closure: &mut C, entry: Entry) -> Result<u64, TakeError>
+    ensures { MatchResult result
+        (TakesEntry (C.state closure.old).meaning entry (C.state closure.new).meaning)
+        (HasRefusedEntry (C.state closure.old).meaning entry (C.state closure.new).meaning) }
+{
+    match entry {
+        Entry::Record(distrust) => take_record(closure, &distrust),
+        Entry::Receipt(receipt) => take_receipt(closure, receipt),
+    }
+}
+
+fn take_receipt<C: Closure>(closure: &mut C, receipt: Receipt) -> Result<u64, TakeError>
+    ensures { MatchResult result
+        (TakesEntry (C.state closure.old).meaning (Entry.Receipt receipt)
+        (C.state closure.new).meaning)
+        (HasRefusedEntry (C.state closure.old).meaning (Entry.Receipt receipt)
+        (C.state closure.new).meaning) }
+{
+    receipt_core::laws::sets();
+    let _config = closure.config();
+    match closure.take(receipt) {
+        Ok(Taken::New { .. }) => Ok(1),
+        Ok(Taken::Already) => Ok(0),
+        Err(refused) => Err(refused.why),
+    }
+}
+
+fn take_record<C: Closure>(closure: &mut C, distrust: &Distrust) -> Result<u64, TakeError>
+    ensures { MatchResult result
+        (TakesEntry (C.state closure.old).meaning (Entry.Record distrust.now)
+        (C.state closure.new).meaning)
+        (HasRefusedEntry (C.state closure.old).meaning (Entry.Record distrust.now)
+        (C.state closure.new).meaning) }
+{
+    receipt_core::laws::sets();
+    let _config = closure.config();
+    match closure.distrust(&distrust.domain, distrust.key) {
+        Ok(Distrusted::New { .. }) => Ok(0),
+        Ok(Distrusted::Already) => Ok(0),
+        Err(why) => Err(why),
+    }
+}
+
+fn read_entry(alloc: Global, wanted: Wanted, text: &[u8]) -> Result<Entry, LineError>
+    ensures { MatchResult result (IsEntry wanted text.now) (RefusesSpelling wanted text.now) }
+{
+    match wanted {
+        Wanted::Records => read_record(alloc, text),
+        Wanted::Receipts => read_receipt(alloc, text),
+        Wanted::Either => match read_receipt(alloc, text) {
+            Err(LineError::NotCanonical) => read_record(alloc, text),
+            read => read,
+        },
+    }
+}
+
+fn read_record(alloc: Global, text: &[u8]) -> Result<Entry, LineError>
+    ensures { MatchResult result (IsEntry Wanted.Records text.now) (RefusesRecord text.now) }
+{
+    Ok(Entry::Record(Distrust::read_line(alloc, text)?))
+}
+
+fn read_receipt(alloc: Global, text: &[u8]) -> Result<Entry, LineError>
+    ensures { MatchResult result (IsEntry Wanted.Receipts text.now) (RefusesReceipt text.now) }
+{
+    Ok(Entry::Receipt(Receipt::read_line(alloc, text)?))
+}

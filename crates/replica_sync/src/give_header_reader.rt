@@ -1,0 +1,211 @@
+//! The first lines of answers, read.
+ghost use Rattle.std.specs.Prelude.{◌≡◌, ◌++◌, ◌<◌, ◌^◌, ◌↔◌, ◌||◌, ℕ, List, Option, IsTrue, IfOk};
+ghost use Rattle.std.specs.Prelude.{IfErr, IfSome, OnOk, MatchOption, codes};
+ghost use Rattle.byte_lines.specs.Streams.{stream_of, left_of};
+ghost use Rattle.replica_sync.specs.Snapshots.{is_io};
+ghost use Rattle.replica_sync.specs.Messages.{GiveHeader, distrusts_part, told_text};
+ghost use Rattle.replica_sync.specs.FirstLines.{IsAbout, IsOwn, IsRecordCount, IsGiveHeader};
+ghost use Rattle.replica_sync.specs.FirstLines.{IsToldLine, RefusesTold, config_of};
+ghost use Rattle.replica_sync.specs.Answers.{RefusesHead};
+ghost use Rattle.replica_sync.specs.Inside.Spelling.{HasHead, HasWords, IsHeadOf, RefusesSaid};
+ghost use Rattle.replica_sync.specs.Inside.Spelling.{TellsHead, expected_by, header_by};
+
+use crate::scanner::{after, digest_behind, id_of, number_behind};
+use crate::spelling::{GiveHeaderLine, push_give_header};
+use byte_lines::{Line, LineBuf, Source};
+use fed_config::{Config, ConfigId};
+use replica_core::SyncError;
+use std::alloc::{AllocError, Global};
+
+/// What a session wants of an answer: that it is of this configuration, and about this bucket.
+#[derive(Clone, Copy)]
+pub(crate) struct Expected<'a> {
+    pub(crate) config: &'a Config,
+    pub(crate) bucket: u8,
+}
+
+/// What the first line of an answer says, of format 2 with 256 buckets.
+#[derive(Clone, Copy, Debug)]
+pub(crate) struct Head {
+    pub(crate) bucket: u8,
+    pub(crate) config: ConfigId,
+    /// The number of receipts.
+    pub(crate) count: u64,
+    /// The number of records.
+    pub(crate) distrusts: u64,
+}
+
+/// Reads the next line as the first of an answer. The line is used up.
+pub(crate) fn next_head<R: Source>(
+    alloc: Global,
+    expected: Option<Expected<'_>>,
+    lines: &mut LineBuf,
+    source: &mut R,
+) -> Result<Head, SyncError>
+    ensures ok { IfOk result
+        (HasHead (expected_by expected.entry) (stream_of R.remaining lines.old source.old)
+        (stream_of R.remaining lines.new source.new)) }
+    ensures refused { IfErr result
+        (RefusesHead (expected_by expected.entry) (stream_of R.remaining lines.old source.old)
+        (stream_of R.remaining lines.new source.new)) }
+    ensures fault { R.has_failed source.new ≡ (is_io result || R.has_failed source.old) }
+    ensures falls { OnOk result
+        (left_of R.budget lines.new source.new < left_of R.budget lines.old source.old) }
+{
+    match lines.next_line(source)? {
+        Line::Text(text) => read_head(alloc, expected, text),
+        Line::TooLong => Err(SyncError::BadHeader),
+        Line::Cut => Err(SyncError::Truncated),
+        Line::End => Err(SyncError::Truncated),
+    }
+}
+
+/// Reads the first line of an answer.
+pub(crate) fn read_head(
+    alloc: Global,
+    expected: Option<Expected<'_>>,
+    text: &[u8],
+) -> Result<Head, SyncError>
+    ensures ok { IfOk result (TellsHead (expected_by expected.entry) text.now) }
+    ensures refused { IfErr result (RefusesTold (expected_by expected.entry) text.now) }
+{
+    match read_give_header(alloc, text)? {
+        Some(told) => head_of(expected, &told),
+        None => Err(SyncError::BadHeader),
+    }
+}
+
+// What the line says, where it is wanted and of the one format that is spoken.
+fn head_of(expected: Option<Expected<'_>>, told: &GiveHeaderLine) -> Result<Head, SyncError>
+    requires { IsGiveHeader (header_by told.now) }
+    ensures ok { IfOk result (IsHeadOf (expected_by expected.entry) (header_by told.now)) }
+    ensures refused { IfErr result (RefusesSaid (expected_by expected.entry) (header_by told.now)) }
+{
+    if !is_about(expected, told.bucket) {
+        return Err(SyncError::BadHeader);
+    }
+    if !is_own(expected, &told.config) {
+        return Err(SyncError::ConfigDiffers);
+    }
+    let Some(distrusts) = told.distrusts else {
+        return Err(SyncError::VersionDiffers);
+    };
+    if told.format != 2 || told.buckets != 256 {
+        return Err(SyncError::VersionDiffers);
+    }
+    Ok(Head {
+        bucket: told.bucket as u8,
+        config: told.config,
+        count: told.count,
+        distrusts,
+    })
+}
+
+fn is_about(expected: Option<Expected<'_>>, bucket: u64) -> bool
+    ensures { IsTrue result ↔ IsAbout (expected_by expected.entry) bucket }
+{
+    match expected {
+        Some(expected) => bucket == u64::from(expected.bucket),
+        None => true,
+    }
+}
+
+fn is_own(expected: Option<Expected<'_>>, config: &ConfigId) -> bool
+    ensures { IsTrue result ↔ IsOwn (config_of (expected_by expected.entry)) config.now.0 }
+{
+    match expected {
+        Some(expected) => *config == expected.config.digest(),
+        None => true,
+    }
+}
+
+/// Reads the first line of an answer, of whatever format and number of buckets. There is none where
+/// the line is not spelt as one, or its bucket is not below that number.
+pub(crate) fn read_give_header(
+    alloc: Global,
+    text: &[u8],
+) -> Result<Option<GiveHeaderLine>, AllocError>
+    ensures read { IfOk result
+        (λ found. MatchOption found ((t : GiveHeader) → IsToldLine text.now t → ⊥)
+        (λ t. IsToldLine text.now (header_by t))) }
+    ensures only { IfOk result
+        (λ found. IfSome found (λ t. (other : GiveHeader) → IsToldLine text.now other
+        → header_by t ≡ other)) }
+{
+    let told = guess(text);
+    if !is_told(&told) {
+        return Ok(None);
+    }
+    if is_spelt(alloc, &told, text)? {
+        Ok(Some(told))
+    } else {
+        Ok(None)
+    }
+}
+
+// What the line says, where it is spelt as the first of an answer, and else anything.
+fn guess(text: &[u8]) -> GiveHeaderLine
+    ensures words { HasWords (header_by result) }
+    ensures right { (t : GiveHeader) → IsToldLine text.now t → header_by result ≡ t }
+{
+    let (bucket, rest) = number_behind(text, b"{\"bucket\":");
+    let (config, rest) = digest_behind(rest, b",\"config\":\"");
+    let (count, rest) = number_behind(rest, b"\",\"count\":");
+    let (distrusts, rest) = records_behind(rest);
+    let (format, rest) = number_behind(rest, b",\"format\":");
+    let (buckets, _) = number_behind(rest, b",\"of\":");
+    GiveHeaderLine {
+        bucket,
+        config: id_of(&config),
+        count,
+        distrusts,
+        format,
+        buckets,
+    }
+}
+
+// The number of records, where one is given, and what follows.
+fn records_behind(text: &[u8]) -> (Option<u64>, &[u8])
+    ensures few { IfSome result.0 (λ n. n < 2 ^ 64) }
+    ensures right { (distrusts : Option ℕ) (more : List ℕ) → IfSome distrusts (λ n. n < 2 ^ 64)
+        → text.now ≡ distrusts_part distrusts ++ (codes ",\"format\":" ++ more)
+        → (result.0 ≡ distrusts) × (result.1.now ≡ codes ",\"format\":" ++ more) }
+{
+    match after(text, b",\"distrusts\":") {
+        Some(_) => {
+            let (number, rest) = number_behind(text, b",\"distrusts\":");
+            (Some(number), rest)
+        }
+        None => (None, text),
+    }
+}
+
+// Whether the bucket is below the number of buckets, and the number of records is given, but for
+// the first format.
+fn is_told(told: &GiveHeaderLine) -> bool
+    requires { HasWords (header_by told.now) }
+    ensures { IsTrue result ↔ IsGiveHeader (header_by told.now) }
+{
+    if told.bucket >= told.buckets {
+        return false;
+    }
+    is_record_count(told.format, told.distrusts)
+}
+
+fn is_record_count(format: u64, distrusts: Option<u64>) -> bool
+    requires { IfSome distrusts (λ n. n < 2 ^ 64) }
+    ensures { IsTrue result ↔ IsRecordCount format distrusts }
+{
+    match distrusts {
+        Some(_) => true,
+        None => format == 1,
+    }
+}
+
+fn is_spelt(alloc: Global, told: &GiveHeaderLine, text: &[u8]) -> Result<bool, AllocError>
+    ensures { IfOk result (λ same. IsTrue same ↔ (text.now ≡ told_text (header_by told.now))) }
+{
+    let mut spelt = Vec::new(alloc);
+    push_give_header(&mut spelt, told)?;
+    Ok(text == spelt.as_slice())
+}

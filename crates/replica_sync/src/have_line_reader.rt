@@ -1,0 +1,91 @@
+//! The lines of questions, read.
+ghost use Rattle.std.specs.Prelude.{◌≡◌, ◌<◌, ◌^◌, ◌↔◌, IsTrue, IfOk, MatchOption, map};
+ghost use Rattle.std.specs.List.Sorted.{IsStrictlySortedBy};
+ghost use Rattle.receipt_core.specs.Receipt.{IsDigest};
+ghost use Rattle.replica_core.specs.State.{id_cmp};
+ghost use Rattle.replica_sync.specs.Messages.{Asked, asked_text};
+ghost use Rattle.replica_sync.specs.FirstLines.{IsAskedLine};
+ghost use Rattle.replica_sync.specs.Inside.Asking.{ArePartsOf, IsOfParts, asking_by};
+
+use crate::have_fields::{HaveFields, VersionedHave};
+use crate::id_list::{list_behind, read_ids};
+use crate::scanner::{digest_behind, id_of, number_behind};
+use crate::spelling::{HaveLine, push_have_line};
+use receipt_core::ReceiptId;
+use replica_core::Have;
+use std::alloc::{AllocError, Global};
+
+/// Reads the line of a question. There is none where the line is not spelt as one, or its bucket is
+/// not below the number of buckets, or its ids do not rise.
+pub(crate) fn read_have_line(
+    alloc: Global,
+    text: &[u8],
+) -> Result<Option<VersionedHave>, AllocError>
+    ensures { IfOk result (λ found. MatchOption found ((a : Asked) → IsAskedLine text.now a → ⊥)
+        (λ a. IsAskedLine text.now (asking_by a))) }
+{
+    let parts = guess(text);
+    let ids = read_ids(alloc, parts.ids)?;
+    let Some(asking) = asking_of(&parts, ids) else {
+        return Ok(None);
+    };
+    if is_spelt(alloc, &asking, text)? {
+        Ok(Some(asking))
+    } else {
+        Ok(None)
+    }
+}
+
+// The parts of the line where it is a question's, and else any.
+fn guess(text: &[u8]) -> HaveFields<'_>
+    ensures parts { (a : Asked) → IsAskedLine text.now a → ArePartsOf result a }
+    ensures config { IsDigest result.config.0 }
+    ensures few { (result.format < 2 ^ 64) × (result.buckets < 2 ^ 64) }
+{
+    let (bucket, rest) = number_behind(text, b"{\"bucket\":");
+    let (config, rest) = digest_behind(rest, b",\"config\":\"");
+    let (format, rest) = number_behind(rest, b"\",\"format\":");
+    let (ids, rest) = list_behind(rest, b",\"have\":[");
+    let (buckets, _) = number_behind(rest, b"],\"of\":");
+    HaveFields {
+        bucket,
+        config: id_of(&config),
+        format,
+        ids,
+        buckets,
+    }
+}
+
+fn asking_of(parts: &HaveFields<'_>, ids: Vec<ReceiptId>) -> Option<VersionedHave>
+    ensures { MatchOption result
+        (parts.now.bucket < parts.now.buckets
+        → IsStrictlySortedBy id_cmp (map (λ id. id.0) ids.items) → ⊥)
+        (IsOfParts parts.now (map (λ id. id.0) ids.items)) }
+{
+    if parts.bucket >= parts.buckets {
+        return None;
+    }
+    // A bucket past 255 is of no question that is answered.
+    let have = Have::new((parts.bucket % 256) as u8, parts.config, ids)?;
+    Some(VersionedHave {
+        bucket: parts.bucket,
+        have,
+        format: parts.format,
+        buckets: parts.buckets,
+    })
+}
+
+fn is_spelt(alloc: Global, asking: &VersionedHave, text: &[u8]) -> Result<bool, AllocError>
+    ensures { IfOk result (λ same. IsTrue same ↔ (text.now ≡ asked_text (asking_by asking.now))) }
+{
+    let line = HaveLine {
+        bucket: asking.bucket,
+        config: asking.have.config(),
+        format: asking.format,
+        ids: asking.have.ids(),
+        buckets: asking.buckets,
+    };
+    let mut spelt = Vec::new(alloc);
+    push_have_line(&mut spelt, &line)?;
+    Ok(text == spelt.as_slice())
+}

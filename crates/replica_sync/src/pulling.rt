@@ -1,0 +1,156 @@
+//! Sessions in which a replica asks.
+ghost use Rattle.std.specs.Prelude.{◌≡◌, ◌+◌, ◌<◌, ◌≤◌, ◌^◌, ◌⊎◌, IfErr, IsErrOf, OnOk, true};
+ghost use Rattle.std.specs.Io.KnownBytes.{Appends};
+ghost use Rattle.byte_lines.specs.Streams.{stream_of, left_of};
+ghost use Rattle.replica_core.specs.Session.{question_of};
+ghost use Rattle.replica_sync.specs.Messages.{question_text, WritesText};
+ghost use Rattle.replica_sync.specs.Questions.{IsWritten};
+ghost use Rattle.replica_sync.specs.Pulling.{Pulls, PullsAll, PullsUpTo};
+ghost use Rattle.replica_sync.specs.Inside.Taking.{TakesReply, StopsReply};
+ghost use Rattle.replica_core.specs.declared.error.SyncError.TheVariants.{Io, NoMemory};
+
+use crate::question_writer::write_have;
+use crate::taking::{Place, take_answer};
+use byte_lines::{LineBuf, Sink, Source};
+use replica_core::{SyncError, have};
+use std::alloc::Global;
+use thiserror::Error;
+use trust_closure::Closure;
+
+/// Why a session ended before its last answer was taken whole.
+#[derive(Clone, Copy, Debug, PartialEq, Eq, Error)]
+#[error("{why} taken {taken}")]
+pub struct PullFault {
+    /// The fault. Lines are counted from 1 over all answers of the session.
+    pub why: SyncError,
+    /// How many receipts were taken before it that were not held.
+    pub taken: u64,
+}
+
+/// Asks about each bucket in order, from 0 to 255, and takes each answer line by line. Answers how
+/// many receipts are held now that were not.
+///
+/// Each question has the ids that are held when it is asked. It is written whole before its answer
+/// is read, and what follows the last answer is not taken. Beside what is held, memory is taken for
+/// one question and for a few lines, and never by a number that the other side tells.
+///
+/// # Errors
+/// What the lines before the fault say stays held, and [`PullFault::taken`] tells how many receipts
+/// of it were new. Of several faults the one that comes first in the answers' bytes:
+/// - [`SyncError::Truncated`]: the source ends before the last answer does,
+/// - [`SyncError::BadHeader`]: an answer's first line is none, of whatever format and number of
+///   buckets, or is about another bucket than was asked about, or has more than 8,388,608 bytes,
+/// - [`SyncError::ConfigDiffers`]: it is of another configuration,
+/// - [`SyncError::VersionDiffers`]: it has another format than 2, or another number of buckets than
+///   256,
+/// - [`SyncError::NotCanonical`]: a line is none of a record where a record should stand, or none
+///   of a receipt where a receipt should, or has more than 8,388,608 bytes,
+/// - [`SyncError::NotRising`]: a line is not greater than the one before it in its answer,
+/// - [`SyncError::Refused`]: a receipt or a record is not of the configuration, or is one too many,
+/// - [`SyncError::Io`]: the source or the sink failed,
+/// - [`SyncError::NoMemory`]: memory ran out.
+pub fn pull<C: Closure, R: Source, W: Sink>(
+    alloc: Global,
+    closure: &mut C,
+    source: &mut R,
+    sink: &mut W,
+) -> Result<u64, PullFault>
+    ensures pulls { Pulls (C.state closure.old).meaning (R.remaining source.old)
+        (W.contents sink.old) (C.state closure.new).meaning (W.contents sink.new) result }
+    ensures io { IfErr result
+        (λ fault. fault.why ≡ Io
+        → (R.has_failed source.new ≡ true) ⊎ (W.has_failed sink.new ≡ true)) }
+{
+    let before = closure.receipt_count();
+    let pulled = pull_all(alloc, closure, source, sink);
+    let taken = (closure.receipt_count() - before) as u64;
+    match pulled {
+        Ok(()) => Ok(taken),
+        Err(why) => Err(PullFault { why, taken }),
+    }
+}
+
+// Asks about each bucket and takes what is answered.
+fn pull_all<C: Closure, R: Source, W: Sink>(
+    alloc: Global,
+    closure: &mut C,
+    source: &mut R,
+    sink: &mut W,
+) -> Result<(), SyncError>
+    ensures ok { OnOk result
+        (PullsAll (C.state closure.old).meaning (R.remaining source.old) (W.contents sink.old)
+        (C.state closure.new).meaning (W.contents sink.new)) }
+    ensures refused { IfErr result
+        (PullsUpTo (C.state closure.old).meaning (R.remaining source.old) (W.contents sink.old)
+        (C.state closure.new).meaning (W.contents sink.new)) }
+    ensures io { IsErrOf result Io
+        → (R.has_failed source.new ≡ true) ⊎ (W.has_failed sink.new ≡ true) }
+{
+    let mut lines = LineBuf::new(alloc);
+    let mut place = Place {
+        read: 0,
+        last: Vec::new(alloc),
+    };
+    'buckets: for bucket in 0..256u16 {
+        pull_bucket(
+            alloc,
+            closure,
+            bucket as u8,
+            &mut place,
+            &mut lines,
+            source,
+            sink,
+        )?;
+    }
+    Ok(())
+}
+
+// Asks about the bucket and takes what is answered.
+fn pull_bucket<C: Closure, R: Source, W: Sink>(
+    alloc: Global,
+    closure: &mut C,
+    bucket: u8,
+    place: &mut Place,
+    lines: &mut LineBuf,
+    source: &mut R,
+    sink: &mut W,
+) -> Result<(), SyncError>
+    requires counted { place.old.read + left_of R.budget lines.old source.old < 2 ^ 64 }
+    ensures ok { OnOk result
+        (TakesReply (C.state closure.old).meaning bucket
+        (stream_of R.remaining lines.old source.old) place.old.read (C.state closure.new).meaning
+        (stream_of R.remaining lines.new source.new) place.new.read) }
+    ensures refused { IfErr result
+        (StopsReply (C.state closure.old).meaning bucket (place.old.read + 1)
+        (stream_of R.remaining lines.old source.old) (C.state closure.new).meaning) }
+    ensures asked { OnOk result
+        (Appends (W.contents sink.old) (W.contents sink.new)
+        (question_text (question_of (C.state closure.old).meaning bucket))) }
+    ensures asks { IfErr result
+        (λ e. IsWritten e (W.contents sink.old) (W.contents sink.new)
+        (question_text (question_of (C.state closure.old).meaning bucket))) }
+    ensures counted { OnOk result
+        (place.new.read + left_of R.budget lines.new source.new
+        ≤ place.old.read + left_of R.budget lines.old source.old) }
+    ensures io { IsErrOf result Io
+        → (R.has_failed source.new ≡ true) ⊎ (W.has_failed sink.new ≡ true) }
+{
+    ask(alloc, closure, bucket, sink)?;
+    take_answer(alloc, closure, bucket, place, lines, source)
+}
+
+// Asks about the bucket.
+fn ask<C: Closure, W: Sink>(
+    alloc: Global,
+    closure: &C,
+    bucket: u8,
+    sink: &mut W,
+) -> Result<(), SyncError>
+    ensures writes { WritesText (W.contents sink.old) (W.contents sink.new) result
+        (question_text (question_of (C.state closure.now).meaning bucket)) }
+    ensures refused { IfErr result (λ e. (e ≡ Io) ⊎ (e ≡ NoMemory)) }
+    ensures io { IsErrOf result Io → W.has_failed sink.new ≡ true }
+{
+    let question = have(alloc, closure, bucket)?;
+    write_have(alloc, &question, sink)
+}

@@ -1,0 +1,135 @@
+//! Questions, read.
+ghost use Rattle.std.specs.Prelude.{◌≡◌, ◌≢◌, ◌<◌, ◌||◌, IfOk, IfErr, MatchResult, None};
+ghost use Rattle.std.specs.Io.KnownBytes.{Consumes};
+ghost use Rattle.fed_config.specs.Configuration.{config_id_of};
+ghost use Rattle.byte_lines.specs.Streams.{stream_of, left_of};
+ghost use Rattle.replica_sync.specs.Snapshots.{is_io};
+ghost use Rattle.replica_sync.specs.Messages.{question_text};
+ghost use Rattle.replica_sync.specs.FirstLines.{IsAskedLine};
+ghost use Rattle.replica_sync.specs.Questions.{IsAskable, RefusesFurther, RefusesQuestion};
+ghost use Rattle.replica_sync.specs.Inside.Asking.{FindsAsked, FindsOwn, IsNoneAsked, IsSaid};
+ghost use Rattle.replica_sync.specs.Inside.Asking.{IsUnsaid};
+ghost use Rattle.replica_sync.specs.Inside.Asking.{RefusesHaveLine, RefusesSpoken, asking_by};
+
+use crate::have_fields::VersionedHave;
+use crate::have_line_reader::read_have_line;
+use byte_lines::{Line, LineBuf, Source};
+use fed_config::Config;
+use replica_core::{Have, SyncError};
+use std::alloc::Global;
+
+/// Reads a question: the next line, of which the first bytes may lie in the buffer already. Only
+/// the spelling of [`write_have`](crate::write_have) is read. No configuration is compared.
+///
+/// Beside the line, which has at most 8,388,608 bytes, memory is taken for its ids and for the line
+/// as it is written.
+///
+/// # Errors
+/// The line is used up. Of these the first that holds:
+/// - [`SyncError::Truncated`]: the stream ends before the line's line feed,
+/// - [`SyncError::BadHeader`]: the line is no question's, of whatever format and number of buckets,
+///   or its bucket is not below that number, or its ids do not rise strictly, or it has more than
+///   8,388,608 bytes,
+/// - [`SyncError::VersionDiffers`]: it has another format than 2, or another number of buckets than
+///   256,
+/// - [`SyncError::Io`]: the source failed,
+/// - [`SyncError::NoMemory`]: memory ran out.
+pub fn read_have<R: Source>(
+    alloc: Global,
+    lines: &mut LineBuf,
+    source: &mut R,
+) -> Result<Have, SyncError>
+    ensures ok { IfOk result
+        (λ h. Consumes (stream_of R.remaining lines.old source.old)
+        (stream_of R.remaining lines.new source.new) (question_text h)) }
+    ensures asked { IfOk result IsAskable }
+    ensures refused { IfErr result
+        (RefusesQuestion None (stream_of R.remaining lines.old source.old)
+        (stream_of R.remaining lines.new source.new)) }
+    ensures fault { R.has_failed source.new ≡ (is_io result || R.has_failed source.old) }
+{
+    match next_asked(alloc, lines, source)? {
+        Some(asking) => question_of(asking),
+        None => Err(SyncError::Truncated),
+    }
+}
+
+/// Reads the next question as [`read_have`] does, and then compares its configuration. There is
+/// none where the stream ends where it would begin.
+pub(crate) fn next_own<R: Source>(
+    alloc: Global,
+    config: &Config,
+    lines: &mut LineBuf,
+    source: &mut R,
+) -> Result<Option<Have>, SyncError>
+    ensures ok { IfOk result
+        (FindsOwn config.now (stream_of R.remaining lines.old source.old)
+        (stream_of R.remaining lines.new source.new)) }
+    ensures refused { IfErr result
+        (RefusesFurther config.now (stream_of R.remaining lines.old source.old)) }
+    ensures fault { R.has_failed source.new ≡ (is_io result || R.has_failed source.old) }
+    ensures falls { IfOk result
+        (λ found. found ≢ None → left_of R.budget lines.new source.new
+        < left_of R.budget lines.old source.old) }
+{
+    match next_asked(alloc, lines, source)? {
+        Some(asking) => Ok(Some(own_question(config, asking)?)),
+        None => Ok(None),
+    }
+}
+
+// The line of a question that is next in the stream. There is none where that ends where one would
+// begin.
+fn next_asked<R: Source>(
+    alloc: Global,
+    lines: &mut LineBuf,
+    source: &mut R,
+) -> Result<Option<VersionedHave>, SyncError>
+    ensures ok { IfOk result
+        (FindsAsked (stream_of R.remaining lines.old source.old)
+        (stream_of R.remaining lines.new source.new)) }
+    ensures refused { IfErr result
+        (RefusesHaveLine (stream_of R.remaining lines.old source.old)
+        (stream_of R.remaining lines.new source.new)) }
+    ensures fault { R.has_failed source.new ≡ (is_io result || R.has_failed source.old) }
+    ensures falls { IfOk result
+        (λ found. found ≢ None → left_of R.budget lines.new source.new
+        < left_of R.budget lines.old source.old) }
+{
+    match lines.next_line(source)? {
+        Line::Text(text) => Ok(Some(asked_line(alloc, text)?)),
+        Line::TooLong => Err(SyncError::BadHeader),
+        Line::Cut => Err(SyncError::Truncated),
+        Line::End => Ok(None),
+    }
+}
+
+fn asked_line(alloc: Global, text: &[u8]) -> Result<VersionedHave, SyncError>
+    ensures { MatchResult result (λ a. IsAskedLine text.now (asking_by a)) (IsNoneAsked text.now) }
+{
+    match read_have_line(alloc, text)? {
+        Some(asking) => Ok(asking),
+        None => Err(SyncError::BadHeader),
+    }
+}
+
+fn own_question(config: &Config, asking: VersionedHave) -> Result<Have, SyncError>
+    ensures { MatchResult result (λ h. (h.config ≡ config_id_of config.now) × IsSaid asking h)
+        (RefusesSpoken config.now asking) }
+{
+    if asking.have.config() != config.digest() {
+        return Err(SyncError::ConfigDiffers);
+    }
+    question_of(asking)
+}
+
+// The question, where it is of the one format and number of buckets that are spoken.
+fn question_of(asking: VersionedHave) -> Result<Have, SyncError>
+    ensures { MatchResult result (IsSaid asking) (IsUnsaid asking) }
+{
+    if asking.format == 2 && asking.buckets == 256 {
+        Ok(asking.have)
+    } else {
+        Err(SyncError::VersionDiffers)
+    }
+}

@@ -1,0 +1,76 @@
+//! Sessions that are served.
+ghost use Rattle.std.specs.Prelude.{◌≡◌, ◌<◌, ◌⊎◌, IfOk, IsErrOf, true};
+ghost use Rattle.byte_lines.specs.Streams.{stream_of, left_of};
+ghost use Rattle.replica_sync.specs.Questions.{Serves};
+ghost use Rattle.replica_sync.specs.Inside.Serving.{ServesNext};
+ghost use Rattle.replica_core.specs.declared.error.SyncError.TheVariants.{Io};
+
+use crate::answer_writer::write_answer;
+use crate::question_reader::next_own;
+use byte_lines::{LineBuf, Sink, Source};
+use replica_core::{SyncError, answer};
+use std::alloc::Global;
+use trust_closure::Closure;
+
+/// Answers the questions of the source, one after another, until it ends where a question would
+/// begin. Answers how many there were.
+///
+/// Only questions of the closure's configuration are answered, each with what the closure holds.
+/// Memory is taken for one question and for one line of an answer.
+///
+/// # Errors
+/// The questions before the fault are answered, and nothing else is written; where the sink failed
+/// or memory ran out, a beginning of that. Of these the first that holds:
+/// - [`SyncError::Truncated`]: the source ends within a question,
+/// - [`SyncError::BadHeader`]: a line is no question's, of whatever format and number of buckets,
+///   or its bucket is not below that number, or its ids do not rise strictly, or it has more than
+///   8,388,608 bytes,
+/// - [`SyncError::ConfigDiffers`]: a question is of another configuration,
+/// - [`SyncError::VersionDiffers`]: it has another format than 2, or another number of buckets than
+///   256,
+/// - [`SyncError::Io`]: the source or the sink failed,
+/// - [`SyncError::NoMemory`]: memory ran out.
+pub fn serve_one<C: Closure, R: Source, W: Sink>(
+    alloc: Global,
+    closure: &C,
+    source: &mut R,
+    sink: &mut W,
+) -> Result<u64, SyncError>
+    ensures serves { Serves (C.state closure.now).meaning (R.remaining source.old)
+        (W.contents sink.old) (W.contents sink.new) result }
+    ensures io { IsErrOf result Io
+        → (R.has_failed source.new ≡ true) ⊎ (W.has_failed sink.new ≡ true) }
+{
+    let mut lines = LineBuf::new(alloc);
+    let mut count = 0;
+    'questions: while serve_next(alloc, closure, &mut lines, source, sink)? {
+        count += 1;
+    }
+    Ok(count)
+}
+
+// Answers the next question, and tells whether there was one.
+fn serve_next<C: Closure, R: Source, W: Sink>(
+    alloc: Global,
+    closure: &C,
+    lines: &mut LineBuf,
+    source: &mut R,
+    sink: &mut W,
+) -> Result<bool, SyncError>
+    ensures serves { ServesNext (C.state closure.now).meaning
+        (stream_of R.remaining lines.old source.old) (stream_of R.remaining lines.new source.new)
+        (W.contents sink.old) (W.contents sink.new) result }
+    ensures io { IsErrOf result Io
+        → (R.has_failed source.new ≡ true) ⊎ (W.has_failed sink.new ≡ true) }
+    ensures falls { IfOk result
+        (λ more. more ≡ true → left_of R.budget lines.new source.new
+        < left_of R.budget lines.old source.old) }
+{
+    match next_own(alloc, closure.config(), lines, source)? {
+        Some(have) => {
+            write_answer(alloc, answer(closure, &have), sink)?;
+            Ok(true)
+        }
+        None => Ok(false),
+    }
+}
