@@ -1,4 +1,4 @@
-//! Snapshots and sessions in plain Rust, to measure `replica_sync`, `replica_gossip` and the program against.
+//! Snapshots and sessions in plain Rust, to measure `replica_sync` and the program against.
 //!
 //! `snapshot`, `session COUNT` and `ids` read the canonical configuration and receipts, a line each, from standard input,
 //! and print times in nanoseconds and what has to be the same in both programs. `serve` and `pull` do what the program's
