@@ -8,11 +8,11 @@ use crate::replica::{replica, tell_held};
 use crate::session::tell_session;
 use crate::stop::Stop;
 use byte_lines::{LineBuf, MemSink, MemSource, Sink, Source};
+use closure_core::Closure;
 use fed_config::Config;
 use replica_gossip::{PullFault, pull, read_have, serve_one, write_answer, write_have};
 use replica_sync::{SyncError, answer, have, read_snapshot, write_snapshot};
 use std::alloc::{AllocError, Global};
-use trust_closure::Closure;
 
 /// Written texts up to this length are shown line by line.
 const FEW_BYTES: usize = 4_096;

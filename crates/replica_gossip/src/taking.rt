@@ -9,10 +9,10 @@ ghost use Rattle.replica_sync.specs.declared.error.SyncError.TheVariants.{Io};
 
 use crate::told_reader::{Expected, Head, next_head};
 use byte_lines::{Line, LineBuf, Source};
+use closure_core::Closure;
 use replica_sync::SyncError;
 use replica_sync::entry::{Wanted, take_line};
 use std::alloc::Global;
-use trust_closure::Closure;
 
 /// How far the answers of a session were read: how many lines, and the last one of those behind the
 /// first line of the answer, which is empty where there is none.

@@ -7,11 +7,10 @@ use Rattle.receipt_core.specs.declared.distrust.Distrust.{Distrust}
 use Rattle.receipt_core.specs.Receipt.{Receipt}
 use Rattle.receipt_core.specs.Acceptance.{Meaning}
 use Rattle.receipt_core.specs.Rising.{with_item}
-use Rattle.trust_closure.specs.Merge.{offers_count}
-use Rattle.trust_closure.specs.Refusals.{Room, IsRoomier}
-use Rattle.trust_closure.specs.Changes.{HeldAndRoom as ClosureState}
-use Rattle.trust_closure.specs.declared.error.TakeError.{TakeError}
-use Rattle.trust_closure.specs.declared.error.TakeError.TheVariants.{NoMemory as NoTakeMemory}
+use Rattle.closure_core.specs.Refusals.{offers_count, Room, IsRoomier}
+use Rattle.closure_core.specs.Changes.{HeldAndRoom as ClosureState}
+use Rattle.closure_core.specs.declared.error.TakeError.{TakeError}
+use Rattle.closure_core.specs.declared.error.TakeError.TheVariants.{NoMemory as NoTakeMemory}
 use Rattle.replica_sync.specs.State.{State, joined, meaning_of_state}
 use Rattle.replica_sync.specs.Entries.{RefusesEntry, with_entry}
 use Rattle.replica_sync.specs.Session.{Reply, state_of}

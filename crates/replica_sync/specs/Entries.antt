@@ -14,9 +14,9 @@ use Rattle.receipt_core.specs.declared.line_error.LineError.{LineError}
 use Rattle.receipt_core.specs.declared.line_error.LineError.TheVariants.{NotCanonical as NoLine}
 use Rattle.receipt_core.specs.declared.line_error.LineError.TheVariants.{TooLong}
 use Rattle.receipt_core.specs.declared.line_error.LineError.TheVariants.{NoMemory as NoReadMemory}
-use Rattle.trust_closure.specs.Refusals.{Room, RefusesReceipt, RefusesDistrust}
-use Rattle.trust_closure.specs.declared.error.TakeError.{TakeError}
-use Rattle.trust_closure.specs.declared.error.TakeError.TheVariants.{NoMemory as NoTakeMemory}
+use Rattle.closure_core.specs.Refusals.{Room, RefusesReceipt, RefusesDistrust}
+use Rattle.closure_core.specs.declared.error.TakeError.{TakeError}
+use Rattle.closure_core.specs.declared.error.TakeError.TheVariants.{NoMemory as NoTakeMemory}
 use Rattle.replica_sync.specs.declared.entry.Entry.{Entry}
 use Rattle.replica_sync.specs.declared.entry.Entry.TheVariants.{Record, Receipt as AReceipt}
 use Rattle.replica_sync.specs.declared.entry.Wanted.{Wanted}

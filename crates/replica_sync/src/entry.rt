@@ -6,10 +6,10 @@ ghost use Rattle.replica_sync.specs.Entries.{RefusesEntryText, TakesEntry, Takes
 ghost use Rattle.replica_sync.specs.Entries.{HasRefusedEntry, HasRefusedLine};
 
 use crate::error::SyncError;
+use closure_core::{Closure, Distrusted, TakeError, Taken};
 use receipt_core::{Distrust, LineError, Receipt};
 use std::alloc::Global;
 use std::cmp::Ordering;
-use trust_closure::{Closure, Distrusted, TakeError, Taken};
 
 /// What a line says.
 #[derive(Debug, Drop)]
