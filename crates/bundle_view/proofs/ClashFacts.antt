@@ -12,8 +12,8 @@ use Rattle.bundle_doc.specs.Bundle.{Bundle}
 use Rattle.fed_config.specs.Configuration.{Configuration, AreDomains, domain_cmp}
 use Rattle.receipt_core.specs.Acceptance.{Meaning, IsMember}
 use Rattle.receipt_core.proofs.OrderFacts.{equal_bytes, cmp_equal}
-use Rattle.trust_closure.specs.Views.{document_cmp, document_of}
-use Rattle.trust_closure.specs.Order.{document_total}
+use Rattle.closure_core.specs.AcceptedList.{document_cmp, document_of}
+use Rattle.closure_core.specs.Order.{document_total}
 use Rattle.bundle_view.specs.declared.conflict.ConflictKind.{ConflictKind}
 use Rattle.bundle_view.specs.declared.conflict.ConflictKind.TheVariants.{Keys, HintOnly}
 use Rattle.bundle_view.specs.Conflicts.{Clash, IsClash, AreClashes, AreConflicts, IsOfKind, clash_cmp, OfDomain, tell_all, AreAllConflicts, ReportedConflict}

@@ -4,8 +4,8 @@ use Rattle.std.specs.List.{Contains, last_or}
 use Rattle.std.specs.List.Sorted.{IsStrictlySortedBy}
 use Rattle.bundle_doc.specs.Bundle.{Bundle}
 use Rattle.receipt_core.specs.Acceptance.{Meaning}
-use Rattle.trust_closure.specs.Views.{document_cmp, IsAcceptedList}
-use Rattle.trust_closure.specs.Order.{document_total}
+use Rattle.closure_core.specs.AcceptedList.{document_cmp, IsAcceptedList}
+use Rattle.closure_core.specs.Order.{document_total}
 use Rattle.bundle_view.specs.Current.{IsCurrent}
 use Rattle.bundle_view.proofs.ListFacts.{contains_first, contains_later, contains_none, contains_cases, not_below_itself, not_both, rising_first, rising_rest, only_one}
 

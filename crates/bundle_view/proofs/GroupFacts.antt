@@ -8,7 +8,7 @@ use Rattle.std.proofs.lemmas.List.Elements.{Contains-append_left, Contains-appen
 use Rattle.bundle_doc.specs.Bundle.{Bundle}
 use Rattle.fed_config.specs.Configuration.{AreDomains}
 use Rattle.receipt_core.specs.Acceptance.{Meaning, IsMember}
-use Rattle.trust_closure.specs.Views.{document_cmp, document_of, IsAcceptedList}
+use Rattle.closure_core.specs.AcceptedList.{document_cmp, document_of, IsAcceptedList}
 use Rattle.bundle_view.specs.Conflicts.{Clash, AreClashes, AreConflicts, OfDomain, AreAllConflicts, ReportedConflict, reported_conflict}
 use Rattle.bundle_view.specs.Groups.{IsGroup, IsGroupLength, AddsClashes, SoFar, AreFoundOf}
 use Rattle.bundle_view.proofs.ListFacts.{rising_left, rising_right}

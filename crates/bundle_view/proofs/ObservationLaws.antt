@@ -7,8 +7,8 @@ use Rattle.fed_config.specs.Configuration.{IsConfiguration, IsRelationshipOf}
 use Rattle.fed_config.specs.declared.relationship.Relationship.{Relationship}
 use Rattle.receipt_core.specs.Receipt.{Receipt}
 use Rattle.receipt_core.specs.Acceptance.{Meaning}
-use Rattle.trust_closure.specs.declared.error.TakeError.TheVariants.{UnknownDomain, WrongEndpoint as OtherEndpoint, Full, NoMemory, ConfigDiffers}
-use Rattle.trust_closure.specs.Views.{IsAcceptedList}
+use Rattle.closure_core.specs.declared.error.TakeError.TheVariants.{UnknownDomain, WrongEndpoint as OtherEndpoint, Full, NoMemory, ConfigDiffers}
+use Rattle.closure_core.specs.AcceptedList.{IsAcceptedList}
 use Rattle.bundle_view.specs.Current.{IsCurrent}
 use Rattle.bundle_view.specs.Observe.{IsEndpointOf, HasOtherEndpoint, IsVouchedFor, IsObservation, receipt_of, RefusesObservation}
 use Rattle.bundle_view.specs.declared.observation.Verdict.{Verdict}

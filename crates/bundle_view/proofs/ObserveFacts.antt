@@ -17,14 +17,14 @@ use Rattle.receipt_core.specs.Sets.{AreSets}
 use Rattle.receipt_core.specs.Acceptance.{IsFitting, Vouches, Meaning, IsMeaning, IsMember, pair_of_seed}
 use Rattle.receipt_core.proofs.LineFacts.{one_receipt}
 use Rattle.receipt_core.proofs.RisingFacts.{AreSets-from_total}
-use Rattle.trust_closure.specs.declared.error.TakeError.{TakeError}
-use Rattle.trust_closure.specs.declared.error.TakeError.TheVariants.{UnknownDomain, WrongEndpoint as OtherEndpoint, Full, NoMemory, ConfigDiffers}
-use Rattle.trust_closure.specs.declared.outcome.Taken.{Taken}
-use Rattle.trust_closure.specs.declared.outcome.Taken.TheVariants.{New as TakenNew, Already as TakenAlready}
-use Rattle.trust_closure.specs.Refusals.{Room, RefusesReceipt, IsOfWrongEndpoint}
-use Rattle.trust_closure.specs.Changes.{HeldAndRoom, Took, IsUnchanged}
-use Rattle.trust_closure.specs.Views.{document_of}
-use Rattle.trust_closure.proofs.Vouching.{Leads-push}
+use Rattle.closure_core.specs.declared.error.TakeError.{TakeError}
+use Rattle.closure_core.specs.declared.error.TakeError.TheVariants.{UnknownDomain, WrongEndpoint as OtherEndpoint, Full, NoMemory, ConfigDiffers}
+use Rattle.closure_core.specs.declared.outcome.Taken.{Taken}
+use Rattle.closure_core.specs.declared.outcome.Taken.TheVariants.{New as TakenNew, Already as TakenAlready}
+use Rattle.closure_core.specs.Refusals.{Room, RefusesReceipt, IsOfWrongEndpoint}
+use Rattle.closure_core.specs.Changes.{HeldAndRoom, Took, IsUnchanged}
+use Rattle.closure_core.specs.AcceptedList.{document_of}
+use Rattle.closure_core.proofs.MemberFacts.{leads_more}
 use Rattle.bundle_view.specs.Current.{IsCurrent}
 use Rattle.bundle_view.specs.Observe.{IsEndpointOf, IsVouchedFor, IsObservation, HasObserved, of_document, RefusesEndpoint, RefusesVerdict, RefusesTaking, RefusesObservation, HasNotObserved}
 use Rattle.bundle_view.specs.Observing.{IsVoucher, HasKept, HasNotKept}
@@ -76,7 +76,7 @@ accepted_then m p r valid form is fits vouches =
       configured = is.configured;
       chain = is.chain ++ r ∷ [];
       held = all_and_one (Contains (with_receipt r m.held)) is.chain r (all_within m.held (with_receipt r m.held) is.chain (λ a h. (members a).1 (inr h)) is.held) ((members r).1 (inl refl));
-      leads = Leads-push m.config m.records (pair_of_seed is.seed) is.chain p r is.leads fits vouches;
+      leads = leads_more m.config m.records (pair_of_seed is.seed) is.chain p r is.leads fits vouches;
     }
 
 -- ---- the receipt of an observation

@@ -8,8 +8,8 @@ use Rattle.fed_config.specs.Configuration.{AreDomains, config_id_of}
 use Rattle.std.specs.List.{Contains}
 use Rattle.bundle_doc.specs.Bundle.{Bundle, doc_id_of}
 use Rattle.receipt_core.specs.Acceptance.{Meaning, IsMember}
-use Rattle.trust_closure.specs.Views.{document_cmp, document_of, IsAcceptedList, IsPendingCount}
-use Rattle.trust_closure.specs.Order.{document_total}
+use Rattle.closure_core.specs.AcceptedList.{document_cmp, document_of, IsAcceptedList, IsPendingCount}
+use Rattle.closure_core.specs.Order.{document_total}
 use Rattle.bundle_view.specs.Current.{IsCurrent}
 use Rattle.bundle_view.specs.Conflicts.{AreConflicts, ReportedConflict, reported_conflict}
 use Rattle.bundle_view.specs.Groups.{AddsClashes}

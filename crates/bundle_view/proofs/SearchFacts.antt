@@ -12,14 +12,14 @@ use Rattle.std.specs.List.Sorted.{IsPartitionedBy}
 use Rattle.std.specs.Ordering.{ordering_index}
 use Rattle.std.proofs.lemmas.List.Sorted.{searchable_from_sorted}
 use Rattle.std.proofs.lemmas.List.{get_or-replicate, get_or_past, length-replicate}
-use Rattle.trust_closure.proofs.FlagFacts.{count-lowered}
+use Rattle.closure_core.proofs.FlagFacts.{count-lowered}
 use Rattle.std.proofs.lemmas.Option.{same_Some, none-some, slice_get_within, slice_get-get_or, get_or_from_slice_get}
 use Rattle.receipt_core.specs.declared.triple.Triple.{Triple}
 use Rattle.receipt_core.specs.Receipt.{Receipt, need_of, triple_cmp}
 use Rattle.receipt_core.specs.Order.{triple_total}
 use Rattle.receipt_core.proofs.LineFacts.{one_triple}
-use Rattle.trust_closure.specs.Nodes.{is_raised}
-use Rattle.trust_closure.specs.Flags.{raised_count}
+use Rattle.closure_core.specs.Inside.Nodes.{is_raised}
+use Rattle.closure_core.specs.Inside.Flags.{raised_count}
 use Rattle.bundle_view.specs.Search.{Stride, HasStride, AreFollowed, AreMarked, AreVisited, IsAddedStep, AppendsSteps, FollowsOffers, IsEdgeDue}
 use Rattle.bundle_view.proofs.ListFacts.{contains_first, contains_none, contains_cases}
 

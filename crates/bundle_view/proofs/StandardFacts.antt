@@ -6,7 +6,7 @@ use Rattle.jwk_set.specs.declared.authority.Authority.{Authority}
 use Rattle.bundle_doc.specs.Bundle.{Bundle}
 use Rattle.bundle_doc.specs.declared.document.DocId.{DocId}
 use Rattle.receipt_core.specs.declared.distrust.Distrust.{Distrust}
-use Rattle.trust_closure.specs.Views.{document_cmp}
+use Rattle.closure_core.specs.AcceptedList.{document_cmp}
 use Rattle.bundle_view.specs.declared.conflict.ConflictKind.TheVariants.{Keys, HintOnly}
 use Rattle.bundle_view.specs.Conflicts.{IsOfKind}
 use Rattle.bundle_view.specs.Report.{current_line, conflict_line, distrust_line, records_of, sequence_text}

@@ -7,7 +7,7 @@ use Rattle.bundle_doc.specs.Bundle.{Bundle, doc_id_of}
 use Rattle.bundle_doc.specs.declared.document.DocId.{DocId}
 use Rattle.fed_config.specs.Configuration.{AreDomains}
 use Rattle.receipt_core.specs.Acceptance.{Meaning, IsMember}
-use Rattle.trust_closure.specs.Views.{document_cmp, document_of}
+use Rattle.closure_core.specs.AcceptedList.{document_cmp, document_of}
 use Rattle.bundle_view.specs.declared.conflict.ConflictKind.{ConflictKind}
 use Rattle.bundle_view.specs.declared.conflict.ConflictKind.TheVariants.{Keys, HintOnly}
 use Rattle.bundle_view.specs.declared.conflict.Conflict.{Conflict}

@@ -3,7 +3,7 @@ use Rattle.std.specs.Prelude.{◌≡◌, ℕ, List, Option, Some, None}
 use Rattle.std.specs.declared.cmp.Ordering.TheVariants.{Less}
 use Rattle.bundle_doc.specs.Bundle.{Bundle}
 use Rattle.receipt_core.specs.Acceptance.{Meaning, IsMember}
-use Rattle.trust_closure.specs.Views.{document_cmp, document_of}
+use Rattle.closure_core.specs.AcceptedList.{document_cmp, document_of}
 
 -- It is accepted, and no accepted document of the domain is greater by rank and then by canonical
 -- text; an absent rank is below 0.

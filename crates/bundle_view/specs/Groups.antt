@@ -2,7 +2,7 @@
 use Rattle.std.specs.Prelude.{◌≡◌, ℕ, ◌<◌, ◌≤◌, List, ◌++◌, map, length, take, drop, Contains}
 use Rattle.std.specs.List.Sorted.{IsStrictlySortedBy}
 use Rattle.bundle_doc.specs.Bundle.{Bundle}
-use Rattle.trust_closure.specs.Views.{document_cmp}
+use Rattle.closure_core.specs.AcceptedList.{document_cmp}
 use Rattle.receipt_core.specs.Acceptance.{Meaning}
 use Rattle.bundle_view.specs.Conflicts.{Clash, AreClashes, AreConflicts, OfDomain, tell_all}
 use Rattle.bundle_view.specs.Conflicts.{ReportedConflict, reported_conflict}

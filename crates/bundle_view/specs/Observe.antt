@@ -11,10 +11,10 @@ use Rattle.fed_config.specs.declared.relationship.Relationship.{Relationship}
 use Rattle.receipt_core.specs.declared.distrust.Distrust.{Distrust}
 use Rattle.receipt_core.specs.Receipt.{Receipt, pair_of, with_receipt}
 use Rattle.receipt_core.specs.Acceptance.{Meaning, IsMember}
-use Rattle.trust_closure.specs.declared.error.TakeError.{TakeError}
-use Rattle.trust_closure.specs.declared.error.TakeError.TheVariants.{Full, NoMemory}
-use Rattle.trust_closure.specs.Refusals.{IsOneTooMany}
-use Rattle.trust_closure.specs.Changes.{HeldAndRoom, IsUnchanged}
+use Rattle.closure_core.specs.declared.error.TakeError.{TakeError}
+use Rattle.closure_core.specs.declared.error.TakeError.TheVariants.{Full, NoMemory}
+use Rattle.closure_core.specs.Refusals.{IsOneTooMany}
+use Rattle.closure_core.specs.Changes.{HeldAndRoom, IsUnchanged}
 use Rattle.bundle_view.specs.Conflicts.{id_in}
 use Rattle.bundle_view.specs.Current.{IsCurrent}
 use Rattle.bundle_view.specs.declared.observation.Verdict.{Verdict}

@@ -6,11 +6,11 @@ use Rattle.jwk_set.specs.declared.authority.KeyId.{KeyId}
 use Rattle.receipt_core.specs.declared.distrust.Distrust.{Distrust}
 use Rattle.receipt_core.specs.Receipt.{Receipt}
 use Rattle.receipt_core.specs.Acceptance.{Meaning}
-use Rattle.trust_closure.specs.declared.error.TakeError.{TakeError}
-use Rattle.trust_closure.specs.declared.error.TakeError.TheVariants.{NoMemory}
-use Rattle.trust_closure.specs.declared.outcome.Taken.{Taken}
-use Rattle.trust_closure.specs.Refusals.{RefusesReceipt}
-use Rattle.trust_closure.specs.Changes.{HeldAndRoom, Took, IsUnchanged}
+use Rattle.closure_core.specs.declared.error.TakeError.{TakeError}
+use Rattle.closure_core.specs.declared.error.TakeError.TheVariants.{NoMemory}
+use Rattle.closure_core.specs.declared.outcome.Taken.{Taken}
+use Rattle.closure_core.specs.Refusals.{RefusesReceipt}
+use Rattle.closure_core.specs.Changes.{HeldAndRoom, Took, IsUnchanged}
 use Rattle.bundle_view.specs.Conflicts.{id_in}
 use Rattle.bundle_view.specs.Observe.{IsAuthentic}
 use Rattle.bundle_view.specs.declared.observation.Verdict.{Verdict}

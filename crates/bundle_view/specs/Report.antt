@@ -11,7 +11,7 @@ use Rattle.fed_config.specs.Configuration.{AreDomains, config_id_of}
 use Rattle.receipt_core.specs.Acceptance.{Meaning}
 use Rattle.byte_lines.specs.Device.{AppendsBeginning}
 use Rattle.receipt_core.specs.declared.distrust.Distrust.{Distrust}
-use Rattle.trust_closure.specs.Views.{IsAcceptedList, IsPendingCount}
+use Rattle.closure_core.specs.AcceptedList.{IsAcceptedList, IsPendingCount}
 use Rattle.bundle_view.specs.Current.{IsCurrent}
 use Rattle.bundle_view.specs.Conflicts.{Clash, AreConflicts, ReportedConflict, reported_conflict}
 use Rattle.bundle_view.specs.declared.conflict.ConflictKind.{ConflictKind}

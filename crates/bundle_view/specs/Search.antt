@@ -7,8 +7,8 @@ use Rattle.fed_config.specs.declared.seed.Seed.{Seed}
 use Rattle.receipt_core.specs.declared.triple.Triple.{Triple}
 use Rattle.receipt_core.specs.Receipt.{Receipt, Pair, pair_of, need_of, offers_of, triple_cmp}
 use Rattle.receipt_core.specs.Acceptance.{Meaning, distrust_of, pair_of_seed}
-use Rattle.trust_closure.specs.Nodes.{is_raised}
-use Rattle.trust_closure.specs.Flags.{raised_count}
+use Rattle.closure_core.specs.Inside.Nodes.{is_raised}
+use Rattle.closure_core.specs.Inside.Flags.{raised_count}
 
 -- ---- receipts that may be vouched for
 

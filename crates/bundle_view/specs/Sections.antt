@@ -1,7 +1,7 @@
 -- The report as far as it is made
 use Rattle.std.specs.Prelude.{◌≡◌, ℕ, List, ◌++◌, map, Contains}
 use Rattle.receipt_core.specs.Acceptance.{Meaning}
-use Rattle.trust_closure.specs.Views.{IsPendingCount}
+use Rattle.closure_core.specs.AcceptedList.{IsPendingCount}
 use Rattle.bundle_view.specs.Report.{Section, IsSection, head_text, section_text, report_text}
 
 -- the head was added

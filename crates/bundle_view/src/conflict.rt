@@ -2,16 +2,16 @@
 ghost use Rattle.std.specs.Prelude.{◌≡◌, ◌<◌, ◌≤◌, ◌++◌, ◌↔◌, List, map, length, IsTrue, IfOk};
 ghost use Rattle.std.specs.Prelude.{OnOk, Contains};
 ghost use Rattle.std.specs.List.Sorted.{IsStrictlySortedBy};
-ghost use Rattle.trust_closure.specs.Views.{document_cmp};
+ghost use Rattle.closure_core.specs.AcceptedList.{document_cmp};
 ghost use Rattle.bundle_view.specs.Conflicts.{AreAllConflicts, IsOfKind, id_in, reported_by};
 ghost use Rattle.bundle_view.specs.Groups.{AddsClashes, IsGroup, IsGroupLength};
 
 use crate::listed::{Listed, list_accepted};
 use bundle_doc::{DocId, Document};
+use closure_core::{Closure, NoMemory};
 use jwk_set::Authority;
 use spiffe_name::TrustDomain;
 use std::alloc::{AllocError, Global};
-use trust_closure::{Closure, NoMemory};
 
 /// In what documents with one sequence number differ.
 #[derive(Clone, Copy, Debug, PartialEq, Eq)]

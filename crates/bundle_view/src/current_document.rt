@@ -3,8 +3,8 @@ ghost use Rattle.std.specs.Prelude.{option_copied};
 ghost use Rattle.bundle_view.specs.Current.{IsCurrent};
 
 use bundle_doc::Document;
+use closure_core::Closure;
 use spiffe_name::TrustDomain;
-use trust_closure::Closure;
 
 /// The current document of the domain: of its accepted documents the one with the greatest rank,
 /// where an absent one is below 0, and of one rank the one with the greatest canonical text, by its

@@ -2,17 +2,17 @@
 ghost use Rattle.std.specs.Prelude.{◌≡◌, ◌↔◌, IsTrue, IfOk, OnErr, MatchOption, Any, Contains};
 ghost use Rattle.fed_config.specs.declared.seed.Seed.{Seed};
 ghost use Rattle.receipt_core.specs.Acceptance.{IsMember, pair_of_seed};
-ghost use Rattle.trust_closure.specs.Views.{document_of};
+ghost use Rattle.closure_core.specs.AcceptedList.{document_of};
 ghost use Rattle.bundle_view.specs.Explain.{IsShortest};
 
 use crate::steps::{chain_to, search};
 use crate::waiting::list_waiting;
 use bundle_doc::Document;
+use closure_core::{Closure, NoMemory};
 use fed_config::Seed;
 use receipt_core::Receipt;
 use spiffe_name::TrustDomain;
 use std::alloc::Global;
-use trust_closure::{Closure, NoMemory};
 
 /// Why the document is accepted as one of this domain: a chain of held receipts that leads to it
 /// from a configured document, each vouched for by the document before it (SPIFFE Federation,

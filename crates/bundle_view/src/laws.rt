@@ -7,12 +7,12 @@ ghost use Rattle.receipt_core.specs.Chain.{IsChain};
 ghost use Rattle.bundle_view.specs.Explain.{IsShortest};
 ghost use Rattle.bundle_doc.specs.Bundle.{Bundle};
 ghost use Rattle.receipt_core.specs.Acceptance.{Meaning, IsMember, pair_of_seed};
-ghost use Rattle.trust_closure.specs.Views.{IsAcceptedList};
+ghost use Rattle.closure_core.specs.AcceptedList.{IsAcceptedList};
 ghost use Rattle.bundle_view.specs.Current.{IsCurrent};
 ghost use Rattle.bundle_view.specs.Conflicts.{Clash, AreConflicts, ReportedConflict};
 ghost use Rattle.bundle_view.specs.Conflicts.{AreAllConflicts};
 ghost use Rattle.bundle_view.specs.Report.{IsReport};
-ghost use Rattle.trust_closure.specs.declared.error.TakeError.TheVariants.{Full, NoMemory};
+ghost use Rattle.closure_core.specs.declared.error.TakeError.TheVariants.{Full, NoMemory};
 ghost use Rattle.bundle_view.specs.Observe.{IsObservation, RefusesObservation};
 ghost use Rattle.bundle_view.specs.declared.observation.Verdict.{Verdict};
 ghost use Rattle.bundle_view.specs.declared.observe_error.ObserveError.{ObserveError};
@@ -31,7 +31,7 @@ pub fn one_view()
         (a b : Option Bundle) → IsAcceptedList m domain documents
         → IsCurrent m domain a → IsCurrent m domain b → a ≡ b }
 {
-    trust_closure::laws::one_number();
+    closure_core::laws::one_number();
 }
 
 /// What explains a document is a chain to anybody who has the configuration and the records of

@@ -1,12 +1,12 @@
 //! The accepted documents of a domain in a list.
 ghost use Rattle.std.specs.Prelude.{◌≡◌, IfOk};
-ghost use Rattle.trust_closure.specs.Views.{IsAcceptedList};
+ghost use Rattle.closure_core.specs.AcceptedList.{IsAcceptedList};
 
 use bundle_doc::Document;
+use closure_core::Closure;
 use spiffe_name::TrustDomain;
 use std::alloc::{AllocError, Global};
 use std::marker::Model;
-use trust_closure::Closure;
 
 /// A document that a closure lends.
 #[derive(Drop)]

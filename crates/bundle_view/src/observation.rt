@@ -10,12 +10,12 @@ ghost use Rattle.bundle_view.specs.Observing.{HasKept, HasNotKept, IsVoucher, di
 use crate::current_document::current;
 use crate::observe_error::ObserveError;
 use bundle_doc::{DocId, Document};
+use closure_core::Closure;
 use fed_config::Config;
 use jwk_set::KeyId;
 use receipt_core::Receipt;
 use spiffe_name::{SpiffeId, TrustDomain};
 use std::alloc::Global;
-use trust_closure::Closure;
 
 /// What TLS found out of the endpoint that served a bundle, by validating its X.509-SVID (SPIFFE
 /// X.509-SVID, section 5). It is believed.

@@ -2,12 +2,12 @@
 ghost use Rattle.std.specs.Prelude.{◌≡◌};
 ghost use Rattle.bundle_view.specs.declared.observe_error.ObserveError.TheVariants.{Take};
 ghost use Rattle.bundle_view.specs.Observe.{of_document};
-ghost use Rattle.trust_closure.specs.declared.error.TakeError.TheVariants.{NoMemory};
+ghost use Rattle.closure_core.specs.declared.error.TakeError.TheVariants.{NoMemory};
 
 use bundle_doc::DocError;
+use closure_core::TakeError;
 use std::alloc::AllocError;
 use thiserror::Error;
-use trust_closure::TakeError;
 
 /// Why nothing is observed. Of several causes the first of this list is returned. Lack of memory,
 /// which is `Take(NoMemory)` wherever it is met, can come in place of each that is found out behind

@@ -15,9 +15,9 @@ use crate::error::ReportError;
 use crate::listed::{Listed, list_accepted};
 use bundle_doc::{DocId, Document};
 use byte_lines::{Sink, push_digits, push_number, write_all};
+use closure_core::Closure;
 use spiffe_name::TrustDomain;
 use std::alloc::{AllocError, Global};
-use trust_closure::Closure;
 
 /// Writes the report: a line `config` with the configuration's digest; a line with the numbers of
 /// receipts and of pending ones; and for each domain of the configuration, rising, a line `domain`,

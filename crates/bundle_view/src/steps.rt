@@ -3,9 +3,9 @@ ghost use Rattle.std.specs.Prelude.{◌≡◌, ◌↔◌, ◌+◌, ◌<◌, ◌�
 ghost use Rattle.std.specs.Prelude.{length, slice_get, slice_set, replicate, reverse, true, false};
 ghost use Rattle.std.specs.List.Sorted.{IsSortedByKey};
 ghost use Rattle.receipt_core.specs.Receipt.{need_of, pair_of, offers_of, triple_cmp};
-ghost use Rattle.trust_closure.specs.Nodes.{is_raised};
-ghost use Rattle.trust_closure.specs.Flags.{raised_count};
-ghost use Rattle.trust_closure.specs.Views.{document_of};
+ghost use Rattle.closure_core.specs.Inside.Nodes.{is_raised};
+ghost use Rattle.closure_core.specs.Inside.Flags.{raised_count};
+ghost use Rattle.closure_core.specs.AcceptedList.{document_of};
 ghost use Rattle.bundle_view.specs.Search.{AreFollowed, AreLinkedSteps, AreStrides, AreVisited};
 ghost use Rattle.bundle_view.specs.Search.{FollowsOffers, HasSearched, IsBackFrom, IsSearchBegun};
 ghost use Rattle.bundle_view.specs.Search.{IsEdgeDue, Stride};

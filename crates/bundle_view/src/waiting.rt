@@ -5,13 +5,13 @@ ghost use Rattle.std.specs.List.Sorted.{IsStrictlySortedBy};
 ghost use Rattle.receipt_core.specs.Receipt.{need_of, triple_cmp, distrust_cmp};
 ghost use Rattle.bundle_view.specs.Search.{AreTrusted, AreWaiting};
 
+use closure_core::Closure;
 use jwk_set::KeyId;
 use receipt_core::{Receipt, Triple};
 use spiffe_name::TrustDomain;
 use std::alloc::{AllocError, Global};
 use std::cmp::Ordering;
 use std::marker::Model;
-use trust_closure::Closure;
 
 /// A receipt that a closure lends.
 #[derive(Drop)]

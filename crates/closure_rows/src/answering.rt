@@ -3,9 +3,10 @@ use crate::fault::RowFault;
 use crate::replicas::{Pair, World, make, swap};
 use crate::words::first_word;
 use crate::{changes, codes, links, polls, reports, views};
+use closure_core::Closure;
 use row_script::{Answers, Row, Rows, Script};
 use std::alloc::{AllocError, Global};
-use trust_closure::{Closure, IndexedClosure};
+use trust_closure::IndexedClosure;
 
 impl Rows for World {
     fn answer(

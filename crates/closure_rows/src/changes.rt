@@ -4,11 +4,11 @@ use crate::replicas::Pair;
 use crate::views::show_receipt;
 use crate::words::{count, first_word, key_of};
 use bundle_view::{Verdict, observe};
+use closure_core::{Closure, Distrusted, TakeError, Taken};
 use receipt_core::{Distrust, Receipt};
 use row_script::{Row, Script};
 use spiffe_name::{SpiffeId, TrustDomain};
 use std::alloc::{AllocError, Global};
-use trust_closure::{Closure, Distrusted, TakeError, Taken};
 
 /// What a closure answers to a receipt or a record of distrust: how many documents are accepted
 /// now, or no longer, nothing where it held it, or why it refuses it.

@@ -2,9 +2,9 @@
 use crate::fault::RowFault;
 use bundle_doc::DocError;
 use bundle_view::{ObserveError, ReportError};
+use closure_core::TakeError;
 use poll_log::PollError;
 use std::alloc::AllocError;
-use trust_closure::TakeError;
 
 /// `codes KIND`: the texts of the refusals of a kind.
 pub(crate) fn codes(kind: &str, out: &mut String) -> Result<(), RowFault> {

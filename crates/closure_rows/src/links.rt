@@ -4,12 +4,12 @@ use crate::changes::{Answer, answer_to, say, say_counts};
 use crate::fault::RowFault;
 use crate::words::{first_word, key_of, number};
 use bundle_doc::Document;
+use closure_core::{Closure, Distrusted};
 use jwk_set::KeyId;
 use receipt_core::Receipt;
 use row_script::{Row, Script};
 use spiffe_name::{SpiffeId, TrustDomain};
 use std::alloc::{AllocError, Global};
-use trust_closure::{Closure, Distrusted};
 
 /// What the receipts of a chain have in common. In the text of the documents a sign `%` stands for
 /// the number.

@@ -1,11 +1,12 @@
 //! The replicas that rows act on.
 use crate::fault::RowFault;
 use crate::words::{first_word, text_of};
+use closure_core::Closure;
 use fed_config::Config;
 use poll_log::PollLog;
 use row_script::Script;
 use std::alloc::{AllocError, Global};
-use trust_closure::{Closure, IndexedClosure, PlainClosure};
+use trust_closure::{IndexedClosure, PlainClosure};
 
 /// The replica that rows act on, and the one beside it.
 #[derive(Drop)]

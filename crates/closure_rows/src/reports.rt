@@ -2,9 +2,9 @@
 use crate::fault::RowFault;
 use bundle_view::{ReportError, write_report};
 use byte_lines::{MemSink, Sink};
+use closure_core::Closure;
 use row_script::Script;
 use std::alloc::{AllocError, Global};
-use trust_closure::Closure;
 
 /// More bytes than any report of a row has.
 const AMPLE_ROOM: usize = 100_000;

@@ -3,11 +3,11 @@ use crate::fault::RowFault;
 use crate::words::{count, first_word};
 use bundle_doc::Document;
 use bundle_view::{Conflict, ConflictKind, conflicts, current, explain};
+use closure_core::{Closure, Receipts};
 use receipt_core::Receipt;
 use row_script::Script;
 use spiffe_name::TrustDomain;
 use std::alloc::{AllocError, Global};
-use trust_closure::{Closure, Receipts};
 
 /// Writes the line of a receipt.
 pub(crate) fn show_receipt(

@@ -6,6 +6,7 @@ use crate::devices::{AMPLE_ROOM, Devices};
 use crate::words::split_words;
 use bundle_view::Verdict;
 use byte_lines::{FromRead, MemSink, write_all};
+use closure_core::Closure;
 use fed_config::Config;
 use fedbundle::{
     Call, CommandError, CommandName, RunError, WordsError, read_sessions, read_words, run_bundle,
@@ -19,7 +20,6 @@ use replica_sync::{read_snapshot, write_snapshot};
 use row_script::Script;
 use spiffe_name::{SpiffeId, TrustDomain};
 use std::alloc::Global;
-use trust_closure::Closure;
 
 /// What is run.
 #[derive(Clone, Copy)]

@@ -2,6 +2,7 @@
 use bundle_doc::DocError;
 use bundle_view::ObserveError;
 use byte_lines::MemSink;
+use closure_core::TakeError;
 use fed_config::ConfigError;
 use fedbundle::{CommandError, status, write_fault};
 use poll_log::PollError;
@@ -10,7 +11,6 @@ use replica_sync::PullFault;
 use spiffe_name::NameError;
 use std::alloc::{AllocError, Global};
 use std::str;
-use trust_closure::TakeError;
 
 /// Room for some bytes of a line.
 const SHORT_ROOM: usize = 14;

@@ -2,9 +2,10 @@
 use crate::commands::{Case, carry_out};
 use crate::devices::{AMPLE_ROOM, Devices, Limits};
 use crate::words::head_words;
+use closure_core::Closure;
 use row_script::{Answers, Row, Script};
 use std::alloc::{AllocError, Global};
-use trust_closure::{Closure, IndexedClosure, PlainClosure};
+use trust_closure::{IndexedClosure, PlainClosure};
 
 /// Which device fails.
 #[derive(Clone, Copy)]

@@ -4,10 +4,10 @@ use crate::messages::config_id;
 use crate::replica::{is_record, receipt_of, record_of, tell_held};
 use crate::stop::Stop;
 use byte_lines::Sink;
+use closure_core::Closure;
 use fed_config::ConfigId;
 use receipt_core::{Distrust, Receipt};
 use replica_sync::{Give, SyncError, absorb, write_snapshot};
-use trust_closure::Closure;
 
 /// Tells what comes of an answer that has the records and receipts of the text's lines, and tells,
 /// by the third word, of which digest its sender's configuration is, when it comes first and when

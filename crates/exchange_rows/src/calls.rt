@@ -8,13 +8,13 @@ use crate::replica::{replica, tell_held};
 use crate::session::tell_session;
 use crate::stop::Stop;
 use byte_lines::{LineBuf, MemSink, MemSource, Sink, Source};
+use closure_core::Closure;
 use fed_config::Config;
 use replica_sync::{
     PullFault, SyncError, answer, have, pull, read_have, read_snapshot, serve_one, write_answer,
     write_have, write_snapshot,
 };
 use std::alloc::{AllocError, Global};
-use trust_closure::Closure;
 
 /// Written texts up to this length are shown line by line.
 const FEW_BYTES: usize = 4_096;

@@ -5,7 +5,7 @@ use crate::devices::in_pieces;
 use crate::runs::Runs;
 use crate::stop::Stop;
 use byte_lines::{FuseSource, MemSink, Source};
-use trust_closure::Closure;
+use closure_core::Closure;
 
 /// What ends or fails at a place.
 #[derive(Clone, Copy)]

@@ -1,11 +1,11 @@
 //! Replicas that hold what a text says.
 use crate::asked::{Asked, text_of_lines};
 use crate::stop::Stop;
+use closure_core::Closure;
 use fed_config::Config;
 use receipt_core::{Distrust, Receipt};
 use spiffe_name::TrustDomain;
 use std::alloc::{AllocError, Global};
-use trust_closure::Closure;
 
 /// A replica that was given the receipts and records of these lines.
 pub(crate) fn replica<C: Closure>(

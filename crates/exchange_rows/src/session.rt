@@ -5,9 +5,9 @@ use crate::places::AMPLE_ROOM;
 use crate::replica::{replica, tell_held};
 use crate::stop::Stop;
 use byte_lines::{MemSink, Sink};
+use closure_core::Closure;
 use replica_sync::{SyncError, have, pull, serve_one, write_have, write_snapshot};
 use std::alloc::Global;
-use trust_closure::Closure;
 
 /// Lets two replicas, of which the second and the third word name what they hold, pull from one
 /// another: the first one, then the other, and the first one again. Tells of the sessions, and

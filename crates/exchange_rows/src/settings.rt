@@ -5,9 +5,10 @@ use crate::events::tell_world;
 use crate::messages::tell_made;
 use crate::places::{Device, tell_places};
 use crate::stop::Stop;
+use closure_core::Closure;
 use row_script::Answers;
 use std::alloc::AllocError;
-use trust_closure::{Closure, IndexedClosure, PlainClosure};
+use trust_closure::{IndexedClosure, PlainClosure};
 
 /// Tells what comes of the row.
 pub(crate) fn tell(asked: Asked<'_>, answer: &mut String) -> Result<(), Stop> {

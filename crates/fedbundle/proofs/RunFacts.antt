@@ -13,9 +13,9 @@ use Rattle.byte_lines.specs.Device.{AppendsBeginning}
 use Rattle.byte_lines.specs.Lines.{Lines, lines_of, with_line, HasLine, HasNoLine, HasMore}
 use Rattle.receipt_core.specs.Receipt.{Receipt, with_receipt}
 use Rattle.byte_lines.proofs.StreamFacts.{lines_of-line, lines_of-rest}
-use Rattle.trust_closure.specs.Changes.{HeldAndRoom, Took}
-use Rattle.trust_closure.specs.declared.outcome.Taken.{Taken}
-use Rattle.trust_closure.specs.declared.outcome.Taken.TheVariants.{New as TakenNew, Already as TakenAlready}
+use Rattle.closure_core.specs.Changes.{HeldAndRoom, Took}
+use Rattle.closure_core.specs.declared.outcome.Taken.{Taken}
+use Rattle.closure_core.specs.declared.outcome.Taken.TheVariants.{New as TakenNew, Already as TakenAlready}
 use Rattle.fedbundle.specs.Stream.{AreTaken, OverfillStore, IsRefusedLine, Complaint, complaint_text}
 use Rattle.bundle_view.specs.Report.{WritesReport, BeginsReport}
 use Rattle.bundle_view.specs.declared.error.ReportError.{ReportError}

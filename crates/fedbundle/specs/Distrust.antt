@@ -2,8 +2,8 @@
 use Rattle.std.specs.Prelude.{◌≡◌, ℕ, ◌⊎◌}
 use Rattle.receipt_core.specs.Acceptance.{Meaning}
 use Rattle.receipt_core.specs.declared.distrust.Distrust.{Distrust}
-use Rattle.trust_closure.specs.Changes.{HasDistrusted, HasRecordAlready, HasRefusedDistrust}
-use Rattle.trust_closure.specs.declared.error.TakeError.{TakeError}
+use Rattle.closure_core.specs.Changes.{HasDistrusted, HasRecordAlready, HasRefusedDistrust}
+use Rattle.closure_core.specs.declared.error.TakeError.{TakeError}
 use Rattle.fedbundle.specs.declared.error.CommandError.{CommandError}
 use Rattle.fedbundle.specs.declared.error.CommandError.TheVariants.{Take}
 

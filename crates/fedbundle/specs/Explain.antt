@@ -5,7 +5,7 @@ use Rattle.bundle_doc.specs.Bundle.{Bundle, IsDocument}
 use Rattle.receipt_core.specs.Acceptance.{Meaning, IsMember}
 use Rattle.byte_lines.specs.Device.{AppendsBeginning}
 use Rattle.receipt_core.specs.Receipt.{Receipt, Pair, line}
-use Rattle.trust_closure.specs.Views.{document_of}
+use Rattle.closure_core.specs.AcceptedList.{document_of}
 use Rattle.bundle_view.specs.Explain.{IsShortest}
 use Rattle.fedbundle.specs.Canon.{Reads}
 

@@ -8,9 +8,9 @@ use Rattle.byte_lines.specs.Device.{AppendsBeginning}
 use Rattle.receipt_core.specs.Line.{IsLine}
 use Rattle.byte_lines.specs.Lines.{Lines}
 use Rattle.receipt_core.specs.Receipt.{Receipt}
-use Rattle.trust_closure.specs.Changes.{HeldAndRoom, Took}
-use Rattle.trust_closure.specs.Refusals.{IsOneTooMany}
-use Rattle.trust_closure.specs.declared.outcome.Taken.{Taken}
+use Rattle.closure_core.specs.Changes.{HeldAndRoom, Took}
+use Rattle.closure_core.specs.Refusals.{IsOneTooMany}
+use Rattle.closure_core.specs.declared.outcome.Taken.{Taken}
 use Rattle.fedbundle.specs.Stream.{AreTaken, OverfillStore, IsRefusedLine, Complaint, AreComplaints}
 use Rattle.fedbundle.specs.Stream.{complaint_text}
 use Rattle.fedbundle.specs.Run.{BeginsTelling}

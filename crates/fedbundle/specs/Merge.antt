@@ -3,8 +3,8 @@ use Rattle.std.specs.Prelude.{◌≡◌, ℕ, ◌⊎◌, List, codes, Option}
 use Rattle.std.specs.Io.KnownBytes.{Appends}
 use Rattle.receipt_core.specs.Acceptance.{Meaning}
 use Rattle.byte_lines.specs.Device.{AppendsBeginning}
-use Rattle.trust_closure.specs.Changes.{HeldAndRoom, HasMerged, HasRefusedMerge}
-use Rattle.trust_closure.specs.declared.error.TakeError.{TakeError}
+use Rattle.closure_core.specs.Changes.{HeldAndRoom, HasMerged, HasRefusedMerge}
+use Rattle.closure_core.specs.declared.error.TakeError.{TakeError}
 use Rattle.replica_sync.specs.Snapshots.{IsSnapshot, RefusesSnapshot}
 use Rattle.replica_core.specs.declared.error.SyncError.{SyncError}
 use Rattle.fedbundle.specs.Counts.{counted}

@@ -4,7 +4,7 @@ use Rattle.std.specs.Io.KnownBytes.{Appends}
 use Rattle.receipt_core.specs.Acceptance.{Meaning}
 use Rattle.byte_lines.specs.Device.{AppendsBeginning}
 use Rattle.receipt_core.specs.Receipt.{Receipt, line}
-use Rattle.trust_closure.specs.Changes.{HeldAndRoom}
+use Rattle.closure_core.specs.Changes.{HeldAndRoom}
 use Rattle.bundle_view.specs.Observe.{HasObserved, HasNotObserved}
 use Rattle.bundle_view.specs.declared.observation.Verdict.{Verdict}
 use Rattle.bundle_view.specs.declared.observe_error.ObserveError.{ObserveError}

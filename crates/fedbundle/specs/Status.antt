@@ -3,7 +3,7 @@ use Rattle.std.specs.Prelude.{ℕ}
 use Rattle.spiffe_name.specs.declared.error.NameError.TheVariants.{NoMemory as NoMemoryForName}
 use Rattle.bundle_doc.specs.declared.error.DocError.TheVariants.{NoMemory as NoMemoryForDocument}
 use Rattle.fed_config.specs.declared.error.ConfigError.TheVariants.{NoMemory as NoMemoryForConfig}
-use Rattle.trust_closure.specs.declared.error.TakeError.TheVariants.{NoMemory as NoMemoryToTake}
+use Rattle.closure_core.specs.declared.error.TakeError.TheVariants.{NoMemory as NoMemoryToTake}
 use Rattle.bundle_view.specs.declared.observe_error.ObserveError.TheVariants.{Take as TakeFailed}
 use Rattle.poll_log.specs.declared.error.PollError.TheVariants.{NoMemory as NoMemoryToPoll}
 use Rattle.poll_log.specs.declared.error.PollError.TheVariants.{Io as PollIo}

@@ -10,7 +10,7 @@ use Rattle.receipt_core.specs.Acceptance.{IsFitting}
 use Rattle.receipt_core.specs.Line.{IsLine, IsNoLine}
 use Rattle.byte_lines.specs.Lines.{Lines}
 use Rattle.receipt_core.specs.Receipt.{Receipt, IsReceipt, line, receipt_cmp}
-use Rattle.trust_closure.specs.Refusals.{IsOfUnknownDomain, IsOfWrongEndpoint}
+use Rattle.closure_core.specs.Refusals.{IsOfUnknownDomain, IsOfWrongEndpoint}
 use Rattle.fedbundle.specs.declared.complaint.LineFault.{LineFault}
 use Rattle.fedbundle.specs.declared.complaint.LineFault.TheVariants.{NotCanonical, TooLong}
 use Rattle.fedbundle.specs.declared.complaint.LineFault.TheVariants.{UnknownDomain, WrongEndpoint}

@@ -9,8 +9,8 @@ use crate::error::CommandError;
 use bundle_doc::Document;
 use bundle_view::current;
 use byte_lines::{Fault, Sink, write_all};
+use closure_core::Closure;
 use spiffe_name::TrustDomain;
-use trust_closure::Closure;
 
 /// Writes the canonical text of the domain's current document as a line, and returns whether there
 /// is one. Where there is none, as for a domain that the configuration does not have, nothing is

@@ -3,9 +3,9 @@ ghost use Rattle.std.specs.Prelude.{◌≡◌, MatchResult};
 ghost use Rattle.fedbundle.specs.Distrust.{HoldsRecord, RefusesDistrusting};
 
 use crate::error::CommandError;
+use closure_core::{Closure, Distrusted};
 use jwk_set::KeyId;
 use spiffe_name::TrustDomain;
-use trust_closure::{Closure, Distrusted};
 
 /// Distrusts the key in the domain, where it may have been distrusted before. It takes no memory.
 ///

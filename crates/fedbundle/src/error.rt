@@ -9,6 +9,7 @@ use crate::run_error::RunError;
 use bundle_doc::DocError;
 use bundle_view::ObserveError;
 use byte_lines::{DeviceError, Fault};
+use closure_core::TakeError;
 use fed_config::ConfigError;
 use poll_log::PollError;
 use replica_core::SyncError;
@@ -16,7 +17,6 @@ use replica_sync::PullFault;
 use spiffe_name::NameError;
 use std::alloc::AllocError;
 use thiserror::Error;
-use trust_closure::TakeError;
 
 /// Why a command ends without its result: the refusal of the part that it stands on, or a cause of
 /// its own.

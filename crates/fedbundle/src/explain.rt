@@ -8,10 +8,10 @@ use crate::error::CommandError;
 use bundle_doc::{Document, MAX_DOCUMENT_BYTES};
 use bundle_view::explain;
 use byte_lines::{Sink, Source, read_up_to, write_all};
+use closure_core::Closure;
 use receipt_core::Receipt;
 use spiffe_name::TrustDomain;
 use std::alloc::{AllocError, Global};
-use trust_closure::Closure;
 
 /// Reads a bundle document and writes why it is accepted as one of the domain: the lines of the
 /// receipts of a shortest chain from a configured document to it, none for a configured one.

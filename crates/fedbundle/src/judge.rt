@@ -12,9 +12,9 @@ ghost use Rattle.fedbundle.specs.declared.run_error.RunError.TheVariants.{Io};
 use crate::complaint::{LineFault, complain};
 use crate::run_error::RunError;
 use byte_lines::{Line, LineBuf, Sink, Source};
+use closure_core::{Closure, TakeError};
 use receipt_core::{LineError, Receipt};
 use std::alloc::Global;
-use trust_closure::{Closure, TakeError};
 
 /// Takes every receipt that fits, and complains of each other line and of a rest that no line feed
 /// ends. Answers the number of complaints.

@@ -17,7 +17,7 @@ pub fn one_report()
         → AreTaken c one.whole rs → AreTaken c other.whole ss
         → IsReport (meaning_of_receipts c rs) s → IsReport (meaning_of_receipts c ss) t → s ≡ t }
 {
-    trust_closure::laws::one_list();
+    closure_core::laws::one_list();
     bundle_view::laws::one_view();
 }
 

@@ -7,9 +7,9 @@ ghost use Rattle.fedbundle.specs.declared.error.CommandError.TheVariants.{Io};
 use crate::counts::write_counted;
 use crate::error::CommandError;
 use byte_lines::{Sink, Source};
+use closure_core::Closure;
 use replica_sync::read_snapshot;
 use std::alloc::Global;
-use trust_closure::Closure;
 
 /// Reads a snapshot, takes all of its receipts and records of distrust, and writes a line `new`
 /// with how many of the receipts were not held.

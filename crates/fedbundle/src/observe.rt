@@ -9,10 +9,10 @@ use crate::error::CommandError;
 use bundle_doc::MAX_DOCUMENT_BYTES;
 use bundle_view::{Verdict, observe};
 use byte_lines::{Sink, Source, read_up_to, write_all};
+use closure_core::Closure;
 use receipt_core::Receipt;
 use spiffe_name::TrustDomain;
 use std::alloc::{AllocError, Global};
-use trust_closure::Closure;
 
 /// Reads a bundle document of the domain as it was fetched, takes the receipt that the verdict on
 /// its endpoint makes of it, and writes the receipt's line. It reads at most one byte more than a

@@ -9,12 +9,12 @@ ghost use Rattle.fedbundle.specs.declared.error.CommandError.TheVariants.{Io, No
 use crate::error::CommandError;
 use bundle_view::current;
 use byte_lines::{Sink, Source, write_all};
+use closure_core::Closure;
 use itoa::Buffer;
 use jiff::Timestamp;
 use poll_log::{PollLog, read_polls};
 use spiffe_name::TrustDomain;
 use std::alloc::{AllocError, Global};
-use trust_closure::Closure;
 
 /// Reads the lines of the polls that were made, and writes for each relationship of the
 /// configuration, rising by domain, a line: the domain and then `due` where it is to be polled now,

@@ -8,9 +8,9 @@ ghost use Rattle.fedbundle.specs.declared.error.CommandError.TheVariants.{Io, Pu
 use crate::counts::write_counted;
 use crate::error::CommandError;
 use byte_lines::{Sink, Source};
+use closure_core::Closure;
 use replica_sync::pull;
 use std::alloc::Global;
-use trust_closure::Closure;
 
 /// Asks another replica about each bucket, takes what its answers have, and writes a line `new`
 /// with how many of the receipts were not held. The questions go to `peer`, and the answers come

@@ -10,9 +10,10 @@ use crate::judge::take_lines;
 use crate::run_error::RunError;
 use bundle_view::write_report;
 use byte_lines::{Sink, Source};
+use closure_core::Closure;
 use fed_config::Config;
 use std::alloc::Global;
-use trust_closure::{Closure, IndexedClosure};
+use trust_closure::IndexedClosure;
 
 /// Takes every receipt of the source's lines that fits the configuration, and then writes the
 /// report of what is accepted with these receipts and no record of distrust

@@ -9,9 +9,9 @@ ghost use Rattle.fedbundle.specs.declared.error.CommandError.TheVariants.{Io, Sy
 use crate::counts::write_counted;
 use crate::error::CommandError;
 use byte_lines::{Sink, Source};
+use closure_core::Closure;
 use replica_sync::serve_one;
 use std::alloc::Global;
-use trust_closure::Closure;
 
 /// Serves one session: answers the questions of the source, one after another, until it ends where
 /// a question would begin. Answers how many there were.

@@ -3,6 +3,7 @@
 //! What a file holds is outside all contracts: these calls are proved only to be safe and to
 //! return, and shown by runs of the program.
 use byte_lines::{FromRead, FromWrite};
+use closure_core::Closure;
 use fed_config::Config;
 use replica_core::SyncError;
 use replica_sync::{read_snapshot, write_snapshot};
@@ -10,7 +11,6 @@ use std::alloc::{AllocError, Global};
 use std::fs::{File, Files, OpenFile, OpenOptions};
 use std::io::BufWriter;
 use std::{fs, io};
-use trust_closure::Closure;
 
 /// The bytes that are gathered before they are written to the file.
 const BUFFER_BYTES: usize = 65_536;

@@ -3,7 +3,7 @@ use Rattle.fed_config.specs.Configuration.{Configuration, IsConfiguration, relat
 use Rattle.std.specs.Prelude.{Contains}
 use Rattle.std.specs.declared.cmp.Ordering.TheVariants.{Equal, Less}
 use Rattle.receipt_core.specs.Acceptance.{IsFitting}
-use Rattle.trust_closure.specs.Refusals.{IsOfWrongEndpoint}
+use Rattle.closure_core.specs.Refusals.{IsOfWrongEndpoint}
 use Rattle.std.specs.List.Sorted.{IsStrictlySortedBy}
 use Rattle.std.proofs.Common.{List, [], ap, inl, inr, subst, sym, ◌∙◌, ◌∷◌, ◌≡◌}
 use Rattle.receipt_core.specs.Receipt.{Receipt}

@@ -20,15 +20,15 @@ use Rattle.receipt_core.specs.Receipt.{Receipt, receipt_cmp, distrust_cmp}
 use Rattle.receipt_core.specs.Rising.{with_item, with_items}
 use Rattle.receipt_core.specs.Acceptance.{IsFitting, Meaning, IsMeaning}
 use Rattle.receipt_core.proofs.RisingFacts.{turned}
-use Rattle.trust_closure.specs.Changes.{HeldAndRoom as Closed, empty_of, Took, TakesDistrust, HasRefused, HasRefusedMerge}
-use Rattle.trust_closure.specs.Refusals.{RefusesReceipt, RefusesDistrust, RefusesMerge, AreTooMany}
-use Rattle.trust_closure.specs.declared.error.TakeError.{TakeError}
-use Rattle.trust_closure.specs.declared.error.TakeError.TheVariants.{UnknownDomain, WrongEndpoint, Full, NoMemory, ConfigDiffers}
-use Rattle.trust_closure.specs.declared.outcome.Refused.{Refused}
-use Rattle.trust_closure.specs.declared.outcome.Taken.{Taken}
-use Rattle.trust_closure.specs.declared.outcome.Taken.TheVariants.{New as TakenNew, Already as TakenAlready}
-use Rattle.trust_closure.specs.declared.outcome.Distrusted.{Distrusted}
-use Rattle.trust_closure.specs.declared.outcome.Distrusted.TheVariants.{New as DistrustedNew, Already as DistrustedAlready}
+use Rattle.closure_core.specs.Changes.{HeldAndRoom as Closed, empty_of, Took, TakesDistrust, HasRefused, HasRefusedMerge}
+use Rattle.closure_core.specs.Refusals.{RefusesReceipt, RefusesDistrust, RefusesMerge, AreTooMany}
+use Rattle.closure_core.specs.declared.error.TakeError.{TakeError}
+use Rattle.closure_core.specs.declared.error.TakeError.TheVariants.{UnknownDomain, WrongEndpoint, Full, NoMemory, ConfigDiffers}
+use Rattle.closure_core.specs.declared.outcome.Refused.{Refused}
+use Rattle.closure_core.specs.declared.outcome.Taken.{Taken}
+use Rattle.closure_core.specs.declared.outcome.Taken.TheVariants.{New as TakenNew, Already as TakenAlready}
+use Rattle.closure_core.specs.declared.outcome.Distrusted.{Distrusted}
+use Rattle.closure_core.specs.declared.outcome.Distrusted.TheVariants.{New as DistrustedNew, Already as DistrustedAlready}
 use Rattle.replica_core.specs.State.{no_state, joined, is_within_limits, meaning_of_state}
 use Rattle.replica_core.specs.Session.{state_of}
 use Rattle.replica_core.specs.World.{same_id, is_fitting, is_known}

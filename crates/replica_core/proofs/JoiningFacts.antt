@@ -7,16 +7,15 @@ use Rattle.receipt_core.specs.Receipt.{Receipt, IsReceipt, receipt_cmp, distrust
 use Rattle.receipt_core.specs.Rising.{with_items}
 use Rattle.receipt_core.specs.Sets.{AreSets, Always}
 use Rattle.receipt_core.specs.Acceptance.{Meaning, IsMeaning}
-use Rattle.trust_closure.specs.Changes.{HeldAndRoom as ClosureState, Takes, TakesDistrust, Took, Distrusts}
-use Rattle.trust_closure.specs.Merge.{offers_count}
-use Rattle.trust_closure.specs.Refusals.{IsRoomier, RefusesDistrust, RefusesReceipt}
-use Rattle.trust_closure.specs.declared.error.TakeError.{TakeError}
-use Rattle.trust_closure.specs.declared.error.TakeError.TheVariants.{UnknownDomain, WrongEndpoint, Full, NoMemory as NoTakeMemory, ConfigDiffers as OtherConfig}
-use Rattle.trust_closure.specs.declared.outcome.Refused.{Refused}
-use Rattle.trust_closure.specs.declared.outcome.Taken.{Taken}
-use Rattle.trust_closure.specs.declared.outcome.Taken.TheVariants.{New as TakenNew, Already as TakenAlready}
-use Rattle.trust_closure.specs.declared.outcome.Distrusted.{Distrusted}
-use Rattle.trust_closure.specs.declared.outcome.Distrusted.TheVariants.{New as DistrustedNew, Already as DistrustedAlready}
+use Rattle.closure_core.specs.Changes.{HeldAndRoom as ClosureState, Takes, TakesDistrust, Took, Distrusts}
+use Rattle.closure_core.specs.Refusals.{offers_count, IsRoomier, RefusesDistrust, RefusesReceipt}
+use Rattle.closure_core.specs.declared.error.TakeError.{TakeError}
+use Rattle.closure_core.specs.declared.error.TakeError.TheVariants.{UnknownDomain, WrongEndpoint, Full, NoMemory as NoTakeMemory, ConfigDiffers as OtherConfig}
+use Rattle.closure_core.specs.declared.outcome.Refused.{Refused}
+use Rattle.closure_core.specs.declared.outcome.Taken.{Taken}
+use Rattle.closure_core.specs.declared.outcome.Taken.TheVariants.{New as TakenNew, Already as TakenAlready}
+use Rattle.closure_core.specs.declared.outcome.Distrusted.{Distrusted}
+use Rattle.closure_core.specs.declared.outcome.Distrusted.TheVariants.{New as DistrustedNew, Already as DistrustedAlready}
 use Rattle.replica_core.specs.Absorbing.{with_entry, AreWelcome, IsWelcome, of_receipts, of_records, room_for}
 use Rattle.replica_core.specs.declared.entry.Entry.TheVariants.{Record, Receipt as AReceipt}
 use Rattle.replica_core.proofs.JudgeFacts.{take-next, with_items-push}

@@ -11,9 +11,9 @@ use Rattle.receipt_core.specs.declared.distrust.Distrust.{Distrust}
 use Rattle.receipt_core.specs.Receipt.{Receipt, receipt_cmp, distrust_cmp}
 use Rattle.receipt_core.specs.Rising.{with_item, with_items}
 use Rattle.receipt_core.specs.Acceptance.{IsFitting, Meaning}
-use Rattle.trust_closure.specs.Held.{Misfits}
-use Rattle.trust_closure.specs.declared.error.TakeError.{TakeError}
-use Rattle.trust_closure.specs.declared.error.TakeError.TheVariants.{UnknownDomain, WrongEndpoint, Full, NoMemory as NoTakeMemory, ConfigDiffers as OtherConfig}
+use Rattle.closure_core.specs.Refusals.{Misfits}
+use Rattle.closure_core.specs.declared.error.TakeError.{TakeError}
+use Rattle.closure_core.specs.declared.error.TakeError.TheVariants.{UnknownDomain, WrongEndpoint, Full, NoMemory as NoTakeMemory, ConfigDiffers as OtherConfig}
 use Rattle.replica_core.specs.Absorbing.{RefusesEntry, with_entry, AreWelcome, IsFirstRefused, IsWelcome, of_receipts, of_records, with_entries}
 use Rattle.replica_core.specs.Inside.Places.{HasPlaces}
 use Rattle.replica_core.specs.declared.entry.Entry.{Entry}

@@ -8,7 +8,7 @@ use Rattle.std.specs.Ordering.{eq_by_cmp, is_eq}
 use Rattle.std.specs.Cmp.{Equal-is, tied_itself}
 use Rattle.receipt_core.specs.declared.distrust.Distrust.{Distrust}
 use Rattle.receipt_core.specs.Receipt.{Receipt, receipt_id_of}
-use Rattle.trust_closure.specs.Views.{is_in_bucket, receipts_in}
+use Rattle.closure_core.specs.AcceptedList.{is_in_bucket, receipts_in}
 use Rattle.receipt_core.specs.Rising.{placed, with_item, with_items}
 use Rattle.receipt_core.specs.Sets.{AreSets, Always}
 use Rattle.replica_core.specs.Inside.Places.{HasPlaces, HasNoPlace, HasPlace}

@@ -9,7 +9,7 @@ use Rattle.fed_config.specs.Configuration.{Configuration}
 use Rattle.receipt_core.specs.declared.distrust.Distrust.{Distrust}
 use Rattle.receipt_core.specs.Receipt.{Receipt, receipt_cmp, distrust_cmp}
 use Rattle.receipt_core.specs.Acceptance.{Meaning, IsMeaning}
-use Rattle.trust_closure.specs.Changes.{empty_of}
+use Rattle.closure_core.specs.Changes.{empty_of}
 use Rattle.replica_core.specs.State.{State, no_state, joined, is_within_limits, receipts_lacking, first_of, meaning_of_state}
 use Rattle.replica_core.specs.Session.{state_of}
 use Rattle.replica_core.specs.World.{Message, question, answer, World, rules_of, Effect, gains, sends, saves, restarts, where_so, replies, takes_whole}

@@ -5,11 +5,11 @@ use Rattle.fed_config.specs.Configuration.{config_id_of}
 use Rattle.receipt_core.specs.declared.distrust.Distrust.{Distrust}
 use Rattle.receipt_core.specs.Receipt.{Receipt, with_distrust, with_receipt}
 use Rattle.receipt_core.specs.Acceptance.{Meaning}
-use Rattle.trust_closure.specs.Merge.{offers_count}
-use Rattle.trust_closure.specs.Refusals.{Room, IsRoomier, RefusesDistrust, RefusesReceipt}
-use Rattle.trust_closure.specs.Changes.{HeldAndRoom as ClosureState}
-use Rattle.trust_closure.specs.declared.error.TakeError.{TakeError}
-use Rattle.trust_closure.specs.declared.error.TakeError.TheVariants.{NoMemory as NoTakeMemory}
+use Rattle.closure_core.specs.Refusals.{offers_count, Room, IsRoomier, RefusesDistrust}
+use Rattle.closure_core.specs.Refusals.{RefusesReceipt}
+use Rattle.closure_core.specs.Changes.{HeldAndRoom as ClosureState}
+use Rattle.closure_core.specs.declared.error.TakeError.{TakeError}
+use Rattle.closure_core.specs.declared.error.TakeError.TheVariants.{NoMemory as NoTakeMemory}
 use Rattle.replica_core.specs.State.{State, joined, meaning_of_state}
 use Rattle.replica_core.specs.Session.{Reply, state_of}
 use Rattle.replica_core.specs.declared.entry.Entry.{Entry}

@@ -1,8 +1,7 @@
 //! What a replica takes of an answer.
 ghost use Rattle.std.specs.Prelude.{◌≡◌, ◌+◌, ◌^◌, ◌<◌, ◌≤◌, ◌↔◌, IsTrue, MatchOption, MatchResult};
 ghost use Rattle.std.specs.Prelude.{length};
-ghost use Rattle.trust_closure.specs.Refusals.{IsRoomier};
-ghost use Rattle.trust_closure.specs.Merge.{offers_count};
+ghost use Rattle.closure_core.specs.Refusals.{IsRoomier, offers_count};
 ghost use Rattle.replica_core.specs.State.{joined, meaning_of_state};
 ghost use Rattle.replica_core.specs.Session.{state_of};
 ghost use Rattle.replica_core.specs.Absorbing.{AreWelcome, HasAbsorbed, HasRefusedReply};
@@ -12,9 +11,9 @@ use crate::error::SyncError;
 use crate::give::Give;
 use crate::joining::{distrust_all, take_all};
 use crate::judging::{first_receipt, first_record};
+use closure_core::{Closure, TakeError};
 use receipt_core::Receipt;
 use std::alloc::AllocError;
-use trust_closure::{Closure, TakeError};
 
 /// Takes all of an answer, or nothing, and returns how many receipts were not held. Its work is
 /// that of its takes; where its lines may pass a limit, each is also compared with those before it.

@@ -5,7 +5,7 @@ ghost use Rattle.replica_core.specs.Session.{reply_of, state_of};
 
 use crate::question::Have;
 use crate::reply::{Answer, Lacking};
-use trust_closure::Closure;
+use closure_core::Closure;
 
 /// What the closure answers to the question: the receipts of the bucket that the question does not
 /// name, in the order of their lines' bytes, and all records of distrust. It takes no memory.

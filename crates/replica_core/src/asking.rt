@@ -2,16 +2,16 @@
 ghost use Rattle.std.specs.Prelude.{◌≡◌, ◌↔◌, IsTrue, IfOk, IfErr, map, Contains};
 ghost use Rattle.std.specs.List.Sorted.{IsStrictlySortedBy};
 ghost use Rattle.receipt_core.specs.Receipt.{receipt_id_of};
-ghost use Rattle.trust_closure.specs.Views.{receipts_in};
+ghost use Rattle.closure_core.specs.AcceptedList.{receipts_in};
 ghost use Rattle.replica_core.specs.State.{id_cmp, ids_held};
 ghost use Rattle.replica_core.specs.Session.{question_of, state_of};
 ghost use Rattle.replica_core.specs.declared.error.SyncError.TheVariants.{NoMemory};
 
 use crate::error::SyncError;
 use crate::question::Have;
+use closure_core::Closure;
 use receipt_core::ReceiptId;
 use std::alloc::{AllocError, Global};
-use trust_closure::Closure;
 
 /// What the closure holds of the bucket.
 ///

@@ -4,9 +4,9 @@ ghost use Rattle.replica_core.specs.SyncErrors.{fault_of};
 ghost use Rattle.replica_core.specs.declared.error.SyncError.TheVariants.{Io, NoMemory};
 
 use byte_lines::{DeviceError, Fault};
+use closure_core::TakeError;
 use std::alloc::AllocError;
 use thiserror::Error;
-use trust_closure::TakeError;
 
 /// Why a snapshot or a message is refused: the first fault in the order of its bytes. Lines are
 /// counted from 1.

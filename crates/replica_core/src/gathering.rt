@@ -7,10 +7,10 @@ ghost use Rattle.replica_core.specs.Session.{state_of};
 ghost use Rattle.replica_core.specs.World.{is_fitting, is_known};
 ghost use Rattle.replica_core.specs.Inside.Playing.{grown, CanHold, CanHoldRecords};
 
+use closure_core::{Closure, NoMemory, TakeError};
 use fed_config::Config;
 use receipt_core::{Distrust, Receipt};
 use std::alloc::{AllocError, Global};
-use trust_closure::{Closure, NoMemory, TakeError};
 
 /// The closure gains all that the other one of its configuration holds, or nothing where that would
 /// be too much.

@@ -2,11 +2,11 @@
 ghost use Rattle.std.specs.Prelude.{◌≡◌};
 ghost use Rattle.receipt_core.specs.Receipt.{receipt_cmp, distrust_cmp};
 ghost use Rattle.receipt_core.specs.Rising.{with_items};
-ghost use Rattle.trust_closure.specs.Refusals.{IsRoomier};
+ghost use Rattle.closure_core.specs.Refusals.{IsRoomier};
 ghost use Rattle.replica_core.specs.Absorbing.{AreWelcome, of_records, of_receipts, room_for};
 
+use closure_core::Closure;
 use receipt_core::{Distrust, Receipt};
-use trust_closure::Closure;
 
 /// Distrusts all of these, which are welcome.
 pub(crate) fn distrust_all<C: Closure>(closure: &mut C, records: &[Distrust])

@@ -3,13 +3,13 @@ ghost use Rattle.std.specs.Prelude.{◌≡◌, ◌+◌, ◌^◌, ◌<◌, List, 
 ghost use Rattle.receipt_core.specs.declared.distrust.Distrust.{Distrust};
 ghost use Rattle.receipt_core.specs.Receipt.{IsReceipt};
 ghost use Rattle.receipt_core.specs.Acceptance.{IsFitting};
-ghost use Rattle.trust_closure.specs.Held.{Misfits};
+ghost use Rattle.closure_core.specs.Refusals.{Misfits};
 ghost use Rattle.replica_core.specs.Absorbing.{AreWelcome, IsFirstRefused, of_records, of_receipts};
 
 use crate::places::{place_for_receipt, place_for_record};
+use closure_core::{Closure, TakeError};
 use fed_config::Config;
 use receipt_core::{Distrust, Receipt};
-use trust_closure::{Closure, TakeError};
 
 /// The most records of distrust that are held.
 const MOST_RECORDS: usize = 4_096;

@@ -8,9 +8,9 @@ ghost use Rattle.replica_core.specs.Inside.Playing.{content_of, message_of, answ
 use crate::answering::answer;
 use crate::question::Have;
 use crate::reply::Lacking;
+use closure_core::{Closure, Distrusts, NoMemory};
 use receipt_core::{Distrust, Receipt};
 use std::alloc::{AllocError, Global};
-use trust_closure::{Closure, Distrusts, NoMemory};
 
 /// A message, which stays once it was sent.
 #[derive(Debug, Drop)]

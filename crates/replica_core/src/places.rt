@@ -5,10 +5,10 @@ ghost use Rattle.receipt_core.specs.Receipt.{IsReceipt, receipt_cmp, distrust_cm
 ghost use Rattle.receipt_core.specs.Rising.{with_items};
 ghost use Rattle.replica_core.specs.Inside.Places.{HasNoPlace, HasPlace, HasPlaces};
 
+use closure_core::Closure;
 use jwk_set::KeyId;
 use receipt_core::{Distrust, Receipt};
 use spiffe_name::TrustDomain;
-use trust_closure::Closure;
 
 /// How many places are free for the others once this record is held too, which is the first of
 /// those left, where the records before it are held and this many places are free. `None` where

@@ -12,10 +12,10 @@ use crate::asking::have;
 use crate::gathering::{copied, gathered, grow, offer_receipt, offer_record};
 use crate::message::{Message, answer_at, first, question_at, told};
 use crate::question::Have;
+use closure_core::{Closure, NoMemory};
 use fed_config::Config;
 use receipt_core::{Distrust, Receipt};
 use std::alloc::{AllocError, Global};
-use trust_closure::{Closure, NoMemory};
 
 /// What each replica holds and what it saved last, by its number, and every message that was sent.
 #[derive(Drop)]

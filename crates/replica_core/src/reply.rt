@@ -6,10 +6,10 @@ ghost use Rattle.replica_core.specs.State.{id_cmp};
 ghost use Rattle.replica_core.specs.Lacking.{not_named};
 
 use crate::asking::is_named;
+use closure_core::{Distrusts, Receipts};
 use fed_config::ConfigId;
 use receipt_core::{Receipt, ReceiptId};
 use std::marker::Model;
-use trust_closure::{Distrusts, Receipts};
 
 /// An answer: the receipts of a bucket that a question does not name, and all records of distrust
 /// of the answerer.

@@ -7,9 +7,10 @@ use crate::event::Event;
 use crate::playing::{
     Playing, absorb, answer, ask, join, part, restart, revoke, save, start, take,
 };
+use closure_core::{Closure, NoMemory};
 use fed_config::Config;
 use std::alloc::Global;
-use trust_closure::{Closure, IndexedClosure, NoMemory};
+use trust_closure::IndexedClosure;
 
 /// Lets the events happen, one after another, to `n` replicas of one configuration, which hold
 /// nothing at first, and answers what each then holds, by its number. It is a model of replicas

@@ -11,8 +11,8 @@ use Rattle.receipt_core.specs.Receipt.{Receipt, IsReceipt, line, IsDistrust, dis
 use Rattle.receipt_core.specs.Acceptance.{IsFitting, Meaning, IsMeaning}
 use Rattle.receipt_core.proofs.LineFacts.{one_line, one_record, record_first, distrust_order}
 use Rattle.receipt_core.proofs.ReadFacts.{length-line, no_long_record}
-use Rattle.trust_closure.specs.declared.error.TakeError.{TakeError}
-use Rattle.trust_closure.specs.declared.error.TakeError.TheVariants.{UnknownDomain, WrongEndpoint, Full, NoMemory as NoTakeMemory, ConfigDiffers as OtherConfig}
+use Rattle.closure_core.specs.declared.error.TakeError.{TakeError}
+use Rattle.closure_core.specs.declared.error.TakeError.TheVariants.{UnknownDomain, WrongEndpoint, Full, NoMemory as NoTakeMemory, ConfigDiffers as OtherConfig}
 use Rattle.replica_sync.specs.Entries.{IsAbove, IsEntry, IsWanted, entry_line}
 use Rattle.replica_core.specs.Absorbing.{RefusesEntry}
 use Rattle.replica_sync.specs.Snapshots.{IsTold, RefusesPlace, held_lines, last_line, wanted_of}

@@ -5,7 +5,7 @@ use Rattle.std.specs.List.{AllByRecursion, flat_map}
 use Rattle.fed_config.specs.Configuration.{Configuration}
 use Rattle.receipt_core.specs.Acceptance.{Meaning}
 use Rattle.byte_lines.specs.Lines.{HasLine}
-use Rattle.trust_closure.specs.declared.error.TakeError.{TakeError}
+use Rattle.closure_core.specs.declared.error.TakeError.{TakeError}
 use Rattle.replica_core.specs.State.{State, meaning_of_state}
 use Rattle.replica_core.specs.Session.{Question, Reply, state_of}
 use Rattle.replica_sync.specs.Snapshots.{ended, last_of}

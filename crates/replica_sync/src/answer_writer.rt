@@ -7,12 +7,12 @@ ghost use Rattle.replica_core.specs.declared.error.SyncError.TheVariants.{Io, No
 
 use crate::spelling::{GiveHeaderLine, push_give_header};
 use byte_lines::{Sink, write_all};
+use closure_core::Distrusts;
 use jwk_set::KeyId;
 use receipt_core::{Distrust, Receipt};
 use replica_core::{Answer, Lacking, SyncError};
 use spiffe_name::TrustDomain;
 use std::alloc::{AllocError, Global};
-use trust_closure::Distrusts;
 
 /// Writes the answer: a line of compact JSON with the members `bucket`, `config`, `count`, the
 /// number of receipts, `distrusts`, the number of records, `format`, which is 2, and `of`, which is

@@ -7,11 +7,11 @@ ghost use Rattle.replica_sync.specs.Entries.{RefusesEntryText};
 ghost use Rattle.replica_sync.specs.Inside.EntrySteps.{TakesEntry, TakesEntryText};
 ghost use Rattle.replica_sync.specs.Inside.EntrySteps.{HasRefusedEntry, HasRefusedLine};
 
+use closure_core::{Closure, Distrusted, TakeError, Taken};
 use receipt_core::{Distrust, LineError, Receipt};
 use replica_core::{Entry, SyncError};
 use std::alloc::Global;
 use std::cmp::Ordering;
-use trust_closure::{Closure, Distrusted, TakeError, Taken};
 
 /// Which lines may stand at a place.
 #[derive(Clone, Copy, Debug)]

@@ -4,7 +4,7 @@ ghost use Rattle.std.specs.Prelude.{◌≡◌, ◌≢◌, List, Option, Some, �
 ghost use Rattle.std.specs.Io.KnownBytes.{Consumes};
 ghost use Rattle.fed_config.specs.Configuration.{Configuration, IsConfiguration};
 ghost use Rattle.receipt_core.specs.Acceptance.{Meaning};
-ghost use Rattle.trust_closure.specs.declared.error.TakeError.{TakeError};
+ghost use Rattle.closure_core.specs.declared.error.TakeError.{TakeError};
 ghost use Rattle.replica_core.specs.Session.{Question, Reply};
 ghost use Rattle.replica_core.specs.declared.error.SyncError.{SyncError};
 ghost use Rattle.replica_core.specs.declared.error.SyncError.TheVariants.{Io, NoMemory, Refused};

@@ -12,10 +12,10 @@ ghost use Rattle.replica_core.specs.declared.error.SyncError.TheVariants.{Io, No
 use crate::question_writer::write_have;
 use crate::taking::{Place, take_answer};
 use byte_lines::{LineBuf, Sink, Source};
+use closure_core::Closure;
 use replica_core::{SyncError, have};
 use std::alloc::Global;
 use thiserror::Error;
-use trust_closure::Closure;
 
 /// Why a session ended before its last answer was taken whole.
 #[derive(Clone, Copy, Debug, PartialEq, Eq, Error)]

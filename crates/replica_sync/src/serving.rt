@@ -8,9 +8,9 @@ ghost use Rattle.replica_core.specs.declared.error.SyncError.TheVariants.{Io};
 use crate::answer_writer::write_answer;
 use crate::question_reader::next_own;
 use byte_lines::{LineBuf, Sink, Source};
+use closure_core::Closure;
 use replica_core::{SyncError, answer};
 use std::alloc::Global;
-use trust_closure::Closure;
 
 /// Answers the questions of the source, one after another, until it ends where a question would
 /// begin. Answers how many there were.

@@ -9,16 +9,16 @@ ghost use Rattle.replica_sync.specs.Snapshots.{RefusesSnapshot, count_of, is_io,
 ghost use Rattle.replica_sync.specs.Snapshots.{next_number, wanted_of};
 ghost use Rattle.replica_sync.specs.Inside.Reading.{FailsBehind, HoldsAll, Judges, RefusesEnd};
 ghost use Rattle.replica_sync.specs.Inside.Reading.{StepsThroughSnapshot};
-ghost use Rattle.trust_closure.specs.Changes.{empty_of};
+ghost use Rattle.closure_core.specs.Changes.{empty_of};
 
 use crate::entry_line::{Wanted, take_line};
 use crate::format::Format;
 use crate::header::{read_first, write_count};
 use byte_lines::{Line, LineBuf, Source};
+use closure_core::Closure;
 use fed_config::Config;
 use replica_core::SyncError;
 use std::alloc::{AllocError, Global};
-use trust_closure::Closure;
 
 /// Reads a snapshot of this configuration: a first line, the lines of records of distrust and of
 /// receipts, rising, and a last line with their numbers, each ended by a line feed (byte 10), and

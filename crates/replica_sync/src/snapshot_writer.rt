@@ -7,12 +7,12 @@ ghost use Rattle.replica_sync.specs.Writing.{Writes};
 use crate::format::Format;
 use crate::header::{write_count, write_header};
 use byte_lines::{Sink, write_all};
+use closure_core::Closure;
 use jwk_set::KeyId;
 use receipt_core::Distrust;
 use replica_core::SyncError;
 use spiffe_name::TrustDomain;
 use std::alloc::{AllocError, Global};
-use trust_closure::Closure;
 
 /// Writes the snapshot of what is held: a first line with the configuration's digest, the lines of
 /// records of distrust and of receipts, each rising, and a last line with their numbers, each ended

@@ -10,9 +10,9 @@ ghost use Rattle.replica_core.specs.declared.error.SyncError.TheVariants.{Io};
 use crate::entry_line::{Wanted, take_line};
 use crate::give_header_reader::{Expected, Head, next_head};
 use byte_lines::{Line, LineBuf, Source};
+use closure_core::Closure;
 use replica_core::SyncError;
 use std::alloc::Global;
-use trust_closure::Closure;
 
 /// How far the answers of a session were read: how many lines, and the last one of those behind the
 /// first line of the answer, which is empty where there is none.

@@ -19,11 +19,10 @@ use Rattle.receipt_core.specs.Acceptance.{Meaning, IsMember}
 use Rattle.fed_config.specs.Configuration.{domain_cmp}
 use Rattle.sorted_order.specs.Sought.{IsRising, is_equal}
 use Rattle.label_net.proofs.Arrows.{Contains-head, Contains-later, Contains-cons_cases}
-use Rattle.trust_closure.specs.Flags.{TellsMembers}
-use Rattle.trust_closure.specs.Nodes.{is_raised, raised_document, raised_documents}
-use Rattle.trust_closure.specs.NodeCounts.{flags_of}
+use Rattle.closure_core.specs.Inside.Flags.{TellsMembers}
+use Rattle.closure_core.specs.Inside.Nodes.{is_raised, raised_document, raised_documents, flags_of}
 use Rattle.trust_closure.specs.Pairs.{pair_cmp, no_pair, pair_at, Paired, AreRising, numbers_of, raised_of}
-use Rattle.trust_closure.specs.Views.{document_cmp, document_of, IsAcceptedList}
+use Rattle.closure_core.specs.AcceptedList.{document_cmp, document_of, IsAcceptedList}
 use Rattle.trust_closure.proofs.HeldFacts.{filter_gets, filter_test}
 
 -- ---- what is shown of each number

@@ -12,9 +12,10 @@ use Rattle.receipt_core.specs.Receipt.{Receipt, Pair, pair_of, offers_of, need_o
 use Rattle.receipt_core.specs.Acceptance.{IsFitting, Vouches, Leads, Meaning, IsMember, IsReleased, pair_of_seed}
 use Rattle.label_net.specs.Spots.{Spot}
 use Rattle.label_net.proofs.Edges.{slice_get-left, slice_get-right, slice_get-append_cases, slice_get-map_at, slice_get-map_cases, Contains-slice_get, slice_get-Contains, offer-of_edge, wait-of_edge, root-of_spot, spot-of_root, reached-on}
-use Rattle.trust_closure.specs.Nodes.{pairs_of}
+use Rattle.closure_core.specs.Inside.Nodes.{pairs_of}
 use Rattle.trust_closure.specs.NetOf.{spot_of_seed, spot_of_receipt, spots_of, IsShutBy, IsNetOf}
-use Rattle.trust_closure.proofs.Vouching.{vouches-from_offer, offer-from_vouches, open-from_vouches, Leads-push, AllByRecursion-push}
+use Rattle.closure_core.proofs.MemberFacts.{leads_more, all_more}
+use Rattle.trust_closure.proofs.Vouching.{vouches-from_offer, offer-from_vouches, open-from_vouches}
 
 -- ---- the net of a closure
 
@@ -102,8 +103,8 @@ module _ (m : Meaning) (arrivals : List Receipt) (same : (r : Receipt) → Conta
     seed = a.seed;
     configured = a.configured;
     chain = a.chain ++ r ∷ [];
-    held = AllByRecursion-push (Contains m.held) a.chain r a.held held;
-    leads = Leads-push m.config m.records (pair_of_seed a.seed) a.chain p r a.leads fit v;
+    held = all_more (Contains m.held) a.chain r a.held held;
+    leads = leads_more m.config m.records (pair_of_seed a.seed) a.chain p r a.leads fit v;
   }
 
   pub accepted-from_reached : (n : ℕ) → IsReached net n → IsAccepted m arrivals n

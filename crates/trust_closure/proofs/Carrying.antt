@@ -14,19 +14,18 @@ use Rattle.receipt_core.specs.Receipt.{Receipt, Pair, pair_of, IsReceipt}
 use Rattle.receipt_core.specs.Acceptance.{Meaning, IsMeaning, IsFitting, IsReleased, pair_of_seed}
 use Rattle.label_net.proofs.Edges.{slice_get-left, slice_get-append_cases, slice_get-map_cases}
 use Rattle.label_net.proofs.Mirroring.{slice_get-more, slice_get-push_cases}
-use Rattle.trust_closure.specs.Nodes.{pairs_of, is_raised}
-use Rattle.trust_closure.specs.NodeCounts.{flags_of}
-use Rattle.trust_closure.specs.Changes.{IsGain}
-use Rattle.trust_closure.specs.Flags.{raised_count}
+use Rattle.closure_core.specs.Inside.Nodes.{pairs_of, is_raised, flags_of}
+use Rattle.closure_core.specs.Changes.{IsGain}
+use Rattle.closure_core.specs.Inside.Flags.{raised_count}
 use Rattle.trust_closure.specs.Held.{Hoard, meaning_of}
 use Rattle.trust_closure.specs.Indexed.{IsBefore}
 use Rattle.trust_closure.specs.Pairs.{Paired, IsPairing, no_pair}
 use Rattle.trust_closure.specs.Plain.{AreSound, AreReleased, IsHadNode, IsFirstHad, IsSet, HasPlainFlags, IsRoomierPaired}
 use Rattle.trust_closure.proofs.Bridge.{pair-of_receipt_node}
-use Rattle.trust_closure.proofs.FlagFacts.{gain-from_flags, count-fewer}
+use Rattle.closure_core.proofs.FlagFacts.{gain-from_flags, count-fewer}
 use Rattle.trust_closure.proofs.IndexFacts.{pairing-counts, same-more, pairs-push, with_arrival, hoard-before, with_mistrust, distrust-sets, always-all}
-use Rattle.trust_closure.proofs.NodeCountFacts.{length-flags}
-use Rattle.trust_closure.proofs.MemberFacts.{member_more}
+use Rattle.closure_core.proofs.NodeFacts.{length-flags}
+use Rattle.closure_core.proofs.MemberFacts.{member_more}
 use Rattle.trust_closure.proofs.PlainFacts.{item_at, plain-tells}
 
 raised-within : (flags : List Bool) (k : ℕ) → is_raised flags k ≡ true → k < length flags

@@ -20,14 +20,15 @@ use Rattle.receipt_core.specs.Acceptance.{Meaning}
 use Rattle.receipt_core.proofs.RisingFacts.{with_item-all}
 use Rattle.std.specs.Bool.{IsTrue}
 use Rattle.std.specs.Prelude.{◌↔◌, Bool}
-use Rattle.trust_closure.specs.Records.{distrust_by, distrusts_of, record_cmp, AreWithin, InsertsRecord}
+use Rattle.closure_core.specs.Inside.Records.{distrust_by, distrusts_of, AreWithin}
+use Rattle.trust_closure.specs.Records.{record_cmp, InsertsRecord}
 use Rattle.trust_closure.specs.declared.records.Addition.{Addition}
 use Rattle.trust_closure.specs.declared.records.Addition.TheVariants.{Added, There, Full as NoPlace}
-use Rattle.trust_closure.specs.declared.record.Record.{Record}
+use Rattle.closure_core.specs.declared.record.Record.{Record}
 use Rattle.trust_closure.specs.Held.{domains_of, bucket_cmp, IsHoard, AddsOrRefuses, addition_result}
-use Rattle.trust_closure.proofs.CountFacts.{contains_none}
-use Rattle.trust_closure.proofs.RisingFacts.{rising_same, with_items_has, with_items_gets, with_items_rising, with_item_rising, with_item_longer, each_has}
-use Rattle.trust_closure.proofs.RecordFacts.{IsMapped, mapped, contains_map, distrusts_rising, distrusts_with, record_of, record_total}
+use Rattle.closure_core.proofs.ContainsFacts.{contains_none, IsMapped, mapped, contains_map}
+use Rattle.closure_core.proofs.RisingFacts.{rising_same, with_items_has, with_items_gets, with_items_rising, with_item_rising, with_item_longer, each_has}
+use Rattle.trust_closure.proofs.RecordFacts.{distrusts_rising, distrusts_with, record_of, record_total}
 use Rattle.trust_closure.proofs.HeldFacts.{picked_all, length_in_order}
 
 abbrev names_of : Configuration → List (List ℕ)

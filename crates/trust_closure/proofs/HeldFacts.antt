@@ -24,14 +24,15 @@ use Rattle.receipt_core.proofs.OrderFacts.{both_equal, cmp_equal}
 use Rattle.sorted_order.specs.Sought.{IsMissing, IsGap, IsRising, is_equal}
 use Rattle.sorted_order.specs.Stock.{Stock, Arranges, in_order, picked, compared_at, IsNumber, FindsNumber}
 use Rattle.sorted_order.proofs.PickedFacts.{length-picked, picked-at, picked-insert, rising_numbers, gap_of_items, Arranges-insert, filter-picked}
-use Rattle.trust_closure.proofs.RisingFacts.{with_item_at, with_item_rising, sought, sorted, rising_same, each_has, each_from}
-use Rattle.trust_closure.proofs.MemberFacts.{all_more}
-use Rattle.trust_closure.specs.Held.{IsHoard, bucket_of, bucket_cmp, Misfits, Repels}
-use Rattle.trust_closure.specs.Views.{is_in_bucket, receipts_in}
-use Rattle.trust_closure.specs.declared.error.TakeError.{TakeError}
-use Rattle.trust_closure.specs.declared.error.TakeError.TheVariants.{UnknownDomain, WrongEndpoint, Full, NoMemory, ConfigDiffers}
-use Rattle.trust_closure.proofs.CountFacts.{contains_first, contains_later, contains_none, contains_cases}
-use Rattle.trust_closure.specs.declared.record.Record.{Record}
+use Rattle.closure_core.proofs.RisingFacts.{with_item_at, with_item_rising, sought, sorted, rising_same, each_has, each_from}
+use Rattle.closure_core.proofs.MemberFacts.{all_more}
+use Rattle.closure_core.specs.Refusals.{Misfits}
+use Rattle.trust_closure.specs.Held.{IsHoard, bucket_of, bucket_cmp, Repels}
+use Rattle.closure_core.specs.AcceptedList.{is_in_bucket, receipts_in}
+use Rattle.closure_core.specs.declared.error.TakeError.{TakeError}
+use Rattle.closure_core.specs.declared.error.TakeError.TheVariants.{UnknownDomain, WrongEndpoint, Full, NoMemory, ConfigDiffers}
+use Rattle.closure_core.proofs.ContainsFacts.{contains_first, contains_later, contains_none, contains_cases}
+use Rattle.closure_core.specs.declared.record.Record.{Record}
 use Rattle.trust_closure.proofs.RecordFacts.{split_lacks}
 
 -- ---- the items with some numbers

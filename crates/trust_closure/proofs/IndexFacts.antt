@@ -27,34 +27,37 @@ use Rattle.label_net.specs.declared.label.Label.{Label}
 use Rattle.label_net.specs.Spots.{Spot, Mirrors, bare_spot}
 use Rattle.label_net.proofs.Arrows.{Contains-map, Contains-from_map}
 use Rattle.std.proofs.lemmas.List.{length-map, length-append}
-use Rattle.trust_closure.specs.Views.{IsPendingCount}
+use Rattle.closure_core.specs.AcceptedList.{IsPendingCount}
 use Rattle.receipt_core.specs.Acceptance.{Meaning, IsMeaning, IsMember, IsReleased, IsFitting, pair_of_seed}
 use Rattle.label_net.specs.Labels.{Wired, IsOfKey, Closes, HasNode, IsRooted, IsRoomierIndex as IsRoomierWired}
 use Rattle.label_net.proofs.Edges.{slice_get-left, slice_get-map_cases, slice_get-Contains, Contains-slice_get, one_place, root-of_spot}
 use Rattle.label_net.proofs.Mirroring.{Mirrors-shut}
-use Rattle.trust_closure.specs.Nodes.{pairs_of, is_raised}
-use Rattle.trust_closure.specs.Flags.{raised_count, TellsMembers}
-use Rattle.trust_closure.specs.NodeCounts.{flags_of, count_at, AreCounts, AddsNodes}
+use Rattle.closure_core.specs.Inside.Nodes.{pairs_of, is_raised, flags_of, count_at}
+use Rattle.closure_core.specs.Inside.Flags.{raised_count, TellsMembers}
+use Rattle.trust_closure.specs.NodeCounts.{AreCounts, AddsNodes}
 use Rattle.trust_closure.specs.Held.{Hoard, meaning_of, HasAdded}
 use Rattle.trust_closure.specs.NetOf.{spots_of, spot_of_seed, spot_of_receipt, IsShutBy, IsNetOf, IsWiringOf, triple_by}
 use Rattle.trust_closure.specs.Pairs.{Paired, IsPairing, HasRaised, no_pair}
 use Rattle.trust_closure.specs.Work.{ClosesAtOnce, IsWorkOf, AreOld}
 use Rattle.trust_closure.specs.Indexed.{IsBuilt, IsIndexed, WasCounted, IsDistrusted, IsBefore, HasRoom, IsIndexedClosure, Reserves, IsIndexOf, Indexed, indexed_of, IsSeeded}
 use Rattle.trust_closure.specs.declared.indexed.Spare.{Spare}
-use Rattle.trust_closure.specs.Changes.{IsGain}
+use Rattle.closure_core.specs.Changes.{IsGain}
 use Rattle.std.proofs.Common.{eqb}
 use Rattle.std.proofs.lemmas.Bool.{eq-eqb, eqb-true, not-true, not_from_false, false_from_ne_true}
 use Rattle.std.proofs.lemmas.List.{get_or_default}
 use Rattle.std.proofs.lemmas.List.Folds.{Any-from_list_any, list_any_at}
 use Rattle.wait_index.specs.Net.{is_among}
-use Rattle.trust_closure.specs.Count.{AreDifferent}
-use Rattle.trust_closure.proofs.CountFacts.{no_longer, contains_first, contains_cases, contains_none}
-use Rattle.trust_closure.proofs.NodeCountFacts.{length-flags, flags-counted, flags-kept, flags-push, count_at-push, counts-from_zero}
-use Rattle.trust_closure.proofs.FlagFacts.{IsFirstOf, gain-from_flags, passing, passing-to, passing-from, passing-differ, only_wide, length-only_wide, different-map}
+use Rattle.closure_core.specs.Count.{AreDifferent}
+use Rattle.closure_core.proofs.CountFacts.{no_longer}
+use Rattle.closure_core.proofs.ContainsFacts.{contains_first, contains_cases, contains_none}
+use Rattle.closure_core.proofs.NodeFacts.{length-flags}
+use Rattle.trust_closure.proofs.NodeCountFacts.{flags-counted, flags-kept, flags-push, count_at-push, counts-from_zero}
+use Rattle.closure_core.proofs.FlagFacts.{IsFirstOf, gain-from_flags, passing, passing-to, passing-from, passing-differ, only_wide, length-only_wide}
+use Rattle.closure_core.proofs.FlagFacts.{different-map}
 use Rattle.trust_closure.proofs.ConfigFacts.{one_domains}
-use Rattle.trust_closure.proofs.MemberFacts.{member_more}
+use Rattle.closure_core.proofs.MemberFacts.{member_more}
 use Rattle.trust_closure.proofs.Wirings.{domain-one_number, wiring-node, wiring-root, node-number}
-use Rattle.trust_closure.proofs.RisingFacts.{each_has}
+use Rattle.closure_core.proofs.RisingFacts.{each_has}
 use Rattle.trust_closure.proofs.Bridge.{IsAccepted, IsReachedAt, accepted-from_reached, reached-from_member, reached-from_released, spot-of_seed_node}
 use Rattle.trust_closure.proofs.PairFacts.{pairing-once}
 

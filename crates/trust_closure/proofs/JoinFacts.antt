@@ -16,20 +16,21 @@ use Rattle.receipt_core.specs.Order.{receipt_total}
 use Rattle.receipt_core.specs.Receipt.{Receipt, receipt_cmp, distrust_cmp, pair_of, offers_of}
 use Rattle.receipt_core.specs.Rising.{placed, with_item, with_items}
 use Rattle.receipt_core.specs.Acceptance.{IsFitting, Meaning, IsMeaning}
-use Rattle.trust_closure.specs.Changes.{HeldAndRoom, Takes, HasMerged, Took}
+use Rattle.closure_core.specs.Changes.{HeldAndRoom, Takes, HasMerged, Took}
 use Rattle.trust_closure.specs.Held.{AddsRecord, AddsOrRefuses}
 use Rattle.trust_closure.specs.declared.records.Addition.{Addition}
 use Rattle.trust_closure.specs.declared.records.Addition.TheVariants.{Added, There, Full as NoPlace}
-use Rattle.trust_closure.specs.Merge.{IsShare, AreKnown, FitWithinRoom, offers_count}
-use Rattle.trust_closure.specs.Refusals.{Room, IsRoomier, IsOfWrongEndpoint, RefusesReceipt, RefusesDistrust, RefusesMerge, WantsCopies, all_records}
+use Rattle.closure_core.specs.Refusals.{offers_count, Room, IsRoomier, IsOfWrongEndpoint, RefusesReceipt, RefusesDistrust, RefusesMerge, WantsCopies}
+use Rattle.closure_core.specs.Refusals.{all_records}
+use Rattle.trust_closure.specs.Merge.{IsShare, AreKnown, FitWithinRoom}
 use Rattle.trust_closure.specs.declared.copies.Share.{Share}
-use Rattle.trust_closure.specs.declared.error.TakeError.{TakeError}
-use Rattle.trust_closure.specs.declared.error.TakeError.TheVariants.{UnknownDomain, WrongEndpoint, Full, NoMemory, ConfigDiffers}
-use Rattle.trust_closure.specs.declared.outcome.Refused.{Refused}
-use Rattle.trust_closure.specs.declared.outcome.Taken.{Taken}
-use Rattle.trust_closure.specs.declared.outcome.Taken.TheVariants.{New as TakenNew, Already as TakenAlready}
-use Rattle.trust_closure.proofs.CountFacts.{contains_first, contains_later, contains_none, contains_cases}
-use Rattle.trust_closure.proofs.RisingFacts.{with_item_longer, each_has}
+use Rattle.closure_core.specs.declared.error.TakeError.{TakeError}
+use Rattle.closure_core.specs.declared.error.TakeError.TheVariants.{UnknownDomain, WrongEndpoint, Full, NoMemory, ConfigDiffers}
+use Rattle.closure_core.specs.declared.outcome.Refused.{Refused}
+use Rattle.closure_core.specs.declared.outcome.Taken.{Taken}
+use Rattle.closure_core.specs.declared.outcome.Taken.TheVariants.{New as TakenNew, Already as TakenAlready}
+use Rattle.closure_core.proofs.ContainsFacts.{contains_first, contains_later, contains_none, contains_cases}
+use Rattle.closure_core.proofs.RisingFacts.{with_item_longer, each_has}
 use Rattle.trust_closure.proofs.MergeFacts.{receipt_sets, record_sets, always}
 
 -- ---- a domain has one relationship

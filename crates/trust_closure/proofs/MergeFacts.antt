@@ -19,17 +19,16 @@ use Rattle.receipt_core.specs.Sets.{AreSets, Always}
 use Rattle.receipt_core.specs.Acceptance.{Meaning, IsMeaning, IsFitting}
 use Rattle.receipt_core.proofs.LineFacts.{one_receipt, one_distrust}
 use Rattle.receipt_core.proofs.RisingFacts.{AreSets-from_total}
-use Rattle.trust_closure.specs.contracts.error.TakeError.{the_type}
+use Rattle.closure_core.specs.contracts.error.TakeError.{the_type}
 use denote.Enum.Bare.{sameb}
 use lib.Pointwise.{pointwise}
-use Rattle.trust_closure.specs.Held.{Misfits}
+use Rattle.closure_core.specs.Refusals.{Misfits, IsAlike, IsOfUnknownDomain, IsOfWrongEndpoint, RefusesMerge, all_receipts, all_records}
 use Rattle.trust_closure.specs.Merge.{AreCopies, HasNew, MisfitsOne}
-use Rattle.trust_closure.specs.Refusals.{IsAlike, IsOfUnknownDomain, IsOfWrongEndpoint, RefusesMerge, all_receipts, all_records}
-use Rattle.trust_closure.specs.declared.error.TakeError.{TakeError}
-use Rattle.trust_closure.specs.declared.error.TakeError.TheVariants.{UnknownDomain, WrongEndpoint, Full, NoMemory, ConfigDiffers}
+use Rattle.closure_core.specs.declared.error.TakeError.{TakeError}
+use Rattle.closure_core.specs.declared.error.TakeError.TheVariants.{UnknownDomain, WrongEndpoint, Full, NoMemory, ConfigDiffers}
 use Rattle.trust_closure.proofs.ConfigFacts.{place_has}
-use Rattle.trust_closure.proofs.CountFacts.{contains_first, contains_later, contains_none, contains_cases}
-use Rattle.trust_closure.proofs.RisingFacts.{not_again, with_items_keeps}
+use Rattle.closure_core.proofs.ContainsFacts.{contains_first, contains_later, contains_none, contains_cases}
+use Rattle.closure_core.proofs.RisingFacts.{not_again, with_items_keeps}
 
 -- ---- sets of receipts and of records
 

@@ -1,56 +1,20 @@
 -- How many of the marked nodes have each of the different documents
-use Rattle.std.proofs.Common.{◌≡◌, ℕ, zero, suc, ◌+◌, ◌-◌, ◌<◌, ◌≤◌, ◌==◌, ◌⊎◌, eqb, inl, inr, Bool, true, false, cond, not, List, [], ◌∷◌, ◌++◌, length, get_or, set, take, drop, arith, refl, sym, ap, ◌∙◌, subst}
+use Rattle.std.proofs.Common.{◌≡◌, ℕ, ◌+◌, ◌-◌, ◌<◌, ◌≤◌, ◌==◌, ◌⊎◌, eqb, inl, inr, Bool, true, false, cond, List, [], ◌∷◌, ◌++◌, length, get_or, set, take, drop, arith, refl, sym, ap, ◌∙◌, subst}
 use Rattle.std.specs.Prelude.{Some, ◌↔◌}
 use Rattle.std.specs.List.{All}
-use Rattle.std.proofs.lemmas.Bool.{cases_lt, cases_eq, both_ways, eq-eqb, eqb-true, not_from_false}
-use Rattle.std.proofs.lemmas.List.{length-map, length-set, length-take, length_push, map-set, map_push, get_or-map, get_or_past, get_or_append_left, get_or_push, get_or-set_same, get_or-set_other, take-append-drop}
+use Rattle.std.proofs.lemmas.Bool.{cases_lt, cases_eq, eq-eqb, eqb-true}
+use Rattle.std.proofs.lemmas.List.{length-set, length-take, length_push, map-set, map_push, get_or_past, get_or_append_left, get_or_push, get_or-set_same, get_or-set_other, take-append-drop}
 use Rattle.std.proofs.lemmas.List.Elements.{All-tail}
 use Rattle.std.proofs.lemmas.List.Sums.{count_by-le-length, count_by_more_yes, count_by_more_no, sum_by-set, sum_by-append, sum_by-cons, sum_by-take-le}
 use Rattle.std.proofs.lemmas.Option.{slice_get-get_or, get_or_from_slice_get}
-use Rattle.trust_closure.specs.Nodes.{is_raised}
-use Rattle.trust_closure.specs.Flags.{raised_count}
-use Rattle.trust_closure.specs.NodeCounts.{flags_of, count_at, first_of_node, nodes_with, AreCounts, AddsNodes}
-use Rattle.trust_closure.proofs.CountFacts.{contains_first, contains_later, contains_none, contains_cases}
-use Rattle.trust_closure.proofs.FlagFacts.{IsFirstOf, Raises}
+use Rattle.closure_core.specs.Inside.Nodes.{is_raised, flags_of, count_at}
+use Rattle.closure_core.specs.Inside.Flags.{raised_count}
+use Rattle.trust_closure.specs.NodeCounts.{first_of_node, nodes_with, AreCounts, AddsNodes}
+use Rattle.closure_core.proofs.ContainsFacts.{contains_first, contains_later, contains_none, contains_cases}
+use Rattle.closure_core.proofs.FlagFacts.{IsFirstOf, Raises}
+use Rattle.closure_core.proofs.NodeFacts.{is_counted, length-flags, flag-counted, positive-counted, raised-positive, positive-raised}
 
-abbrev pub is_counted : ℕ → Bool
-is_counted count = not (count == 0)
-
--- ---- flags of counts
-
-pub length-flags : (counts : List ℕ) → length (flags_of counts) ≡ length counts
-length-flags counts = length-map counts is_counted
-
-pub flag-counted : (counts : List ℕ) (n : ℕ)
-    → is_raised (flags_of counts) n ≡ is_counted (count_at counts n)
-flag-counted counts n = elim (cases_lt n (length counts)) [
-  | inl l ↦ get_or-map is_counted counts n 0 false l
-  | inr l ↦ get_or_past (flags_of counts) n false (omega (arith, l, length-flags counts))
-      ∙ ap is_counted (sym (get_or_past counts n 0 l))
-]
-
-counted-positive : (k : ℕ) → is_counted k ≡ true → 0 < k
-counted-positive zero e = absurd (both_ways false refl e)
-counted-positive (suc k) e = omega arith
-
-pub positive-counted : (k : ℕ) → 0 < k → is_counted k ≡ true
-positive-counted k l = decide (eqb k 0) refl
-  where
-    decide : (b : Bool) → eqb k 0 ≡ b → is_counted k ≡ true
-    decide true e = absurd (omega (arith, l, eqb-true k 0 e))
-    decide false e = not_from_false (eqb k 0) e
-
-pub raised-positive : (counts : List ℕ) (n : ℕ) → is_raised (flags_of counts) n ≡ true
-    → 0 < count_at counts n
-raised-positive counts n e = counted-positive (count_at counts n) (sym (flag-counted counts n) ∙ e)
-
-pub positive-raised : (counts : List ℕ) (n : ℕ) → 0 < count_at counts n
-    → is_raised (flags_of counts) n ≡ true
-positive-raised counts n l = flag-counted counts n ∙ positive-counted (count_at counts n) l
-
-pub zero-lowered : (counts : List ℕ) (n : ℕ) → count_at counts n ≡ 0
-    → is_raised (flags_of counts) n ≡ false
-zero-lowered counts n e = flag-counted counts n ∙ ap is_counted e
+-- ---- flags of counts, one more
 
 pub flags-push : (old new : List ℕ) → new ≡ old ++ 0 ∷ []
     → flags_of new ≡ flags_of old ++ false ∷ []

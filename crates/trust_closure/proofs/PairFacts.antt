@@ -21,10 +21,9 @@ use Rattle.receipt_core.specs.Receipt.{Pair}
 use Rattle.sorted_order.specs.Sought.{IsRising, IsFound, IsMissing}
 use Rattle.fed_config.specs.Configuration.{domain_cmp}
 use Rattle.label_net.proofs.Mirroring.{slice_get-push_cases}
-use Rattle.trust_closure.specs.Order.{document_total}
-use Rattle.trust_closure.specs.Views.{document_cmp}
-use Rattle.trust_closure.specs.Nodes.{is_raised}
-use Rattle.trust_closure.specs.NodeCounts.{flags_of}
+use Rattle.closure_core.specs.Order.{document_total}
+use Rattle.closure_core.specs.AcceptedList.{document_cmp}
+use Rattle.closure_core.specs.Inside.Nodes.{is_raised, flags_of}
 use Rattle.trust_closure.specs.Pairs.{pair_cmp, no_pair, pair_at, Paired, AreRising, IsPairing, PutsFirst, HasRaised}
 
 pub pair-total : IsTotalOrder pair_cmp

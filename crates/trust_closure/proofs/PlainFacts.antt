@@ -10,19 +10,18 @@ use Rattle.receipt_core.specs.declared.triple.Triple.{Triple}
 use Rattle.receipt_core.specs.Receipt.{Receipt, Pair, pair_of, offers_of, need_of}
 use Rattle.receipt_core.specs.Acceptance.{Meaning, IsMeaning, IsMember, IsFitting, IsReleased, Vouches, pair_of_seed}
 use Rattle.label_net.proofs.Edges.{slice_get-append_cases, slice_get-map_cases, slice_get-Contains, Contains-slice_get}
-use Rattle.trust_closure.specs.Nodes.{pairs_of, is_raised}
-use Rattle.trust_closure.specs.Flags.{TellsMembers}
-use Rattle.trust_closure.specs.NodeCounts.{flags_of}
+use Rattle.closure_core.specs.Inside.Nodes.{pairs_of, is_raised, flags_of}
+use Rattle.closure_core.specs.Inside.Flags.{TellsMembers}
 use Rattle.trust_closure.specs.Held.{Hoard, meaning_of}
 use Rattle.trust_closure.specs.Pairs.{Paired, HasRaised}
 use Rattle.trust_closure.specs.Plain.{AreSeedOffers, IsOfferedBelow, IsOffered, IsVouched, AreSound, AreQuietBelow, AreReleased, IsHadNode, IsFirstHad, HasPlainFlags}
 use Rattle.trust_closure.proofs.Bridge.{pair-of_seed_node, pair-of_receipt_node}
-use Rattle.trust_closure.proofs.CountFacts.{contains_first, contains_later, contains_none, contains_cases}
-use Rattle.trust_closure.proofs.FlagFacts.{Raises}
-use Rattle.trust_closure.proofs.NodeCountFacts.{length-flags}
-use Rattle.trust_closure.proofs.MemberFacts.{member_least, member_seed, member_released, member_grounds}
+use Rattle.closure_core.proofs.ContainsFacts.{contains_first, contains_later, contains_none, contains_cases}
+use Rattle.closure_core.proofs.FlagFacts.{Raises}
+use Rattle.closure_core.proofs.NodeFacts.{length-flags}
+use Rattle.closure_core.proofs.MemberFacts.{member_least, member_seed, member_released, member_grounds}
 use Rattle.trust_closure.proofs.PairFacts.{pairing-once}
-use Rattle.trust_closure.proofs.RisingFacts.{each_has}
+use Rattle.closure_core.proofs.RisingFacts.{each_has}
 use Rattle.trust_closure.proofs.Vouching.{vouches-from_offer, offer-from_vouches, open-from_vouches}
 
 -- ---- an item is among others

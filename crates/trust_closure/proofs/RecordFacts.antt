@@ -1,5 +1,5 @@
 -- Records in their order
-use Rattle.std.proofs.Common.{◌≡◌, ℕ, ◌+◌, ◌<◌, ◌≤◌, inl, inr, ⊎_elim, List, [], ◌∷◌, map, length, get_or, Less, Equal, Greater, refl, sym, ap, ◌∙◌, subst, arith}
+use Rattle.std.proofs.Common.{◌≡◌, ℕ, ◌+◌, ◌<◌, ◌≤◌, ⊎_elim, List, [], ◌∷◌, map, length, get_or, Less, Equal, Greater, refl, sym, ap, ◌∙◌, subst, arith}
 use Rattle.std.specs.Cmp.{IsTotalOrder, then_total, nat_cmp_total, on_total}
 use Rattle.std.specs.Cmp.Lexicographic.{on_texts}
 use Rattle.std.specs.Ordering.{nat_cmp, ordering_then, ordering_index}
@@ -19,10 +19,11 @@ use Rattle.receipt_core.specs.Order.{distrust_total}
 use Rattle.receipt_core.specs.Rising.{placed, with_item}
 use Rattle.receipt_core.proofs.OrderFacts.{both_equal, equal_bytes, cmp_less, cmp_greater, cmp_equal}
 use Rattle.receipt_core.specs.Receipt.{key_cmp, distrust_cmp}
-use Rattle.trust_closure.specs.Records.{record_cmp, distrust_by, distrusts_of, AreWithin, AreRecords}
-use Rattle.trust_closure.specs.declared.record.Record.{Record}
-use Rattle.trust_closure.proofs.CountFacts.{contains_first, contains_later, contains_none, contains_cases}
-use Rattle.trust_closure.proofs.RisingFacts.{sought, with_item_at, with_item_rising, each_has, turned_less}
+use Rattle.trust_closure.specs.Records.{record_cmp, AreRecords}
+use Rattle.closure_core.specs.Inside.Records.{distrust_by, distrusts_of, AreWithin}
+use Rattle.closure_core.specs.declared.record.Record.{Record}
+use Rattle.closure_core.proofs.ContainsFacts.{IsMapped, mapped}
+use Rattle.closure_core.proofs.RisingFacts.{sought, with_item_at, with_item_rising, each_has, turned_less}
 use Rattle.std.proofs.lemmas.List.Edits.{length-insert}
 
 pub record_total : IsTotalOrder record_cmp
@@ -101,27 +102,6 @@ distrusts_rising domains [] rising all sorted = tt
 distrusts_rising domains (h ∷ t) rising all sorted = (below_map domains h t rising all.0 all.1 sorted.0, distrusts_rising domains t rising all.1 sorted.1)
 
 -- ---- a record is held exactly if its distrust is
-
-pub contains_map : {X Y : Type 0} (f : X → Y) (xs : List X) (x : X) → Contains xs x → Contains (map f xs) (f x)
-contains_map f [] x has = absurd (contains_none x has)
-contains_map f (h ∷ t) x has = elim (contains_cases h t x has) [
-  | inl e ↦ subst (λ y. Contains (map f (h ∷ t)) (f y)) e (contains_first (f h) (map f t))
-  | inr later ↦ contains_later (f h) (map f t) (f x) (contains_map f t x later)
-]
-
-pub record IsMapped {X Y : Type 0} (f : X → Y) (xs : List X) (y : Y) : Type 0 where
-  pub item : X
-  pub has : Contains xs item
-  pub is : f item ≡ y
-
-pub mapped : {X Y : Type 0} (f : X → Y) (xs : List X) (y : Y) → Contains (map f xs) y → IsMapped f xs y
-mapped f [] y has = absurd (contains_none y has)
-mapped f (h ∷ t) y has = elim (contains_cases (f h) (map f t) y has) [
-  | inl e ↦ record { item = h; has = contains_first h t; is = e }
-  | inr later ↦
-      let rest = mapped f t y later in
-      record { item = rest.item; has = contains_later h t rest.item rest.has; is = rest.is }
-]
 
 pub record_of : (domains : List (List ℕ)) (x : Record) (records : List Record) → IsStrictlySortedBy domain_cmp domains → x.domain < length domains → AreWithin (length domains) records → Contains (distrusts_of domains records) (distrust_by domains x) → Contains records x
 record_of domains x records rising within all has =

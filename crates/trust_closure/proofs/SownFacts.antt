@@ -11,16 +11,15 @@ use Rattle.receipt_core.specs.Receipt.{Receipt, pair_of, offers_of}
 use Rattle.receipt_core.specs.Acceptance.{IsMeaning, pair_of_seed}
 use Rattle.label_net.proofs.Arrows.{Contains-map, Contains-from_map}
 use Rattle.label_net.proofs.Edges.{slice_get-Contains, Contains-slice_get, one_place}
-use Rattle.trust_closure.specs.Nodes.{pairs_of, is_raised}
-use Rattle.trust_closure.specs.NodeCounts.{count_at}
-use Rattle.trust_closure.specs.Flags.{raised_count}
+use Rattle.closure_core.specs.Inside.Nodes.{pairs_of, is_raised, count_at}
+use Rattle.closure_core.specs.Inside.Flags.{raised_count}
 use Rattle.trust_closure.specs.Held.{Hoard, meaning_of}
-use Rattle.trust_closure.specs.Views.{IsPendingCount}
+use Rattle.closure_core.specs.AcceptedList.{IsPendingCount}
 use Rattle.trust_closure.specs.Pairs.{Paired, IsPairing}
 use Rattle.trust_closure.specs.Plain.{AreSeedOffers, IsSet, HasPlainFlags, IsSown, AreReleased}
-use Rattle.trust_closure.proofs.CountFacts.{contains_none}
+use Rattle.closure_core.proofs.ContainsFacts.{contains_none}
 use Rattle.trust_closure.proofs.NodeCountFacts.{count_at-push}
-use Rattle.trust_closure.proofs.FlagFacts.{passing, passing-to, passing-from, passing-differ, only_wide, length-only_wide, count-passing, different-map}
+use Rattle.closure_core.proofs.FlagFacts.{passing, passing-to, passing-from, passing-differ, only_wide, length-only_wide, count-passing, different-map}
 
 offers-more : (seeds : List Seed) (s : Seed) (offers more : List Triple) → AreSeedOffers seeds offers → more ≡ offers_of (pair_of_seed s) → AreSeedOffers (seeds ++ s ∷ []) (offers ++ more)
 offers-more seeds s offers more are is t = (

@@ -1,21 +1,19 @@
 -- Vouching is offering what is needed
-use Rattle.std.proofs.Common.{◌≡◌, ℕ, suc, ◌⊎◌, inl, inr, List, [], ◌∷◌, ◌++◌, Option, Some, None, arith, refl, sym, ap, ◌∙◌, subst}
+use Rattle.std.proofs.Common.{◌≡◌, ℕ, suc, ◌⊎◌, inl, inr, List, [], ◌∷◌, Option, Some, None, arith, refl, sym, ap, ◌∙◌, subst}
 use Rattle.std.specs.Prelude.{Contains, Any, fold}
 use Rattle.std.specs.declared.cmp.Ordering.{Ordering}
 use Rattle.std.specs.declared.cmp.Ordering.TheVariants.{Less, Equal, Greater}
-use Rattle.std.specs.List.{AllByRecursion}
 use Rattle.std.proofs.lemmas.Map.Lookups.{exact_bytes}
 use Rattle.std.proofs.lemmas.Option.{same_Some, none-some}
 use Rattle.jwk_set.specs.Element.{key_id_of}
 use Rattle.jwk_set.specs.declared.authority.Authority.{Authority}
 use Rattle.jwk_set.specs.declared.authority.KeyId.{KeyId}
 use Rattle.bundle_doc.specs.Bundle.{HasKeyId, doc_id_of}
-use Rattle.fed_config.specs.Configuration.{Configuration}
 use Rattle.receipt_core.specs.declared.distrust.Distrust.{Distrust}
 use Rattle.receipt_core.specs.declared.triple.Triple.{Triple}
 use Rattle.receipt_core.specs.Rising.{placed, with_item}
-use Rattle.receipt_core.specs.Receipt.{Receipt, Pair, pair_of, key_cmp, with_key_id, key_ids, offer_of, offers_of, need_of}
-use Rattle.receipt_core.specs.Acceptance.{IsFitting, Vouches, Leads}
+use Rattle.receipt_core.specs.Receipt.{Receipt, Pair, key_cmp, with_key_id, key_ids, offer_of, offers_of, need_of}
+use Rattle.receipt_core.specs.Acceptance.{Vouches}
 use Rattle.trust_closure.specs.NetOf.{IsShutBy}
 use Rattle.label_net.proofs.Arrows.{Contains-head, Contains-later, Contains-cons_cases, Contains-map, Contains-from_map}
 
@@ -146,13 +144,3 @@ offer-from_vouches records p r v =
 pub open-from_vouches : (records : List Distrust) (p : Pair) (r : Receipt) → Vouches records p r → IsShutBy records (need_of r) → ⊥
 open-from_vouches records p r v x =
     v.trusted (subst (λ (d : List ℕ). Contains records (record { domain = d; key = r.key })) (sym v.endpoint) x)
-
--- ---- a chain goes on by one
-
-pub Leads-push : (c : Configuration) (records : List Distrust) (from : Pair) (chain : List Receipt) (to : Pair) (r : Receipt) → Leads c records from chain to → IsFitting c r → Vouches records to r → Leads c records from (chain ++ r ∷ []) (pair_of r)
-Leads-push c records from [] to r leads fits vouches = (fits, subst (λ p. Vouches records p r) (sym leads) vouches, refl)
-Leads-push c records from (s ∷ chain) to r leads fits vouches = (leads.0, leads.1, Leads-push c records (pair_of s) chain to r leads.2 fits vouches)
-
-pub AllByRecursion-push : {X : Type 0} (P : X → Type 0) (xs : List X) (x : X) → AllByRecursion P xs → P x → AllByRecursion P (xs ++ x ∷ [])
-AllByRecursion-push P [] x a p = (p, tt)
-AllByRecursion-push P (y ∷ xs) x a p = (a.0, AllByRecursion-push P xs x a.1 p)

@@ -22,7 +22,7 @@ use Rattle.label_net.proofs.Arrows.{Contains-from_map}
 use Rattle.label_net.proofs.Edges.{slice_get-map_at, slice_get-Contains}
 use Rattle.label_net.proofs.Mirroring.{rooted_spot, offering_spot, awaiting_spot, length-roots, MirrorsBut, Mirrors-but, Mirrors-node, Mirrors-label, Mirrors-root, Mirrors-offer, Mirrors-wait}
 use Rattle.trust_closure.specs.NetOf.{IsShutBy, triple_by, IsLabelOf, IsWiringOf, Widens}
-use Rattle.trust_closure.proofs.RisingFacts.{each_has}
+use Rattle.closure_core.proofs.RisingFacts.{each_has}
 
 -- ---- domains are different
 

@@ -1,9 +1,9 @@
 -- What is held: a configuration, receipts and records of distrust
 use Rattle.std.specs.Prelude.{◌≡◌, ℕ, ◌<◌, ◌≤◌, List, [], ◌++◌, map, length, Contains, Result, Ok}
 use Rattle.std.specs.Prelude.{Err, MatchResult}
+use Rattle.std.specs.Prelude.{slice_index_or}
 use Rattle.std.specs.declared.cmp.Ordering.{Ordering}
 use Rattle.std.specs.Ordering.{nat_cmp, ordering_then}
-use Rattle.std.specs.Prelude.{slice_index_or}
 use Rattle.std.specs.List.{AllByRecursion}
 use Rattle.std.specs.List.Sorted.{IsStrictlySortedBy}
 use Rattle.fed_config.specs.Configuration.{Configuration, IsConfiguration, HasDomain, domain_cmp}
@@ -14,13 +14,14 @@ use Rattle.receipt_core.specs.Rising.{with_items}
 use Rattle.receipt_core.specs.Acceptance.{IsFitting, Meaning}
 use Rattle.sorted_order.specs.Sought.{IsMissing}
 use Rattle.sorted_order.specs.Stock.{Stock, Arranges, in_order, picked}
-use Rattle.trust_closure.specs.Records.{record_cmp, AreWithin}
-use Rattle.trust_closure.specs.Refusals.{IsOfUnknownDomain, IsOfWrongEndpoint, IsOneTooMany}
-use Rattle.trust_closure.specs.Refusals.{RefusesDistrust}
-use Rattle.trust_closure.specs.declared.error.TakeError.{TakeError}
-use Rattle.trust_closure.specs.declared.error.TakeError.TheVariants.{UnknownDomain, WrongEndpoint}
-use Rattle.trust_closure.specs.declared.error.TakeError.TheVariants.{Full, NoMemory, ConfigDiffers}
-use Rattle.trust_closure.specs.declared.record.Record.{Record}
+use Rattle.trust_closure.specs.Records.{record_cmp}
+use Rattle.closure_core.specs.Inside.Records.{AreWithin}
+use Rattle.closure_core.specs.Refusals.{IsOfUnknownDomain, IsOfWrongEndpoint, IsOneTooMany}
+use Rattle.closure_core.specs.Refusals.{RefusesDistrust}
+use Rattle.closure_core.specs.declared.error.TakeError.{TakeError}
+use Rattle.closure_core.specs.declared.error.TakeError.TheVariants.{UnknownDomain, WrongEndpoint}
+use Rattle.closure_core.specs.declared.error.TakeError.TheVariants.{Full, NoMemory, ConfigDiffers}
+use Rattle.closure_core.specs.declared.record.Record.{Record}
 use Rattle.trust_closure.specs.declared.held.Standing.{Standing}
 use Rattle.trust_closure.specs.declared.held.Standing.TheVariants.{Present, Absent}
 use Rattle.trust_closure.specs.declared.records.Addition.{Addition}
@@ -78,13 +79,6 @@ pub record IsAbsent (m : Meaning) (r : Receipt) (place : ℕ) : Type 0 where
 abbrev pub Stands : Meaning → Receipt → Standing → Type 0
 Stands m r Present = Contains m.held r
 Stands m r (Absent place) = IsAbsent m r place
-
-abbrev pub Misfits : Configuration → Receipt → TakeError → Type 0
-Misfits c r UnknownDomain = IsOfUnknownDomain c r
-Misfits c r WrongEndpoint = IsOfWrongEndpoint c r
-Misfits c r Full = ⊥
-Misfits c r NoMemory = ⊥
-Misfits c r ConfigDiffers = ⊥
 
 abbrev pub Repels : Meaning → Receipt → TakeError → Type 0
 Repels m r UnknownDomain = IsOfUnknownDomain m.config r

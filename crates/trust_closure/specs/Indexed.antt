@@ -12,21 +12,21 @@ use Rattle.receipt_core.specs.Acceptance.{IsMeaning, IsReleased}
 use Rattle.wait_index.specs.Index.{Index}
 use Rattle.wait_index.specs.Net.{Net, ListsReached, TellsFallen}
 use Rattle.label_net.specs.Labels.{Wired}
-use Rattle.trust_closure.specs.Nodes.{pairs_of}
-use Rattle.trust_closure.specs.NodeCounts.{count_at, AreCounts}
+use Rattle.closure_core.specs.Inside.Nodes.{pairs_of, count_at}
+use Rattle.trust_closure.specs.NodeCounts.{AreCounts}
 use Rattle.label_net.specs.declared.label.Label.{Label}
 use Rattle.trust_closure.specs.Held.{Hoard, meaning_of, domains_of}
 use Rattle.trust_closure.specs.NetOf.{spots_of, spot_of_seed, IsShutBy, triple_by, IsNetOf}
 use Rattle.trust_closure.specs.NetOf.{IsWiringOf}
 use Rattle.trust_closure.specs.Pairs.{Paired, IsPairing}
-use Rattle.trust_closure.specs.Refusals.{Room, IsRoomier}
-use Rattle.trust_closure.specs.Changes.{HeldAndRoom}
+use Rattle.closure_core.specs.Refusals.{Room, IsRoomier}
+use Rattle.closure_core.specs.Changes.{HeldAndRoom}
 use Rattle.trust_closure.specs.declared.indexed.Spare.{Spare}
 use Rattle.std.specs.Prelude.{[], ◌∷◌, ◌++◌, take, Result, MatchResult}
-use Rattle.trust_closure.specs.declared.outcome.Refused.{Refused}
-use Rattle.trust_closure.specs.declared.outcome.Taken.{Taken}
-use Rattle.trust_closure.specs.declared.outcome.Taken.TheVariants.{New as TakenNew}
-use Rattle.trust_closure.specs.declared.outcome.Taken.TheVariants.{Already as TakenAlready}
+use Rattle.closure_core.specs.declared.outcome.Refused.{Refused}
+use Rattle.closure_core.specs.declared.outcome.Taken.{Taken}
+use Rattle.closure_core.specs.declared.outcome.Taken.TheVariants.{New as TakenNew}
+use Rattle.closure_core.specs.declared.outcome.Taken.TheVariants.{Already as TakenAlready}
 
 -- The index has exactly the nodes and edges of what is held, its reached nodes are marked, and each
 -- different document has its number.

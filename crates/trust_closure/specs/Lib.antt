@@ -1,13 +1,6 @@
-pub mod Count
 pub mod Records
-pub mod Nodes
 pub mod Held
-pub mod Views
-pub mod Order
-pub mod Refusals
-pub mod Changes
 pub mod NetOf
-pub mod Flags
 pub mod NodeCounts
 pub mod Pairs
 pub mod Indexed

@@ -1,16 +1,16 @@
 -- What a closure takes in from another one
-use Rattle.std.specs.Prelude.{◌≡◌, ℕ, ◌+◌, ◌≤◌, List, length, Contains, sum_by}
+use Rattle.std.specs.Prelude.{◌≡◌, ◌+◌, ◌≤◌, List, length, Contains}
 use Rattle.fed_config.specs.Configuration.{Configuration, HasDomain}
 use Rattle.receipt_core.specs.declared.distrust.Distrust.{Distrust}
-use Rattle.receipt_core.specs.Receipt.{Receipt, receipt_cmp, distrust_cmp, pair_of, offers_of}
+use Rattle.receipt_core.specs.Receipt.{Receipt, receipt_cmp, distrust_cmp}
 use Rattle.receipt_core.specs.Rising.{with_items}
 use Rattle.receipt_core.specs.Acceptance.{IsFitting, Meaning}
-use Rattle.trust_closure.specs.Refusals.{IsRoomier, IsOfConfig, IsOfUnknownDomain}
-use Rattle.trust_closure.specs.Refusals.{IsOfWrongEndpoint, all_receipts, all_records}
-use Rattle.trust_closure.specs.Changes.{HeldAndRoom}
-use Rattle.trust_closure.specs.declared.error.TakeError.{TakeError}
-use Rattle.trust_closure.specs.declared.error.TakeError.TheVariants.{UnknownDomain, WrongEndpoint}
-use Rattle.trust_closure.specs.declared.error.TakeError.TheVariants.{Full, NoMemory, ConfigDiffers}
+use Rattle.closure_core.specs.Refusals.{IsRoomier, IsOfConfig, IsOfUnknownDomain, IsOfWrongEndpoint}
+use Rattle.closure_core.specs.Refusals.{all_receipts, all_records, offers_count}
+use Rattle.closure_core.specs.Changes.{HeldAndRoom}
+use Rattle.closure_core.specs.declared.error.TakeError.{TakeError}
+use Rattle.closure_core.specs.declared.error.TakeError.TheVariants.{UnknownDomain, WrongEndpoint}
+use Rattle.closure_core.specs.declared.error.TakeError.TheVariants.{Full, NoMemory, ConfigDiffers}
 use Rattle.trust_closure.specs.declared.copies.Share.{Share}
 
 -- Both together are of one configuration, and no more than one holds.
@@ -29,10 +29,6 @@ pub record AreCopies (m other : Meaning) (copies : List Receipt) : Type 0 where
   pub each : (r : Receipt) → Contains copies r → Contains other.held r
   pub unheld : (r : Receipt) → Contains copies r → Contains m.held r → ⊥
   pub count : length (all_receipts m other) ≡ length m.held + length copies
-
--- how many offers these receipts have together
-abbrev pub offers_count : List Receipt → ℕ
-offers_count receipts = sum_by (λ r. length (offers_of (pair_of r))) receipts
 
 -- What is to be taken in, and that it may be.
 pub record IsShare (m other : Meaning) (share : Share) : Type 0 where

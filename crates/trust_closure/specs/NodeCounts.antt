@@ -1,14 +1,7 @@
 -- How many of the marked nodes have each of the different documents
-use Rattle.std.specs.Prelude.{◌≡◌, ◌+◌, ◌==◌, not, ℕ, Bool, List, map, length, count_by}
+use Rattle.std.specs.Prelude.{◌≡◌, ◌+◌, ◌==◌, ℕ, List, length, count_by}
 use Rattle.std.specs.Prelude.{slice_index_or}
-
--- a document's flag is raised where its count is not 0
-abbrev pub flags_of : List ℕ → List Bool
-flags_of counts = map (λ count. not (count == 0)) counts
-
--- the count of the document with the number
-abbrev pub count_at : List ℕ → ℕ → ℕ
-count_at counts number = slice_index_or counts number 0
+use Rattle.closure_core.specs.Inside.Nodes.{count_at}
 
 -- the number of the first node with the node's document
 abbrev pub first_of_node : List ℕ → ℕ → ℕ

@@ -9,9 +9,8 @@ use Rattle.fed_config.specs.Configuration.{domain_cmp}
 use Rattle.bundle_doc.specs.Bundle.{Bundle, IsBundle}
 use Rattle.receipt_core.specs.Receipt.{Pair}
 use Rattle.sorted_order.specs.Sought.{IsMissing, is_equal}
-use Rattle.trust_closure.specs.NodeCounts.{flags_of}
-use Rattle.trust_closure.specs.Nodes.{is_raised, raised_documents}
-use Rattle.trust_closure.specs.Views.{document_cmp}
+use Rattle.closure_core.specs.Inside.Nodes.{flags_of, is_raised, raised_documents}
+use Rattle.closure_core.specs.AcceptedList.{document_cmp}
 
 -- pairs are ordered by domain, and then as documents
 abbrev pub pair_cmp : Pair → Pair → Ordering

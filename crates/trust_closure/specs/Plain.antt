@@ -6,13 +6,12 @@ use Rattle.receipt_core.specs.declared.distrust.Distrust.{Distrust}
 use Rattle.receipt_core.specs.declared.triple.Triple.{Triple}
 use Rattle.receipt_core.specs.Receipt.{Receipt, pair_of, offers_of, need_of}
 use Rattle.receipt_core.specs.Acceptance.{Meaning, IsMeaning, IsReleased, pair_of_seed}
-use Rattle.trust_closure.specs.Nodes.{pairs_of, is_raised}
-use Rattle.trust_closure.specs.NodeCounts.{flags_of, count_at}
+use Rattle.closure_core.specs.Inside.Nodes.{pairs_of, is_raised, flags_of, count_at}
 use Rattle.trust_closure.specs.Held.{Hoard, meaning_of}
 use Rattle.trust_closure.specs.NetOf.{IsShutBy}
 use Rattle.trust_closure.specs.Indexed.{IsBefore}
 use Rattle.trust_closure.specs.Pairs.{Paired, IsPairing}
-use Rattle.trust_closure.specs.Changes.{HeldAndRoom}
+use Rattle.closure_core.specs.Changes.{HeldAndRoom}
 
 -- These are the offers of the configured documents.
 abbrev pub AreSeedOffers : List Seed → List Triple → Type 0

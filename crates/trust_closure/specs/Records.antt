@@ -1,25 +1,13 @@
 -- Records of distrust by the numbers of domains
-use Rattle.std.specs.Prelude.{◌≡◌, ℕ, ◌<◌, ◌≤◌, List, [], map, length, slice_index_or, Contains}
+use Rattle.std.specs.Prelude.{◌≡◌, ℕ, ◌<◌, ◌≤◌, List, length, Contains}
 use Rattle.std.specs.declared.cmp.Ordering.{Ordering}
 use Rattle.std.specs.Ordering.{nat_cmp, ordering_then}
-use Rattle.std.specs.List.{AllByRecursion}
 use Rattle.std.specs.List.Sorted.{IsStrictlySortedBy}
-use Rattle.receipt_core.specs.declared.distrust.Distrust.{Distrust}
 use Rattle.receipt_core.specs.Receipt.{key_cmp}
 use Rattle.receipt_core.specs.Rising.{with_item}
-use Rattle.trust_closure.specs.declared.record.Record.{Record}
+use Rattle.closure_core.specs.declared.record.Record.{Record}
 use Rattle.trust_closure.specs.declared.records.Addition.{Addition}
 use Rattle.trust_closure.specs.declared.records.Addition.TheVariants.{Added, There, Full}
-
-abbrev pub distrust_by : List (List ℕ) → Record → Distrust
-distrust_by domains r = record { domain = slice_index_or domains r.domain []; key = r.key }
-
-abbrev pub distrusts_of : List (List ℕ) → List Record → List Distrust
-distrusts_of domains records = map (distrust_by domains) records
-
--- each number is below this one
-abbrev pub AreWithin : ℕ → List Record → Type 0
-AreWithin count records = AllByRecursion (λ r. r.domain < count) records
 
 -- records are ordered by key, and then by the numbers of their domains
 abbrev pub record_cmp : Record → Record → Ordering

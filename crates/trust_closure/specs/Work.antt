@@ -10,9 +10,9 @@ use Rattle.receipt_core.specs.Receipt.{distrust_cmp}
 use Rattle.receipt_core.specs.Rising.{with_items}
 use Rattle.trust_closure.specs.Indexed.{Indexed, IsIndexOf}
 use Rattle.trust_closure.specs.NetOf.{IsNetOf, IsShutBy}
-use Rattle.trust_closure.specs.declared.error.TakeError.{TakeError}
-use Rattle.trust_closure.specs.declared.outcome.Distrusted.{Distrusted}
-use Rattle.trust_closure.specs.declared.outcome.Distrusted.TheVariants.{New, Already}
+use Rattle.closure_core.specs.declared.error.TakeError.{TakeError}
+use Rattle.closure_core.specs.declared.outcome.Distrusted.{Distrusted}
+use Rattle.closure_core.specs.declared.outcome.Distrusted.TheVariants.{New, Already}
 
 -- All labels of the keys that these records distrust are closed at once, in so many turns, each of
 -- which looked at one edge. It lies at a label that those lead to, and at most two turns looked at

@@ -1,11 +1,10 @@
 //! Both closures do what every closure does.
-use crate::closure::{Closure, NoMemory};
-use crate::error::TakeError;
 use crate::indexed_closure::IndexedClosure;
-use crate::lent::{Accepted, Distrusts, Receipts};
-use crate::outcome::{Distrusted, Refused, Taken};
 use crate::plain_closure::PlainClosure;
 use bundle_doc::Document;
+use closure_core::{
+    Accepted, Closure, Distrusted, Distrusts, NoMemory, Receipts, Refused, TakeError, Taken,
+};
 use fed_config::Config;
 use jwk_set::KeyId;
 use receipt_core::Receipt;

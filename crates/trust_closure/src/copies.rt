@@ -6,14 +6,12 @@ ghost use Rattle.receipt_core.specs.declared.distrust.Distrust.{Distrust};
 ghost use Rattle.receipt_core.specs.Receipt.{Receipt};
 ghost use Rattle.receipt_core.specs.Acceptance.{IsFitting};
 ghost use Rattle.trust_closure.specs.Held.{meaning_of};
-ghost use Rattle.trust_closure.specs.Refusals.{RefusesMerge, all_receipts, all_records};
+ghost use Rattle.closure_core.specs.Refusals.{RefusesMerge, all_receipts, all_records};
+ghost use Rattle.closure_core.specs.Refusals.{offers_count};
 ghost use Rattle.trust_closure.specs.Merge.{IsMergeable, HasNew, AreCopies, IsShare, MisfitsOne};
-ghost use Rattle.trust_closure.specs.Merge.{offers_count};
 
-use crate::closure::NoMemory;
-use crate::error::TakeError;
 use crate::held::{Held, fit};
-use crate::lent::{Distrusts, Receipts};
+use closure_core::{Distrusts, NoMemory, Receipts, TakeError};
 use fed_config::Config;
 use receipt_core::Receipt;
 use std::alloc::AllocError;

@@ -1,7 +1,8 @@
 //! How many of the marked nodes have each of the different documents.
 ghost use Rattle.std.specs.Prelude.{◌≡◌, ℕ, ◌+◌, ◌-◌, ◌^◌, ◌<◌, ◌≤◌, All, length, slice_set};
-ghost use Rattle.trust_closure.specs.Flags.{raised_count};
-ghost use Rattle.trust_closure.specs.NodeCounts.{flags_of, count_at, nodes_with, AddsNodes};
+ghost use Rattle.closure_core.specs.Inside.Flags.{raised_count};
+ghost use Rattle.closure_core.specs.Inside.Nodes.{flags_of, count_at};
+ghost use Rattle.trust_closure.specs.NodeCounts.{nodes_with, AddsNodes};
 
 use wait_index::NodeNo;
 

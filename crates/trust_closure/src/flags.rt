@@ -1,7 +1,7 @@
 //! Flags of receipts that an accepted document vouches for.
 ghost use Rattle.std.specs.Prelude.{◌≡◌, ℕ, false, length};
-ghost use Rattle.trust_closure.specs.Nodes.{is_raised};
-ghost use Rattle.trust_closure.specs.Flags.{raised_count};
+ghost use Rattle.closure_core.specs.Inside.Nodes.{is_raised};
+ghost use Rattle.closure_core.specs.Inside.Flags.{raised_count};
 
 /// Lowers all flags, and returns how many were raised.
 pub(crate) fn lower_all(flags: &mut [bool]) -> usize

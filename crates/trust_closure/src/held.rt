@@ -4,16 +4,14 @@ ghost use Rattle.std.specs.Prelude.{IsTrue, IsOk, OnOk, IfOk, MatchResult};
 ghost use Rattle.fed_config.specs.Configuration.{IsConfiguration};
 ghost use Rattle.receipt_core.specs.Receipt.{IsReceipt, with_receipt};
 ghost use Rattle.receipt_core.specs.Acceptance.{IsFitting, IsMeaning};
-ghost use Rattle.trust_closure.specs.Held.{Hoard, meaning_of, IsAbsent, Stands, Repels, Misfits};
+ghost use Rattle.closure_core.specs.Refusals.{Misfits};
+ghost use Rattle.trust_closure.specs.Held.{Hoard, meaning_of, IsAbsent, Stands, Repels};
 ghost use Rattle.trust_closure.specs.Held.{AddsOrRefuses, addition_result};
-ghost use Rattle.trust_closure.specs.Views.{receipts_in};
+ghost use Rattle.closure_core.specs.AcceptedList.{receipts_in};
 
-use crate::closure::NoMemory;
-use crate::error::TakeError;
-use crate::lent::{Distrusts, Receipts};
 use crate::probes::{InBucket, OfReceipt, SpotInBuckets};
-use crate::record::{Record, record_of};
 use crate::records::{Addition, Records};
+use closure_core::{Distrusts, NoMemory, Receipts, Record, TakeError, record_of};
 use fed_config::Config;
 use jwk_set::KeyId;
 use label_net::{Label, LabelTest};
@@ -47,7 +45,7 @@ pub(crate) struct Held {
 impl Model for Held {
     ghost use Rattle.std.specs.Prelude.{min};
     ghost use Rattle.sorted_order.specs.Stock.{in_order};
-    ghost use Rattle.trust_closure.specs.Records.{distrusts_of};
+    ghost use Rattle.closure_core.specs.Inside.Records.{distrusts_of};
     ghost use Rattle.trust_closure.specs.Held.{Hoard, IsHoard, domains_of};
 
     ghost Value = { Hoard };

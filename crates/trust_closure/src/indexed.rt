@@ -2,17 +2,16 @@
 ghost use Rattle.std.specs.Prelude.{◌≡◌, ℕ, ◌+◌, ◌^◌, ◌<◌, ◌≤◌, ◌∷◌, ◌++◌, [], length, take, IsOk};
 ghost use Rattle.std.specs.Prelude.{OnOk};
 ghost use Rattle.receipt_core.specs.Receipt.{pair_of, offers_of, with_receipt};
-ghost use Rattle.trust_closure.specs.Changes.{Takes};
-ghost use Rattle.trust_closure.specs.Refusals.{IsRoomier};
+ghost use Rattle.closure_core.specs.Changes.{Takes};
+ghost use Rattle.closure_core.specs.Refusals.{IsRoomier};
 ghost use Rattle.trust_closure.specs.Held.{meaning_of};
 ghost use Rattle.trust_closure.specs.Indexed.{IsIndexedClosure, Reserves, ArrivesLast, room_of};
 ghost use Rattle.trust_closure.specs.Indexed.{closure_state};
 
-use crate::error::TakeError;
 use crate::grow::add;
 use crate::held::{Held, Standing};
-use crate::outcome::{Refused, Taken};
 use crate::pairs::Pairs;
+use closure_core::{Refused, TakeError, Taken};
 use label_net::Wiring;
 use receipt_core::Receipt;
 use std::alloc::AllocError;

@@ -2,23 +2,22 @@
 ghost use Rattle.std.specs.Prelude.{◌≡◌, ℕ, ◌↔◌, length, IsTrue, IsOk, OnOk, IfOk};
 ghost use Rattle.receipt_core.specs.Acceptance.{IsMeaning, IsMember};
 ghost use Rattle.wait_index.specs.Net.{ListsReached};
-ghost use Rattle.trust_closure.specs.Views.{IsAcceptedList, IsPendingCount, document_of};
-ghost use Rattle.trust_closure.specs.Views.{receipts_in};
-ghost use Rattle.trust_closure.specs.Changes.{empty_of, Takes, TakesDistrust, Merges};
-ghost use Rattle.trust_closure.specs.Refusals.{IsRoomier};
+ghost use Rattle.closure_core.specs.AcceptedList.{IsAcceptedList, IsPendingCount, document_of};
+ghost use Rattle.closure_core.specs.AcceptedList.{receipts_in};
+ghost use Rattle.closure_core.specs.Changes.{empty_of, Takes, TakesDistrust, Merges};
+ghost use Rattle.closure_core.specs.Refusals.{IsRoomier};
 ghost use Rattle.trust_closure.specs.Work.{Works, MergesOnce};
 
-use crate::closure::NoMemory;
-use crate::error::TakeError;
 use crate::grow::{lose, lose_all};
 use crate::held::Held;
 use crate::indexed::{Spare, reserve, take_into};
-use crate::lent::{Accepted, Distrusts, Receipts};
 use crate::merge::{Mergeable, merge_into};
-use crate::outcome::{Distrusted, Refused, Taken};
 use crate::pairs::Pairs;
 use crate::seeding::add_seeds;
 use bundle_doc::Document;
+use closure_core::{
+    Accepted, Distrusted, Distrusts, NoMemory, Receipts, Refused, TakeError, Taken,
+};
 use fed_config::Config;
 use jwk_set::KeyId;
 use label_net::Wiring;

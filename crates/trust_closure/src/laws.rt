@@ -1,37 +1,8 @@
-//! What holds of every configuration, every set of receipts and every set of records of distrust.
-ghost use Rattle.std.specs.Prelude.{◌≡◌, ℕ, ◌+◌, ◌*◌, ◌≤◌, ◌↔◌, Bool, true, List, Contains, length};
-ghost use Rattle.std.specs.List.Sorted.{IsStrictlySortedBy};
-ghost use Rattle.bundle_doc.specs.Bundle.{Bundle};
+//! What holds of every index of a closure.
+ghost use Rattle.std.specs.Prelude.{ℕ, ◌+◌, ◌*◌, ◌≤◌, List, length};
 ghost use Rattle.receipt_core.specs.declared.distrust.Distrust.{Distrust};
-ghost use Rattle.receipt_core.specs.Receipt.{Receipt, Pair, receipt_cmp, distrust_cmp};
-ghost use Rattle.receipt_core.specs.Acceptance.{Meaning, IsMember, IsClosed};
-ghost use Rattle.trust_closure.specs.Changes.{IsGain};
 ghost use Rattle.trust_closure.specs.Indexed.{Indexed};
 ghost use Rattle.trust_closure.specs.Work.{ClosesAtOnce, IsWorkOf};
-ghost use Rattle.trust_closure.specs.Views.{IsAcceptedList, IsPendingCount};
-
-/// What is accepted is the least set that has the configured documents and, with a document, that
-/// of each held receipt that it vouches for: it is such a set, and each such set has all of it.
-pub fn least()
-    ensures closed { (m : Meaning) → IsClosed m (IsMember m) }
-    ensures least { (m : Meaning) (set : Pair → Bool) → IsClosed m (λ p. set p ≡ true) → (p : Pair)
-        → IsMember m p → set p ≡ true }
-{}
-
-/// With more receipts no less is accepted, and with more records of distrust no more. So what is
-/// accepted depends on the sets alone.
-pub fn larger_and_smaller()
-    ensures receipts { (old new : Meaning) → old.config ≡ new.config → old.records ≡ new.records
-        → ((r : Receipt) → Contains old.held r → Contains new.held r) → (p : Pair) → IsMember old p
-        → IsMember new p }
-    ensures records { (old new : Meaning) → old.config ≡ new.config → old.held ≡ new.held
-        → ((x : Distrust) → Contains old.records x → Contains new.records x) → (p : Pair)
-        → IsMember new p → IsMember old p }
-    ensures sets { (one other : Meaning) → one.config ≡ other.config
-        → ((r : Receipt) → (Contains one.held r ↔ Contains other.held r))
-        → ((x : Distrust) → (Contains one.records x ↔ Contains other.records x))
-        → (p : Pair) → (IsMember one p ↔ IsMember other p) }
-{}
 
 /// Whatever the keys that are distrusted and however many their labels are, a close looks at each
 /// edge at most twice.
@@ -41,22 +12,4 @@ pub fn each_edge_twice()
     ensures merge { (old : Indexed) (records : List Distrust) (turns : ℕ)
         → IsWorkOf old records turns
         → turns ≤ 2 * (length old.wired.net.offers + length old.wired.net.waits) }
-{}
-
-/// A number that a clause calls a count is the only one.
-pub fn one_number()
-    ensures gain { (old new : Meaning) (n k : ℕ) → IsGain old new n → IsGain old new k → n ≡ k }
-    ensures pending { (m : Meaning) (n k : ℕ) → IsPendingCount m n → IsPendingCount m k → n ≡ k }
-{}
-
-/// A set has one list that rises, so sets are equal exactly when their lists are.
-pub fn one_list()
-    ensures receipts { (rs ss : List Receipt) → IsStrictlySortedBy receipt_cmp rs
-        → IsStrictlySortedBy receipt_cmp ss
-        → ((r : Receipt) → (Contains rs r ↔ Contains ss r)) → rs ≡ ss }
-    ensures records { (xs ys : List Distrust) → IsStrictlySortedBy distrust_cmp xs
-        → IsStrictlySortedBy distrust_cmp ys
-        → ((x : Distrust) → (Contains xs x ↔ Contains ys x)) → xs ≡ ys }
-    ensures accepted { (m : Meaning) (domain : List ℕ) (ds es : List Bundle)
-        → IsAcceptedList m domain ds → IsAcceptedList m domain es → ds ≡ es }
 {}

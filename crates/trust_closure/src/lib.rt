@@ -3,25 +3,19 @@
 #![tactic(auto)]
 
 mod both;
-mod closure;
 mod copies;
 mod counts;
-mod error;
 mod flags;
 mod grow;
 mod held;
 mod indexed;
 mod indexed_closure;
 pub mod laws;
-mod lent;
 mod merge;
-mod nodes;
-mod outcome;
 mod pairs;
 mod plain;
 mod plain_closure;
 mod probes;
-mod record;
 mod records;
 mod recount;
 mod rounds;
@@ -29,9 +23,8 @@ mod seeding;
 mod sowing;
 mod wire;
 
-pub use closure::{Closure, NoMemory};
-pub use error::TakeError;
+pub use closure_core::{
+    Accepted, Closure, Distrusted, Distrusts, NoMemory, Receipts, Refused, TakeError, Taken,
+};
 pub use indexed_closure::IndexedClosure;
-pub use lent::{Accepted, Distrusts, Receipts};
-pub use outcome::{Distrusted, Refused, Taken};
 pub use plain_closure::PlainClosure;

@@ -3,25 +3,22 @@ ghost use Rattle.std.specs.Prelude.{◌≡◌, ◌⊎◌, ℕ, List, IsTrue, IsO
 ghost use Rattle.receipt_core.specs.declared.distrust.Distrust.{Distrust};
 ghost use Rattle.receipt_core.specs.Receipt.{receipt_cmp, distrust_cmp};
 ghost use Rattle.receipt_core.specs.Rising.{with_items};
-ghost use Rattle.trust_closure.specs.Changes.{Merges};
+ghost use Rattle.closure_core.specs.Changes.{Merges};
 ghost use Rattle.trust_closure.specs.Held.{meaning_of};
 ghost use Rattle.trust_closure.specs.Merge.{FitWithinRoom, AreKnown};
 ghost use Rattle.trust_closure.specs.Work.{AreOld};
 
-use crate::closure::NoMemory;
 use crate::copies::share_of;
-use crate::error::TakeError;
 use crate::held::Held;
-use crate::lent::Distrusts;
-use crate::outcome::{Refused, Taken};
+use closure_core::{Distrusts, NoMemory, Refused, TakeError, Taken};
 use receipt_core::Receipt;
 
 /// What a merge asks of a closure.
 pub(crate) trait Mergeable {
     ghost use Rattle.trust_closure.specs.Held.{meaning_of};
-    ghost use Rattle.trust_closure.specs.Refusals.{IsRoomier};
+    ghost use Rattle.closure_core.specs.Refusals.{IsRoomier};
     ghost use Rattle.trust_closure.specs.Merge.{AreKnown};
-    ghost use Rattle.trust_closure.specs.Changes.{HeldAndRoom, Takes};
+    ghost use Rattle.closure_core.specs.Changes.{HeldAndRoom, Takes};
     ghost use Rattle.trust_closure.specs.Work.{AreOld};
 
     ghost state: { Self → HeldAndRoom };

@@ -2,16 +2,15 @@
 ghost use Rattle.std.specs.Prelude.{◌≡◌, ℕ, ◌+◌, ◌^◌, ◌<◌, ◌≤◌, ◌↔◌, ◌∷◌, ◌++◌, [], length, IsTrue};
 ghost use Rattle.std.specs.Prelude.{OnOk};
 ghost use Rattle.std.specs.List.{All};
-ghost use Rattle.trust_closure.specs.Nodes.{pairs_of, is_raised};
-ghost use Rattle.trust_closure.specs.NodeCounts.{flags_of, count_at, nodes_with, AddsNodes};
-ghost use Rattle.trust_closure.specs.Flags.{raised_count};
+ghost use Rattle.closure_core.specs.Inside.Nodes.{pairs_of, is_raised, flags_of, count_at};
+ghost use Rattle.trust_closure.specs.NodeCounts.{nodes_with, AddsNodes};
+ghost use Rattle.closure_core.specs.Inside.Flags.{raised_count};
 ghost use Rattle.trust_closure.specs.Pairs.{IsPairing, AreRising, PutsFirst, HasRaised, raised_of};
-ghost use Rattle.trust_closure.specs.Views.{document_cmp, document_of};
+ghost use Rattle.closure_core.specs.AcceptedList.{document_cmp, document_of};
 
 use crate::counts::{clear, lower_all, raise_all};
-use crate::lent::Accepted;
-use crate::nodes::{document_at, domain_at};
 use bundle_doc::Document;
+use closure_core::{Accepted, document_at, domain_at};
 use fed_config::Seed;
 use receipt_core::Receipt;
 use sorted_order::{Order, Probe};
@@ -57,9 +56,9 @@ pub(crate) struct SoughtPair<'a> {
 
 impl<'a> Probe for SoughtPair<'a> {
     ghost use Rattle.std.specs.Prelude.{◌<◌, length};
-    ghost use Rattle.trust_closure.specs.Nodes.{pairs_of};
+    ghost use Rattle.closure_core.specs.Inside.Nodes.{pairs_of};
     ghost use Rattle.trust_closure.specs.Pairs.{pair_cmp, pair_at};
-    ghost use Rattle.trust_closure.specs.Views.{document_of};
+    ghost use Rattle.closure_core.specs.AcceptedList.{document_of};
 
     ghost compared = { λ s number. pair_cmp (pair_at (pairs_of s.seeds.now s.receipts.now) number)
         (document_of s.domain.now s.document.now) };
@@ -88,7 +87,7 @@ pub(crate) struct SoughtDomain<'a> {
 impl<'a> Probe for SoughtDomain<'a> {
     ghost use Rattle.std.specs.Prelude.{◌<◌, length};
     ghost use Rattle.fed_config.specs.Configuration.{domain_cmp};
-    ghost use Rattle.trust_closure.specs.Nodes.{pairs_of};
+    ghost use Rattle.closure_core.specs.Inside.Nodes.{pairs_of};
     ghost use Rattle.trust_closure.specs.Pairs.{pair_at};
 
     ghost compared = { λ s number. domain_cmp

@@ -1,22 +1,21 @@
 //! The closure that anybody can read.
 ghost use Rattle.std.specs.Prelude.{◌≡◌, ℕ, ◌↔◌, length, IsTrue, IsOk, OnOk, IfOk};
 ghost use Rattle.receipt_core.specs.Acceptance.{IsMeaning, IsMember};
-ghost use Rattle.trust_closure.specs.Views.{IsAcceptedList, IsPendingCount, document_of};
-ghost use Rattle.trust_closure.specs.Views.{receipts_in};
-ghost use Rattle.trust_closure.specs.Changes.{empty_of, Takes, TakesDistrust, Merges};
-ghost use Rattle.trust_closure.specs.Refusals.{IsRoomier};
+ghost use Rattle.closure_core.specs.AcceptedList.{IsAcceptedList, IsPendingCount, document_of};
+ghost use Rattle.closure_core.specs.AcceptedList.{receipts_in};
+ghost use Rattle.closure_core.specs.Changes.{empty_of, Takes, TakesDistrust, Merges};
+ghost use Rattle.closure_core.specs.Refusals.{IsRoomier};
 
-use crate::closure::NoMemory;
-use crate::error::TakeError;
 use crate::held::Held;
-use crate::lent::{Accepted, Distrusts, Receipts};
 use crate::merge::{Mergeable, merge_into};
-use crate::outcome::{Distrusted, Refused, Taken};
 use crate::pairs::Pairs;
 use crate::plain::{lose, lose_all, reserve, take_into};
 use crate::rounds::{count_raised, raise_had};
 use crate::sowing::sow_all;
 use bundle_doc::Document;
+use closure_core::{
+    Accepted, Distrusted, Distrusts, NoMemory, Receipts, Refused, TakeError, Taken,
+};
 use fed_config::Config;
 use jwk_set::KeyId;
 use receipt_core::{Receipt, Triple};
@@ -37,7 +36,7 @@ pub struct PlainClosure {
 
 impl Model for PlainClosure {
     ghost use Rattle.std.specs.Prelude.{vec_capacity};
-    ghost use Rattle.trust_closure.specs.Changes.{HeldAndRoom};
+    ghost use Rattle.closure_core.specs.Changes.{HeldAndRoom};
     ghost use Rattle.trust_closure.specs.Plain.{IsPlainClosure, plain_state};
 
     ghost Value = { HeldAndRoom };

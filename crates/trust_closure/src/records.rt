@@ -3,7 +3,7 @@ ghost use Rattle.std.specs.Prelude.{◌≡◌, ◌+◌, ◌≤◌, ◌↔◌, []
 ghost use Rattle.std.specs.List.Sorted.{IsStrictlySortedBy};
 ghost use Rattle.trust_closure.specs.Records.{InsertsRecord, record_cmp};
 
-use crate::record::Record;
+use closure_core::Record;
 use std::alloc::{AllocError, Global};
 use std::marker::Model;
 
@@ -29,7 +29,7 @@ pub(crate) struct Records {
 
 impl Model for Records {
     ghost use Rattle.std.specs.Prelude.{List, vec_capacity};
-    ghost use Rattle.trust_closure.specs.declared.record.Record.{Record};
+    ghost use Rattle.closure_core.specs.declared.record.Record.{Record};
     ghost use Rattle.trust_closure.specs.Records.{AreRecords};
 
     ghost Value = { List Record };

@@ -1,9 +1,10 @@
 //! Counts of documents after labels were closed.
 ghost use Rattle.std.specs.Prelude.{◌≡◌, ◌+◌, ◌^◌, ◌<◌, ◌≤◌, drop, length};
 ghost use Rattle.std.specs.List.{All};
-ghost use Rattle.trust_closure.specs.Flags.{raised_count};
+ghost use Rattle.closure_core.specs.Inside.Flags.{raised_count};
 ghost use Rattle.trust_closure.specs.Indexed.{WasCounted};
-ghost use Rattle.trust_closure.specs.NodeCounts.{flags_of, AreCounts};
+ghost use Rattle.closure_core.specs.Inside.Nodes.{flags_of};
+ghost use Rattle.trust_closure.specs.NodeCounts.{AreCounts};
 
 use crate::pairs::Pairs;
 use wait_index::{NodeNo, Reach};

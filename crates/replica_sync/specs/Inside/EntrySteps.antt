@@ -5,7 +5,7 @@ use Rattle.replica_sync.specs.Entries.{IsNextEntry, IsNoEntry, RefusesEntryLine}
 use Rattle.receipt_core.specs.Acceptance.{Meaning}
 use Rattle.replica_core.specs.Absorbing.{RefusesEntry, with_entry}
 use Rattle.replica_core.specs.declared.error.SyncError.{SyncError}
-use Rattle.trust_closure.specs.declared.error.TakeError.{TakeError}
+use Rattle.closure_core.specs.declared.error.TakeError.{TakeError}
 use Rattle.replica_sync.specs.declared.entry_line.Wanted.{Wanted}
 use Rattle.receipt_core.specs.declared.line_error.LineError.{LineError}
 use Rattle.receipt_core.specs.declared.line_error.LineError.TheVariants.{NotCanonical as NoLine}

@@ -5,7 +5,7 @@ use Rattle.std.proofs.lemmas.Bool.{both_ways}
 use Rattle.std.proofs.lemmas.Option.{slice_get_within}
 use Rattle.fed_config.specs.Configuration.{Configuration}
 use Rattle.receipt_core.specs.Acceptance.{pair_of_seed}
-use Rattle.trust_closure.specs.Views.{document_of}
+use Rattle.closure_core.specs.AcceptedList.{document_of}
 use Rattle.bundle_view.specs.Search.{AreLinkedSteps, IsBackFrom}
 use Rattle.bundle_view.specs.Explain.{IsShortest}
 use Rattle.bundle_view.proofs.TrailFacts.{linked}

@@ -1,6 +1,6 @@
 -- The search has passed the steps before the place.
 use Rattle.std.proofs.Common.{◌-◌, length}
-use Rattle.trust_closure.specs.Views.{document_of}
+use Rattle.closure_core.specs.AcceptedList.{document_of}
 use Rattle.bundle_view.proofs.TrailFacts.{IsAt}
 use Rattle.bundle_view.proofs.steps.go_on.Given as goal
 

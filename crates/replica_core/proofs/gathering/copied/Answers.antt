@@ -1,6 +1,6 @@
 use Rattle.std.proofs.Common.{◌∙◌, ap}
 use Rattle.receipt_core.specs.Acceptance.{Meaning}
-use Rattle.trust_closure.specs.Changes.{empty_of}
+use Rattle.closure_core.specs.Changes.{empty_of}
 use Rattle.replica_core.proofs.GatheringFacts.{copy-same}
 use Rattle.replica_core.proofs.gathering.copied.Goals as goal
 

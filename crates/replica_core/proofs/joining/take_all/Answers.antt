@@ -3,7 +3,7 @@ use Rattle.std.proofs.Common.{◌≡◌, ◌∷◌, List, length, arith, sym, ap
 use Rattle.std.specs.Vec.Iter.{into_iter_items}
 use Rattle.receipt_core.specs.Receipt.{Receipt, receipt_cmp}
 use Rattle.receipt_core.specs.Rising.{with_items}
-use Rattle.trust_closure.specs.Refusals.{IsRoomier}
+use Rattle.closure_core.specs.Refusals.{IsRoomier}
 use Rattle.replica_core.specs.Absorbing.{AreWelcome, of_receipts, room_for}
 use Rattle.replica_core.proofs.JoiningFacts.{IsJoining-start, IsJoining-next, IsJoining-end, none-left}
 use Rattle.replica_core.proofs.joining.take_all.Goals as goal

@@ -5,8 +5,8 @@ use Rattle.fed_config.specs.Configuration.{Configuration, IsConfiguration}
 use Rattle.receipt_core.specs.Receipt.{Receipt, IsReceipt, receipt_cmp}
 use Rattle.receipt_core.specs.Rising.{with_items}
 use Rattle.receipt_core.specs.Acceptance.{IsFitting, Meaning}
-use Rattle.trust_closure.specs.Held.{Misfits}
-use Rattle.trust_closure.specs.declared.error.TakeError.TheVariants.{Full}
+use Rattle.closure_core.specs.Refusals.{Misfits}
+use Rattle.closure_core.specs.declared.error.TakeError.TheVariants.{Full}
 use Rattle.replica_core.specs.Absorbing.{AreWelcome, of_receipts}
 use Rattle.replica_core.specs.Inside.Places.{HasPlace}
 use Rattle.replica_core.proofs.JudgeFacts.{all-push, misfit-refused, places-next, receipt-judged, receipt-refused, take-next}

@@ -3,7 +3,7 @@ use Rattle.std.proofs.Common.{◌≡◌, ◌-◌, length, get_or, take, sym, sub
 use Rattle.fed_config.specs.Configuration.{Configuration, HasDomain}
 use Rattle.receipt_core.specs.Receipt.{distrust_cmp}
 use Rattle.receipt_core.specs.Rising.{with_items}
-use Rattle.trust_closure.specs.declared.error.TakeError.TheVariants.{UnknownDomain, Full}
+use Rattle.closure_core.specs.declared.error.TakeError.TheVariants.{UnknownDomain, Full}
 use Rattle.replica_core.specs.Absorbing.{AreWelcome, of_records}
 use Rattle.replica_core.specs.Inside.Places.{HasPlace}
 use Rattle.replica_core.proofs.JudgeFacts.{known, unknown, places-next, record-judged, record-refused}

@@ -4,7 +4,7 @@ use Rattle.std.specs.List.{Contains}
 use Rattle.std.proofs.lemmas.Bool.{MatchBool-at_false}
 use Rattle.receipt_core.specs.Receipt.{Receipt}
 use Rattle.receipt_core.specs.Acceptance.{IsFitting}
-use Rattle.trust_closure.specs.Refusals.{IsOfUnknownDomain, IsOfWrongEndpoint}
+use Rattle.closure_core.specs.Refusals.{IsOfUnknownDomain, IsOfWrongEndpoint}
 use Rattle.trust_closure.proofs.MergeFacts.{IsPassed, IsPassed-next, IsPassed-end, IsPassed-has, fitting_next, fit_known, wrong_known, wrong_of}
 use Rattle.trust_closure.proofs.copies.fit_all.Goals as goal
 

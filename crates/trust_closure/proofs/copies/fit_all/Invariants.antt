@@ -3,7 +3,7 @@ use Rattle.std.specs.Bool.{MatchBool}
 use Rattle.std.specs.List.{Contains}
 use Rattle.receipt_core.specs.Receipt.{Receipt}
 use Rattle.receipt_core.specs.Acceptance.{IsFitting}
-use Rattle.trust_closure.specs.Refusals.{IsOfUnknownDomain, IsOfWrongEndpoint}
+use Rattle.closure_core.specs.Refusals.{IsOfUnknownDomain, IsOfWrongEndpoint}
 use Rattle.trust_closure.proofs.MergeFacts.{IsPassed}
 use Rattle.trust_closure.proofs.copies.fit_all.Given as goal
 

@@ -2,7 +2,7 @@
 use Rattle.std.proofs.Common.{inl, inr, arith}
 use Rattle.std.proofs.lemmas.Result.{err_from_is_err_and}
 use Rattle.trust_closure.specs.Held.{meaning_of}
-use Rattle.trust_closure.specs.Refusals.{IsAlike}
+use Rattle.closure_core.specs.Refusals.{IsAlike}
 use Rattle.trust_closure.proofs.MergeFacts.{alike_of, refuses_record, refuses_receipt, knows_records, fits_receipts}
 use Rattle.trust_closure.proofs.copies.judge.Goals as goal
 

@@ -1,6 +1,6 @@
 -- These are the offers of the receipts so far.
 use Rattle.std.proofs.Common.{◌≡◌, take}
-use Rattle.trust_closure.specs.Merge.{offers_count}
+use Rattle.closure_core.specs.Refusals.{offers_count}
 use Rattle.trust_closure.proofs.copies.offers_of_all.Given as goal
 
 abbrev pub invariant-loop-receipt : goal.invariant-loop-receipt

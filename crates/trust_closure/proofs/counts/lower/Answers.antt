@@ -1,7 +1,7 @@
 -- A count that was 1 is one less that is not 0.
 use Rattle.std.proofs.Common.{◌≡◌, ℕ, ◌-◌, List, set, get_or, arith}
 use Rattle.std.proofs.lemmas.List.{get_or-set_same}
-use Rattle.trust_closure.specs.NodeCounts.{count_at}
+use Rattle.closure_core.specs.Inside.Nodes.{count_at}
 use Rattle.trust_closure.proofs.NodeCountFacts.{count-stays, count-falls}
 use Rattle.trust_closure.proofs.counts.lower.Goals as goal
 

@@ -1,7 +1,7 @@
 -- A count that was 0 is one more that is not.
 use Rattle.std.proofs.Common.{◌≡◌, ℕ, ◌+◌, List, set, get_or, arith}
 use Rattle.std.proofs.lemmas.List.{get_or-set_same}
-use Rattle.trust_closure.specs.NodeCounts.{count_at}
+use Rattle.closure_core.specs.Inside.Nodes.{count_at}
 use Rattle.trust_closure.proofs.NodeCountFacts.{count-stays, count-rises}
 use Rattle.trust_closure.proofs.counts.raise.Goals as goal
 

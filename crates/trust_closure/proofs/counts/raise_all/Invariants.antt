@@ -1,7 +1,8 @@
 -- The nodes so far are counted.
 use Rattle.std.proofs.Common.{◌≡◌, ◌+◌, take}
-use Rattle.trust_closure.specs.Flags.{raised_count}
-use Rattle.trust_closure.specs.NodeCounts.{flags_of, AddsNodes}
+use Rattle.closure_core.specs.Inside.Flags.{raised_count}
+use Rattle.closure_core.specs.Inside.Nodes.{flags_of}
+use Rattle.trust_closure.specs.NodeCounts.{AddsNodes}
 use Rattle.trust_closure.proofs.counts.raise_all.Given as goal
 
 abbrev pub invariant-loop-node : goal.invariant-loop-node

@@ -3,8 +3,9 @@ use Rattle.std.proofs.Common.{◌≡◌, ◌++◌, ◌∷◌, ◌+◌, ◌-◌, 
 use Rattle.std.specs.List.{All}
 use Rattle.std.proofs.lemmas.List.{take_rest, length-take, length-drop}
 use Rattle.std.proofs.lemmas.List.Elements.{All-drop}
-use Rattle.trust_closure.specs.Flags.{raised_count}
-use Rattle.trust_closure.specs.NodeCounts.{flags_of, count_at, AddsNodes}
+use Rattle.closure_core.specs.Inside.Flags.{raised_count}
+use Rattle.closure_core.specs.Inside.Nodes.{flags_of, count_at}
+use Rattle.trust_closure.specs.NodeCounts.{AddsNodes}
 use Rattle.trust_closure.specs.Indexed.{IsIndexed}
 use Rattle.trust_closure.proofs.NodeCountFacts.{counts-more, count_at-push, nodes_with-few}
 use Rattle.trust_closure.proofs.IndexFacts.{marked-within, marked-few, firsts-within, built-counts, gain-more}

@@ -3,8 +3,8 @@ use Rattle.std.proofs.Common.{◌≡◌, ◌++◌, ◌∷◌, [], List, ℕ, ap,
 use Rattle.fed_config.specs.declared.seed.Seed.{Seed}
 use Rattle.bundle_doc.specs.Bundle.{Bundle}
 use Rattle.receipt_core.specs.Receipt.{Receipt, pair_of}
-use Rattle.trust_closure.specs.Nodes.{pairs_of}
-use Rattle.trust_closure.specs.Views.{document_of}
+use Rattle.closure_core.specs.Inside.Nodes.{pairs_of}
+use Rattle.closure_core.specs.AcceptedList.{document_of}
 use Rattle.trust_closure.specs.Pairs.{IsPairing}
 use Rattle.trust_closure.proofs.IndexFacts.{built-more}
 use Rattle.trust_closure.proofs.grow.place_receipt.Goals as goal

@@ -5,7 +5,7 @@ use Rattle.receipt_core.specs.Acceptance.{Meaning}
 use Rattle.receipt_core.specs.declared.distrust.Distrust.{Distrust}
 use Rattle.trust_closure.specs.Held.{meaning_of}
 use Rattle.trust_closure.specs.Work.{AreOld}
-use Rattle.trust_closure.specs.Refusals.{IsRoomier}
+use Rattle.closure_core.specs.Refusals.{IsRoomier}
 use Rattle.trust_closure.proofs.JoinFacts.{on_ok, refuses_same, share_same, share_known, share_welcome, share_merged, share_wants}
 use Rattle.trust_closure.proofs.merge.merge_into.Goals as goal
 

@@ -1,6 +1,6 @@
 -- Numbers whose pairs rise can be searched.
-use Rattle.trust_closure.specs.Nodes.{pairs_of}
-use Rattle.trust_closure.specs.Views.{document_of}
+use Rattle.closure_core.specs.Inside.Nodes.{pairs_of}
+use Rattle.closure_core.specs.AcceptedList.{document_of}
 use Rattle.trust_closure.proofs.PairFacts.{rising-sought}
 use Rattle.trust_closure.proofs.pairs.first_number.Goals as goal
 

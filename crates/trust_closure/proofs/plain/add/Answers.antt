@@ -1,8 +1,8 @@
 -- What accepted documents vouch for is accepted from now on.
 use Rattle.std.proofs.Common.{◌≡◌, ◌∙◌, ◌-◌, length, arith, ap}
 use Rattle.fed_config.specs.Configuration.{Configuration}
-use Rattle.trust_closure.specs.Flags.{raised_count}
-use Rattle.trust_closure.specs.NodeCounts.{flags_of}
+use Rattle.closure_core.specs.Inside.Flags.{raised_count}
+use Rattle.closure_core.specs.Inside.Nodes.{flags_of}
 use Rattle.trust_closure.specs.Plain.{HasPlainFlags}
 use Rattle.std.proofs.lemmas.List.{length_push}
 use Rattle.trust_closure.proofs.IndexFacts.{count-push}

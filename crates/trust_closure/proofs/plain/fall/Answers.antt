@@ -1,7 +1,7 @@
 -- What stands without the record is raised anew.
 use Rattle.std.proofs.Common.{◌∙◌, ◌-◌, length, arith, ap}
 use Rattle.fed_config.specs.Configuration.{Configuration}
-use Rattle.trust_closure.specs.NodeCounts.{flags_of}
+use Rattle.closure_core.specs.Inside.Nodes.{flags_of}
 use Rattle.trust_closure.specs.Plain.{HasPlainFlags}
 use Rattle.trust_closure.proofs.Carrying.{firsts-lowered, raised-as, settled-from, set-closed, loss-fallen}
 use Rattle.trust_closure.proofs.plain.fall.Goals as goal

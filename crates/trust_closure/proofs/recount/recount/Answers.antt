@@ -2,9 +2,11 @@
 use Rattle.std.proofs.Common.{◌≡◌, ◌∙◌, ◌<◌, ◌≤◌, ℕ, List, length, take, drop, arith, sym, ap, subst}
 use Rattle.std.specs.Prelude.{AllPairs, ◌≢◌}
 use Rattle.std.specs.List.{All}
-use Rattle.trust_closure.specs.NodeCounts.{flags_of, count_at, nodes_with, AddsNodes, AreCounts}
-use Rattle.trust_closure.proofs.FlagFacts.{count-fewer}
-use Rattle.trust_closure.proofs.NodeCountFacts.{length-flags, flags-kept, nodes_with-few}
+use Rattle.closure_core.specs.Inside.Nodes.{flags_of, count_at}
+use Rattle.trust_closure.specs.NodeCounts.{nodes_with, AddsNodes, AreCounts}
+use Rattle.closure_core.proofs.FlagFacts.{count-fewer}
+use Rattle.closure_core.proofs.NodeFacts.{length-flags}
+use Rattle.trust_closure.proofs.NodeCountFacts.{flags-kept, nodes_with-few}
 use Rattle.trust_closure.proofs.RecountFacts.{nodes-before, nodes-now, nodes-again, kept-within, fallen-within, again-within, marked-few}
 use Rattle.trust_closure.proofs.recount.recount.Goals as goal
 

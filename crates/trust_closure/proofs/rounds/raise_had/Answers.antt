@@ -4,12 +4,13 @@ use Rattle.std.specs.Prelude.{◌↔◌}
 use Rattle.std.proofs.lemmas.Bool.{both_ways}
 use Rattle.std.proofs.lemmas.List.Elements.{All-cons}
 use Rattle.std.proofs.lemmas.List.Sums.{count_by-le-length}
-use Rattle.trust_closure.specs.Nodes.{is_raised}
-use Rattle.trust_closure.specs.NodeCounts.{flags_of, count_at, AddsNodes}
-use Rattle.trust_closure.specs.Flags.{raised_count}
+use Rattle.closure_core.specs.Inside.Nodes.{is_raised, flags_of, count_at}
+use Rattle.trust_closure.specs.NodeCounts.{AddsNodes}
+use Rattle.closure_core.specs.Inside.Flags.{raised_count}
 use Rattle.trust_closure.specs.Plain.{IsFirstHad}
-use Rattle.trust_closure.proofs.FlagFacts.{count-lowered}
-use Rattle.trust_closure.proofs.NodeCountFacts.{length-flags, zero-lowered, flags-raised, nodes_with-few}
+use Rattle.closure_core.proofs.FlagFacts.{count-lowered}
+use Rattle.closure_core.proofs.NodeFacts.{length-flags, zero-lowered}
+use Rattle.trust_closure.proofs.NodeCountFacts.{flags-raised, nodes_with-few}
 use Rattle.trust_closure.proofs.PlainFacts.{first-none, first-skip, first-later, first-more}
 use Rattle.trust_closure.proofs.rounds.raise_had.Goals.{then-is_had, else-is_had}
 use Rattle.trust_closure.proofs.rounds.raise_had.Goals as goal

@@ -1,9 +1,8 @@
 -- The flags of the documents that are had so far are raised.
 use Rattle.std.proofs.Common.{◌≡◌, ◌≤◌, ℕ, true, length}
 use Rattle.std.specs.Prelude.{◌↔◌}
-use Rattle.trust_closure.specs.Nodes.{is_raised}
-use Rattle.trust_closure.specs.NodeCounts.{flags_of, count_at}
-use Rattle.trust_closure.specs.Flags.{raised_count}
+use Rattle.closure_core.specs.Inside.Nodes.{is_raised, flags_of, count_at}
+use Rattle.closure_core.specs.Inside.Flags.{raised_count}
 use Rattle.trust_closure.specs.Plain.{IsFirstHad}
 use Rattle.trust_closure.proofs.rounds.raise_had.Given as goal
 

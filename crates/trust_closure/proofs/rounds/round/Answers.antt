@@ -3,7 +3,7 @@ use Rattle.std.proofs.Common.{◌∙◌, ◌+◌, true, length, arith, sym, ap, 
 use Rattle.std.proofs.lemmas.Bool.{both_ways}
 use Rattle.std.proofs.lemmas.List.{length-set}
 use Rattle.label_net.proofs.Edges.{slice_get-Contains}
-use Rattle.trust_closure.specs.Flags.{raised_count}
+use Rattle.closure_core.specs.Inside.Flags.{raised_count}
 use Rattle.trust_closure.specs.Held.{meaning_of}
 use Rattle.trust_closure.specs.Plain.{AreSound, AreQuietBelow}
 use Rattle.trust_closure.proofs.PlainFacts.{item_at, vouched-released, sound-more, quiet-more}

@@ -1,6 +1,6 @@
 -- What is raised is vouched for, and where nothing is raised, the receipts so far are vouched for by none.
 use Rattle.std.proofs.Common.{◌≡◌, ◌+◌, ◌≤◌, length}
-use Rattle.trust_closure.specs.Flags.{raised_count}
+use Rattle.closure_core.specs.Inside.Flags.{raised_count}
 use Rattle.trust_closure.specs.Held.{meaning_of}
 use Rattle.trust_closure.specs.Plain.{AreSound, AreQuietBelow}
 use Rattle.trust_closure.proofs.rounds.round.Given as goal

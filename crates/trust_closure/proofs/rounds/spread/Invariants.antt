@@ -1,6 +1,6 @@
 -- The flags are those of receipts that accepted documents vouch for, and there are more with each round.
 use Rattle.std.proofs.Common.{◌≡◌, ◌-◌, length}
-use Rattle.trust_closure.specs.Flags.{raised_count}
+use Rattle.closure_core.specs.Inside.Flags.{raised_count}
 use Rattle.trust_closure.specs.Held.{meaning_of}
 use Rattle.trust_closure.specs.Plain.{AreSound}
 use Rattle.trust_closure.proofs.rounds.spread.Given as goal

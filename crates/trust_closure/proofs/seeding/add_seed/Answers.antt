@@ -5,7 +5,7 @@ use Rattle.fed_config.specs.Configuration.{HasDomain}
 use Rattle.receipt_core.specs.declared.triple.Triple.{Triple}
 use Rattle.receipt_core.specs.Receipt.{Receipt}
 use Rattle.receipt_core.specs.Acceptance.{pair_of_seed}
-use Rattle.trust_closure.specs.Nodes.{pairs_of}
+use Rattle.closure_core.specs.Inside.Nodes.{pairs_of}
 use Rattle.trust_closure.specs.Pairs.{IsPairing}
 use Rattle.trust_closure.proofs.Wirings.{offers-domain}
 use Rattle.trust_closure.proofs.IndexFacts.{pairing-counts, wired-seed, seeded-more}

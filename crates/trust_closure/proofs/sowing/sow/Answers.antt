@@ -2,7 +2,7 @@
 use Rattle.std.proofs.Common.{◌++◌, ◌∷◌, [], List, length, ap, sym, subst}
 use Rattle.receipt_core.specs.Receipt.{Receipt}
 use Rattle.receipt_core.specs.Acceptance.{pair_of_seed}
-use Rattle.trust_closure.specs.Nodes.{pairs_of}
+use Rattle.closure_core.specs.Inside.Nodes.{pairs_of}
 use Rattle.trust_closure.specs.Pairs.{IsPairing}
 use Rattle.trust_closure.proofs.IndexFacts.{pairing-counts}
 use Rattle.trust_closure.proofs.SownFacts.{sown-more}

@@ -2,7 +2,7 @@ use Rattle.std.proofs.Common.{◌≡◌, ◌<◌, ℕ, [], sym, ap, subst, lengt
 use Rattle.receipt_core.specs.declared.distrust.Distrust.{Distrust}
 use Rattle.receipt_core.specs.Receipt.{IsDigest}
 use Rattle.sorted_order.specs.Stock.{in_order}
-use Rattle.trust_closure.specs.Records.{distrust_by}
+use Rattle.closure_core.specs.Inside.Records.{distrust_by}
 use Rattle.trust_closure.specs.Held.{Hoard, meaning_of, addition_result, AddsOrRefuses, domains_of}
 use Rattle.trust_closure.proofs.ConfigFacts.{place_few, place_below, place_is, hoard_add, told_adds, meaning_with}
 use Rattle.trust_closure.proofs.held.Held.add_record.Goals as goal

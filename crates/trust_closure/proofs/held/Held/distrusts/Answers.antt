@@ -1,6 +1,6 @@
 use Rattle.std.proofs.Common.{◌≡◌, ◌∙◌, sym, ap, ap₂, subst, length, List, ℕ}
 use Rattle.trust_closure.specs.Held.{Hoard, domains_of}
-use Rattle.trust_closure.specs.Records.{AreWithin, distrusts_of}
+use Rattle.closure_core.specs.Inside.Records.{AreWithin, distrusts_of}
 use Rattle.trust_closure.proofs.ConfigFacts.{one_domains}
 use Rattle.trust_closure.proofs.held.Held.distrusts.Goals as goal
 

@@ -8,7 +8,7 @@ use Rattle.receipt_core.specs.Order.{receipt_total}
 use Rattle.receipt_core.specs.Receipt.{Receipt, receipt_cmp}
 use Rattle.sorted_order.specs.Stock.{in_order, FindsNumber}
 use Rattle.trust_closure.specs.Held.{Hoard}
-use Rattle.trust_closure.proofs.RisingFacts.{sought}
+use Rattle.closure_core.proofs.RisingFacts.{sought}
 use Rattle.trust_closure.proofs.HeldFacts.{finds_held}
 use Rattle.trust_closure.proofs.held.Held.holds.Goals as goal
 

@@ -3,7 +3,7 @@ use Rattle.std.specs.Bool.{IsTrue}
 use Rattle.std.specs.Prelude.{◌↔◌}
 use Rattle.std.specs.List.{Contains}
 use Rattle.receipt_core.specs.declared.distrust.Distrust.{Distrust}
-use Rattle.trust_closure.specs.Records.{distrust_by, distrusts_of}
+use Rattle.closure_core.specs.Inside.Records.{distrust_by, distrusts_of}
 use Rattle.trust_closure.specs.Held.{Hoard, domains_of}
 use Rattle.trust_closure.proofs.ConfigFacts.{place_few, place_below, place_is, distrust_held, distrust_lacks}
 use Rattle.trust_closure.proofs.held.Held.is_distrusted.Goals as goal

@@ -6,7 +6,7 @@ use Rattle.sorted_order.specs.Sought.{is_equal}
 use Rattle.sorted_order.specs.Stock.{picked, compared_at}
 use Rattle.sorted_order.proofs.PickedFacts.{filter_within}
 use Rattle.trust_closure.specs.Held.{Hoard, bucket_of}
-use Rattle.trust_closure.specs.Views.{receipts_in}
+use Rattle.closure_core.specs.AcceptedList.{receipts_in}
 use Rattle.trust_closure.proofs.HeldFacts.{buckets_rise, bucket_list}
 use Rattle.trust_closure.proofs.held.Held.receipts_of.Goals as goal
 

@@ -7,9 +7,9 @@ use Rattle.receipt_core.specs.Receipt.{Receipt, receipt_cmp}
 use Rattle.receipt_core.specs.Acceptance.{IsFitting}
 use Rattle.sorted_order.specs.Stock.{in_order, IsNumber}
 use Rattle.sorted_order.specs.Sought.{IsMissing}
-use Rattle.trust_closure.specs.Records.{distrusts_of}
+use Rattle.closure_core.specs.Inside.Records.{distrusts_of}
 use Rattle.trust_closure.specs.Held.{Hoard, Repels, meaning_of, domains_of}
-use Rattle.trust_closure.proofs.RisingFacts.{sought}
+use Rattle.closure_core.proofs.RisingFacts.{sought}
 use Rattle.trust_closure.proofs.HeldFacts.{misfit_repels, found_held, missing_lacks, length_in_order}
 use Rattle.trust_closure.proofs.held.Held.standing.Goals as goal
 

@@ -3,9 +3,9 @@ use Rattle.std.proofs.Common.{◌<◌, length, subst}
 use Rattle.std.specs.Prelude.{◌↔◌, IsTrue}
 use Rattle.trust_closure.specs.Held.{Hoard, domains_of}
 use Rattle.trust_closure.specs.Indexed.{IsDistrusted}
-use Rattle.trust_closure.specs.declared.record.Record.{Record}
+use Rattle.closure_core.specs.declared.record.Record.{Record}
 use Rattle.trust_closure.proofs.ConfigFacts.{distrust_held}
-use Rattle.trust_closure.proofs.RisingFacts.{each_has}
+use Rattle.closure_core.proofs.RisingFacts.{each_has}
 use Rattle.trust_closure.proofs.held.HeldLabelTest.is_meant.Goals as goal
 
 pub returns : goal.returns

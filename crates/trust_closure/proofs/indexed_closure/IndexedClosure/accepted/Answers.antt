@@ -1,9 +1,9 @@
 -- Raised flags are membership, in the order of the different documents.
 use Rattle.std.proofs.Common.{◌≡◌, ◌∙◌, ap, sym, subst}
 use Rattle.trust_closure.specs.Held.{meaning_of}
-use Rattle.trust_closure.specs.Nodes.{pairs_of}
+use Rattle.closure_core.specs.Inside.Nodes.{pairs_of}
 use Rattle.trust_closure.specs.Pairs.{raised_of}
-use Rattle.trust_closure.specs.Views.{IsAcceptedList}
+use Rattle.closure_core.specs.AcceptedList.{IsAcceptedList}
 use Rattle.trust_closure.proofs.AcceptedFacts.{accepted-list}
 use Rattle.trust_closure.proofs.IndexFacts.{tells}
 use Rattle.trust_closure.proofs.indexed_closure.IndexedClosure.accepted.Goals as goal

@@ -4,9 +4,9 @@ use Rattle.std.specs.Prelude.{◌↔◌, IsTrue}
 use Rattle.fed_config.specs.declared.seed.Seed.{Seed}
 use Rattle.receipt_core.specs.Receipt.{Receipt}
 use Rattle.receipt_core.specs.Acceptance.{IsMember}
-use Rattle.trust_closure.specs.Nodes.{pairs_of}
+use Rattle.closure_core.specs.Inside.Nodes.{pairs_of}
 use Rattle.trust_closure.specs.Pairs.{HasRaised}
-use Rattle.trust_closure.specs.Views.{document_of}
+use Rattle.closure_core.specs.AcceptedList.{document_of}
 use Rattle.trust_closure.proofs.IndexFacts.{raised-member}
 use Rattle.trust_closure.proofs.indexed_closure.IndexedClosure.is_accepted.Goals as goal
 

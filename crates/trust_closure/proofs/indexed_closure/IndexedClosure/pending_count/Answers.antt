@@ -2,7 +2,7 @@
 use Rattle.std.proofs.Common.{◌+◌, ◌-◌, [], None, length, arith, ap, subst, ◌∙◌}
 use Rattle.fed_config.specs.Configuration.{Configuration}
 use Rattle.receipt_core.specs.Receipt.{Receipt}
-use Rattle.trust_closure.specs.Views.{IsPendingCount}
+use Rattle.closure_core.specs.AcceptedList.{IsPendingCount}
 use Rattle.trust_closure.proofs.IndexFacts.{pending-count, marked-few}
 use Rattle.trust_closure.proofs.indexed_closure.IndexedClosure.pending_count.Goals as goal
 

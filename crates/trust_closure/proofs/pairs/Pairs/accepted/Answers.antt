@@ -1,10 +1,10 @@
 -- The domain's numbers stand together.
 use Rattle.std.proofs.Common.{◌<◌, ◌∙◌, length, ap, sym, subst}
 use Rattle.std.specs.List.{All}
-use Rattle.trust_closure.specs.Nodes.{pairs_of}
+use Rattle.closure_core.specs.Inside.Nodes.{pairs_of}
 use Rattle.trust_closure.specs.Pairs.{IsPairing}
 use Rattle.trust_closure.proofs.AcceptedFacts.{domain-sought, numbers-within}
-use Rattle.trust_closure.proofs.NodeCountFacts.{length-flags}
+use Rattle.closure_core.proofs.NodeFacts.{length-flags}
 use Rattle.trust_closure.proofs.pairs.Pairs.accepted.Goals as goal
 
 pub matching-requires-clause-rising : goal.matching-requires-clause-rising

@@ -1,8 +1,8 @@
 -- One more pair has a number in order.
 use Rattle.std.proofs.Common.{◌∙◌, subst, sym}
-use Rattle.trust_closure.specs.Nodes.{pairs_of}
+use Rattle.closure_core.specs.Inside.Nodes.{pairs_of}
 use Rattle.trust_closure.specs.Pairs.{IsPairing}
-use Rattle.trust_closure.specs.Views.{document_of}
+use Rattle.closure_core.specs.AcceptedList.{document_of}
 use Rattle.trust_closure.proofs.PairFacts.{pairing-more}
 use Rattle.trust_closure.proofs.pairs.Pairs.add.Goals as goal
 

@@ -2,10 +2,9 @@
 use Rattle.std.proofs.Common.{◌∙◌, false, refl, subst, sym, ap}
 use Rattle.std.specs.Prelude.{◌↔◌, IsTrue}
 use Rattle.std.proofs.lemmas.Bool.{both_ways}
-use Rattle.trust_closure.specs.Nodes.{pairs_of, is_raised}
-use Rattle.trust_closure.specs.NodeCounts.{flags_of}
+use Rattle.closure_core.specs.Inside.Nodes.{pairs_of, is_raised, flags_of}
 use Rattle.trust_closure.specs.Pairs.{IsPairing, HasRaised}
-use Rattle.trust_closure.specs.Views.{document_of}
+use Rattle.closure_core.specs.AcceptedList.{document_of}
 use Rattle.trust_closure.proofs.PairFacts.{rising-sought, raised-found, raised-missing}
 use Rattle.trust_closure.proofs.pairs.Pairs.is_raised.Goals as goal
 

@@ -3,9 +3,9 @@ use Rattle.std.proofs.Common.{◌≡◌, ◌∙◌, List, ap, sym, subst}
 use Rattle.fed_config.specs.Configuration.{Configuration}
 use Rattle.fed_config.specs.declared.seed.Seed.{Seed}
 use Rattle.receipt_core.specs.Receipt.{Receipt}
-use Rattle.trust_closure.specs.Nodes.{pairs_of}
+use Rattle.closure_core.specs.Inside.Nodes.{pairs_of}
 use Rattle.trust_closure.specs.Pairs.{raised_of}
-use Rattle.trust_closure.specs.Views.{IsAcceptedList}
+use Rattle.closure_core.specs.AcceptedList.{IsAcceptedList}
 use Rattle.trust_closure.proofs.AcceptedFacts.{accepted-list}
 use Rattle.trust_closure.proofs.PlainFacts.{plain-tells}
 use Rattle.trust_closure.proofs.plain_closure.PlainClosure.accepted.Goals as goal

@@ -2,7 +2,7 @@
 use Rattle.std.proofs.Common.{◌≡◌, ◌∙◌, [], List, Bool, length, arith, ap, sym, subst, refl}
 use Rattle.fed_config.specs.Configuration.{Configuration}
 use Rattle.receipt_core.specs.Acceptance.{Meaning}
-use Rattle.trust_closure.specs.NodeCounts.{flags_of}
+use Rattle.closure_core.specs.Inside.Nodes.{flags_of}
 use Rattle.trust_closure.specs.Plain.{HasPlainFlags}
 use Rattle.trust_closure.proofs.Carrying.{firsts-within, raised-as, settled-from}
 use Rattle.trust_closure.proofs.SownFacts.{sown-set, none-released}

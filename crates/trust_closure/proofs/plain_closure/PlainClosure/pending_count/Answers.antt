@@ -1,8 +1,8 @@
 -- Pending are the receipts whose flags are not raised.
 use Rattle.std.proofs.Common.{◌-◌, [], None, length, arith, ap, subst}
 use Rattle.receipt_core.specs.Receipt.{Receipt}
-use Rattle.trust_closure.specs.Flags.{raised_count}
-use Rattle.trust_closure.specs.Views.{IsPendingCount}
+use Rattle.closure_core.specs.Inside.Flags.{raised_count}
+use Rattle.closure_core.specs.AcceptedList.{IsPendingCount}
 use Rattle.trust_closure.proofs.SownFacts.{pending-plain}
 use Rattle.trust_closure.proofs.plain_closure.PlainClosure.pending_count.Goals as goal
 

@@ -1,0 +1,45 @@
+-- What a list contains
+use Rattle.std.proofs.Common.{◌≡◌, ◌⊎◌, inl, inr, List, [], ◌∷◌, map, refl, subst, arith}
+use Rattle.std.specs.List.{Contains}
+use Rattle.std.proofs.lemmas.List.Elements.{Contains-append_right, Contains-append_cases, Contains-push_cases}
+
+pub contains_first : {T : Type 0} (x : T) (xs : List T) → Contains (x ∷ xs) x
+contains_first x xs = (0, omega arith, refl)
+
+pub contains_later : {T : Type 0} (x : T) (xs : List T) (y : T) → Contains xs y → Contains (x ∷ xs) y
+contains_later x xs y has = Contains-append_right (x ∷ []) xs y has
+
+pub contains_none : {T : Type 0} (x : T) → Contains [] x → ⊥
+contains_none x has = omega (arith, has.1)
+
+pub contains_cases : {T : Type 0} (x : T) (xs : List T) (y : T) → Contains (x ∷ xs) y → (x ≡ y) ⊎ Contains xs y
+contains_cases x xs y has = elim (Contains-append_cases (x ∷ []) xs y has) [
+  | inl here ↦ elim (Contains-push_cases [] x y here) [
+    | inl none ↦ absurd (contains_none y none)
+    | inr same ↦ inl same
+  ]
+  | inr later ↦ inr later
+]
+
+-- ---- what a function makes of a list
+
+pub contains_map : {X Y : Type 0} (f : X → Y) (xs : List X) (x : X) → Contains xs x → Contains (map f xs) (f x)
+contains_map f [] x has = absurd (contains_none x has)
+contains_map f (h ∷ t) x has = elim (contains_cases h t x has) [
+  | inl e ↦ subst (λ y. Contains (map f (h ∷ t)) (f y)) e (contains_first (f h) (map f t))
+  | inr later ↦ contains_later (f h) (map f t) (f x) (contains_map f t x later)
+]
+
+pub record IsMapped {X Y : Type 0} (f : X → Y) (xs : List X) (y : Y) : Type 0 where
+  pub item : X
+  pub has : Contains xs item
+  pub is : f item ≡ y
+
+pub mapped : {X Y : Type 0} (f : X → Y) (xs : List X) (y : Y) → Contains (map f xs) y → IsMapped f xs y
+mapped f [] y has = absurd (contains_none y has)
+mapped f (h ∷ t) y has = elim (contains_cases (f h) (map f t) y has) [
+  | inl e ↦ record { item = h; has = contains_first h t; is = e }
+  | inr later ↦
+      let rest = mapped f t y later in
+      record { item = rest.item; has = contains_later h t rest.item rest.has; is = rest.is }
+]

@@ -1,0 +1,7 @@
+pub mod ContainsFacts
+pub mod CountFacts
+pub mod RisingFacts
+pub mod MemberFacts
+pub mod NodeFacts
+pub mod FlagFacts
+mod StandardFacts

@@ -1,0 +1,56 @@
+-- Numbers whose flags are raised
+use Rattle.std.proofs.Common.{◌≡◌, ℕ, zero, suc, ◌<◌, ◌==◌, eqb, inl, inr, Bool, true, false, cond, not, List, ◌∷◌, length, arith, refl, sym, ap, ◌∙◌}
+use Rattle.std.specs.Option.{option_map}
+use Rattle.std.specs.Prelude.{None, slice_get}
+use Rattle.std.specs.List.{cons_option}
+use Rattle.std.proofs.lemmas.Bool.{cases_lt, both_ways, eqb-true, not_from_false}
+use Rattle.std.proofs.lemmas.List.{length-map, get_or-map, get_or_past}
+use Rattle.std.proofs.lemmas.List.Elements.{All-rest}
+use Rattle.receipt_core.specs.Receipt.{Pair}
+use Rattle.closure_core.specs.Inside.Nodes.{AreNumbers, is_raised, raised_documents, flags_of, count_at}
+
+pub next_kept : (pairs : List Pair) (flags : List Bool) (before after : List ℕ) (n : ℕ) → AreNumbers pairs flags before → before ≡ n ∷ after → AreNumbers pairs flags after
+next_kept pairs flags before after n are e = record { flagged = are.flagged; within = All-rest (λ (k : ℕ). k < length pairs) n after before e are.within }
+
+pub next_skips : (pairs : List Pair) (flags : List Bool) (before after : List ℕ) (n : ℕ) → before ≡ n ∷ after → is_raised flags n ≡ false → raised_documents pairs flags after ≡ raised_documents pairs flags before
+next_skips pairs flags before after n e lowered =
+    sym (ap (raised_documents pairs flags) e ∙ ap (λ b. cons_option (cond b (option_map (λ p. p.document) (slice_get pairs n)) None) (raised_documents pairs flags after)) lowered)
+
+abbrev pub is_counted : ℕ → Bool
+is_counted count = not (count == 0)
+
+-- ---- flags of counts
+
+pub length-flags : (counts : List ℕ) → length (flags_of counts) ≡ length counts
+length-flags counts = length-map counts is_counted
+
+pub flag-counted : (counts : List ℕ) (n : ℕ)
+    → is_raised (flags_of counts) n ≡ is_counted (count_at counts n)
+flag-counted counts n = elim (cases_lt n (length counts)) [
+  | inl l ↦ get_or-map is_counted counts n 0 false l
+  | inr l ↦ get_or_past (flags_of counts) n false (omega (arith, l, length-flags counts))
+      ∙ ap is_counted (sym (get_or_past counts n 0 l))
+]
+
+counted-positive : (k : ℕ) → is_counted k ≡ true → 0 < k
+counted-positive zero e = absurd (both_ways false refl e)
+counted-positive (suc k) e = omega arith
+
+pub positive-counted : (k : ℕ) → 0 < k → is_counted k ≡ true
+positive-counted k l = decide (eqb k 0) refl
+  where
+    decide : (b : Bool) → eqb k 0 ≡ b → is_counted k ≡ true
+    decide true e = absurd (omega (arith, l, eqb-true k 0 e))
+    decide false e = not_from_false (eqb k 0) e
+
+pub raised-positive : (counts : List ℕ) (n : ℕ) → is_raised (flags_of counts) n ≡ true
+    → 0 < count_at counts n
+raised-positive counts n e = counted-positive (count_at counts n) (sym (flag-counted counts n) ∙ e)
+
+pub positive-raised : (counts : List ℕ) (n : ℕ) → 0 < count_at counts n
+    → is_raised (flags_of counts) n ≡ true
+positive-raised counts n l = flag-counted counts n ∙ positive-counted (count_at counts n) l
+
+pub zero-lowered : (counts : List ℕ) (n : ℕ) → count_at counts n ≡ 0
+    → is_raised (flags_of counts) n ≡ false
+zero-lowered counts n e = flag-counted counts n ∙ ap is_counted e

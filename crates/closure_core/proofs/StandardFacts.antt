@@ -1,0 +1,39 @@
+-- The definitions at small examples: each comes out by computation
+use Rattle.std.proofs.Common.{◌≡◌, [], ◌∷◌, None, Some, true, false, Less, Greater, refl}
+use Rattle.bundle_doc.specs.Bundle.{Bundle}
+use Rattle.receipt_core.specs.Acceptance.{Meaning}
+use Rattle.closure_core.specs.Changes.{IsGain}
+use Rattle.closure_core.specs.Inside.Nodes.{raised_documents}
+use Rattle.closure_core.specs.AcceptedList.{document_cmp, document_of}
+use Rattle.closure_core.proofs.ContainsFacts.{contains_none}
+
+abbrev unranked : Bundle
+unranked = record { authorities = []; rank = None; hint = None }
+
+abbrev first : Bundle
+first = record { authorities = []; rank = Some 0; hint = None }
+
+abbrev second : Bundle
+second = record { authorities = []; rank = Some 1; hint = None }
+
+absent_comes_before_zero : document_cmp unranked first ≡ Less
+absent_comes_before_zero = refl
+
+zero_comes_before_one : document_cmp first second ≡ Less
+zero_comes_before_one = refl
+
+one_comes_behind_absent : document_cmp second unranked ≡ Greater
+one_comes_behind_absent = refl
+
+-- only what is raised is lent, and in the order of the numbers
+raised_alone : raised_documents (document_of [] first ∷ document_of [] second ∷ document_of [] unranked ∷ []) (true ∷ false ∷ true ∷ []) (2 ∷ 1 ∷ 0 ∷ []) ≡ unranked ∷ first ∷ []
+raised_alone = refl
+
+-- nothing changes where nothing changes
+no_gain : (m : Meaning) → IsGain m m 0
+no_gain m = record {
+  items = [];
+  different = tt;
+  exactly = λ p. (λ has. absurd (contains_none p has), λ both. absurd (both.1 both.0));
+  count = refl;
+}

@@ -1,0 +1,8 @@
+-- What a caller cites stands in the first five; `Inside` has how what is lent and what is accepted
+-- is known by numbers and flags.
+pub mod Count
+pub mod AcceptedList
+pub mod Order
+pub mod Refusals
+pub mod Changes
+pub mod Inside

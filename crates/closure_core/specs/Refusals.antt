@@ -1,0 +1,134 @@
+-- Why a closure refuses a receipt, a record of distrust, or all that another one holds
+use Rattle.std.specs.Prelude.{◌≡◌, ℕ, ◌<◌, ◌≤◌, ◌⊎◌, List, length, Contains}
+use Rattle.std.specs.Prelude.{sum_by}
+use Rattle.fed_config.specs.Configuration.{Configuration, HasDomain, config_id_of}
+use Rattle.fed_config.specs.declared.relationship.Relationship.{Relationship}
+use Rattle.receipt_core.specs.declared.distrust.Distrust.{Distrust}
+use Rattle.receipt_core.specs.Receipt.{Receipt, receipt_cmp, distrust_cmp, pair_of, offers_of}
+use Rattle.receipt_core.specs.Rising.{with_items}
+use Rattle.receipt_core.specs.Acceptance.{IsFitting, Meaning}
+use Rattle.closure_core.specs.declared.error.TakeError.{TakeError}
+use Rattle.closure_core.specs.declared.error.TakeError.TheVariants.{UnknownDomain, WrongEndpoint}
+use Rattle.closure_core.specs.declared.error.TakeError.TheVariants.{Full, NoMemory, ConfigDiffers}
+
+-- for how many receipts, and for how many offers of theirs, there is memory already
+pub record Room : Type 0 where
+  pub receipts : ℕ
+  pub offers : ℕ
+
+-- the room is kept or has grown
+pub record IsRoomier (old new : Room) : Type 0 where
+  pub receipts : old.receipts ≤ new.receipts
+  pub offers : old.offers ≤ new.offers
+
+-- how many offers these receipts have together
+abbrev pub offers_count : List Receipt → ℕ
+offers_count receipts = sum_by (λ r. length (offers_of (pair_of r))) receipts
+
+-- the configuration has no relationship with the receipt's domain
+abbrev pub IsOfUnknownDomain : Configuration → Receipt → Type 0
+IsOfUnknownDomain c r = (x : Relationship) → Contains c.relationships x → x.domain ≡ r.domain → ⊥
+
+-- it has one, whose endpoint is another
+pub record IsOfWrongEndpoint (c : Configuration) (r : Receipt) : Type 0 where
+  pub relationship : Relationship
+  pub has : Contains c.relationships relationship
+  pub domain : relationship.domain ≡ r.domain
+  pub other : relationship.endpoint ≡ r.endpoint → ⊥
+
+-- The receipt does not fit, and this is why.
+abbrev pub Misfits : Configuration → Receipt → TakeError → Type 0
+Misfits c r UnknownDomain = IsOfUnknownDomain c r
+Misfits c r WrongEndpoint = IsOfWrongEndpoint c r
+Misfits c r Full = ⊥
+Misfits c r NoMemory = ⊥
+Misfits c r ConfigDiffers = ⊥
+
+-- ---- one receipt
+
+-- there is no memory for one more receipt and its offers already
+abbrev pub IsBeyond : Room → Receipt → Type 0
+IsBeyond room r = 0 < room.receipts → length (offers_of (pair_of r)) ≤ room.offers → ⊥
+
+-- The receipt fits and is new, and 65,536 are held.
+pub record IsOneTooMany (m : Meaning) (r : Receipt) : Type 0 where
+  pub fits : IsFitting m.config r
+  pub unheld : Contains m.held r → ⊥
+  pub full : 65536 ≤ length m.held
+
+-- Nothing else stood in the way, and memory had to be asked for.
+pub record WantsMemory (m : Meaning) (room : Room) (r : Receipt) : Type 0 where
+  pub fits : IsFitting m.config r
+  pub unheld : Contains m.held r → ⊥
+  pub few : length m.held < 65536
+  pub beyond : IsBeyond room r
+
+abbrev pub RefusesReceipt : Meaning → Room → Receipt → TakeError → Type 0
+RefusesReceipt m room r UnknownDomain = IsOfUnknownDomain m.config r
+RefusesReceipt m room r WrongEndpoint = IsOfWrongEndpoint m.config r
+RefusesReceipt m room r Full = IsOneTooMany m r
+RefusesReceipt m room r NoMemory = WantsMemory m room r
+RefusesReceipt m room r ConfigDiffers = ⊥
+
+-- ---- one record of distrust
+
+-- The configuration has the domain, and the record would be one more than the 4,096 that are held.
+pub record IsOneRecordTooMany (m : Meaning) (x : Distrust) : Type 0 where
+  pub domain : HasDomain m.config x.domain
+  pub unheld : Contains m.records x → ⊥
+  pub full : 4096 ≤ length m.records
+
+abbrev pub RefusesDistrust : Meaning → Distrust → TakeError → Type 0
+RefusesDistrust m x UnknownDomain = HasDomain m.config x.domain → ⊥
+RefusesDistrust m x WrongEndpoint = ⊥
+RefusesDistrust m x Full = IsOneRecordTooMany m x
+RefusesDistrust m x NoMemory = ⊥
+RefusesDistrust m x ConfigDiffers = ⊥
+
+-- ---- another closure
+
+abbrev pub all_receipts : Meaning → Meaning → List Receipt
+all_receipts m other = with_items receipt_cmp other.held m.held
+
+abbrev pub all_records : Meaning → Meaning → List Distrust
+all_records m other = with_items distrust_cmp other.records m.records
+
+-- Both have configurations of one digest.
+abbrev pub IsAlike : Meaning → Meaning → Type 0
+IsAlike m other = config_id_of m.config ≡ config_id_of other.config
+
+-- What the other holds is of this configuration.
+pub record IsOfConfig (m other : Meaning) : Type 0 where
+  pub alike : IsAlike m other
+  pub fitting : (r : Receipt) → Contains other.held r → IsFitting m.config r
+  pub domains : (x : Distrust) → Contains other.records x → HasDomain m.config x.domain
+
+-- Of what the other holds, a receipt or a record is of a domain unknown here.
+abbrev pub HasUnknownDomain : Meaning → Meaning → Type 0
+HasUnknownDomain m other = ((r : Receipt) × Contains other.held r × IsOfUnknownDomain m.config r)
+    ⊎ ((x : Distrust) × Contains other.records x × (HasDomain m.config x.domain → ⊥))
+
+-- A receipt of the other has another endpoint than this configuration.
+abbrev pub HasWrongEndpoint : Meaning → Meaning → Type 0
+HasWrongEndpoint m other = (r : Receipt) × Contains other.held r × IsOfWrongEndpoint m.config r
+
+-- Both together are more than one holds.
+abbrev pub AreTooMany : Meaning → Meaning → Type 0
+AreTooMany m other = (65536 < length (all_receipts m other)) ⊎ (4096 < length (all_records m other))
+
+-- Nothing else stood in the way, and a receipt had to be copied.
+pub record WantsCopies (m other : Meaning) : Type 0 where
+  pub of_config : IsOfConfig m other
+  pub few : length (all_receipts m other) ≤ 65536
+  pub few_records : length (all_records m other) ≤ 4096
+  pub receipt : Receipt
+  pub has : Contains other.held receipt
+  pub unheld : Contains m.held receipt → ⊥
+
+abbrev pub RefusesMerge : Meaning → Meaning → TakeError → Type 0
+RefusesMerge m other UnknownDomain = IsAlike m other × HasUnknownDomain m other
+RefusesMerge m other WrongEndpoint = IsAlike m other × (HasUnknownDomain m other → ⊥)
+    × HasWrongEndpoint m other
+RefusesMerge m other Full = IsOfConfig m other × AreTooMany m other
+RefusesMerge m other NoMemory = WantsCopies m other
+RefusesMerge m other ConfigDiffers = IsAlike m other → ⊥

@@ -1,0 +1,163 @@
+//! What a closure lends, in order and without memory.
+ghost use Rattle.std.specs.Prelude.{◌≡◌, length};
+ghost use Rattle.std.specs.Iterator.{YieldsFirstBy, YieldsFirstRef, item_count};
+ghost use Rattle.closure_core.specs.Inside.Nodes.{flags_of, pairs_of, raised_documents, AreNumbers};
+ghost use Rattle.closure_core.specs.Inside.Records.{distrusts_of, AreWithin};
+
+use crate::nodes::document_at;
+use crate::record::Record;
+use bundle_doc::Document;
+use fed_config::Seed;
+use jwk_set::KeyId;
+use receipt_core::Receipt;
+use sorted_order::{Lent, Numbers};
+use spiffe_name::TrustDomain;
+use std::marker::Model;
+
+/// Receipts, in the order of their lines' bytes.
+#[derive(Drop)]
+pub struct Receipts<'a> {
+    lent: Lent<'a, Receipt>,
+}
+
+/// Accepted documents of one domain, each once, rising by rank, where an absent one comes first,
+/// and then by canonical text.
+#[derive(Drop)]
+pub struct Accepted<'a> {
+    numbers: Numbers<'a>,
+    counts: &'a [u32],
+    seeds: &'a [Seed],
+    receipts: &'a [Receipt],
+}
+
+/// Records of distrust, rising by key id and then by domain.
+#[derive(Drop)]
+pub struct Distrusts<'a> {
+    domains: &'a [TrustDomain],
+    rest: &'a [Record],
+}
+
+impl<'a> Model for Receipts<'a> {
+    ghost use Rattle.std.specs.Prelude.{List};
+    ghost use Rattle.receipt_core.specs.Receipt.{Receipt};
+
+    ghost Value = { List Receipt };
+
+    ghost view = { λ a. a.lent };
+}
+
+impl<'a> Model for Accepted<'a> {
+    ghost use Rattle.std.specs.Prelude.{List};
+    ghost use Rattle.bundle_doc.specs.Bundle.{Bundle};
+    ghost use Rattle.closure_core.specs.Inside.Nodes.{flags_of, pairs_of, raised_documents};
+    ghost use Rattle.closure_core.specs.Inside.Nodes.{AreNumbers};
+
+    ghost Value = { List Bundle };
+
+    ghost view = { λ a. raised_documents (pairs_of a.seeds.now a.receipts.now)
+        (flags_of a.counts.now) a.numbers };
+
+    ghost invariant = { λ a. AreNumbers (pairs_of a.seeds.now a.receipts.now)
+        (flags_of a.counts.now) a.numbers };
+}
+
+impl<'a> Model for Distrusts<'a> {
+    ghost use Rattle.std.specs.Prelude.{List, length, ◌<◌};
+    ghost use Rattle.receipt_core.specs.declared.distrust.Distrust.{Distrust};
+    ghost use Rattle.closure_core.specs.Inside.Records.{distrusts_of, AreWithin};
+
+    ghost Value = { List Distrust };
+
+    ghost view = { λ a. distrusts_of a.domains.now a.rest.now };
+
+    ghost invariant = { λ a. AreWithin (length a.domains.now) a.rest.now };
+}
+
+impl<'a> Receipts<'a> {
+    /// Receipts that are lent, for those who implement [`crate::Closure`].
+    pub fn new(lent: Lent<'a, Receipt>) -> Self
+        ensures { result ≡ lent.entry }
+    {
+        Receipts { lent }
+    }
+}
+
+impl<'a> Accepted<'a> {
+    /// Of the configured documents and the receipts' those with these numbers whose counts are not
+    /// 0, for those who implement [`crate::Closure`].
+    pub fn new(
+        numbers: Numbers<'a>,
+        counts: &'a [u32],
+        seeds: &'a [Seed],
+        receipts: &'a [Receipt],
+    ) -> Self
+        requires { AreNumbers (pairs_of seeds.now receipts.now) (flags_of counts.now) numbers }
+        ensures { result ≡ raised_documents (pairs_of seeds.now receipts.now) (flags_of counts.now)
+            numbers.entry }
+    {
+        Accepted {
+            numbers,
+            counts,
+            seeds,
+            receipts,
+        }
+    }
+}
+
+impl<'a> Distrusts<'a> {
+    /// These records, whose domains are named by their numbers, for those who implement
+    /// [`crate::Closure`].
+    pub fn new(domains: &'a [TrustDomain], records: &'a [Record]) -> Self
+        requires { AreWithin (length domains.now) records.now }
+        ensures { result ≡ distrusts_of domains.now records.now }
+    {
+        Distrusts {
+            domains,
+            rest: records,
+        }
+    }
+}
+
+impl<'a> Iterator for Receipts<'a> {
+    type Item = &'a Receipt;
+
+    ghost next_gives = { YieldsFirstRef (λ rest. rest) };
+
+    ghost remaining = { item_count (λ rest. rest) };
+
+    fn next(&mut self) -> Option<&'a Receipt> {
+        self.lent.next()
+    }
+}
+
+impl<'a> Iterator for Accepted<'a> {
+    type Item = &'a Document;
+
+    ghost next_gives = { YieldsFirstRef (λ rest. rest) };
+
+    ghost remaining = { item_count (λ rest. rest) };
+
+    fn next(&mut self) -> Option<&'a Document> {
+        while let Some(number) = self.numbers.next() {
+            if self.counts[number as usize] != 0 {
+                return Some(document_at(self.seeds, self.receipts, number as usize));
+            }
+        }
+        None
+    }
+}
+
+impl<'a> Iterator for Distrusts<'a> {
+    type Item = (&'a TrustDomain, &'a KeyId);
+
+    ghost next_gives = { YieldsFirstBy (λ item. record { domain = item.0.now; key = item.1.now })
+        (λ rest. rest) };
+
+    ghost remaining = { item_count (λ rest. rest) };
+
+    fn next(&mut self) -> Option<(&'a TrustDomain, &'a KeyId)> {
+        let (first, others) = self.rest.split_first()?;
+        self.rest = others;
+        Some((&self.domains[first.domain as usize], &first.key))
+    }
+}

@@ -1,0 +1,18 @@
+//! What a replica promises: which documents it accepts, by its configuration, its receipts and its
+//! records of distrust.
+#![tactic(auto)]
+
+mod closure;
+mod error;
+pub mod laws;
+mod lent;
+mod nodes;
+mod outcome;
+mod record;
+
+pub use closure::{Closure, NoMemory};
+pub use error::TakeError;
+pub use lent::{Accepted, Distrusts, Receipts};
+pub use nodes::{document_at, domain_at};
+pub use outcome::{Distrusted, Refused, Taken};
+pub use record::{Record, record_of};

@@ -1,9 +1,0 @@
-use Rattle.std.proofs.Common.{◌≡◌, true}
-use Rattle.trust_closure.proofs.MemberFacts.{member_closed, member_least}
-use Rattle.trust_closure.proofs.laws.least.Goals as goal
-
-pub returns-clause-closed : goal.returns-clause-closed
-returns-clause-closed c m = member_closed m
-
-pub returns-clause-least : goal.returns-clause-least
-returns-clause-least c m set closed p is = member_least m (λ q. set q ≡ true) closed p is
