@@ -5,7 +5,8 @@ use Rattle.std.specs.List.Sorted.{IsStrictlySortedBy}
 use Rattle.serde_json.specs.Data.{Data}
 use Rattle.jwk_set.specs.Element.{IsAuthority}
 use Rattle.jwk_set.specs.declared.authority.Authority.{Authority}
-use Rattle.bundle_doc.specs.Bundle.{Bundle, Has, Says, HasNumberMember, Means, IsBundle, IsDocument, IsStoredDocument, Fits, text_cmp, canonical_text, document_limit}
+use Rattle.bundle_doc.specs.Bundle.{Bundle, Has, Says, HasNumberMember, Means, IsBundle, IsDocument, IsStoredDocument}
+use Rattle.bundle_doc.specs.Bundle.{Fits, text_cmp, canonical_text, document_limit}
 use Rattle.bundle_doc.specs.Refusal.{IsBuildFault, RefusesTree, RefusesBytes}
 use Rattle.bundle_doc.specs.declared.error.DocError.{DocError}
 use Rattle.bundle_doc.specs.declared.error.DocError.TheVariants.{TooLong, NotJson, NotObject, NoKeys, BadSequence, BadRefreshHint, CanonicalTooLong, NoMemory}
@@ -39,7 +40,8 @@ module _ (es : List Entry) (rank hint : Option ℕ) (authorities : List Authorit
 
   pub text-built : out ≡ canonical_text (bundle_of authorities rank hint)
   text-built =
-      b.out_is ∙ ap (λ k. k ++ numbers_text hint rank) (b.keys_are ∙ ap keys_text (sym b.authorities_are)) ∙ sym (canonical_text-parts (bundle_of authorities rank hint))
+      b.out_is ∙ ap (λ k. k ++ numbers_text hint rank) (b.keys_are ∙ ap keys_text (sym b.authorities_are))
+          ∙ sym (canonical_text-parts (bundle_of authorities rank hint))
 
   pub fits-built : (n : ℕ) → n ≡ length out → n ≤ document_limit → Fits (bundle_of authorities rank hint)
   fits-built n len short = subst (λ t. length t ≤ document_limit) text-built (subst (λ k. k ≤ document_limit) len short)
@@ -48,7 +50,9 @@ module _ (es : List Entry) (rank hint : Option ℕ) (authorities : List Authorit
   IsKept-built n len short = record { is = IsBundle-built; text = text-built; fits = fits-built n len short }
 
   pub too_long-built : (n : ℕ) → n ≡ length out → document_limit < n → IsBuildFault es rank hint CanonicalTooLong
-  too_long-built n len long = (bundle_of authorities rank hint, IsBundleOf-built, subst (λ t. document_limit < length t) text-built (subst (λ k. document_limit < k) len long))
+  too_long-built n len long =
+      (bundle_of authorities rank hint, IsBundleOf-built,
+      subst (λ t. document_limit < length t) text-built (subst (λ k. document_limit < k) len long))
 
 -- ---- from the contents of a value
 

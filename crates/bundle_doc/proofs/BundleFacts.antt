@@ -1,5 +1,6 @@
 -- A set has one rising list, an object means one bundle, and a canonical text is read as its bundle.
-use Rattle.std.proofs.Common.{◌≡◌, ℕ, ◌^◌, ◌<◌, ◌≤◌, ◌↔◌, inl, inr, List, [], ◌∷◌, true, Option, Some, None, IfSome, Less, Greater, codes, refl, sym, ap, ap₂, ◌∙◌, subst, arith}
+use Rattle.std.proofs.Common.{◌≡◌, ℕ, ◌^◌, ◌<◌, ◌≤◌, ◌↔◌, inl, inr, List, [], ◌∷◌, true, Option, Some, None, IfSome}
+use Rattle.std.proofs.Common.{Less, Greater, codes, refl, sym, ap, ap₂, ◌∙◌, subst, arith}
 use Rattle.std.specs.Ordering.{ordering_reverse}
 use Rattle.std.specs.List.{AllByRecursion}
 use Rattle.std.specs.List.Sorted.{IsStrictlySortedBy}
@@ -14,7 +15,8 @@ use Rattle.jwk_set.proofs.TreeFacts.{IsElement-tree_of}
 use Rattle.jwk_set.proofs.PlainFacts.{IsJson-compact_text, read-compact_text}
 use Rattle.std.specs.Str.{IsUtf8}
 use Rattle.json.proofs.Printed.Utf8.{are_ascii, IsUtf8-are_ascii}
-use Rattle.bundle_doc.specs.Bundle.{Bundle, Has, authority_text, text_cmp, IsBundle, Says, HasNumberMember, HasKeys, Means, trees, with_number, document_tree, canonical_text, Fits, IsDocument}
+use Rattle.bundle_doc.specs.Bundle.{Bundle, Has, authority_text, text_cmp, IsBundle, Says, HasNumberMember, HasKeys}
+use Rattle.bundle_doc.specs.Bundle.{Means, trees, with_number, document_tree, canonical_text, Fits, IsDocument}
 
 -- ---- a set has one rising list
 
@@ -42,13 +44,15 @@ same_first a b others more p q (inr here) (inr there) = absurd (not_both a b (be
 not_again : (a : Authority) (others : List Authority) → Below a others → Has others a → ⊥
 not_again a others h has = not_below_itself a (below_has a a others h has)
 
-tail_has : (a x : Authority) (others more : List Authority) → Below a others → ((y : Authority) → Has (a ∷ others) y → Has (a ∷ more) y) → Has others x → Has more x
+tail_has : (a x : Authority) (others more : List Authority) → Below a others
+    → ((y : Authority) → Has (a ∷ others) y → Has (a ∷ more) y) → Has others x → Has more x
 tail_has a x others more below all has = elim (all x (inr has)) [
   | inl e ↦ absurd (not_again a others below (subst (Has others) e has))
   | inr there ↦ there
 ]
 
-pub rising_same : (xs ys : List Authority) → IsStrictlySortedBy text_cmp xs → IsStrictlySortedBy text_cmp ys → ((a : Authority) → Has xs a → Has ys a) → ((a : Authority) → Has ys a → Has xs a) → xs ≡ ys
+pub rising_same : (xs ys : List Authority) → IsStrictlySortedBy text_cmp xs → IsStrictlySortedBy text_cmp ys
+    → ((a : Authority) → Has xs a → Has ys a) → ((a : Authority) → Has ys a → Has xs a) → xs ≡ ys
 unfolding IsStrictlySortedBy
 rising_same [] [] p q there back = refl
 rising_same [] (y ∷ ys) p q there back = absurd (back y (inl refl))
@@ -85,7 +89,8 @@ pub one_meaning : (tree : Data) (b c : Bundle) → Means tree b → Means tree c
 one_meaning tree b c p q =
     let keys : p.keys ≡ q.keys = one_array tree p.keys q.keys p.has_keys q.has_keys in
     let there : (a : Authority) → Has b.authorities a → Has c.authorities a = λ a h. (q.authorities a).1 (subst (λ k. Says k a) keys ((p.authorities a).0 h)) in
-    let back : (a : Authority) → Has c.authorities a → Has b.authorities a = λ a h. (p.authorities a).1 (subst (λ k. Says k a) (sym keys) ((q.authorities a).0 h)) in
+    let back : (a : Authority) → Has c.authorities a → Has b.authorities a =
+        λ a h. (p.authorities a).1 (subst (λ k. Says k a) (sym keys) ((q.authorities a).0 h)) in
     let authorities : b.authorities ≡ c.authorities = rising_same b.authorities c.authorities p.is.rising q.is.rising there back in
     let ranks : b.rank ≡ c.rank = one_number tree (codes "spiffe_sequence") b.rank c.rank p.rank q.rank in
     let hints : b.hint ≡ c.hint = one_number tree (codes "spiffe_refresh_hint") b.hint c.hint p.hint q.hint in
@@ -101,19 +106,29 @@ says_trees (x ∷ xs) h a =
       λ says. elim says [ inl is ↦ inl (one_authority (tree_of x) a x is (IsElement-tree_of x h.0)) | inr later ↦ inr (rest.1 later) ],
     )
 
-rank_there : (rank hint : Option ℕ) (items : Items) → HasNumberMember (object (member (codes "keys") (array items) (with_number (codes "spiffe_refresh_hint") hint (with_number (codes "spiffe_sequence") rank no_members)))) (codes "spiffe_sequence") rank
+rank_there : (rank hint : Option ℕ) (items : Items)
+    → HasNumberMember
+    (object (member (codes "keys") (array items)
+    (with_number (codes "spiffe_refresh_hint") hint (with_number (codes "spiffe_sequence") rank no_members))))
+    (codes "spiffe_sequence") rank
 rank_there None None items = inl refl
 rank_there None (Some h) items = inl refl
 rank_there (Some r) None items = refl
 rank_there (Some r) (Some h) items = refl
 
-hint_there : (rank hint : Option ℕ) (items : Items) → HasNumberMember (object (member (codes "keys") (array items) (with_number (codes "spiffe_refresh_hint") hint (with_number (codes "spiffe_sequence") rank no_members)))) (codes "spiffe_refresh_hint") hint
+hint_there : (rank hint : Option ℕ) (items : Items)
+    → HasNumberMember
+    (object (member (codes "keys") (array items)
+    (with_number (codes "spiffe_refresh_hint") hint (with_number (codes "spiffe_sequence") rank no_members))))
+    (codes "spiffe_refresh_hint") hint
 hint_there None None items = inl refl
 hint_there (Some r) None items = inl refl
 hint_there None (Some h) items = refl
 hint_there (Some r) (Some h) items = refl
 
-keys_there : (rank hint : Option ℕ) (items : Items) → HasKeys (object (member (codes "keys") (array items) (with_number (codes "spiffe_refresh_hint") hint (with_number (codes "spiffe_sequence") rank no_members)))) items
+keys_there : (rank hint : Option ℕ) (items : Items)
+    → HasKeys (object (member (codes "keys") (array items)
+    (with_number (codes "spiffe_refresh_hint") hint (with_number (codes "spiffe_sequence") rank no_members)))) items
 keys_there None None items = refl
 keys_there None (Some h) items = refl
 keys_there (Some r) None items = refl
@@ -141,17 +156,21 @@ ascii : (t : List ℕ) → are_ascii t ≡ true → IsUtf8 t
 ascii = IsUtf8-are_ascii
 
 plain_members : (xs : List Authority) (rank hint : Option ℕ) → ArePlain (trees xs) → IfSome rank (λ n. n < 2 ^ 64) → IfSome hint (λ n. n < 2 ^ 64)
-    → HasPlainMembers (member (codes "keys") (array (trees xs)) (with_number (codes "spiffe_refresh_hint") hint (with_number (codes "spiffe_sequence") rank no_members)))
+    → HasPlainMembers (member (codes "keys") (array (trees xs))
+        (with_number (codes "spiffe_refresh_hint") hint (with_number (codes "spiffe_sequence") rank no_members)))
 plain_members xs None None h r k = (ascii (codes "keys") refl, h, tt, tt)
 plain_members xs (Some n) None h r k = (ascii (codes "keys") refl, h, (refl, tt), (ascii (codes "spiffe_sequence") refl, r, tt, tt))
 plain_members xs None (Some m) h r k = (ascii (codes "keys") refl, h, (refl, tt), (ascii (codes "spiffe_refresh_hint") refl, k, tt, tt))
 plain_members xs (Some n) (Some m) h r k =
-    (ascii (codes "keys") refl, h, (refl, (refl, tt)), (ascii (codes "spiffe_refresh_hint") refl, k, (refl, tt), (ascii (codes "spiffe_sequence") refl, r, tt, tt)))
+    (ascii (codes "keys") refl, h, (refl, (refl, tt)),
+        (ascii (codes "spiffe_refresh_hint") refl, k, (refl, tt), (ascii (codes "spiffe_sequence") refl, r, tt, tt)))
 
 pub IsPlain-document_tree : (b : Bundle) → IsBundle b → IsPlain (document_tree b)
 IsPlain-document_tree b h = plain_members b.authorities b.rank b.hint (ArePlain-trees b.authorities h.forms) h.rank h.hint
 
-shallow : (xs : List Authority) (rank hint : Option ℕ) → depth (object (member (codes "keys") (array (trees xs)) (with_number (codes "spiffe_refresh_hint") hint (with_number (codes "spiffe_sequence") rank no_members)))) ≤ 4
+shallow : (xs : List Authority) (rank hint : Option ℕ)
+    → depth (object (member (codes "keys") (array (trees xs))
+    (with_number (codes "spiffe_refresh_hint") hint (with_number (codes "spiffe_sequence") rank no_members)))) ≤ 4
 shallow xs None None = omega (arith, shallow_trees xs)
 shallow xs (Some n) None = omega (arith, shallow_trees xs)
 shallow xs None (Some m) = omega (arith, shallow_trees xs)
@@ -172,13 +191,16 @@ one_text b c p q e =
 
 -- a canonical text within the limit is a document of its bundle
 pub IsDocument-canonical_text : (b : Bundle) → IsBundle b → Fits b → IsDocument (canonical_text b) b
-IsDocument-canonical_text b h fits = record { tree = document_tree b; json = IsJson-canonical_text b h; means = Means-document_tree b h; short = fits; fits = fits }
+IsDocument-canonical_text b h fits = record { tree = document_tree b; json = IsJson-canonical_text b h; means =
+    Means-document_tree b h; short = fits; fits = fits }
 
 -- authorities of one text are one
 pub one_authority_text : (a b : Authority) → IsAuthority a → IsAuthority b → authority_text a ≡ authority_text b → a ≡ b
 one_authority_text a b p q e =
     let deep : (x : Authority) → depth (tree_of x) ≤ max_depth = λ x. omega (arith, depth-tree_of x) in
-    let trees_same : Some (tree_of a) ≡ Some (tree_of b) = sym (read-compact_text (tree_of a) (IsPlain-tree_of a p) (deep a)) ∙ ap read e ∙ read-compact_text (tree_of b) (IsPlain-tree_of b q) (deep b) in
+    let trees_same : Some (tree_of a) ≡ Some (tree_of b) =
+        sym (read-compact_text (tree_of a) (IsPlain-tree_of a p) (deep a)) ∙ ap read e
+        ∙ read-compact_text (tree_of b) (IsPlain-tree_of b q) (deep b) in
     let tree_same : tree_of a ≡ tree_of b = cc in
     one_authority (tree_of a) a b (IsElement-tree_of a p) (subst (λ t. IsElement t b) (sym tree_same) (IsElement-tree_of b q))
 

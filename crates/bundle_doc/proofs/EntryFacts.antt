@@ -1,5 +1,8 @@
 -- Authorities gathered under their texts, and the text that is written for them.
-use Rattle.std.proofs.Common.{◌≡◌, ℕ, suc, ◌+◌, ◌<◌, ◌≤◌, ◌==◌, ◌⊎◌, ◌↔◌, inl, inr, List, [], ◌∷◌, ◌++◌, length, drop, get_or, Bool, true, false, not, Option, Some, None, Less, Greater, Equal, Ordering, String, Global, string_bytes, string_cmp, is_eq, codes, decimal, refl, sym, ap, ap₂, ◌∙◌, subst, arith, append-nil, append_assoc, drop-cons, add-one}
+use Rattle.std.proofs.Common.{◌≡◌, ℕ, suc, ◌+◌, ◌<◌, ◌≤◌, ◌==◌, ◌⊎◌, ◌↔◌, inl, inr, List, [], ◌∷◌, ◌++◌, length, drop}
+use Rattle.std.proofs.Common.{get_or, Bool, true, false, not, Option, Some, None, Less, Greater, Equal, Ordering}
+use Rattle.std.proofs.Common.{String, Global, string_bytes, string_cmp, is_eq, codes, decimal, refl, sym, ap, ap₂, ◌∙◌}
+use Rattle.std.proofs.Common.{subst, arith, append-nil, append_assoc, drop-cons, add-one}
 use Rattle.std.specs.Ordering.{nat_cmp, match_ordering}
 use Rattle.std.specs.Cmp.Lexicographic.{slice_cmp}
 use Rattle.std.specs.List.{AllByRecursion}
@@ -27,17 +30,20 @@ use Rattle.bundle_doc.proofs.BundleFacts.{one_authority_text}
 same_key : (k l : String Global) → string_cmp k l ≡ Equal → string_bytes k ≡ string_bytes l
 same_key k l e = (bytes_eq-Decides (string_bytes k) (string_bytes l)).0 (sym (is_eq-slice_cmp (string_bytes k) (string_bytes l)) ∙ ap is_eq e)
 
-entries_at : (o : Ordering) (k : String Global) (v : Authority) (e : Entry) (es more : List Entry) → string_cmp k e.0 ≡ o → IsAuthorityEntry (k, v) → AreEntries (e ∷ es) → AreEntries more
+entries_at : (o : Ordering) (k : String Global) (v : Authority) (e : Entry) (es more : List Entry)
+    → string_cmp k e.0 ≡ o → IsAuthorityEntry (k, v) → AreEntries (e ∷ es) → AreEntries more
     → AreEntries (match_ordering o ((k, v) ∷ e ∷ es) ((e.0, v) ∷ es) (e ∷ more))
 entries_at Less k v e es more is new old rest = (new, old)
 entries_at Equal k v e es more is new old rest = ((sym (same_key k e.0 is) ∙ new.0, new.1), old.1)
 entries_at Greater k v e es more is new old rest = (old.0, rest)
 
-pub AreEntries-insert_entry : (es : List Entry) (k : String Global) (v : Authority) → IsAuthorityEntry (k, v) → AreEntries es → AreEntries (insert_entry string_cmp es k v)
+pub AreEntries-insert_entry : (es : List Entry) (k : String Global) (v : Authority) → IsAuthorityEntry (k, v)
+    → AreEntries es → AreEntries (insert_entry string_cmp es k v)
 AreEntries-insert_entry [] k v new old = (new, tt)
 AreEntries-insert_entry (e ∷ es) k v new old = entries_at (string_cmp k e.0) k v e es _ refl new old (AreEntries-insert_entry es k v new old.1)
 
-has_at : (o : Ordering) (k : String Global) (v : Authority) (e : Entry) (es more : List Entry) (a : Authority) → string_cmp k e.0 ≡ o → IsAuthorityEntry (k, v) → AreEntries (e ∷ es)
+has_at : (o : Ordering) (k : String Global) (v : Authority) (e : Entry) (es more : List Entry) (a : Authority)
+    → string_cmp k e.0 ≡ o → IsAuthorityEntry (k, v) → AreEntries (e ∷ es)
     → Has (authorities_of more) a ↔ ((a ≡ v) ⊎ Has (authorities_of es) a)
     → Has (authorities_of (match_ordering o ((k, v) ∷ e ∷ es) ((e.0, v) ∷ es) (e ∷ more))) a ↔ ((a ≡ v) ⊎ Has (authorities_of (e ∷ es)) a)
 has_at Less k v e es more a is new old rest = (λ h. h, λ h. h)
@@ -51,11 +57,13 @@ has_at Greater k v e es more a is new old rest = (
   λ h. elim h [ inl x ↦ inr (rest.1 (inl x)) | inr y ↦ elim y [ inl z ↦ inl z | inr z ↦ inr (rest.1 (inr z)) ] ],
 )
 
-pub Has-insert_entry : (es : List Entry) (k : String Global) (v : Authority) (a : Authority) → IsAuthorityEntry (k, v) → AreEntries es → Has (authorities_of (insert_entry string_cmp es k v)) a ↔ ((a ≡ v) ⊎ Has (authorities_of es) a)
+pub Has-insert_entry : (es : List Entry) (k : String Global) (v : Authority) (a : Authority) → IsAuthorityEntry (k, v)
+    → AreEntries es → Has (authorities_of (insert_entry string_cmp es k v)) a ↔ ((a ≡ v) ⊎ Has (authorities_of es) a)
 Has-insert_entry [] k v a new old = (λ h. h, λ h. h)
 Has-insert_entry (e ∷ es) k v a new old = has_at (string_cmp k e.0) k v e es _ a refl new old (Has-insert_entry es k v a new old.1)
 
-pub AddsElement-insert_entry : (es : List Entry) (k : String Global) (v : Authority) (element : Data) → IsAuthorityEntry (k, v) → IsElement element v → AddsElement es (insert_entry string_cmp es k v) element
+pub AddsElement-insert_entry : (es : List Entry) (k : String Global) (v : Authority) (element : Data)
+    → IsAuthorityEntry (k, v) → IsElement element v → AddsElement es (insert_entry string_cmp es k v) element
 AddsElement-insert_entry es k v element new is = record {
   entries = AreEntries-insert_entry es k v new;
   authorities = λ old a. (
@@ -73,19 +81,25 @@ items_from vs i v within is = rw (add-one, drop-cons vs i v) (ap (λ x. item (vi
 abbrev pub Gathers : List Entry → Items → Items → Type 0
 Gathers es rest all = (a : Authority) → (Has (authorities_of es) a ⊎ Says rest a) ↔ Says all a
 
-pub Gathers-step : (old new : List Entry) (element : Data) (rest all : Items) → AreEntries old → AddsElement old new element → Gathers old (item element rest) all → Gathers new rest all
+pub Gathers-step : (old new : List Entry) (element : Data) (rest all : Items) → AreEntries old
+    → AddsElement old new element → Gathers old (item element rest) all → Gathers new rest all
 Gathers-step old new element rest all entries adds had a = (
   λ h. (had a).0 (elim h [ inl x ↦ elim ((adds.authorities entries a).0 x) [ inl is ↦ inr (inl is) | inr y ↦ inl y ] | inr y ↦ inr (inr y) ]),
-  λ h. elim ((had a).1 h) [ inl x ↦ inl ((adds.authorities entries a).1 (inr x)) | inr y ↦ elim y [ inl is ↦ inl ((adds.authorities entries a).1 (inl is)) | inr z ↦ inr z ] ],
+  λ h. elim ((had a).1 h) [ inl x ↦ inl ((adds.authorities entries a).1 (inr x)) | inr y ↦ elim y
+      [ inl is ↦ inl ((adds.authorities entries a).1 (inl is)) | inr z ↦ inr z ] ],
 )
 
-pub Gathers-next : (old new : List Entry) (vs : List Value) (i : ℕ) (v : Value) (all : Items) → i < length vs → get_or vs i v ≡ v → AreEntries old → AddsElement old new (view v) → Gathers old (items_view (drop i vs)) all → Gathers new (items_view (drop (i + 1) vs)) all
+pub Gathers-next : (old new : List Entry) (vs : List Value) (i : ℕ) (v : Value) (all : Items) → i < length vs
+    → get_or vs i v ≡ v → AreEntries old → AddsElement old new (view v) → Gathers old (items_view (drop i vs)) all
+    → Gathers new (items_view (drop (i + 1) vs)) all
 Gathers-next old new vs i v all within is entries adds had =
     Gathers-step old new (view v) (items_view (drop (i + 1) vs)) all entries adds (subst (λ rest. Gathers old rest all) (items_from vs i v within is) had)
 
 -- ---- in order
 
-texts_below : (e : Entry) (es : List Entry) → IsAuthorityEntry e → AreEntries es → AllByRecursion (λ k. string_cmp e.0 k ≡ Less) (keys_of es) → AllByRecursion (λ b. text_cmp e.1 b ≡ Less) (authorities_of es)
+texts_below : (e : Entry) (es : List Entry) → IsAuthorityEntry e → AreEntries es
+    → AllByRecursion (λ k. string_cmp e.0 k ≡ Less) (keys_of es)
+    → AllByRecursion (λ b. text_cmp e.1 b ≡ Less) (authorities_of es)
 texts_below e [] is are below = tt
 texts_below e (f ∷ es) is are below = (ap₂ (slice_cmp nat_cmp) (sym is.0) (sym are.0.0) ∙ below.0, texts_below e es is are.1 below.1)
 
@@ -103,7 +117,9 @@ forms_of (e ∷ es) are = (are.0.1, forms_of es are.1)
 -- one more key was written
 pub items_text-next : (out : List ℕ) (later : Bool) (text : List ℕ) (a : Authority) (others : List Authority) → text ≡ authority_text a
     → out ++ items_text later (trees (a ∷ others)) ≡ (out ++ (comma_if later ++ text)) ++ items_text true (trees others)
-items_text-next out later text a others is = rw is (sym (append_assoc out (comma_if later ++ authority_text a) _ ∙ ap (λ t. out ++ t) (append_assoc (comma_if later) (authority_text a) _)))
+items_text-next out later text a others is =
+    rw is (sym (append_assoc out (comma_if later ++ authority_text a) _
+    ∙ ap (λ t. out ++ t) (append_assoc (comma_if later) (authority_text a) _)))
 
 quoted_keys : quoted (codes "keys") ≡ codes "\"keys\""
 unfolding escape_byte
@@ -117,19 +133,26 @@ quoted_sequence : quoted (codes "spiffe_sequence") ≡ codes "\"spiffe_sequence\
 unfolding escape_byte
 quoted_sequence = refl
 
-hint_text : (hint : Option ℕ) (others : Members) → members_text true (with_number (codes "spiffe_refresh_hint") hint others) ≡ number_part (codes ",\"spiffe_refresh_hint\":") hint ++ members_text true others
+hint_text : (hint : Option ℕ) (others : Members)
+    → members_text true (with_number (codes "spiffe_refresh_hint") hint others)
+    ≡ number_part (codes ",\"spiffe_refresh_hint\":") hint ++ members_text true others
 hint_text None others = refl
 hint_text (Some n) others = ap (λ q. 44 ∷ (q ++ 58 ∷ (decimal n ++ members_text true others))) quoted_hint
 
-sequence_text : (rank : Option ℕ) → members_text true (with_number (codes "spiffe_sequence") rank no_members) ≡ number_part (codes ",\"spiffe_sequence\":") rank ++ codes "}"
+sequence_text : (rank : Option ℕ) → members_text true (with_number (codes "spiffe_sequence") rank no_members)
+    ≡ number_part (codes ",\"spiffe_sequence\":") rank ++ codes "}"
 sequence_text None = refl
 sequence_text (Some n) = ap (λ q. 44 ∷ (q ++ 58 ∷ (decimal n ++ codes "}"))) quoted_sequence
 
 pub canonical_text-parts : (b : Bundle) → canonical_text b ≡ keys_text b.authorities ++ numbers_text b.hint b.rank
 canonical_text-parts b =
     let ts = items_text false (trees b.authorities) in
-    ap (λ q. 123 ∷ (q ++ 58 ∷ ((91 ∷ ts) ++ members_text true (with_number (codes "spiffe_refresh_hint") b.hint (with_number (codes "spiffe_sequence") b.rank no_members))))) quoted_keys
-    ∙ ap (λ t. codes "{\"keys\":[" ++ (ts ++ t)) (hint_text b.hint _ ∙ ap (λ t. number_part (codes ",\"spiffe_refresh_hint\":") b.hint ++ t) (sequence_text b.rank))
+    ap (λ q. 123 ∷
+        (q ++ 58 ∷ ((91 ∷ ts) ++ members_text true
+        (with_number (codes "spiffe_refresh_hint") b.hint (with_number (codes "spiffe_sequence") b.rank no_members)))))
+        quoted_keys
+    ∙ ap (λ t. codes "{\"keys\":[" ++ (ts ++ t)) (hint_text b.hint _
+        ∙ ap (λ t. number_part (codes ",\"spiffe_refresh_hint\":") b.hint ++ t) (sequence_text b.rank))
     ∙ sym (append_assoc (codes "{\"keys\":[") ts (numbers_text b.hint b.rank))
 
 -- ---- the loops' first and last turns
@@ -137,10 +160,12 @@ canonical_text-parts b =
 pub Gathers-init : (es : List Entry) (all : Items) → es ≡ [] → AreEntries es × Gathers es all all
 Gathers-init es all empty = rw empty (tt, λ a. (λ h. elim h [ inl x ↦ absurd x | inr y ↦ y ], λ h. inr h))
 
-pub Gathers-end : (es : List Entry) (vs : List Value) (i : ℕ) (all : Items) → length vs ≤ i → Gathers es (items_view (drop i vs)) all → (a : Authority) → Has (authorities_of es) a ↔ Says all a
+pub Gathers-end : (es : List Entry) (vs : List Value) (i : ℕ) (all : Items) → length vs ≤ i
+    → Gathers es (items_view (drop i vs)) all → (a : Authority) → Has (authorities_of es) a ↔ Says all a
 Gathers-end es vs i all past had a =
     let done : drop i vs ≡ [] = drop_all i vs past in
-    let all_had : (Has (authorities_of es) a ⊎ Says no_items a) ↔ Says all a = subst (λ l. (Has (authorities_of es) a ⊎ Says (items_view l) a) ↔ Says all a) done (had a) in
+    let all_had : (Has (authorities_of es) a ⊎ Says no_items a) ↔ Says all a =
+        subst (λ l. (Has (authorities_of es) a ⊎ Says (items_view l) a) ↔ Says all a) done (had a) in
     (λ h. all_had.0 (inl h), λ h. elim (all_had.1 h) [ inl x ↦ x | inr y ↦ absurd y ])
 
 -- the authorities and the text so far, with what the entries that are left give, are all
@@ -165,7 +190,8 @@ Writes-next e left more old new n m out longer whole w is pushed count text =
           ∙ here.written;
     }
 
-pub Writes-end : (left : List Entry) (authorities : List Authority) (n : ℕ) (out : List ℕ) (whole : List Entry) → Writes left authorities n out whole → left ≡ []
+pub Writes-end : (left : List Entry) (authorities : List Authority) (n : ℕ) (out : List ℕ) (whole : List Entry)
+    → Writes left authorities n out whole → left ≡ []
     → (authorities ≡ authorities_of whole) × (out ++ 93 ∷ [] ≡ keys_text (authorities_of whole))
 Writes-end left authorities n out whole w is =
     let here : Writes [] authorities n out whole = subst (λ l. Writes l authorities n out whole) is w in

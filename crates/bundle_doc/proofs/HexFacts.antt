@@ -17,7 +17,17 @@ small b h = let printable = h.0 in grind (arith, nat_tests)
 
 plain_digits : All IsPlainByte lower_digits
 plain_digits = All-from_recursion IsPlainByte lower_digits
-    ((refl, refl), ((refl, refl), ((refl, refl), ((refl, refl), ((refl, refl), ((refl, refl), ((refl, refl), ((refl, refl), ((refl, refl), ((refl, refl), ((refl, refl), ((refl, refl), ((refl, refl), ((refl, refl), ((refl, refl), ((refl, refl), tt))))))))))))))))
+    ((refl, refl),
+        ((refl, refl),
+        ((refl, refl),
+        ((refl, refl),
+        ((refl, refl),
+        ((refl, refl),
+        ((refl, refl),
+        ((refl, refl),
+        ((refl, refl),
+        ((refl, refl),
+        ((refl, refl), ((refl, refl), ((refl, refl), ((refl, refl), ((refl, refl), ((refl, refl), tt))))))))))))))))
 
 plain_digit : (k : ℕ) → k < 16 → IsPlainByte (get_or lower_digits k 0)
 plain_digit k h = All-get_or IsPlainByte lower_digits k 0 h plain_digits
@@ -30,7 +40,8 @@ plain_hex (b ∷ rest) h =
     let high = get_or lower_digits (b / 16) 0 in
     let low = get_or lower_digits (b % 16) 0 in
     let others = encode_with lower_digits rest in
-    All-cons IsPlainByte high (low ∷ others) (plain_digit (b / 16) (omega arith)) (All-cons IsPlainByte low others (plain_digit (b % 16) (omega arith)) (plain_hex rest (λ i. h (suc i))))
+    All-cons IsPlainByte high (low ∷ others) (plain_digit (b / 16) (omega arith))
+        (All-cons IsPlainByte low others (plain_digit (b % 16) (omega arith)) (plain_hex rest (λ i. h (suc i))))
 
 pub IsPlainText-hex : (bytes : List ℕ) → IsBytes bytes → IsPlainText (encode_lower bytes)
 IsPlainText-hex bytes h =
@@ -38,5 +49,7 @@ IsPlainText-hex bytes h =
     record {
       printable = All-weaker IsPlainByte (λ b. is_printable b ≡ true) (λ b p. p.0) (encode_lower bytes) plain;
       unescaped = All-weaker IsPlainByte (λ b. is_quotable b ≡ true) (λ b p. p.1) (encode_lower bytes) plain;
-      utf8 = IsUtf8-from_ascii (encode_lower bytes) (IsAscii-from_all (encode_lower bytes) (All-weaker IsPlainByte (λ b. b < 128) small (encode_lower bytes) plain));
+      utf8 = IsUtf8-from_ascii (encode_lower bytes)
+          (IsAscii-from_all (encode_lower bytes)
+          (All-weaker IsPlainByte (λ b. b < 128) small (encode_lower bytes) plain));
     }

@@ -1,5 +1,6 @@
 -- Conflicts: those of a group, and those of documents in a row
-use Rattle.std.proofs.Common.{◌≡◌, ℕ, ◌<◌, ◌≤◌, ◌⊎◌, inl, inr, List, [], ◌∷◌, ◌++◌, map, length, get_or, take, drop, Option, Some, None, Less, Equal, Greater, refl, sym, ap, ◌∙◌, subst, arith}
+use Rattle.std.proofs.Common.{◌≡◌, ℕ, ◌<◌, ◌≤◌, ◌⊎◌, inl, inr, List, [], ◌∷◌, ◌++◌, map, length, get_or, take, drop}
+use Rattle.std.proofs.Common.{Option, Some, None, Less, Equal, Greater, refl, sym, ap, ◌∙◌, subst, arith}
 use Rattle.std.specs.declared.cmp.Ordering.{Ordering}
 use Rattle.std.specs.Ordering.{nat_cmp, ordering_then}
 use Rattle.std.specs.Option.{option_cmp}
@@ -17,7 +18,9 @@ use Rattle.closure_core.specs.Order.{document_total}
 use Rattle.bundle_view.specs.declared.conflict.ConflictKind.{ConflictKind}
 use Rattle.bundle_view.specs.declared.conflict.ConflictKind.TheVariants.{Keys, HintOnly}
 use Rattle.bundle_view.specs.Conflicts.{Clash, IsClash, AreClashes, AreConflicts, IsOfKind, clash_cmp, OfDomain, tell_all, AreAllConflicts, ReportedConflict}
-use Rattle.bundle_view.proofs.ListFacts.{contains_first, contains_later, contains_none, contains_cases, same_list, rising_none, rising_one, rising_append, rising_across, rising_first, rising_rest, two_in_one, first_of}
+use Rattle.bundle_view.proofs.ListFacts.{contains_first, contains_later, contains_none, contains_cases, same_list}
+use Rattle.bundle_view.proofs.ListFacts.{rising_none, rising_one, rising_append, rising_across, rising_first}
+use Rattle.bundle_view.proofs.ListFacts.{rising_rest, two_in_one, first_of}
 
 -- ---- ranks
 
@@ -43,7 +46,8 @@ rank_first d e h = elim (then_less _ _ h) [
 
 same_sequence_below : (s : ℕ) (a b : Option ℕ) → a ≡ Some s → b ≡ Some s → rank_cmp a b ≡ Less → ⊥
 same_sequence_below s a b p q less =
-    let here : rank_cmp (Some s) (Some s) ≡ Less = subst (λ (z : Option ℕ). rank_cmp (Some s) z ≡ Less) q (subst (λ (z : Option ℕ). rank_cmp z b ≡ Less) p less) in
+    let here : rank_cmp (Some s) (Some s) ≡ Less =
+        subst (λ (z : Option ℕ). rank_cmp (Some s) z ≡ Less) q (subst (λ (z : Option ℕ). rank_cmp z b ≡ Less) p less) in
     let same : rank_cmp (Some s) (Some s) ≡ Equal = cmp_equal s s refl in
     cc
 
@@ -68,7 +72,8 @@ group_below group (x ∷ others) rising ended d e h k =
       ]
     ]
   where
-    rising_later : (group : List Bundle) (x : Bundle) (others : List Bundle) (e : Bundle) → IsStrictlySortedBy document_cmp (group ++ x ∷ others) → Contains others e → document_cmp x e ≡ Less
+    rising_later : (group : List Bundle) (x : Bundle) (others : List Bundle) (e : Bundle)
+        → IsStrictlySortedBy document_cmp (group ++ x ∷ others) → Contains others e → document_cmp x e ≡ Less
     rising_later [] x others e rising has = rising_first document_cmp x others e rising has
     rising_later (y ∷ group) x others e rising has = rising_later group x others e (rising_rest document_cmp y (group ++ x ∷ others) rising) has
 
@@ -196,9 +201,12 @@ absent_rank group absent = no_clash (Contains group) (λ c is.
 
 -- one document is in no conflict
 pub single : (group : List Bundle) → length group < 2 → AreClashes (Contains group) []
-single group few = no_clash (Contains group) (λ c is. two_in_one document_cmp document_total c.documents group is.rising is.several (λ x h. ((is.exactly x).0 h).0) few)
+single group few =
+    no_clash (Contains group) (λ c is. two_in_one document_cmp document_total c.documents group is.rising is.several
+    (λ x h. ((is.exactly x).0 h).0) few)
 
-same_clash : (group : List Bundle) (s : ℕ) (k : ConflictKind) → IsStrictlySortedBy document_cmp group → ((d : Bundle) → Contains group d → d.rank ≡ Some s) → IsOfKind group k
+same_clash : (group : List Bundle) (s : ℕ) (k : ConflictKind) → IsStrictlySortedBy document_cmp group
+    → ((d : Bundle) → Contains group d → d.rank ≡ Some s) → IsOfKind group k
     → (c : Clash) → IsClash (Contains group) c → record { sequence = s; kind = k; documents = group } ≡ c
 same_clash group s k rising ranks kind c is =
     let first = first_of c.documents is.several in
@@ -213,7 +221,8 @@ same_clash group s k rising ranks kind c is =
     one_some o s t p q = cc
 
 -- two or more with one sequence number are one conflict
-pub one_clash : (group : List Bundle) (s : ℕ) (k : ConflictKind) → IsStrictlySortedBy document_cmp group → ((d : Bundle) → Contains group d → d.rank ≡ Some s) → 2 ≤ length group → IsOfKind group k
+pub one_clash : (group : List Bundle) (s : ℕ) (k : ConflictKind) → IsStrictlySortedBy document_cmp group
+    → ((d : Bundle) → Contains group d → d.rank ≡ Some s) → 2 ≤ length group → IsOfKind group k
     → AreClashes (Contains group) (record { sequence = s; kind = k; documents = group } ∷ [])
 one_clash group s k rising ranks many kind =
     let it : Clash = record { sequence = s; kind = k; documents = group } in
@@ -231,7 +240,8 @@ one_clash group s k rising ranks many kind =
 
 pub one_list : (P : Bundle → Type 0) (cs ds : List Clash) → AreClashes P cs → AreClashes P ds → cs ≡ ds
 one_list P cs ds p q =
-    same_list clash_cmp (on_total (λ (c : Clash). c.sequence) nat_cmp_total) cs ds p.rising q.rising (λ c h. q.complete c (p.sound c h)) (λ c h. p.complete c (q.sound c h))
+    same_list clash_cmp (on_total (λ (c : Clash). c.sequence) nat_cmp_total) cs ds p.rising q.rising
+        (λ c h. q.complete c (p.sound c h)) (λ c h. p.complete c (q.sound c h))
 
 pub one_domains : (c : Configuration) (xs ys : List (List ℕ)) → AreDomains c xs → AreDomains c ys → xs ≡ ys
 one_domains c xs ys p q =

@@ -7,7 +7,8 @@ use Rattle.receipt_core.specs.Acceptance.{Meaning}
 use Rattle.closure_core.specs.AcceptedList.{document_cmp, IsAcceptedList}
 use Rattle.closure_core.specs.Order.{document_total}
 use Rattle.bundle_view.specs.Current.{IsCurrent}
-use Rattle.bundle_view.proofs.ListFacts.{contains_first, contains_later, contains_none, contains_cases, not_below_itself, not_both, rising_first, rising_rest, only_one}
+use Rattle.bundle_view.proofs.ListFacts.{contains_first, contains_later, contains_none, contains_cases}
+use Rattle.bundle_view.proofs.ListFacts.{not_below_itself, not_both, rising_first, rising_rest, only_one}
 
 -- it is among them, and none is greater
 abbrev IsTop : List Bundle → Option Bundle → Type 0
@@ -42,9 +43,11 @@ pub last_current : (m : Meaning) (domain : List ℕ) (ds : List Bundle) → IsAc
 last_current m domain [] list = λ d is. contains_none d (list.complete d is)
 last_current m domain (x ∷ ds) list = current_of_top m domain (x ∷ ds) (last_or (Some x) ds) list (top_last x ds list.rising)
 
-pub one_current : (m : Meaning) (domain : List ℕ) (ds : List Bundle) (a b : Option Bundle) → IsAcceptedList m domain ds → IsCurrent m domain a → IsCurrent m domain b → a ≡ b
+pub one_current : (m : Meaning) (domain : List ℕ) (ds : List Bundle) (a b : Option Bundle) → IsAcceptedList m domain ds
+    → IsCurrent m domain a → IsCurrent m domain b → a ≡ b
 one_current m domain ds None None list p q = refl
 one_current m domain ds None (Some e) list p q = absurd (p e q.accepted)
 one_current m domain ds (Some d) None list p q = absurd (q d p.accepted)
 one_current m domain ds (Some d) (Some e) list p q =
-    ap Some (only_one document_cmp ds d e list.rising (list.complete d p.accepted) (list.complete e q.accepted) (p.greatest e q.accepted) (q.greatest d p.accepted))
+    ap Some (only_one document_cmp ds d e list.rising (list.complete d p.accepted) (list.complete e q.accepted)
+        (p.greatest e q.accepted) (q.greatest d p.accepted))

@@ -1,5 +1,6 @@
 -- What the search finds is a shortest chain.
-use Rattle.std.proofs.Common.{append_assoc, append-nil, ◌≡◌, ℕ, ◌+◌, ◌<◌, inl, inr, List, [], ◌∷◌, ◌++◌, length, reverse, Option, Some, None, arith, refl, sym, ap, ◌∙◌, subst}
+use Rattle.std.proofs.Common.{append_assoc, append-nil, ◌≡◌, ℕ, ◌+◌, ◌<◌, inl, inr, List, [], ◌∷◌, ◌++◌, length}
+use Rattle.std.proofs.Common.{reverse, Option, Some, None, arith, refl, sym, ap, ◌∙◌, subst}
 use Rattle.std.specs.Prelude.{Contains, Any, slice_get}
 use Rattle.std.specs.List.{AllByRecursion}
 use Rattle.std.proofs.lemmas.Bool.{cases_lt}
@@ -18,10 +19,13 @@ use Rattle.bundle_view.specs.Search.{Stride, IsStride, AreStrides, AreTrusted, A
 
 -- ---- no chain is shorter
 
-module _ (m : Meaning) (waiting : List Receipt) (trusted : AreTrusted m waiting) (strides : List Stride) (p : Pair) (place : ℕ) (is : IsSearched m.config.seeds waiting strides p place)
+module _ (m : Meaning) (waiting : List Receipt) (trusted : AreTrusted m waiting) (strides : List Stride) (p : Pair)
+    (place : ℕ) (is : IsSearched m.config.seeds waiting strides p place)
     (limit : ℕ) (early : (i : ℕ) (s : Stride) → slice_get strides i ≡ Some s → s.length < limit → i < place) where
   -- a chain from a document whose offers were followed ends in none that is that early
-  not_along : (from : Pair) (d : ℕ) (chain : List Receipt) → AreFollowed waiting strides (offers_of from) (d + 1) → AllByRecursion (Contains m.held) chain → Leads m.config m.records from chain p → 0 < length chain → d + length chain < limit → ⊥
+  not_along : (from : Pair) (d : ℕ) (chain : List Receipt) → AreFollowed waiting strides (offers_of from) (d + 1)
+      → AllByRecursion (Contains m.held) chain → Leads m.config m.records from chain p → 0 < length chain
+      → d + length chain < limit → ⊥
   not_along from d [] followed held leads some short = omega (arith, some)
   not_along from d (r ∷ []) followed held leads some short =
       let offered = (Vouches-by_offers m.records from r).0 leads.1 in
@@ -38,15 +42,19 @@ module _ (m : Meaning) (waiting : List Receipt) (trusted : AreTrusted m waiting)
       held.1 leads.2 (omega arith) (omega (arith, short))
 
   pub not_shorter : (chain : List Receipt) → LeadsTo m p chain → 0 < length chain → length chain < limit → ⊥
-  not_shorter chain way some short = not_along (pair_of_seed way.seed) 0 chain (is.started way.seed way.configured) way.held way.leads some (omega (arith, short))
+  not_shorter chain way some short =
+      not_along (pair_of_seed way.seed) 0 chain (is.started way.seed way.configured) way.held way.leads some
+      (omega (arith, short))
 
 -- ---- a chain back
 
-module _ (m : Meaning) (waiting : List Receipt) (valid : IsMeaning m) (trusted : AreTrusted m waiting) (strides : List Stride) (stand : AreStrides m.config.seeds waiting strides) (p : Pair) where
+module _ (m : Meaning) (waiting : List Receipt) (valid : IsMeaning m) (trusted : AreTrusted m waiting)
+    (strides : List Stride) (stand : AreStrides m.config.seeds waiting strides) (p : Pair) where
   -- what is left before a chain that leads on
   abbrev IsLeft : Option ℕ → List Receipt → Type 0
   IsLeft None chain = LeadsTo m p chain
-  IsLeft (Some place) chain = (s : Stride) → slice_get strides place ≡ Some s → AllByRecursion (Contains m.held) chain × Leads m.config m.records (pair_of s.receipt) chain p
+  IsLeft (Some place) chain = (s : Stride) → slice_get strides place ≡ Some s
+      → AllByRecursion (Contains m.held) chain × Leads m.config m.records (pair_of s.receipt) chain p
 
   abbrev length_of : Option ℕ → ℕ → Type 0
   length_of None n = n ≡ 0
@@ -57,14 +65,18 @@ module _ (m : Meaning) (waiting : List Receipt) (valid : IsMeaning m) (trusted :
       let t = (trusted.exactly r).0 waits in
       (each_has (IsFitting m.config) m.held r valid.fitting (Has-from_contains m.held r t.0), (Vouches-by_offers m.records from r).1 (offered, t.1))
 
-  led : (s : Stride) (before : Option ℕ) (chain : List Receipt) → Contains waiting s.receipt → IsStride m.config.seeds strides s before → AllByRecursion (Contains m.held) chain × Leads m.config m.records (pair_of s.receipt) chain p → IsLeft before (s.receipt ∷ chain)
+  led : (s : Stride) (before : Option ℕ) (chain : List Receipt) → Contains waiting s.receipt
+      → IsStride m.config.seeds strides s before → AllByRecursion (Contains m.held) chain
+      × Leads m.config m.records (pair_of s.receipt) chain p → IsLeft before (s.receipt ∷ chain)
   led s None chain waits h rest =
       let v = vouched (pair_of_seed h.seed) s.receipt waits h.offers in
       record { seed = h.seed; configured = h.configured; held = (((trusted.exactly s.receipt).0 waits).0, rest.0); leads = (v.0, v.1, rest.1) }
   led s (Some place) chain waits h rest = λ t at.
       let same : h.previous ≡ t = same_Some h.previous t (sym h.at ∙ at) in
       let v = vouched (pair_of h.previous.receipt) s.receipt waits h.offers in
-      ((((trusted.exactly s.receipt).0 waits).0, rest.0), subst (λ (x : Stride). Leads m.config m.records (pair_of x.receipt) (s.receipt ∷ chain) p) same (v.0, v.1, rest.1))
+      ((((trusted.exactly s.receipt).0 waits).0, rest.0),
+          subst (λ (x : Stride). Leads m.config m.records (pair_of x.receipt) (s.receipt ∷ chain) p) same
+          (v.0, v.1, rest.1))
 
   -- the receipts back, last first, before a chain that leads on
   pub way_back : (at : Option ℕ) (back chain : List Receipt) → IsBackFrom strides at back → IsLeft at chain → LeadsTo m p (reverse back ++ chain)
@@ -74,7 +86,9 @@ module _ (m : Meaning) (waiting : List Receipt) (valid : IsMeaning m) (trusted :
   way_back (Some place) (r ∷ back) chain is left =
       let s = is.0 in
       let next : IsLeft s.before (s.receipt ∷ chain) = led s s.before chain (stand.waits place s is.1) (stand.stands place s is.1) (left s is.1) in
-      subst (λ xs. LeadsTo m p (xs ++ chain)) (sym (reverse-append (r ∷ []) back)) (subst (LeadsTo m p) (sym (append_assoc (reverse back) (r ∷ []) chain)) (way_back s.before back (r ∷ chain) is.3 (subst (λ x. IsLeft s.before (x ∷ chain)) is.2 next)))
+      subst (λ xs. LeadsTo m p (xs ++ chain)) (sym (reverse-append (r ∷ []) back))
+          (subst (LeadsTo m p) (sym (append_assoc (reverse back) (r ∷ []) chain))
+          (way_back s.before back (r ∷ chain) is.3 (subst (λ x. IsLeft s.before (x ∷ chain)) is.2 next)))
 
   pub length_back : (at : Option ℕ) (back : List Receipt) → IsBackFrom strides at back → length_of at (length back)
   length_back None [] is = refl
@@ -102,45 +116,61 @@ some_receipt : (m : Meaning) (p : Pair) → (Any (λ s. pair_of_seed s ≡ p) m.
 some_receipt m p none [] way = absurd (none (way.configured.0, way.seed, way.configured.1, way.configured.2, way.leads))
 some_receipt m p none (r ∷ chain) way = omega arith
 
-module _ (m : Meaning) (waiting : List Receipt) (trusted : AreTrusted m waiting) (strides : List Stride) (p : Pair) (unconfigured : Any (λ s. pair_of_seed s ≡ p) m.config.seeds → ⊥) where
+module _ (m : Meaning) (waiting : List Receipt) (trusted : AreTrusted m waiting) (strides : List Stride) (p : Pair)
+    (unconfigured : Any (λ s. pair_of_seed s ≡ p) m.config.seeds → ⊥) where
   pub none_leads : IsSearched m.config.seeds waiting strides p (length strides) → IsMember m p → ⊥
   none_leads is a =
       let way : LeadsTo m p a.chain = record { seed = a.seed; configured = a.configured; held = a.held; leads = a.leads } in
-      not_shorter m waiting trusted strides p (length strides) is (length a.chain + 1) (λ i s at l. slice_get_within strides i s at) a.chain way (some_receipt m p unconfigured a.chain way) (omega arith)
+      not_shorter m waiting trusted strides p (length strides) is (length a.chain + 1)
+          (λ i s at l. slice_get_within strides i s at) a.chain way (some_receipt m p unconfigured a.chain way)
+          (omega arith)
 
-  pub shortest_found : IsMeaning m → (place : ℕ) (chain : List Receipt) → SearchFinds m.config.seeds waiting strides p place → IsBackFrom strides (Some place) (reverse chain) → IsShortest m p chain
+  pub shortest_found : IsMeaning m → (place : ℕ) (chain : List Receipt)
+      → SearchFinds m.config.seeds waiting strides p place → IsBackFrom strides (Some place) (reverse chain)
+      → IsShortest m p chain
   shortest_found valid place chain found back =
-      let all = way_back m waiting valid trusted strides found.searched.stand p (Some place) (reverse chain) [] back (λ s at. (tt, ap (λ (x : Stride). pair_of x.receipt) (same_Some s found.stride (sym at ∙ found.at)) ∙ found.is)) in
+      let all = way_back m waiting valid trusted strides found.searched.stand p (Some place) (reverse chain) [] back
+          (λ s at. (tt, ap (λ (x : Stride). pair_of x.receipt) (same_Some s found.stride (sym at ∙ found.at))
+          ∙ found.is)) in
       let same : reverse (reverse chain) ++ [] ≡ chain = append-nil (reverse (reverse chain)) ∙ reverse-reverse chain in
-      let long : found.stride.length ≡ length (reverse chain) = length_back m waiting valid trusted strides found.searched.stand p (Some place) (reverse chain) back found.stride found.at in
+      let long : found.stride.length ≡ length (reverse chain) =
+          length_back m waiting valid trusted strides found.searched.stand p (Some place) (reverse chain) back
+          found.stride found.at in
       record {
         leads = subst (LeadsTo m p) same all;
         shortest = λ other way. elim (cases_lt (length other) found.stride.length) [
-          | inl less ↦ absurd (not_shorter m waiting trusted strides p place found.searched found.stride.length (soon found) other way (some_receipt m p unconfigured other way) less)
+          | inl less ↦ absurd (not_shorter m waiting trusted strides p place found.searched found.stride.length
+              (soon found) other way (some_receipt m p unconfigured other way) less)
           | inr more ↦ omega (arith, more, long, length-reverse chain)
         ];
       }
     where
-      soon : (found : SearchFinds m.config.seeds waiting strides p place) (i : ℕ) (s : Stride) → slice_get strides i ≡ Some s → s.length < found.stride.length → i < place
+      soon : (found : SearchFinds m.config.seeds waiting strides p place) (i : ℕ) (s : Stride)
+          → slice_get strides i ≡ Some s → s.length < found.stride.length → i < place
       soon found i s at l = elim (cases_lt i place) [
         | inl before ↦ before
         | inr after ↦ let rise = found.searched.rising place i found.stride s after found.at at in absurd (omega (arith, rise, l))
       ]
 
-pub searched_moved : (seeds those : List Seed) (waiting there : List Receipt) (strides : List Stride) (p : Pair) (o found : Option ℕ) → seeds ≡ those → waiting ≡ there → o ≡ found → HasSearched seeds waiting strides p o → HasSearched those there strides p found
+pub searched_moved : (seeds those : List Seed) (waiting there : List Receipt) (strides : List Stride) (p : Pair)
+    (o found : Option ℕ) → seeds ≡ those → waiting ≡ there → o ≡ found → HasSearched seeds waiting strides p o
+    → HasSearched those there strides p found
 searched_moved seeds those waiting there strides p o found e f h is =
     subst (λ x. HasSearched x there strides p found) e (subst (λ x. HasSearched seeds x strides p found) f (subst (HasSearched seeds waiting strides p) h is))
 
 -- ---- a chain to anybody
 
-ends_in : (c : Configuration) (records : List Distrust) (from : Pair) (chain : List Receipt) (to : Pair) → Leads c records from chain to → LeadsOn c records from chain
+ends_in : (c : Configuration) (records : List Distrust) (from : Pair) (chain : List Receipt) (to : Pair)
+    → Leads c records from chain to → LeadsOn c records from chain
 ends_in c records from [] to h = refl
 ends_in c records from (r ∷ chain) to h = (h.0, h.1, ends_in c records (pair_of r) chain to h.2)
 
 pub chain_of : (m : Meaning) (p : Pair) (chain : List Receipt) → IsShortest m p chain → 0 < length chain → IsChain m.config m.records chain
-chain_of m p chain is some = record { some = some; seed = is.leads.seed; configured = is.leads.configured; leads = ends_in m.config m.records (pair_of_seed is.leads.seed) chain p is.leads.leads }
+chain_of m p chain is some = record { some = some; seed = is.leads.seed; configured = is.leads.configured; leads =
+    ends_in m.config m.records (pair_of_seed is.leads.seed) chain p is.leads.leads }
 
-end_of : (c : Configuration) (records : List Distrust) (from : Pair) (front : List Receipt) (last : Receipt) (to : Pair) → Leads c records from (front ++ last ∷ []) to → pair_of last ≡ to
+end_of : (c : Configuration) (records : List Distrust) (from : Pair) (front : List Receipt) (last : Receipt) (to : Pair)
+    → Leads c records from (front ++ last ∷ []) to → pair_of last ≡ to
 end_of c records from [] last to h = h.2
 end_of c records from (r ∷ front) last to h = end_of c records (pair_of r) front last to h.2
 

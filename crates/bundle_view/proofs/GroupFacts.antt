@@ -1,5 +1,7 @@
 -- Groups of documents and their conflicts, one after the other
-use Rattle.std.proofs.Common.{◌≡◌, ℕ, ◌+◌, ◌-◌, ◌<◌, ◌≤◌, inl, inr, List, [], ◌∷◌, ◌++◌, map, length, get_or, take, drop, refl, sym, ap, ◌∙◌, subst, arith, append_assoc, append-nil, length-drop, length-take-le, add-one}
+use Rattle.std.proofs.Common.{◌≡◌, ℕ, ◌+◌, ◌-◌, ◌<◌, ◌≤◌, inl, inr, List, [], ◌∷◌, ◌++◌, map, length, get_or, take}
+use Rattle.std.proofs.Common.{drop, refl, sym, ap, ◌∙◌, subst, arith, append_assoc, append-nil, length-drop}
+use Rattle.std.proofs.Common.{length-take-le, add-one}
 use Rattle.std.proofs.Math.Seq.{take-suc}
 use Rattle.std.proofs.lemmas.List.{take-append-drop, drop-drop, map-append, flat_map_more}
 use Rattle.std.specs.List.{Contains}
@@ -14,10 +16,12 @@ use Rattle.bundle_view.specs.Groups.{IsGroup, IsGroupLength, AddsClashes, SoFar,
 use Rattle.bundle_view.proofs.ListFacts.{rising_left, rising_right}
 use Rattle.bundle_view.proofs.ClashFacts.{group_below, clashes_append, clashes_iff, single}
 
-rising_parts : (documents : List Bundle) (start : ℕ) (rest : List Bundle) → IsStrictlySortedBy document_cmp documents → rest ≡ drop start documents → IsStrictlySortedBy document_cmp rest
+rising_parts : (documents : List Bundle) (start : ℕ) (rest : List Bundle) → IsStrictlySortedBy document_cmp documents
+    → rest ≡ drop start documents → IsStrictlySortedBy document_cmp rest
 rising_parts documents start rest rising e =
     subst (IsStrictlySortedBy document_cmp) (sym e)
-    (rising_right document_cmp (take start documents) (drop start documents) (subst (IsStrictlySortedBy document_cmp) (sym (take-append-drop start documents)) rising))
+    (rising_right document_cmp (take start documents) (drop start documents)
+        (subst (IsStrictlySortedBy document_cmp) (sym (take-append-drop start documents)) rising))
 
 cut_at : (rest : List Bundle) (len : ℕ) → IsStrictlySortedBy document_cmp rest → IsStrictlySortedBy document_cmp (take len rest ++ drop len rest)
 cut_at rest len rising = subst (IsStrictlySortedBy document_cmp) (sym (take-append-drop len rest)) rising
@@ -25,7 +29,9 @@ cut_at rest len rising = subst (IsStrictlySortedBy document_cmp) (sym (take-appe
 some_taken : (rest : List Bundle) (len : ℕ) → 0 < len → len ≤ length rest → 0 < length (take len rest)
 some_taken rest len low high = omega (arith, length-take-le len rest high)
 
-pub group_at : (documents : List Bundle) (start len : ℕ) (rest : List Bundle) → IsStrictlySortedBy document_cmp documents → rest ≡ drop start documents → IsGroupLength rest len → IsGroup (take len rest)
+pub group_at : (documents : List Bundle) (start len : ℕ) (rest : List Bundle)
+    → IsStrictlySortedBy document_cmp documents → rest ≡ drop start documents → IsGroupLength rest len
+    → IsGroup (take len rest)
 group_at documents start len rest rising e is = record {
   rising = rising_left document_cmp (take len rest) (drop len rest) (cut_at rest len (rising_parts documents start rest rising e));
   some = some_taken rest len is.some is.within;
@@ -33,7 +39,8 @@ group_at documents start len rest rising e is = record {
 }
 
 -- the conflicts of a list are those of its first group and those of the others
-group_first : (rest : List Bundle) (len : ℕ) (cs ds : List Clash) → IsStrictlySortedBy document_cmp rest → IsGroupLength rest len → AreClashes (Contains (take len rest)) cs
+group_first : (rest : List Bundle) (len : ℕ) (cs ds : List Clash) → IsStrictlySortedBy document_cmp rest
+    → IsGroupLength rest len → AreClashes (Contains (take len rest)) cs
     → AreClashes (Contains (drop len rest)) ds → AreClashes (Contains rest) (cs ++ ds)
 group_first rest len cs ds rising is p q =
     clashes_append (Contains (take len rest)) (Contains (drop len rest)) (Contains rest)
@@ -45,8 +52,10 @@ group_first rest len cs ds rising is p q =
 pub so_far_init : (domain : List ℕ) (documents : List Bundle) (old : List ReportedConflict) → SoFar domain documents 0 old old
 so_far_init domain documents old = record { within = omega arith; clashes = []; now = sym (append-nil old); all = λ others are. are }
 
-pub so_far_step : (domain : List ℕ) (documents : List Bundle) (start len : ℕ) (rest : List Bundle) (old new more : List ReportedConflict) → IsStrictlySortedBy document_cmp documents → rest ≡ drop start documents
-    → SoFar domain documents start old new → IsGroupLength rest len → AddsClashes domain (take len rest) new more → SoFar domain documents (start + len) old more
+pub so_far_step : (domain : List ℕ) (documents : List Bundle) (start len : ℕ) (rest : List Bundle)
+    (old new more : List ReportedConflict) → IsStrictlySortedBy document_cmp documents → rest ≡ drop start documents
+    → SoFar domain documents start old new → IsGroupLength rest len → AddsClashes domain (take len rest) new more
+        → SoFar domain documents (start + len) old more
 so_far_step domain documents start len rest old new more rising e s is a =
     let rising_rest : IsStrictlySortedBy document_cmp rest = rising_parts documents start rest rising e in
     let behind : drop len rest ≡ drop (start + len) documents = ap (drop len) e ∙ drop-drop len start documents in
@@ -54,15 +63,19 @@ so_far_step domain documents start len rest old new more rising e s is a =
     record {
       within = let low = s.within in let high = is.within in omega arith;
       clashes = s.clashes ++ a.clashes;
-      now = a.now ∙ ap (λ z. z ++ map (reported_conflict domain) a.clashes) s.now ∙ append_assoc old (map (reported_conflict domain) s.clashes) (map (reported_conflict domain) a.clashes)
+      now = a.now ∙ ap (λ z. z ++ map (reported_conflict domain) a.clashes) s.now
+          ∙ append_assoc old (map (reported_conflict domain) s.clashes) (map (reported_conflict domain) a.clashes)
           ∙ ap (λ z. old ++ z) (sym (map-append (reported_conflict domain) s.clashes a.clashes));
       all = λ others are.
-          let here : AreClashes (Contains rest) (a.clashes ++ others) = group_first rest len a.clashes others rising_rest is a.are (subst (λ (z : List Bundle). AreClashes (Contains z) others) (sym behind) are) in
+          let here : AreClashes (Contains rest) (a.clashes ++ others) =
+              group_first rest len a.clashes others rising_rest is a.are
+              (subst (λ (z : List Bundle). AreClashes (Contains z) others) (sym behind) are) in
           subst (AreClashes (Contains documents)) (sym (append_assoc s.clashes a.clashes others))
           (s.all (a.clashes ++ others) (subst (λ (z : List Bundle). AreClashes (Contains z) (a.clashes ++ others)) e here));
     }
 
-pub so_far_end : (domain : List ℕ) (documents : List Bundle) (start : ℕ) (old new : List ReportedConflict) → SoFar domain documents start old new → length documents ≤ start → AddsClashes domain documents old new
+pub so_far_end : (domain : List ℕ) (documents : List Bundle) (start : ℕ) (old new : List ReportedConflict)
+    → SoFar domain documents start old new → length documents ≤ start → AddsClashes domain documents old new
 so_far_end domain documents start old new s past =
     let size : length (drop start documents) ≡ length documents - start = length-drop start documents in
     record {
@@ -73,7 +86,8 @@ so_far_end domain documents start old new s past =
 
 -- ---- the conflicts of several domains
 
-pub conflicts_of : (m : Meaning) (domain : List ℕ) (documents : List Bundle) (cs : List Clash) → IsAcceptedList m domain documents → AreClashes (Contains documents) cs → AreConflicts m domain cs
+pub conflicts_of : (m : Meaning) (domain : List ℕ) (documents : List Bundle) (cs : List Clash)
+    → IsAcceptedList m domain documents → AreClashes (Contains documents) cs → AreConflicts m domain cs
 conflicts_of m domain documents cs list are = clashes_iff (Contains documents) (λ d. IsMember m (document_of domain d)) list.sound list.complete cs are
 
 pub taken_more : {X : Type 0} (xs : List X) (k : ℕ) (x : X) → k < length xs → x ≡ get_or xs k x → take (k + 1) xs ≡ take k xs ++ x ∷ []
@@ -82,7 +96,8 @@ taken_more xs k x low is = ap (λ n. take n xs) (add-one k) ∙ take-suc xs k x 
 pub found_none : (m : Meaning) → AreFoundOf m [] []
 found_none m = record { parts = []; domains_are = refl; each = λ p h. absurd (omega (arith, h.1)); now = refl }
 
-pub found_more : (m : Meaning) (domains : List (List ℕ)) (domain : List ℕ) (documents : List Bundle) (old new : List ReportedConflict) → AreFoundOf m domains old → IsAcceptedList m domain documents
+pub found_more : (m : Meaning) (domains : List (List ℕ)) (domain : List ℕ) (documents : List Bundle)
+    (old new : List ReportedConflict) → AreFoundOf m domains old → IsAcceptedList m domain documents
     → AddsClashes domain documents old new → AreFoundOf m (domains ++ domain ∷ []) new
 found_more m domains domain documents old new f list a =
     let part : OfDomain = record { domain = domain; clashes = a.clashes } in
@@ -93,8 +108,10 @@ found_more m domains domain documents old new f list a =
         | inl old ↦ f.each p old
         | inr e ↦ subst (λ (z : OfDomain). AreConflicts m z.domain z.clashes) e (conflicts_of m domain documents a.clashes list a.are)
       ];
-      now = a.now ∙ ap (λ z. z ++ map (reported_conflict domain) a.clashes) f.now ∙ flat_map_more (λ (p : OfDomain). map (reported_conflict p.domain) p.clashes) [] f.parts part;
+      now = a.now ∙ ap (λ z. z ++ map (reported_conflict domain) a.clashes) f.now
+          ∙ flat_map_more (λ (p : OfDomain). map (reported_conflict p.domain) p.clashes) [] f.parts part;
     }
 
-pub found_all : (m : Meaning) (domains : List (List ℕ)) (found : List ReportedConflict) → AreDomains m.config domains → AreFoundOf m domains found → AreAllConflicts m found
+pub found_all : (m : Meaning) (domains : List (List ℕ)) (found : List ReportedConflict) → AreDomains m.config domains
+    → AreFoundOf m domains found → AreAllConflicts m found
 found_all m domains found are f = record { parts = f.parts; domains = subst (AreDomains m.config) (sym f.domains_are) are; each = f.each; are = f.now }

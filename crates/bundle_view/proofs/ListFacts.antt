@@ -36,7 +36,8 @@ not_both {A} {cmp} o x y p q = let above : cmp x y ≡ Greater = o.antisymm x y 
 pub same_list : {A : Type 0} (cmp : A → A → Ordering) → IsTotalOrder cmp → (xs ys : List A) → IsStrictlySortedBy cmp xs → IsStrictlySortedBy cmp ys
     → ((a : A) → Contains xs a → Contains ys a) → ((a : A) → Contains ys a → Contains xs a) → xs ≡ ys
 same_list cmp t xs ys p q there back =
-    same_members cmp t xs ys p q (λ a h. Has-from_contains ys a (there a (Contains-from_has xs a h))) (λ a h. Has-from_contains xs a (back a (Contains-from_has ys a h)))
+    same_members cmp t xs ys p q (λ a h. Has-from_contains ys a (there a (Contains-from_has xs a h)))
+        (λ a h. Has-from_contains xs a (back a (Contains-from_has ys a h)))
 
 module _ {A : Type 0} (cmp : A → A → Ordering) where
   pub rising_first : (x : A) (xs : List A) (y : A) → IsStrictlySortedBy cmp (x ∷ xs) → Contains xs y → cmp x y ≡ Less
@@ -59,7 +60,8 @@ module _ {A : Type 0} (cmp : A → A → Ordering) where
   unfolding IsStrictlySortedBy
   rising_one x = (tt, tt)
 
-  pub rising_append : (xs ys : List A) → IsStrictlySortedBy cmp xs → IsStrictlySortedBy cmp ys → ((x y : A) → Contains xs x → Contains ys y → cmp x y ≡ Less) → IsStrictlySortedBy cmp (xs ++ ys)
+  pub rising_append : (xs ys : List A) → IsStrictlySortedBy cmp xs → IsStrictlySortedBy cmp ys
+      → ((x y : A) → Contains xs x → Contains ys y → cmp x y ≡ Less) → IsStrictlySortedBy cmp (xs ++ ys)
   rising_append [] ys p q below = q
   rising_append (x ∷ xs) ys p q below =
       rising_cons x (xs ++ ys)
@@ -100,7 +102,8 @@ module _ {A : Type 0} (cmp : A → A → Ordering) where
   ]
 
   -- one item holds no two
-  pub two_in_one : IsTotalOrder cmp → (xs ys : List A) → IsStrictlySortedBy cmp xs → 2 ≤ length xs → ((x : A) → Contains xs x → Contains ys x) → length ys < 2 → ⊥
+  pub two_in_one : IsTotalOrder cmp → (xs ys : List A) → IsStrictlySortedBy cmp xs → 2 ≤ length xs
+      → ((x : A) → Contains xs x → Contains ys x) → length ys < 2 → ⊥
   two_in_one o [] ys p many within few = omega arith
   two_in_one o (x ∷ []) ys p many within few = omega arith
   two_in_one o (x ∷ y ∷ xs) [] p many within few = contains_none x (within x (contains_first x (y ∷ xs)))

@@ -44,7 +44,8 @@ module _ (m : Meaning) (domain bytes : List ℕ) (verdict : Verdict) (documents 
   served (Take NoMemory) n o h = h.0.1.endpoint
   served (Take e) n o h = absurd h
 
-  vouched : (e : ObserveError) → (e ≡ NoRelationship → ⊥) → (e ≡ WrongEndpoint → ⊥) → (e ≡ NoVoucherBundle → ⊥) → (e ≡ KeyNotInCurrent → ⊥) → Refuses e → IsVouchedFor m domain verdict
+  vouched : (e : ObserveError) → (e ≡ NoRelationship → ⊥) → (e ≡ WrongEndpoint → ⊥) → (e ≡ NoVoucherBundle → ⊥)
+      → (e ≡ KeyNotInCurrent → ⊥) → Refuses e → IsVouchedFor m domain verdict
   vouched NoRelationship n o p q h = absurd (n refl)
   vouched WrongEndpoint n o p q h = absurd (o refl)
   vouched NoVoucherBundle n o p q h = absurd (p refl)
@@ -54,7 +55,8 @@ module _ (m : Meaning) (domain bytes : List ℕ) (verdict : Verdict) (documents 
   vouched (Take NoMemory) n o p q h = h.0
   vouched (Take e) n o p q h = absurd h
 
-  some_current : (e : ObserveError) → (e ≡ NoRelationship → ⊥) → (e ≡ WrongEndpoint → ⊥) → (e ≡ NoVoucherBundle → ⊥) → Refuses e → (d : Bundle) × IsCurrent m verdict.endpoint.domain (Some d)
+  some_current : (e : ObserveError) → (e ≡ NoRelationship → ⊥) → (e ≡ WrongEndpoint → ⊥) → (e ≡ NoVoucherBundle → ⊥)
+      → Refuses e → (d : Bundle) × IsCurrent m verdict.endpoint.domain (Some d)
   some_current NoRelationship n o p h = absurd (n refl)
   some_current WrongEndpoint n o p h = absurd (o refl)
   some_current NoVoucherBundle n o p h = absurd (p refl)
@@ -71,7 +73,9 @@ module _ (m : Meaning) (domain bytes : List ℕ) (verdict : Verdict) (documents 
 
   two_endpoints : HasOtherEndpoint m.config domain verdict.endpoint → IsEndpointOf m.config domain verdict.endpoint → ⊥
   two_endpoints other is =
-      let same : other.relationship ≡ is.relationship = one_relationship m.config domain other.relationship is.relationship form other.found.0 is.found.0 other.found.1 is.found.1 in
+      let same : other.relationship ≡ is.relationship =
+          one_relationship m.config domain other.relationship is.relationship form other.found.0 is.found.0
+          other.found.1 is.found.1 in
       other.other (ap (λ (x : Relationship). x.endpoint) same ∙ is.endpoint_is)
 
   one_voucher : (a b : Bundle) → IsCurrent m verdict.endpoint.domain (Some a) → IsCurrent m verdict.endpoint.domain (Some b) → a ≡ b
@@ -95,14 +99,18 @@ module _ (m : Meaning) (domain bytes : List ℕ) (verdict : Verdict) (documents 
 
   pub one_cause : (e f : ObserveError) → Refuses e → Refuses f → (e ≡ Take NoMemory → ⊥) → (f ≡ Take NoMemory → ⊥) → e ≡ f
   one_cause NoRelationship NoRelationship p q l k = refl
-  one_cause NoRelationship f p q l k = let is : (x : Relationship) × IsRelationshipOf m.config domain (Some x) = found f (λ h. cc) q in absurd (no_relationship p is.0 is.1)
-  one_cause e NoRelationship p q l k = let is : (x : Relationship) × IsRelationshipOf m.config domain (Some x) = found e (λ h. cc) p in absurd (no_relationship q is.0 is.1)
+  one_cause NoRelationship f p q l k = let is : (x : Relationship) × IsRelationshipOf m.config domain (Some x) =
+      found f (λ h. cc) q in absurd (no_relationship p is.0 is.1)
+  one_cause e NoRelationship p q l k = let is : (x : Relationship) × IsRelationshipOf m.config domain (Some x) =
+      found e (λ h. cc) p in absurd (no_relationship q is.0 is.1)
   one_cause WrongEndpoint WrongEndpoint p q l k = refl
   one_cause WrongEndpoint f p q l k = absurd (two_endpoints p (served f (λ h. cc) (λ h. cc) q))
   one_cause e WrongEndpoint p q l k = absurd (two_endpoints q (served e (λ h. cc) (λ h. cc) p))
   one_cause NoVoucherBundle NoVoucherBundle p q l k = refl
-  one_cause NoVoucherBundle f p q l k = let is : (d : Bundle) × IsCurrent m verdict.endpoint.domain (Some d) = some_current f (λ h. cc) (λ h. cc) (λ h. cc) q in absurd (p.1 is.0 is.1.accepted)
-  one_cause e NoVoucherBundle p q l k = let is : (d : Bundle) × IsCurrent m verdict.endpoint.domain (Some d) = some_current e (λ h. cc) (λ h. cc) (λ h. cc) p in absurd (q.1 is.0 is.1.accepted)
+  one_cause NoVoucherBundle f p q l k = let is : (d : Bundle) × IsCurrent m verdict.endpoint.domain (Some d) =
+      some_current f (λ h. cc) (λ h. cc) (λ h. cc) q in absurd (p.1 is.0 is.1.accepted)
+  one_cause e NoVoucherBundle p q l k = let is : (d : Bundle) × IsCurrent m verdict.endpoint.domain (Some d) =
+      some_current e (λ h. cc) (λ h. cc) (λ h. cc) p in absurd (q.1 is.0 is.1.accepted)
   one_cause KeyNotInCurrent KeyNotInCurrent p q l k = refl
   one_cause KeyNotInCurrent f p q l k = absurd (foreign_and_own p (vouched f (λ h. cc) (λ h. cc) (λ h. cc) (λ h. cc) q))
   one_cause e KeyNotInCurrent p q l k = absurd (foreign_and_own q (vouched e (λ h. cc) (λ h. cc) (λ h. cc) (λ h. cc) p))
@@ -118,7 +126,8 @@ module _ (m : Meaning) (domain bytes : List ℕ) (verdict : Verdict) (documents 
   one_cause e (Take f) p q l k = absurd q
 
   -- what is refused for another cause than the store's is no observation
-  pub refused_or_observed : (r : Receipt) (e : ObserveError) → IsObservation m domain bytes verdict r → Refuses e → (e ≡ Take Full → ⊥) → (e ≡ Take NoMemory → ⊥) → ⊥
+  pub refused_or_observed : (r : Receipt) (e : ObserveError) → IsObservation m domain bytes verdict r → Refuses e
+      → (e ≡ Take Full → ⊥) → (e ≡ Take NoMemory → ⊥) → ⊥
   refused_or_observed r NoRelationship is h n k = no_relationship h is.authentic.endpoint.relationship is.authentic.endpoint.found
   refused_or_observed r WrongEndpoint is h n k = two_endpoints h is.authentic.endpoint
   refused_or_observed r NoVoucherBundle is h n k = h.1 is.voucher is.authentic.current.accepted

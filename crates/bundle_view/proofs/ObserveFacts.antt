@@ -1,5 +1,6 @@
 -- What an observation rests on: one endpoint of a domain, and that what is vouched for and held is accepted.
-use Rattle.std.proofs.Common.{◌≡◌, ℕ, ◌⊎◌, inl, inr, ◌↔◌, List, [], ◌∷◌, ◌++◌, Option, None, Result, Ok, Err, MatchResult, Less, refl, sym, ap, ◌∙◌, subst, arith}
+use Rattle.std.proofs.Common.{◌≡◌, ℕ, ◌⊎◌, inl, inr, ◌↔◌, List, [], ◌∷◌, ◌++◌, Option, None, Result, Ok, Err}
+use Rattle.std.proofs.Common.{MatchResult, Less, refl, sym, ap, ◌∙◌, subst, arith}
 use Rattle.std.specs.List.{Contains, AllByRecursion}
 use Rattle.std.proofs.lemmas.Cmp.{nat_list_cmp_total}
 use Rattle.spiffe_name.specs.SpiffeId.{Id}
@@ -7,7 +8,9 @@ use Rattle.bundle_doc.specs.Bundle.{Bundle, IsDocument}
 use Rattle.bundle_doc.specs.Refusal.{RefusesBytes}
 use Rattle.bundle_doc.specs.declared.document.DocId.{DocId}
 use Rattle.bundle_doc.specs.declared.error.DocError.{DocError}
-use Rattle.bundle_doc.specs.declared.error.DocError.TheVariants.{TooLong, NotJson, NotObject, NoKeys, BadSequence, BadRefreshHint, CanonicalTooLong, NoMemory as NoMemoryToRead}
+use Rattle.bundle_doc.specs.declared.error.DocError.TheVariants.{TooLong, NotJson, NotObject, NoKeys, BadSequence}
+use Rattle.bundle_doc.specs.declared.error.DocError.TheVariants.{BadRefreshHint, CanonicalTooLong}
+use Rattle.bundle_doc.specs.declared.error.DocError.TheVariants.{NoMemory as NoMemoryToRead}
 use Rattle.fed_config.specs.Configuration.{Configuration, IsConfiguration, relationship_cmp, domain_cmp}
 use Rattle.fed_config.specs.declared.relationship.Relationship.{Relationship}
 use Rattle.receipt_core.specs.declared.distrust.Distrust.{Distrust}
@@ -26,7 +29,9 @@ use Rattle.closure_core.specs.Changes.{HeldAndRoom, Took, IsUnchanged}
 use Rattle.closure_core.specs.AcceptedList.{document_of}
 use Rattle.closure_core.proofs.MemberFacts.{leads_more}
 use Rattle.bundle_view.specs.Current.{IsCurrent}
-use Rattle.bundle_view.specs.Observe.{IsEndpointOf, IsVouchedFor, IsObservation, HasObserved, of_document, RefusesEndpoint, RefusesVerdict, RefusesTaking, RefusesObservation, HasNotObserved}
+use Rattle.bundle_view.specs.Observe.{IsEndpointOf, IsVouchedFor, IsObservation, HasObserved, of_document}
+use Rattle.bundle_view.specs.Observe.{RefusesEndpoint, RefusesVerdict, RefusesTaking, RefusesObservation}
+use Rattle.bundle_view.specs.Observe.{HasNotObserved}
 use Rattle.bundle_view.specs.Observing.{IsVoucher, HasKept, HasNotKept}
 use Rattle.bundle_view.specs.declared.observation.Verdict.{Verdict}
 use Rattle.bundle_view.specs.declared.observe_error.ObserveError.{ObserveError}
@@ -35,7 +40,8 @@ use Rattle.bundle_view.proofs.ListFacts.{contains_later, contains_cases, not_bel
 
 -- ---- a record that is another one is passed over
 
-pub passed_over : (all ahead rest : List Distrust) (first x : Distrust) → ahead ≡ first ∷ rest → (first ≡ x → ⊥) → (Contains ahead x ↔ Contains all x) → Contains rest x ↔ Contains all x
+pub passed_over : (all ahead rest : List Distrust) (first x : Distrust) → ahead ≡ first ∷ rest → (first ≡ x → ⊥)
+    → (Contains ahead x ↔ Contains all x) → Contains rest x ↔ Contains all x
 passed_over all ahead rest first x e other same = (
   λ later. same.0 (subst (λ (xs : List Distrust). Contains xs x) (sym e) (contains_later first rest x later)),
   λ has. elim (contains_cases first rest x (subst (λ (xs : List Distrust). Contains xs x) e (same.1 has))) [
@@ -46,7 +52,8 @@ passed_over all ahead rest first x e other same = (
 
 -- ---- one relationship with a domain
 
-pub one_relationship : (c : Configuration) (domain : List ℕ) (x y : Relationship) → IsConfiguration c → Contains c.relationships x → Contains c.relationships y → x.domain ≡ domain → y.domain ≡ domain → x ≡ y
+pub one_relationship : (c : Configuration) (domain : List ℕ) (x y : Relationship) → IsConfiguration c
+    → Contains c.relationships x → Contains c.relationships y → x.domain ≡ domain → y.domain ≡ domain → x ≡ y
 one_relationship c domain x y form has_x has_y e f =
     only_one relationship_cmp c.relationships x y form.rising_relationships has_x has_y
     (λ less. not_below_itself nat_list_cmp_total y.domain (subst (λ (d : List ℕ). domain_cmp d y.domain ≡ Less) (e ∙ sym f) less))
@@ -61,21 +68,25 @@ all_and_one : {A : Type 0} (P : A → Type 0) (xs : List A) (x : A) → AllByRec
 all_and_one P [] x all h = (h, tt)
 all_and_one P (y ∷ ys) x all h = (all.0, all_and_one P ys x all.1 h)
 
-all_within : (old new : List Receipt) (rs : List Receipt) → ((r : Receipt) → Contains old r → Contains new r) → AllByRecursion (Contains old) rs → AllByRecursion (Contains new) rs
+all_within : (old new : List Receipt) (rs : List Receipt) → ((r : Receipt) → Contains old r → Contains new r)
+    → AllByRecursion (Contains old) rs → AllByRecursion (Contains new) rs
 all_within old new [] more all = tt
 all_within old new (r ∷ rs) more all = (more r all.0, all_within old new rs more all.1)
 
 abbrev holding : Meaning → Receipt → Meaning
 holding m r = record m { held = with_receipt r m.held }
 
-accepted_then : (m : Meaning) (p : Pair) (r : Receipt) → IsMeaning m → IsReceipt r → IsMember m p → IsFitting m.config r → Vouches m.records p r → IsMember (holding m r) (pair_of r)
+accepted_then : (m : Meaning) (p : Pair) (r : Receipt) → IsMeaning m → IsReceipt r → IsMember m p → IsFitting m.config r
+    → Vouches m.records p r → IsMember (holding m r) (pair_of r)
 accepted_then m p r valid form is fits vouches =
     let members : (a : Receipt) → Contains (with_receipt r m.held) a ↔ ((r ≡ a) ⊎ Contains m.held a) = λ a. sets.members r a m.held form valid.receipts in
     record {
       seed = is.seed;
       configured = is.configured;
       chain = is.chain ++ r ∷ [];
-      held = all_and_one (Contains (with_receipt r m.held)) is.chain r (all_within m.held (with_receipt r m.held) is.chain (λ a h. (members a).1 (inr h)) is.held) ((members r).1 (inl refl));
+      held = all_and_one (Contains (with_receipt r m.held)) is.chain r
+          (all_within m.held (with_receipt r m.held) is.chain (λ a h. (members a).1 (inr h)) is.held)
+          ((members r).1 (inl refl));
       leads = leads_more m.config m.records (pair_of_seed is.seed) is.chain p r is.leads fits vouches;
     }
 
@@ -84,7 +95,8 @@ accepted_then m p r valid form is fits vouches =
 abbrev observed_of : List ℕ → Verdict → DocId → Bundle → Receipt
 observed_of domain verdict id document = record { domain = domain; endpoint = verdict.endpoint; document = document; voucher = id; key = verdict.key }
 
-observation : (m : Meaning) (domain bytes : List ℕ) (verdict : Verdict) (id : DocId) (document : Bundle) → IsVoucher m domain verdict id → IsDocument bytes document
+observation : (m : Meaning) (domain bytes : List ℕ) (verdict : Verdict) (id : DocId) (document : Bundle)
+    → IsVoucher m domain verdict id → IsDocument bytes document
     → IsObservation m domain bytes verdict (observed_of domain verdict id document)
 observation m domain bytes verdict id document is read = record {
   voucher = is.voucher;
@@ -94,7 +106,9 @@ observation m domain bytes verdict id document is read = record {
   is = ap (λ (i : DocId). observed_of domain verdict i document) is.is;
 }
 
-fits_of : (m : Meaning) (domain : List ℕ) (verdict : Verdict) (r : Receipt) → IsEndpointOf m.config domain verdict.endpoint → r.domain ≡ domain → r.endpoint ≡ verdict.endpoint → IsFitting m.config r
+fits_of : (m : Meaning) (domain : List ℕ) (verdict : Verdict) (r : Receipt)
+    → IsEndpointOf m.config domain verdict.endpoint → r.domain ≡ domain → r.endpoint ≡ verdict.endpoint
+    → IsFitting m.config r
 fits_of m domain verdict r is e f = record {
   relationship = is.relationship;
   has = is.found.0;
@@ -103,7 +117,8 @@ fits_of m domain verdict r is e f = record {
 }
 
 -- the voucher is accepted, and vouches
-accepted_of : (m : Meaning) (domain bytes : List ℕ) (verdict : Verdict) (id : DocId) (document : Bundle) → IsMeaning m → IsReceipt (observed_of domain verdict id document) → IsVoucher m domain verdict id
+accepted_of : (m : Meaning) (domain bytes : List ℕ) (verdict : Verdict) (id : DocId) (document : Bundle) → IsMeaning m
+    → IsReceipt (observed_of domain verdict id document) → IsVoucher m domain verdict id
     → IsMember (holding m (observed_of domain verdict id document)) (pair_of (observed_of domain verdict id document))
 accepted_of m domain bytes verdict id document valid form is =
     let r : Receipt = observed_of domain verdict id document in
@@ -118,8 +133,11 @@ meaning_of_took old new r TakenAlready valid took =
     ap (λ (s : HeldAndRoom). s.meaning) took.same
     ∙ ap (λ (rs : List Receipt). record old.meaning { held = rs }) (sym (sets.present r old.meaning.held valid.rising took.held))
 
-pub observed : (old new : HeldAndRoom) (domain bytes : List ℕ) (verdict : Verdict) (id : DocId) (document : Bundle) (copy : Receipt) → IsMeaning old.meaning → IsReceipt (observed_of domain verdict id document)
-    → IsVoucher old.meaning domain verdict id → IsDocument bytes document → HasKept old (observed_of domain verdict id document) new copy → HasObserved old.meaning domain bytes verdict new.meaning copy
+pub observed : (old new : HeldAndRoom) (domain bytes : List ℕ) (verdict : Verdict) (id : DocId) (document : Bundle)
+    (copy : Receipt) → IsMeaning old.meaning → IsReceipt (observed_of domain verdict id document)
+    → IsVoucher old.meaning domain verdict id → IsDocument bytes document
+        → HasKept old (observed_of domain verdict id document) new copy
+        → HasObserved old.meaning domain bytes verdict new.meaning copy
 observed old new domain bytes verdict id document copy valid form is read kept =
     let r : Receipt = observed_of domain verdict id document in
     let meaning : new.meaning ≡ holding old.meaning r = meaning_of_took old new r kept.taken valid kept.took in
@@ -135,7 +153,8 @@ observed old new domain bytes verdict id document copy valid form is read kept =
 vouched_for : (m : Meaning) (domain : List ℕ) (verdict : Verdict) (id : DocId) → IsVoucher m domain verdict id → IsVouchedFor m domain verdict
 vouched_for m domain verdict id is = (is.voucher, is.authentic)
 
-pub wants_memory : (m : Meaning) (domain bytes : List ℕ) (verdict : Verdict) (id : DocId) (document : Bundle) → IsVoucher m domain verdict id → IsDocument bytes document
+pub wants_memory : (m : Meaning) (domain bytes : List ℕ) (verdict : Verdict) (id : DocId) (document : Bundle)
+    → IsVoucher m domain verdict id → IsDocument bytes document
     → RefusesObservation m domain bytes verdict (Take NoMemory)
 wants_memory m domain bytes verdict id document is read = (vouched_for m domain verdict id is, read.short)
 
@@ -151,30 +170,40 @@ unread m domain bytes verdict id BadRefreshHint is refuses = (vouched_for m doma
 unread m domain bytes verdict id CanonicalTooLong is refuses = (vouched_for m domain verdict id is, (λ h. cc), refuses)
 
 -- the receipt fits, so it is refused for being one too many at most
-other_endpoint : (m : Meaning) (domain : List ℕ) (verdict : Verdict) (r : Receipt) → IsConfiguration m.config → IsEndpointOf m.config domain verdict.endpoint → r.domain ≡ domain → r.endpoint ≡ verdict.endpoint → IsOfWrongEndpoint m.config r → ⊥
+other_endpoint : (m : Meaning) (domain : List ℕ) (verdict : Verdict) (r : Receipt) → IsConfiguration m.config
+    → IsEndpointOf m.config domain verdict.endpoint → r.domain ≡ domain → r.endpoint ≡ verdict.endpoint
+    → IsOfWrongEndpoint m.config r → ⊥
 other_endpoint m domain verdict r form is e f wrong =
-    let same : wrong.relationship ≡ is.relationship = one_relationship m.config domain wrong.relationship is.relationship form wrong.has is.found.0 (wrong.domain ∙ e) is.found.1 in
+    let same : wrong.relationship ≡ is.relationship =
+        one_relationship m.config domain wrong.relationship is.relationship form wrong.has is.found.0 (wrong.domain ∙ e)
+        is.found.1 in
     wrong.other (ap (λ (x : Relationship). x.endpoint) same ∙ is.endpoint_is ∙ sym f)
 
-untaken : (m : Meaning) (room : Room) (domain bytes : List ℕ) (verdict : Verdict) (id : DocId) (document : Bundle) (e : TakeError) → IsConfiguration m.config → IsVoucher m domain verdict id → IsDocument bytes document
+untaken : (m : Meaning) (room : Room) (domain bytes : List ℕ) (verdict : Verdict) (id : DocId) (document : Bundle)
+    (e : TakeError) → IsConfiguration m.config → IsVoucher m domain verdict id → IsDocument bytes document
     → (e ≡ NoMemory) ⊎ RefusesReceipt m room (observed_of domain verdict id document) e → RefusesTaking m domain bytes verdict e
 untaken m room domain bytes verdict id document e form is read (inl memory) =
     subst (RefusesTaking m domain bytes verdict) (sym memory) (wants_memory m domain bytes verdict id document is read)
-untaken m room domain bytes verdict id document UnknownDomain form is read (inr refuses) = refuses is.authentic.endpoint.relationship is.authentic.endpoint.found.0 is.authentic.endpoint.found.1
+untaken m room domain bytes verdict id document UnknownDomain form is read (inr refuses) =
+    refuses is.authentic.endpoint.relationship is.authentic.endpoint.found.0 is.authentic.endpoint.found.1
 untaken m room domain bytes verdict id document OtherEndpoint form is read (inr refuses) =
     other_endpoint m domain verdict (observed_of domain verdict id document) form is.authentic.endpoint refl refl refuses
-untaken m room domain bytes verdict id document Full form is read (inr refuses) = (observed_of domain verdict id document, observation m domain bytes verdict id document is read, refuses)
+untaken m room domain bytes verdict id document Full form is read (inr refuses) =
+    (observed_of domain verdict id document, observation m domain bytes verdict id document is read, refuses)
 untaken m room domain bytes verdict id document NoMemory form is read (inr refuses) = wants_memory m domain bytes verdict id document is read
 untaken m room domain bytes verdict id document ConfigDiffers form is read (inr refuses) = refuses
 
-pub not_kept : (old new : HeldAndRoom) (domain bytes : List ℕ) (verdict : Verdict) (id : DocId) (document : Bundle) (why : ObserveError) → IsConfiguration old.meaning.config → IsVoucher old.meaning domain verdict id
+pub not_kept : (old new : HeldAndRoom) (domain bytes : List ℕ) (verdict : Verdict) (id : DocId) (document : Bundle)
+    (why : ObserveError) → IsConfiguration old.meaning.config → IsVoucher old.meaning domain verdict id
     → IsDocument bytes document → HasNotKept old (observed_of domain verdict id document) new why → HasNotObserved old domain bytes verdict new why
 not_kept old new domain bytes verdict id document why form is read kept = record {
-  cause = subst (RefusesObservation old.meaning domain bytes verdict) (sym kept.is) (untaken old.meaning old.room domain bytes verdict id document kept.error form is read kept.cause);
+  cause = subst (RefusesObservation old.meaning domain bytes verdict) (sym kept.is)
+      (untaken old.meaning old.room domain bytes verdict id document kept.error form is read kept.cause);
   unchanged = kept.unchanged;
 }
 
-pub refuses_endpoint : (m : Meaning) (domain : List ℕ) (verdict : Verdict) (e : ObserveError) → RefusesEndpoint m.config domain verdict.endpoint e → RefusesVerdict m domain verdict e
+pub refuses_endpoint : (m : Meaning) (domain : List ℕ) (verdict : Verdict) (e : ObserveError)
+    → RefusesEndpoint m.config domain verdict.endpoint e → RefusesVerdict m domain verdict e
 refuses_endpoint m domain verdict NoRelationship h = h
 refuses_endpoint m domain verdict WrongEndpoint h = h
 refuses_endpoint m domain verdict e h = absurd h
@@ -185,7 +214,8 @@ unchanged_then s = record { meaning = refl; room = record { receipts = omega ari
 
 -- ---- no document of the endpoint's trust domain is accepted
 
-pub none_current : (m : Meaning) (config : Configuration) (domain home : List ℕ) (endpoint : Id) (o : Option Bundle) → IsEndpointOf config domain endpoint → config ≡ m.config → home ≡ endpoint.domain → o ≡ None
+pub none_current : (m : Meaning) (config : Configuration) (domain home : List ℕ) (endpoint : Id) (o : Option Bundle)
+    → IsEndpointOf config domain endpoint → config ≡ m.config → home ≡ endpoint.domain → o ≡ None
     → IsCurrent m home o → IsEndpointOf m.config domain endpoint × IsCurrent m endpoint.domain None
 none_current m config domain home endpoint o is e f none current = (
   subst (λ (c : Configuration). IsEndpointOf c domain endpoint) e is,
@@ -194,20 +224,25 @@ none_current m config domain home endpoint o is e f none current = (
 
 -- ---- both together
 
-pub copied : (domain d : List ℕ) (verdict : Verdict) (e : Id) (id : DocId) (document : Bundle) (r : Receipt) → r ≡ record { domain = d; endpoint = e; document = document; voucher = id; key = verdict.key }
+pub copied : (domain d : List ℕ) (verdict : Verdict) (e : Id) (id : DocId) (document : Bundle) (r : Receipt)
+    → r ≡ record { domain = d; endpoint = e; document = document; voucher = id; key = verdict.key }
     → d ≡ domain → e ≡ verdict.endpoint → r ≡ observed_of domain verdict id document
 copied domain d verdict e id document r is same_domain same_endpoint =
     is ∙ ap (λ (n : List ℕ). record { domain = n; endpoint = e; document = document; voucher = id; key = verdict.key }) same_domain
     ∙ ap (λ (i : Id). record { domain = domain; endpoint = i; document = document; voucher = id; key = verdict.key }) same_endpoint
 
-concluded : (old new : HeldAndRoom) (domain bytes : List ℕ) (verdict : Verdict) (id : DocId) (document : Bundle) (result : Result Receipt ObserveError) → IsMeaning old.meaning → IsConfiguration old.meaning.config
+concluded : (old new : HeldAndRoom) (domain bytes : List ℕ) (verdict : Verdict) (id : DocId) (document : Bundle)
+    (result : Result Receipt ObserveError) → IsMeaning old.meaning → IsConfiguration old.meaning.config
     → IsReceipt (observed_of domain verdict id document) → IsVoucher old.meaning domain verdict id → IsDocument bytes document
     → MatchResult result (HasKept old (observed_of domain verdict id document) new) (HasNotKept old (observed_of domain verdict id document) new)
     → MatchResult result (HasObserved old.meaning domain bytes verdict new.meaning) (HasNotObserved old domain bytes verdict new)
-concluded old new domain bytes verdict id document (Ok copy) valid config form is read kept = observed old new domain bytes verdict id document copy valid form is read kept
-concluded old new domain bytes verdict id document (Err why) valid config form is read kept = not_kept old new domain bytes verdict id document why config is read kept
+concluded old new domain bytes verdict id document (Ok copy) valid config form is read kept =
+    observed old new domain bytes verdict id document copy valid form is read kept
+concluded old new domain bytes verdict id document (Err why) valid config form is read kept =
+    not_kept old new domain bytes verdict id document why config is read kept
 
-pub ended : (old new : HeldAndRoom) (domain bytes : List ℕ) (verdict : Verdict) (id : DocId) (document : Bundle) (r : Receipt) (result : Result Receipt ObserveError) → r ≡ observed_of domain verdict id document
+pub ended : (old new : HeldAndRoom) (domain bytes : List ℕ) (verdict : Verdict) (id : DocId) (document : Bundle)
+    (r : Receipt) (result : Result Receipt ObserveError) → r ≡ observed_of domain verdict id document
     → IsMeaning old.meaning → IsConfiguration old.meaning.config → IsReceipt r → IsVoucher old.meaning domain verdict id → IsDocument bytes document
     → MatchResult result (HasKept old r new) (HasNotKept old r new)
     → MatchResult result (HasObserved old.meaning domain bytes verdict new.meaning) (HasNotObserved old domain bytes verdict new)

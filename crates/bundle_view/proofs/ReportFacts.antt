@@ -1,5 +1,7 @@
 -- One report
-use Rattle.std.proofs.Common.{◌≡◌, ℕ, ◌+◌, ◌<◌, List, [], ◌∷◌, ◌++◌, map, length, get_or, drop, drop-cons, add-one, codes, decimal, flat_map, Option, refl, sym, ap, ◌∙◌, subst, arith, append_assoc, append-nil, inl, inr}
+use Rattle.std.proofs.Common.{◌≡◌, ℕ, ◌+◌, ◌<◌, List, [], ◌∷◌, ◌++◌, map, length, get_or, drop, drop-cons, add-one}
+use Rattle.std.proofs.Common.{codes, decimal, flat_map, Option, refl, sym, ap, ◌∙◌, subst, arith, append_assoc}
+use Rattle.std.proofs.Common.{append-nil, inl, inr}
 use Rattle.std.proofs.lemmas.List.{map-append, flat_map_more}
 use Rattle.std.proofs.lemmas.List.Elements.{Contains-push_cases}
 use Rattle.receipt_core.specs.declared.distrust.Distrust.{Distrust}
@@ -14,14 +16,18 @@ use Rattle.bundle_view.specs.Current.{IsCurrent}
 use Rattle.bundle_view.specs.Conflicts.{AreConflicts, ReportedConflict, reported_conflict}
 use Rattle.bundle_view.specs.Groups.{AddsClashes}
 use Rattle.bundle_view.specs.Sections.{HasReportHead, AddsSection, HasSections}
-use Rattle.bundle_view.specs.Report.{Section, IsSection, IsReport, report_text, head_text, section_text, current_line, accepted_line, conflict_line, distrust_line, records_of, document_text, sequence_text}
+use Rattle.bundle_view.specs.Report.{Section, IsSection, IsReport, report_text, head_text, section_text, current_line}
+use Rattle.bundle_view.specs.Report.{accepted_line, conflict_line, distrust_line, records_of, document_text}
+use Rattle.bundle_view.specs.Report.{sequence_text}
 use Rattle.bundle_view.proofs.ListFacts.{contains_first, contains_later, same_list, joined}
 use Rattle.bundle_view.proofs.CurrentFacts.{one_current}
 use Rattle.bundle_view.proofs.ClashFacts.{one_list, one_domains}
 use Rattle.bundle_view.proofs.GroupFacts.{conflicts_of}
 
 one_accepted : (m : Meaning) (domain : List ℕ) (ds es : List Bundle) → IsAcceptedList m domain ds → IsAcceptedList m domain es → ds ≡ es
-one_accepted m domain ds es p q = same_list document_cmp document_total ds es p.rising q.rising (λ d h. q.complete d (p.sound d h)) (λ d h. p.complete d (q.sound d h))
+one_accepted m domain ds es p q =
+    same_list document_cmp document_total ds es p.rising q.rising (λ d h. q.complete d (p.sound d h))
+    (λ d h. p.complete d (q.sound d h))
 
 moved : (m : Meaning) (s : Section) (domain : List ℕ) → s.domain ≡ domain → IsSection m s → IsSection m (record s { domain = domain })
 moved m s domain e is = record {
@@ -66,16 +72,22 @@ pub accepted_made : (domain : List ℕ) (d : Bundle) (n : ℕ) (o x y z u v : Li
     → x ≡ o ++ codes "  accepted " → y ≡ x ++ document_text domain d → z ≡ y ++ codes " authorities " → u ≡ z ++ decimal n → v ≡ u ++ codes "\n"
     → v ≡ o ++ accepted_line domain d
 accepted_made domain d n o x y z u v e p q r s t =
-    joined o (codes "  accepted ") _ x v p (joined x (document_text domain d) _ y v q (joined y (codes " authorities ") _ z v r (joined z (decimal n) (codes "\n") u v s t)))
+    joined o (codes "  accepted ") _ x v p
+        (joined x (document_text domain d) _ y v q
+        (joined y (codes " authorities ") _ z v r (joined z (decimal n) (codes "\n") u v s t)))
     ∙ (λ i. o ++ (codes "  accepted " ++ (document_text domain d ++ (codes " authorities " ++ (decimal (e i) ++ codes "\n")))))
 
 pub head_made : (m : Meaning) (pending : ℕ) (id : List ℕ) (n : ℕ) (o x y z u v w t : List ℕ) → id ≡ config_id_of m.config → n ≡ length m.held
-    → x ≡ o ++ codes "config " → y ≡ x ++ encode_lower id → z ≡ y ++ codes "\nreceipts " → u ≡ z ++ decimal n → v ≡ u ++ codes " pending " → w ≡ v ++ decimal pending → t ≡ w ++ codes "\n"
+    → x ≡ o ++ codes "config " → y ≡ x ++ encode_lower id → z ≡ y ++ codes "\nreceipts " → u ≡ z ++ decimal n
+        → v ≡ u ++ codes " pending " → w ≡ v ++ decimal pending → t ≡ w ++ codes "\n"
     → t ≡ o ++ head_text m pending
 head_made m pending id n o x y z u v w t e f p q r s a b k =
     joined o (codes "config ") _ x t p (joined x (encode_lower id) _ y t q (joined y (codes "\nreceipts ") _ z t r (joined z (decimal n) _ u t s
     (joined u (codes " pending ") _ v t a (joined v (decimal pending) (codes "\n") w t b k)))))
-    ∙ (λ i. o ++ (codes "config " ++ (encode_lower (e i) ++ (codes "\nreceipts " ++ (decimal (f i) ++ (codes " pending " ++ (decimal pending ++ codes "\n")))))))
+    ∙ (λ i. o ++
+        (codes "config " ++
+        (encode_lower (e i) ++ (codes "\nreceipts " ++
+        (decimal (f i) ++ (codes " pending " ++ (decimal pending ++ codes "\n")))))))
 
 next_at : {X : Type 0} (xs : List X) (k : ℕ) (x : X) → k < length xs → x ≡ get_or xs k x → drop k xs ≡ x ∷ drop (k + 1) xs
 next_at xs k x low is = drop-cons xs k x low ∙ (λ i. sym is i ∷ drop (sym (add-one k) i) xs)
@@ -83,24 +95,34 @@ next_at xs k x low is = drop-cons xs k x low ∙ (λ i. sym is i ∷ drop (sym (
 pub lines_more : {X : Type 0} (f : X → List ℕ) (xs : List X) (k : ℕ) (x : X) → k < length xs → x ≡ get_or xs k x → (o n : List ℕ) → n ≡ o ++ f x
     → n ++ flat_map f (drop (k + 1) xs) ≡ o ++ flat_map f (drop k xs)
 lines_more f xs k x low is o n e =
-    ap (λ z. z ++ flat_map f (drop (k + 1) xs)) e ∙ append_assoc o (f x) (flat_map f (drop (k + 1) xs)) ∙ ap (λ ys. o ++ flat_map f ys) (sym (next_at xs k x low is))
+    ap (λ z. z ++ flat_map f (drop (k + 1) xs)) e ∙ append_assoc o (f x) (flat_map f (drop (k + 1) xs))
+        ∙ ap (λ ys. o ++ flat_map f ys) (sym (next_at xs k x low is))
 
-pub told_more : {X Y : Type 0} (v : X → Y) (f : Y → List ℕ) (xs : List X) (k : ℕ) (x : X) → k < length xs → x ≡ get_or xs k x → (o n : List ℕ) → n ≡ o ++ f (v x)
+pub told_more : {X Y : Type 0} (v : X → Y) (f : Y → List ℕ) (xs : List X) (k : ℕ) (x : X) → k < length xs
+    → x ≡ get_or xs k x → (o n : List ℕ) → n ≡ o ++ f (v x)
     → n ++ flat_map f (map v (drop (k + 1) xs)) ≡ o ++ flat_map f (map v (drop k xs))
 told_more v f xs k x low is o n e =
-    ap (λ z. z ++ flat_map f (map v (drop (k + 1) xs))) e ∙ append_assoc o (f (v x)) (flat_map f (map v (drop (k + 1) xs))) ∙ ap (λ ys. o ++ flat_map f (map v ys)) (sym (next_at xs k x low is))
+    ap (λ z. z ++ flat_map f (map v (drop (k + 1) xs))) e
+        ∙ append_assoc o (f (v x)) (flat_map f (map v (drop (k + 1) xs)))
+        ∙ ap (λ ys. o ++ flat_map f (map v ys)) (sym (next_at xs k x low is))
 
 -- ---- sections
 
-section_made : (records : List Distrust) (s : Section) (o x y z u v : List ℕ) → x ≡ o ++ (codes "domain " ++ (s.domain ++ codes "\n")) → y ≡ x ++ current_line s.domain s.current
-    → z ≡ y ++ flat_map (accepted_line s.domain) s.accepted → u ≡ z ++ flat_map conflict_line (map (reported_conflict s.domain) s.conflicts) → v ≡ u ++ flat_map distrust_line (records_of s.domain records)
+section_made : (records : List Distrust) (s : Section) (o x y z u v : List ℕ)
+    → x ≡ o ++ (codes "domain " ++ (s.domain ++ codes "\n")) → y ≡ x ++ current_line s.domain s.current
+    → z ≡ y ++ flat_map (accepted_line s.domain) s.accepted
+        → u ≡ z ++ flat_map conflict_line (map (reported_conflict s.domain) s.conflicts)
+        → v ≡ u ++ flat_map distrust_line (records_of s.domain records)
     → v ≡ o ++ section_text records s
 section_made records s o x y z u v p q r a b =
-    joined o (codes "domain " ++ (s.domain ++ codes "\n")) _ x v p (joined x (current_line s.domain s.current) _ y v q (joined y (flat_map (accepted_line s.domain) s.accepted) _ z v r
+    joined o (codes "domain " ++ (s.domain ++ codes "\n")) _ x v p
+        (joined x (current_line s.domain s.current) _ y v q
+        (joined y (flat_map (accepted_line s.domain) s.accepted) _ z v r
     (joined z (flat_map conflict_line (map (reported_conflict s.domain) s.conflicts)) (flat_map distrust_line (records_of s.domain records)) u v a b)))
     ∙ ap (λ t. o ++ t) (append_assoc (codes "domain ") (s.domain ++ codes "\n") _ ∙ ap (λ t. codes "domain " ++ t) (append_assoc s.domain (codes "\n") _))
 
-pub section_added : (m : Meaning) (domain : List ℕ) (documents : List Bundle) (current : Option Bundle) (none found : List ReportedConflict) (o x y z u v : List ℕ)
+pub section_added : (m : Meaning) (domain : List ℕ) (documents : List Bundle) (current : Option Bundle)
+    (none found : List ReportedConflict) (o x y z u v : List ℕ)
     → IsAcceptedList m domain documents → IsCurrent m domain current → none ≡ [] → AddsClashes domain documents none found
     → x ≡ o ++ (codes "domain " ++ (domain ++ codes "\n")) → y ≡ x ++ current_line domain current → z ≡ y ++ flat_map (accepted_line domain) documents
     → u ≡ z ++ flat_map conflict_line found → v ≡ u ++ flat_map distrust_line (records_of domain m.records) → AddsSection m domain o v
@@ -124,7 +146,8 @@ sections_none m old new empty head = record {
   now = head.now ∙ ap (λ t. t ++ head_text m head.pending) empty ∙ sym (append-nil (head_text m head.pending));
 }
 
-pub sections_more : (m : Meaning) (domains : List (List ℕ)) (domain : List ℕ) (old new : List ℕ) → HasSections m domains old → AddsSection m domain old new → HasSections m (domains ++ domain ∷ []) new
+pub sections_more : (m : Meaning) (domains : List (List ℕ)) (domain : List ℕ) (old new : List ℕ)
+    → HasSections m domains old → AddsSection m domain old new → HasSections m (domains ++ domain ∷ []) new
 sections_more m domains domain old new has adds = record {
   pending = has.pending;
   is_pending = has.is_pending;

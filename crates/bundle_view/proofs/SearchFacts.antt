@@ -1,5 +1,7 @@
 -- One step more, and what was come to
-use Rattle.std.proofs.Common.{◌≡◌, ℕ, zero, suc, ◌+◌, ◌<◌, ◌≤◌, ◌⊎◌, inl, inr, Bool, true, false, List, [], ◌∷◌, ◌++◌, length, replicate, get_or, set, Option, Some, Less, Equal, Greater, arith, refl, sym, ap, ◌∙◌, subst, length-append}
+use Rattle.std.proofs.Common.{◌≡◌, ℕ, zero, suc, ◌+◌, ◌<◌, ◌≤◌, ◌⊎◌, inl, inr, Bool, true, false, List, [], ◌∷◌, ◌++◌}
+use Rattle.std.proofs.Common.{length, replicate, get_or, set, Option, Some, Less, Equal, Greater, arith, refl, sym, ap}
+use Rattle.std.proofs.Common.{◌∙◌, subst, length-append}
 use Rattle.std.specs.Prelude.{Contains, slice_get}
 use Rattle.std.specs.declared.cmp.Ordering.{Ordering}
 use Rattle.std.specs.Ordering.{is_lt, ordering_reverse}
@@ -56,13 +58,20 @@ at_of_has xs x has = (has.0, slice_get-get_or xs has.0 x has.1 ∙ ap Some has.2
 
 -- ---- what was come to stays
 
-pub more-HasStride : (old new : List Stride) (r : Receipt) (n k : ℕ) → ((i : ℕ) (s : Stride) → slice_get old i ≡ Some s → slice_get new i ≡ Some s) → n ≤ k → HasStride old r n → HasStride new r k
-more-HasStride old new r n k kept l h = record { place = h.place; stride = h.stride; at = kept h.place h.stride h.at; is = h.is; short = omega (arith, l, h.short) }
+pub more-HasStride : (old new : List Stride) (r : Receipt) (n k : ℕ)
+    → ((i : ℕ) (s : Stride) → slice_get old i ≡ Some s → slice_get new i ≡ Some s) → n ≤ k → HasStride old r n
+    → HasStride new r k
+more-HasStride old new r n k kept l h =
+    record { place = h.place; stride = h.stride; at = kept h.place h.stride h.at; is = h.is; short =
+    omega (arith, l, h.short) }
 
-pub more-AreFollowed : (waiting : List Receipt) (old new : List Stride) (offers : List Triple) (n : ℕ) → ((i : ℕ) (s : Stride) → slice_get old i ≡ Some s → slice_get new i ≡ Some s) → AreFollowed waiting old offers n → AreFollowed waiting new offers n
+pub more-AreFollowed : (waiting : List Receipt) (old new : List Stride) (offers : List Triple) (n : ℕ)
+    → ((i : ℕ) (s : Stride) → slice_get old i ≡ Some s → slice_get new i ≡ Some s) → AreFollowed waiting old offers n
+    → AreFollowed waiting new offers n
 more-AreFollowed waiting old new offers n kept f r waits has = more-HasStride old new r n n kept (omega arith) (f r waits has)
 
-pub wider : (waiting : List Receipt) (visited : List Bool) (strides : List Stride) (n k : ℕ) → n ≤ k → AreVisited waiting visited strides n → AreVisited waiting visited strides k
+pub wider : (waiting : List Receipt) (visited : List Bool) (strides : List Stride) (n k : ℕ) → n ≤ k
+    → AreVisited waiting visited strides n → AreVisited waiting visited strides k
 wider waiting visited strides n k l v = record {
   marks = record {
     size = v.marks.size;
@@ -75,7 +84,9 @@ wider waiting visited strides n k l v = record {
   together = v.together;
 }
 
-pub old_at : (waiting : List Receipt) (offers : List Triple) (before : Option ℕ) (most : ℕ) (old new : List Stride) → AppendsSteps waiting offers before most old new → (i : ℕ) (s : Stride) → i < length old → slice_get new i ≡ Some s → slice_get old i ≡ Some s
+pub old_at : (waiting : List Receipt) (offers : List Triple) (before : Option ℕ) (most : ℕ) (old new : List Stride)
+    → AppendsSteps waiting offers before most old new → (i : ℕ) (s : Stride) → i < length old → slice_get new i ≡ Some s
+    → slice_get old i ≡ Some s
 old_at waiting offers before most old new adds i s l at =
     let x = item_at old i l in
     x.1 ∙ ap Some (same_Some x.0 s (sym (adds.kept i x.0 x.1) ∙ at))
@@ -83,7 +94,9 @@ old_at waiting offers before most old new adds i s l at =
 -- ---- one step more
 
 module _ (waiting : List Receipt) (visited : List Bool) (strides : List Stride) (most : ℕ) (m : AreMarked waiting visited strides most) where
-  pub marked_more : (place : ℕ) (s : Stride) (flags : List Bool) → flags ≡ set visited place true → raised_count flags ≡ raised_count visited + 1 → slice_get waiting place ≡ Some s.receipt → s.length ≡ most → most ≤ length strides + 1
+  pub marked_more : (place : ℕ) (s : Stride) (flags : List Bool) → flags ≡ set visited place true
+      → raised_count flags ≡ raised_count visited + 1 → slice_get waiting place ≡ Some s.receipt → s.length ≡ most
+      → most ≤ length strides + 1
       → AreMarked waiting flags (strides ++ s ∷ []) most
   marked_more place s flags is count at long early = record {
     size = ap length is ∙ length-set visited place true ∙ m.size;
@@ -120,10 +133,13 @@ module _ (waiting : List Receipt) (visited : List Bool) (strides : List Stride) 
     ];
   }
 
-pub adds_none : (waiting : List Receipt) (offers : List Triple) (before : Option ℕ) (most : ℕ) (strides : List Stride) → AppendsSteps waiting offers before most strides strides
+pub adds_none : (waiting : List Receipt) (offers : List Triple) (before : Option ℕ) (most : ℕ) (strides : List Stride)
+    → AppendsSteps waiting offers before most strides strides
 adds_none waiting offers before most strides = record { longer = omega arith; kept = λ i s h. h; each = λ i s h. inl h }
 
-pub adds_more : (waiting : List Receipt) (offers : List Triple) (before : Option ℕ) (most : ℕ) (old new : List Stride) (s : Stride) → AppendsSteps waiting offers before most old new → IsAddedStep waiting offers before most s → AppendsSteps waiting offers before most old (new ++ s ∷ [])
+pub adds_more : (waiting : List Receipt) (offers : List Triple) (before : Option ℕ) (most : ℕ) (old new : List Stride)
+    (s : Stride) → AppendsSteps waiting offers before most old new → IsAddedStep waiting offers before most s
+    → AppendsSteps waiting offers before most old (new ++ s ∷ [])
 adds_more waiting offers before most old new s adds is = record {
   longer = omega (arith, adds.longer, length-append new (s ∷ []));
   kept = λ i t h. at_left new (s ∷ []) i t (adds.kept i t h);
@@ -133,7 +149,9 @@ adds_more waiting offers before most old new s adds is = record {
   ];
 }
 
-pub adds_both : (waiting : List Receipt) (some others all : List Triple) (before : Option ℕ) (most : ℕ) (old mid new : List Stride) → ((t : Triple) → Contains some t → Contains all t) → ((t : Triple) → Contains others t → Contains all t)
+pub adds_both : (waiting : List Receipt) (some others all : List Triple) (before : Option ℕ) (most : ℕ)
+    (old mid new : List Stride) → ((t : Triple) → Contains some t → Contains all t)
+    → ((t : Triple) → Contains others t → Contains all t)
     → AppendsSteps waiting some before most old mid → AppendsSteps waiting others before most mid new → AppendsSteps waiting all before most old new
 adds_both waiting some others all before most old mid new left right a b = record {
   longer = omega (arith, a.longer, b.longer);
@@ -150,7 +168,9 @@ adds_both waiting some others all before most old mid new left right a b = recor
 -- ---- the receipts that need the same stand together
 
 less_itself : (a : Triple) → is_lt (triple_cmp a a) ≡ true → ⊥
-less_itself a h = both_ways (is_lt (triple_cmp a a)) (sorted_far (λ (x y : Triple). is_lt (triple_cmp x y)) (ranks_by triple_total (λ (t : Triple). t)) (a ∷ []) (λ k d low high. absurd (omega (arith, high))) 0 0 a (omega arith) (omega arith)) h
+less_itself a h = both_ways (is_lt (triple_cmp a a))
+    (sorted_far (λ (x y : Triple). is_lt (triple_cmp x y)) (ranks_by triple_total (λ (t : Triple). t)) (a ∷ [])
+    (λ k d low high. absurd (omega (arith, high))) 0 0 a (omega arith) (omega arith)) h
 
 neither : (o : Ordering) → is_lt o ≡ false → is_lt (ordering_reverse o) ≡ false → o ≡ Equal
 neither Less p q = absurd (both_ways true p refl)
@@ -168,12 +188,15 @@ index_less Equal Less l h = absurd (omega (arith, l))
 index_less Greater Less l h = absurd (omega (arith, l))
 
 -- the receipts that need something before it stand before the others
-pub parted : (waiting : List Receipt) (offer : Triple) → IsSortedByKey need_of triple_cmp waiting → IsPartitionedBy (λ r. is_lt (triple_cmp (need_of r) offer)) waiting
+pub parted : (waiting : List Receipt) (offer : Triple) → IsSortedByKey need_of triple_cmp waiting
+    → IsPartitionedBy (λ r. is_lt (triple_cmp (need_of r) offer)) waiting
 parted waiting offer sorted i j d l below h =
-    index_less (triple_cmp (need_of (get_or waiting i d)) offer) (triple_cmp (need_of (get_or waiting j d)) offer) (searchable_from_sorted triple_total need_of waiting offer sorted i j d l below) h
+    index_less (triple_cmp (need_of (get_or waiting i d)) offer) (triple_cmp (need_of (get_or waiting j d)) offer)
+        (searchable_from_sorted triple_total need_of waiting offer sorted i j d l below) h
 
 -- no flag is raised
-pub visited_none : (waiting : List Receipt) (flags : List Bool) (strides : List Stride) → flags ≡ replicate (length waiting) false → strides ≡ [] → AreVisited waiting flags strides 1
+pub visited_none : (waiting : List Receipt) (flags : List Bool) (strides : List Stride)
+    → flags ≡ replicate (length waiting) false → strides ≡ [] → AreVisited waiting flags strides 1
 visited_none waiting flags strides is none = record {
   marks = record {
     size = ap length is ∙ length-replicate (length waiting) false;
@@ -196,7 +219,8 @@ visited_none waiting flags strides is none = record {
     no i s at = let l = slice_get_within strides i s at in omega (arith, l, ap length none)
 
 -- So far the receipts from the start up to the place need it, and were come to; no other flag is changed.
-pub record Gathers (waiting : List Receipt) (offer : Triple) (before : Option ℕ) (most : ℕ) (flags : List Bool) (old : List Stride) (start place : ℕ) (visited : List Bool) (new : List Stride) : Type 0 where
+pub record Gathers (waiting : List Receipt) (offer : Triple) (before : Option ℕ) (most : ℕ) (flags : List Bool)
+    (old : List Stride) (start place : ℕ) (visited : List Bool) (new : List Stride) : Type 0 where
   pub marks : AreMarked waiting visited new most
   pub adds : AppendsSteps waiting (offer ∷ []) before most old new
   pub from : start ≤ place
@@ -204,7 +228,8 @@ pub record Gathers (waiting : List Receipt) (offer : Triple) (before : Option �
   pub fresh : (k : ℕ) (r : Receipt) → start ≤ k → k < place → slice_get waiting k ≡ Some r → (is_raised visited k ≡ true) × (need_of r ≡ offer)
   pub same : (k : ℕ) → (k < start) ⊎ (place ≤ k) → is_raised visited k ≡ is_raised flags k
 
-pub gathers_none : (waiting : List Receipt) (offer : Triple) (before : Option ℕ) (most : ℕ) (flags : List Bool) (old : List Stride) (start : ℕ) → start ≤ length waiting → AreVisited waiting flags old most
+pub gathers_none : (waiting : List Receipt) (offer : Triple) (before : Option ℕ) (most : ℕ) (flags : List Bool)
+    (old : List Stride) (start : ℕ) → start ≤ length waiting → AreVisited waiting flags old most
     → Gathers waiting offer before most flags old start start flags old
 gathers_none waiting offer before most flags old start l v = record {
   marks = v.marks;
@@ -215,18 +240,24 @@ gathers_none waiting offer before most flags old start l v = record {
   same = λ k h. refl;
 }
 
-module _ (waiting : List Receipt) (offer : Triple) (before : Option ℕ) (most : ℕ) (flags : List Bool) (old : List Stride) (start place : ℕ) (visited : List Bool) (new : List Stride)
+module _ (waiting : List Receipt) (offer : Triple) (before : Option ℕ) (most : ℕ) (flags : List Bool)
+    (old : List Stride) (start place : ℕ) (visited : List Bool) (new : List Stride)
     (g : Gathers waiting offer before most flags old start place visited new) where
-  pub gathers_more : most ≤ length old + 1 → IsEdgeDue waiting visited offer place → (r : Receipt) → slice_get waiting place ≡ Some r → (more : List Bool) → more ≡ set visited place true → raised_count more ≡ raised_count visited + 1
+  pub gathers_more : most ≤ length old + 1 → IsEdgeDue waiting visited offer place → (r : Receipt)
+      → slice_get waiting place ≡ Some r → (more : List Bool) → more ≡ set visited place true
+      → raised_count more ≡ raised_count visited + 1
       → Gathers waiting offer before most flags old start (place + 1) more (new ++ record { receipt = r; before = before; length = most } ∷ [])
   gathers_more early due r at more is count =
       let s : Stride = record { receipt = r; before = before; length = most } in
       let below : place < length waiting = slice_get_within waiting place r at in
       let needs : need_of r ≡ offer = ap need_of (same_Some r due.receipt (sym at ∙ due.at)) ∙ due.needs in
-      let set_here : is_raised more place ≡ true = ap (λ fs. is_raised fs place) is ∙ get_or-set_same visited place true false (omega (arith, below, g.marks.size)) in
+      let set_here : is_raised more place ≡ true =
+          ap (λ fs. is_raised fs place) is ∙ get_or-set_same visited place true false
+          (omega (arith, below, g.marks.size)) in
       record {
         marks = marked_more waiting visited new most g.marks place s more is count at refl (omega (arith, early, g.adds.longer));
-        adds = adds_more waiting (offer ∷ []) before most old new s g.adds record { waits = has_at waiting place r at; offered = subst (Contains (offer ∷ [])) (sym needs) (contains_first offer []); led = refl; long = refl };
+        adds = adds_more waiting (offer ∷ []) before most old new s g.adds record { waits = has_at waiting place r at;
+            offered = subst (Contains (offer ∷ [])) (sym needs) (contains_first offer []); led = refl; long = refl };
         from = omega (arith, g.from);
         within = omega (arith, below);
         fresh = λ k q a b there. elim (cases_eq k place) [
@@ -237,16 +268,20 @@ module _ (waiting : List Receipt) (offer : Triple) (before : Option ℕ) (most :
         ];
         same = λ k h.
             let other : k ≡ place → ⊥ = λ e. elim h [ inl a ↦ omega (arith, a, e, g.from) | inr a ↦ omega (arith, a, e) ] in
-            ap (λ fs. is_raised fs k) is ∙ get_or-set_other visited place k true false other ∙ g.same k (elim h [ inl a ↦ inl a | inr a ↦ inr (omega (arith, a)) ]);
+            ap (λ fs. is_raised fs k) is ∙ get_or-set_other visited place k true false other
+                ∙ g.same k (elim h [ inl a ↦ inl a | inr a ↦ inr (omega (arith, a)) ]);
       }
 
-  module _ (sorted : IsSortedByKey need_of triple_cmp waiting) (point : IsPartitionPoint (λ r. is_lt (triple_cmp (need_of r) offer) ≡ true) (λ r. is_lt (triple_cmp (need_of r) offer) ≡ false) waiting start)
+  module _ (sorted : IsSortedByKey need_of triple_cmp waiting)
+      (point : IsPartitionPoint (λ r. is_lt (triple_cmp (need_of r) offer) ≡ true)
+      (λ r. is_lt (triple_cmp (need_of r) offer) ≡ false) waiting start)
       (v : AreVisited waiting flags old most) (done : IsEdgeDue waiting visited offer place → ⊥) where
     -- each receipt that needs it was come to
     needing : (k : ℕ) (r : Receipt) → slice_get waiting k ≡ Some r → need_of r ≡ offer → is_raised visited k ≡ true
     needing k r at needs = elim (cases_lt k start) [
       | inl before_start ↦
-          absurd (less_itself offer (subst (λ t. is_lt (triple_cmp t offer) ≡ true) (ap need_of (get_or_from_slice_get waiting k r r at) ∙ needs) (point.0 k r (omega arith) before_start)))
+          absurd (less_itself offer (subst (λ t. is_lt (triple_cmp t offer) ≡ true)
+              (ap need_of (get_or_from_slice_get waiting k r r at) ∙ needs) (point.0 k r (omega arith) before_start)))
       | inr later ↦ elim (cases_lt k place) [
         | inl here ↦ (g.fresh k r later here at).0
         | inr past ↦
@@ -278,7 +313,8 @@ module _ (waiting : List Receipt) (offer : Triple) (before : Option ℕ) (most :
       ]
     ]
 
-    together : (j k : ℕ) (q r : Receipt) → slice_get waiting j ≡ Some q → slice_get waiting k ≡ Some r → need_of q ≡ need_of r → is_raised visited j ≡ true → is_raised visited k ≡ true
+    together : (j k : ℕ) (q r : Receipt) → slice_get waiting j ≡ Some q → slice_get waiting k ≡ Some r
+        → need_of q ≡ need_of r → is_raised visited j ≡ true → is_raised visited k ≡ true
     together j k q r atj atk alike raised = elim (cases_lt j start) [
       | inl a ↦ kept_raised k r atk (v.together j k q r atj atk alike (sym (g.same j (inl a)) ∙ raised))
       | inr a ↦ elim (cases_lt j place) [
@@ -299,14 +335,22 @@ module _ (waiting : List Receipt) (offer : Triple) (before : Option ℕ) (most :
 
 -- ---- many offers
 
-pub follows_none : (waiting : List Receipt) (before : Option ℕ) (most : ℕ) (visited : List Bool) (strides : List Stride) → AreVisited waiting visited strides most → FollowsOffers waiting [] before most strides visited strides
-follows_none waiting before most visited strides v = record { visits = v; adds = adds_none waiting [] before most strides; reached = λ r waits has. absurd (contains_none (need_of r) has) }
+pub follows_none : (waiting : List Receipt) (before : Option ℕ) (most : ℕ) (visited : List Bool) (strides : List Stride)
+    → AreVisited waiting visited strides most → FollowsOffers waiting [] before most strides visited strides
+follows_none waiting before most visited strides v =
+    record { visits = v; adds = adds_none waiting [] before most strides; reached =
+    λ r waits has. absurd (contains_none (need_of r) has) }
 
-pub follows_more : (waiting : List Receipt) (some : List Triple) (offer : Triple) (before : Option ℕ) (most : ℕ) (old mid : List Stride) (flags visited : List Bool) (new : List Stride)
-    → FollowsOffers waiting some before most old flags mid → FollowsOffers waiting (offer ∷ []) before most mid visited new → FollowsOffers waiting (some ++ offer ∷ []) before most old visited new
+pub follows_more : (waiting : List Receipt) (some : List Triple) (offer : Triple) (before : Option ℕ) (most : ℕ)
+    (old mid : List Stride) (flags visited : List Bool) (new : List Stride)
+    → FollowsOffers waiting some before most old flags mid
+        → FollowsOffers waiting (offer ∷ []) before most mid visited new
+        → FollowsOffers waiting (some ++ offer ∷ []) before most old visited new
 follows_more waiting some offer before most old mid flags visited new a b = record {
   visits = b.visits;
-  adds = adds_both waiting some (offer ∷ []) (some ++ offer ∷ []) before most old mid new (λ t h. Contains-append_left some (offer ∷ []) t h) (λ t h. Contains-append_right some (offer ∷ []) t h) a.adds b.adds;
+  adds = adds_both waiting some (offer ∷ []) (some ++ offer ∷ []) before most old mid new
+      (λ t h. Contains-append_left some (offer ∷ []) t h) (λ t h. Contains-append_right some (offer ∷ []) t h) a.adds
+      b.adds;
   reached = λ r waits has. elim (Contains-append_cases some (offer ∷ []) (need_of r) has) [
     | inl h ↦ more-HasStride mid new r most most b.adds.kept (omega arith) (a.reached r waits h)
     | inr h ↦ b.reached r waits h

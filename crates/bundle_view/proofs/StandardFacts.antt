@@ -40,7 +40,8 @@ other_keys key rank differ =
       differ = differ;
     }
 
-has_keys : (keys : List Authority) (rank : Option ℕ) (d : Bundle) → Contains (document keys rank (Some 300) ∷ document keys rank None ∷ []) d → keys ≡ d.authorities
+has_keys : (keys : List Authority) (rank : Option ℕ) (d : Bundle)
+    → Contains (document keys rank (Some 300) ∷ document keys rank None ∷ []) d → keys ≡ d.authorities
 has_keys keys rank d h = elim (contains_cases (document keys rank (Some 300)) (document keys rank None ∷ []) d h) [
   | inl same ↦ (λ i. (same i).authorities)
   | inr later ↦ elim (contains_cases (document keys rank None) [] d later) [
@@ -67,11 +68,13 @@ some_sequence n = refl
 abbrev id : ℕ → DocId
 id byte = record { 0 = byte ∷ [] }
 
-conflict_of_keys : conflict_line (record { domain = codes "a.example"; sequence = 7; kind = Keys; documents = id 171 ∷ id 1 ∷ [] }) ≡ codes "  conflict " ++ (decimal 7 ++ codes " keys ab 01\n")
+conflict_of_keys : conflict_line (record { domain = codes "a.example"; sequence = 7; kind = Keys; documents =
+    id 171 ∷ id 1 ∷ [] }) ≡ codes "  conflict " ++ (decimal 7 ++ codes " keys ab 01\n")
 unfolding encode_with
 conflict_of_keys = refl
 
-conflict_of_hints : conflict_line (record { domain = codes "a.example"; sequence = 10; kind = HintOnly; documents = id 1 ∷ id 171 ∷ [] }) ≡ codes "  conflict " ++ (decimal 10 ++ codes " hint 01 ab\n")
+conflict_of_hints : conflict_line (record { domain = codes "a.example"; sequence = 10; kind = HintOnly; documents =
+    id 1 ∷ id 171 ∷ [] }) ≡ codes "  conflict " ++ (decimal 10 ++ codes " hint 01 ab\n")
 unfolding encode_with
 conflict_of_hints = refl
 

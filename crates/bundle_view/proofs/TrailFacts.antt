@@ -9,21 +9,28 @@ use Rattle.fed_config.specs.declared.seed.Seed.{Seed}
 use Rattle.receipt_core.specs.declared.triple.Triple.{Triple}
 use Rattle.receipt_core.specs.Receipt.{Receipt, Pair, pair_of, offers_of}
 use Rattle.receipt_core.specs.Acceptance.{pair_of_seed}
-use Rattle.bundle_view.specs.Search.{Stride, IsStride, AreStrides, AreFollowed, AreVisited, IsAddedStep, AppendsSteps, FollowsOffers, IsSearchBegun, IsSearched, IsBackFrom, IsShorter, AreLinkedSteps}
+use Rattle.bundle_view.specs.Search.{Stride, IsStride, AreStrides, AreFollowed, AreVisited, IsAddedStep, AppendsSteps}
+use Rattle.bundle_view.specs.Search.{FollowsOffers, IsSearchBegun, IsSearched, IsBackFrom, IsShorter, AreLinkedSteps}
 use Rattle.bundle_view.proofs.ListFacts.{contains_first, contains_none}
 use Rattle.bundle_view.proofs.SearchFacts.{more-AreFollowed, wider, old_at}
 
 -- ---- what stands goes on standing
 
-kept_stride : (seeds : List Seed) (old new : List Stride) (s : Stride) (before : Option ℕ) → ((i : ℕ) (t : Stride) → slice_get old i ≡ Some t → slice_get new i ≡ Some t) → IsStride seeds old s before → IsStride seeds new s before
+kept_stride : (seeds : List Seed) (old new : List Stride) (s : Stride) (before : Option ℕ)
+    → ((i : ℕ) (t : Stride) → slice_get old i ≡ Some t → slice_get new i ≡ Some t) → IsStride seeds old s before
+    → IsStride seeds new s before
 kept_stride seeds old new s None kept h = h
 kept_stride seeds old new s (Some place) kept h = record { previous = h.previous; at = kept place h.previous h.at; offers = h.offers; next = h.next }
 
-more_seeds : (seeds : List Seed) (x : Seed) (strides : List Stride) (s : Stride) (before : Option ℕ) → IsStride seeds strides s before → IsStride (seeds ++ x ∷ []) strides s before
-more_seeds seeds x strides s None h = record { seed = h.seed; configured = Contains-append_left seeds (x ∷ []) h.seed h.configured; offers = h.offers; first = h.first }
+more_seeds : (seeds : List Seed) (x : Seed) (strides : List Stride) (s : Stride) (before : Option ℕ)
+    → IsStride seeds strides s before → IsStride (seeds ++ x ∷ []) strides s before
+more_seeds seeds x strides s None h =
+    record { seed = h.seed; configured = Contains-append_left seeds (x ∷ []) h.seed h.configured; offers = h.offers;
+    first = h.first }
 more_seeds seeds x strides s (Some place) h = h
 
-more_strides : (seeds : List Seed) (waiting : List Receipt) (offers : List Triple) (before : Option ℕ) (most : ℕ) (old new : List Stride) → AreStrides seeds waiting old → AppendsSteps waiting offers before most old new
+more_strides : (seeds : List Seed) (waiting : List Receipt) (offers : List Triple) (before : Option ℕ) (most : ℕ)
+    (old new : List Stride) → AreStrides seeds waiting old → AppendsSteps waiting offers before most old new
     → ((s : Stride) → IsAddedStep waiting offers before most s → IsStride seeds new s before) → AreStrides seeds waiting new
 more_strides seeds waiting offers before most old new are adds led = record {
   waits = λ i s at. elim (adds.each i s at) [ inl there ↦ are.waits i s there | inr is ↦ is.waits ];
@@ -35,7 +42,8 @@ more_strides seeds waiting offers before most old new are adds led = record {
 
 -- ---- from the configured documents
 
-pub begun_none : (waiting : List Receipt) (visited : List Bool) (strides : List Stride) → strides ≡ [] → AreVisited waiting visited strides 1 → IsSearchBegun [] waiting visited strides
+pub begun_none : (waiting : List Receipt) (visited : List Bool) (strides : List Stride) → strides ≡ []
+    → AreVisited waiting visited strides 1 → IsSearchBegun [] waiting visited strides
 begun_none waiting visited strides e v = record {
   visits = v;
   stand = record { waits = λ i s at. absurd (none i s at); stands = λ i s at. absurd (none i s at) };
@@ -45,7 +53,9 @@ begun_none waiting visited strides e v = record {
     none : (i : ℕ) (s : Stride) → slice_get strides i ≡ Some s → ⊥
     none i s at = let l = slice_get_within strides i s at in omega (arith, l, ap length e)
 
-pub begun_more : (seeds : List Seed) (x : Seed) (waiting : List Receipt) (flags visited : List Bool) (old new : List Stride) → IsSearchBegun seeds waiting flags old → FollowsOffers waiting (offers_of (pair_of_seed x)) None 1 old visited new
+pub begun_more : (seeds : List Seed) (x : Seed) (waiting : List Receipt) (flags visited : List Bool)
+    (old new : List Stride) → IsSearchBegun seeds waiting flags old
+    → FollowsOffers waiting (offers_of (pair_of_seed x)) None 1 old visited new
     → IsSearchBegun (seeds ++ x ∷ []) waiting visited new
 begun_more seeds x waiting flags visited old new b f = record {
   visits = f.visits;
@@ -68,10 +78,12 @@ pub record IsAt (seeds : List Seed) (waiting : List Receipt) (p : Pair) (visited
   pub within : place ≤ length strides
   pub few : length strides ≤ length waiting
 
-few_strides : (waiting : List Receipt) (visited : List Bool) (strides : List Stride) (most : ℕ) → AreVisited waiting visited strides most → length strides ≤ length waiting
+few_strides : (waiting : List Receipt) (visited : List Bool) (strides : List Stride) (most : ℕ)
+    → AreVisited waiting visited strides most → length strides ≤ length waiting
 few_strides waiting visited strides most v = omega (arith, v.marks.count, v.marks.size, count_by-le-length (λ flag. flag) visited)
 
-pub at_start : (seeds : List Seed) (waiting : List Receipt) (p : Pair) (visited : List Bool) (strides : List Stride) → IsSearchBegun seeds waiting visited strides → IsAt seeds waiting p visited strides 0
+pub at_start : (seeds : List Seed) (waiting : List Receipt) (p : Pair) (visited : List Bool) (strides : List Stride)
+    → IsSearchBegun seeds waiting visited strides → IsAt seeds waiting p visited strides 0
 at_start seeds waiting p visited strides b = record {
   searched = record {
     stand = b.stand;
@@ -85,36 +97,47 @@ at_start seeds waiting p visited strides b = record {
   few = few_strides waiting visited strides 1 b.visits;
 }
 
-pub at_next : (seeds : List Seed) (waiting : List Receipt) (p : Pair) (flags visited : List Bool) (old new : List Stride) (place : ℕ) (s : Stride) → IsAt seeds waiting p flags old place → slice_get old place ≡ Some s → (pair_of s.receipt ≡ p → ⊥)
+pub at_next : (seeds : List Seed) (waiting : List Receipt) (p : Pair) (flags visited : List Bool)
+    (old new : List Stride) (place : ℕ) (s : Stride) → IsAt seeds waiting p flags old place
+    → slice_get old place ≡ Some s → (pair_of s.receipt ≡ p → ⊥)
     → FollowsOffers waiting (offers_of (pair_of s.receipt)) (Some place) (s.length + 1) old visited new → IsAt seeds waiting p visited new (place + 1)
 at_next seeds waiting p flags visited old new place s a at other f =
     let here : slice_get new place ≡ Some s = f.adds.kept place s at in
     record {
       searched = record {
-        stand = more_strides seeds waiting (offers_of (pair_of s.receipt)) (Some place) (s.length + 1) old new a.searched.stand f.adds (λ t is. record { previous = s; at = here; offers = is.offered; next = is.long });
+        stand = more_strides seeds waiting (offers_of (pair_of s.receipt)) (Some place) (s.length + 1) old new
+            a.searched.stand f.adds (λ t is. record { previous = s; at = here; offers = is.offered; next = is.long });
         rising = f.visits.marks.rising;
         started = λ x has. more-AreFollowed waiting old new (offers_of (pair_of_seed x)) 1 f.adds.kept (a.searched.started x has);
         followed = λ i t l there. elim (cases_eq i place) [
-          | inl e ↦ subst (λ (x : Stride). AreFollowed waiting new (offers_of (pair_of x.receipt)) (x.length + 1)) (same_Some s t (sym here ∙ ap (slice_get new) (sym e) ∙ there)) f.reached
+          | inl e ↦ subst (λ (x : Stride). AreFollowed waiting new (offers_of (pair_of x.receipt)) (x.length + 1))
+              (same_Some s t (sym here ∙ ap (slice_get new) (sym e) ∙ there)) f.reached
           | inr d ↦
               let before : i < place = omega (arith, l, d) in
-              more-AreFollowed waiting old new (offers_of (pair_of t.receipt)) (t.length + 1) f.adds.kept (a.searched.followed i t before (earlier i t before there))
+              more-AreFollowed waiting old new (offers_of (pair_of t.receipt)) (t.length + 1) f.adds.kept
+                  (a.searched.followed i t before (earlier i t before there))
         ];
         passed = λ i t l there e. elim (cases_eq i place) [
           | inl same ↦ other (ap (λ (x : Stride). pair_of x.receipt) (same_Some s t (sym here ∙ ap (slice_get new) (sym same) ∙ there)) ∙ e)
           | inr d ↦ let before : i < place = omega (arith, l, d) in a.searched.passed i t before (earlier i t before there) e
         ];
       };
-      visits = λ t there. let rise = f.visits.marks.rising place (place + 1) s t (omega arith) here there in wider waiting visited new (s.length + 1) (t.length + 1) (omega (arith, rise)) f.visits;
+      visits = λ t there. let rise = f.visits.marks.rising place (place + 1) s t (omega arith) here there in
+          wider waiting visited new (s.length + 1) (t.length + 1) (omega (arith, rise)) f.visits;
       within = omega (arith, slice_get_within old place s at, f.adds.longer);
       few = few_strides waiting visited new (s.length + 1) f.visits;
     }
   where
     earlier : (i : ℕ) (t : Stride) → i < place → slice_get new i ≡ Some t → slice_get old i ≡ Some t
-    earlier i t l there = old_at waiting (offers_of (pair_of s.receipt)) (Some place) (s.length + 1) old new f.adds i t (omega (arith, l, slice_get_within old place s at)) there
+    earlier i t l there = old_at waiting (offers_of (pair_of s.receipt)) (Some place) (s.length + 1) old new f.adds i t
+        (omega (arith, l, slice_get_within old place s at)) there
 
-pub at_last : (seeds : List Seed) (waiting : List Receipt) (p : Pair) (visited : List Bool) (strides : List Stride) (place : ℕ) → IsAt seeds waiting p visited strides place → length strides ≤ place → IsSearched seeds waiting strides p (length strides)
-at_last seeds waiting p visited strides place a l = subst (IsSearched seeds waiting strides p) (let e : place ≡ length strides = omega (arith, l, a.within) in e) a.searched
+pub at_last : (seeds : List Seed) (waiting : List Receipt) (p : Pair) (visited : List Bool) (strides : List Stride)
+    (place : ℕ) → IsAt seeds waiting p visited strides place → length strides ≤ place
+    → IsSearched seeds waiting strides p (length strides)
+at_last seeds waiting p visited strides place a l =
+    subst (IsSearched seeds waiting strides p) (let e : place ≡ length strides = omega (arith, l, a.within) in
+    e) a.searched
 
 -- ---- back
 
@@ -153,8 +176,11 @@ fewer_left : (strides : List Stride) (s : Stride) (before : Option ℕ) → IsSh
 fewer_left strides s None h = omega arith
 fewer_left strides s (Some place) h = omega (arith, h.2, length_at strides place h.0 h.1)
 
-pub falls_back : (strides : List Stride) (place : ℕ) (s : Stride) → AreLinkedSteps strides → slice_get strides place ≡ Some s → left_from strides s.before < left_from strides (Some place)
+pub falls_back : (strides : List Stride) (place : ℕ) (s : Stride) → AreLinkedSteps strides
+    → slice_get strides place ≡ Some s → left_from strides s.before < left_from strides (Some place)
 falls_back strides place s are at = omega (arith, fewer_left strides s s.before (are place s at), length_at strides place s at)
 
-pub back_more : (strides : List Stride) (at : Option ℕ) (place : ℕ) (s : Stride) (r : Receipt) (rest : List Receipt) → at ≡ Some place → slice_get strides place ≡ Some s → s.receipt ≡ r → IsBackFrom strides s.before rest → IsBackFrom strides at (r ∷ rest)
+pub back_more : (strides : List Stride) (at : Option ℕ) (place : ℕ) (s : Stride) (r : Receipt) (rest : List Receipt)
+    → at ≡ Some place → slice_get strides place ≡ Some s → s.receipt ≡ r → IsBackFrom strides s.before rest
+    → IsBackFrom strides at (r ∷ rest)
 back_more strides at place s r rest e here is back = subst (λ x. IsBackFrom strides x (r ∷ rest)) (sym e) (s, here, is, back)

@@ -1,5 +1,7 @@
 -- Receipts whose key is not distrusted, in the order of what they need
-use Rattle.std.proofs.Common.{◌≡◌, ℕ, zero, suc, ◌+◌, ◌<◌, ◌≤◌, ◌⊎◌, inl, inr, true, false, List, [], ◌∷◌, ◌++◌, length, get_or, Result, Ok, Err, Less, Equal, Greater, arith, refl, sym, ap, ◌∙◌, subst, length-append, add-one}
+use Rattle.std.proofs.Common.{◌≡◌, ℕ, zero, suc, ◌+◌, ◌<◌, ◌≤◌, ◌⊎◌, inl, inr, true, false, List, [], ◌∷◌, ◌++◌, length}
+use Rattle.std.proofs.Common.{get_or, Result, Ok, Err, Less, Equal, Greater, arith, refl, sym, ap, ◌∙◌, subst}
+use Rattle.std.proofs.Common.{length-append, add-one}
 use Rattle.std.specs.Prelude.{Contains, ◌↔◌, is_ok}
 use Rattle.std.specs.declared.cmp.Ordering.{Ordering}
 use Rattle.std.specs.Ordering.{is_lt}
@@ -18,10 +20,13 @@ use Rattle.bundle_view.proofs.ListFacts.{contains_first, contains_later, contain
 
 -- ---- a record is among those that rise
 
-next_above : (xs : List Distrust) (k : ℕ) (d : Distrust) → IsStrictlySortedBy distrust_cmp xs → suc k < length xs → is_lt (distrust_cmp (get_or xs (suc k) d) (get_or xs k d)) ≡ false
+next_above : (xs : List Distrust) (k : ℕ) (d : Distrust) → IsStrictlySortedBy distrust_cmp xs → suc k < length xs
+    → is_lt (distrust_cmp (get_or xs (suc k) d) (get_or xs k d)) ≡ false
 next_above [] k d rising l = absurd (omega (arith, l))
 next_above (x ∷ []) k d rising l = absurd (omega (arith, l))
-next_above (x ∷ y ∷ ys) zero d rising l = not_less (distrust_cmp y x) (λ e. not_both distrust_total x y (rising_first distrust_cmp x (y ∷ ys) y rising (contains_first y ys)) e)
+next_above (x ∷ y ∷ ys) zero d rising l =
+    not_less (distrust_cmp y x) (λ e. not_both distrust_total x y
+    (rising_first distrust_cmp x (y ∷ ys) y rising (contains_first y ys)) e)
   where
     not_less : (o : Ordering) → (o ≡ Less → ⊥) → is_lt o ≡ false
     not_less Less h = absurd (h refl)
@@ -30,9 +35,13 @@ next_above (x ∷ y ∷ ys) zero d rising l = not_less (distrust_cmp y x) (λ e.
 next_above (x ∷ y ∷ ys) (suc k) d rising l = next_above (y ∷ ys) k d (rising_rest distrust_cmp x (y ∷ ys) rising) (omega (arith, l))
 
 sorted_records : (xs : List Distrust) → IsStrictlySortedBy distrust_cmp xs → IsSorted distrust_cmp xs
-sorted_records xs rising k d low l = subst (λ n. is_lt (distrust_cmp (get_or xs n d) (get_or xs k d)) ≡ false) (sym (add-one k)) (next_above xs k d rising (omega (arith, l)))
+sorted_records xs rising k d low l =
+    subst (λ n. is_lt (distrust_cmp (get_or xs n d) (get_or xs k d)) ≡ false) (sym (add-one k))
+    (next_above xs k d rising (omega (arith, l)))
 
-pub found_record : (xs : List Distrust) (x : Distrust) (r : Result ℕ ℕ) → IsStrictlySortedBy distrust_cmp xs → IsSearchInRange r (length xs) → IsBinarySearchResult (λ y. distrust_cmp y x) xs r → (is_ok r ≡ true) ↔ Contains xs x
+pub found_record : (xs : List Distrust) (x : Distrust) (r : Result ℕ ℕ) → IsStrictlySortedBy distrust_cmp xs
+    → IsSearchInRange r (length xs) → IsBinarySearchResult (λ y. distrust_cmp y x) xs r
+    → (is_ok r ≡ true) ↔ Contains xs x
 found_record xs x (Ok k) rising l here = (λ e. (k, l, one_distrust (get_or xs k x) x (here x)), λ has. refl)
 found_record xs x (Err k) rising l parts = (
   λ e. absurd (both_ways false refl e),
@@ -82,7 +91,8 @@ module _ (records : List Distrust) (all taken rest others : List Receipt) (x : R
     ];
     trusted = λ r has. elim (Contains-push_cases taken x r has) [
       | inl old ↦ s.trusted r old
-      | inr e ↦ subst (λ (q : Receipt). Contains all q × (Contains records (distrust_of q.endpoint.domain q) → ⊥)) e (s.coming x (subst (λ rs. Contains rs x) (sym is) (contains_first x others)), t)
+      | inr e ↦ subst (λ (q : Receipt). Contains all q × (Contains records (distrust_of q.endpoint.domain q) → ⊥)) e
+          (s.coming x (subst (λ rs. Contains rs x) (sym is) (contains_first x others)), t)
     ];
     coming = λ r has. s.coming r (subst (λ rs. Contains rs r) (sym is) (contains_later x others r has));
     few = omega (arith, s.few, length-append taken (x ∷ []), ap length is);
@@ -102,7 +112,8 @@ module _ (records : List Distrust) (all taken rest others : List Receipt) (x : R
     few = omega (arith, s.few, ap length is);
   }
 
-pub sifted_all : (m : Meaning) (records : List Distrust) (all taken rest : List Receipt) → records ≡ m.records → all ≡ m.held → rest ≡ [] → length m.held ≤ 65536 → AreSifted records all taken rest → AreTrusted m taken
+pub sifted_all : (m : Meaning) (records : List Distrust) (all taken rest : List Receipt) → records ≡ m.records
+    → all ≡ m.held → rest ≡ [] → length m.held ≤ 65536 → AreSifted records all taken rest → AreTrusted m taken
 sifted_all m records all taken rest e f none few s = record {
   exactly = λ r. (
     λ has. let h = s.trusted r has in (subst (λ rs. Contains rs r) f h.0, λ d. h.1 (subst (λ xs. Contains xs (distrust_of r.endpoint.domain r)) (sym e) d)),
@@ -116,6 +127,7 @@ sifted_all m records all taken rest e f none few s = record {
 
 pub trusted_moved : (m : Meaning) (xs ys : List Receipt) → IsPermutation xs ys → AreTrusted m xs → AreTrusted m ys
 trusted_moved m xs ys p t = record {
-  exactly = λ r. (λ has. (t.exactly r).0 (Contains-permutation ys xs r (IsPermutation-sym xs ys p) has), λ h. Contains-permutation xs ys r p ((t.exactly r).1 h));
+  exactly = λ r. (λ has. (t.exactly r).0 (Contains-permutation ys xs r (IsPermutation-sym xs ys p) has),
+      λ h. Contains-permutation xs ys r p ((t.exactly r).1 h));
   few = omega (arith, t.few, length_permutation xs ys p);
 }

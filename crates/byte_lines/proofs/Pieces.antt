@@ -1,5 +1,6 @@
 -- Lemmas on bytes that are read or written piece by piece.
-use Rattle.std.proofs.Common.{◌≡◌, ℕ, ◌+◌, ◌-◌, ◌≤◌, List, ◌++◌, length, take, drop, Option, None, Some, sym, ap, ◌∙◌, subst, append-nil, take-append-drop, refl, arith, min, Bool, false, ◌||◌, Err}
+use Rattle.std.proofs.Common.{◌≡◌, ℕ, ◌+◌, ◌-◌, ◌≤◌, List, ◌++◌, length, take, drop, Option, None, Some, sym, ap, ◌∙◌}
+use Rattle.std.proofs.Common.{subst, append-nil, take-append-drop, refl, arith, min, Bool, false, ◌||◌, Err}
 use Rattle.std.proofs.Math.Seq.{take-add, take-append-add}
 use Rattle.std.proofs.lemmas.List.{take_rest, take_at, take_all, drop-drop, length-take-le, drop_all, take-append-le, take_min}
 use Rattle.std.specs.Io.KnownBytes.{Appends, Consumes, IsAtEnd}
@@ -22,7 +23,8 @@ AppendsBeginning-first a b first second (count, appended) =
     (min count (length first), subst (Appends a b) (sym (take-append-le (min count (length first)) first second within ∙ take_min count first)) appended)
 
 -- the first piece, and a beginning of the second
-pub AppendsBeginning-second : (a b c : Option (List ℕ)) (first second : List ℕ) → Appends a b first → AppendsBeginning b c second → AppendsBeginning a c (first ++ second)
+pub AppendsBeginning-second : (a b c : Option (List ℕ)) (first second : List ℕ) → Appends a b first
+    → AppendsBeginning b c second → AppendsBeginning a c (first ++ second)
 AppendsBeginning-second a b c first second before (count, appended) =
     (length first + count, subst (Appends a c) (sym (take-append-add first second count)) (Appends-trans a b c first _ before appended))
 
@@ -46,7 +48,8 @@ unread-copied bytes shown rest buffer position end count room same is copied =
     let begins : take count left ≡ take count piece =
     ap (take count) (sym (take-append-drop (end - position) left)) ∙ take-append-le count piece (drop (end - position) left) within in
     let split : left ≡ take count buffer ++ drop (position + count) shown =
-    sym (take-append-drop count left) ∙ ap (λ l. l ++ drop count left) (begins ∙ sym front) ∙ ap (λ l. take count buffer ++ l) (drop-drop count position shown) in
+    sym (take-append-drop count left) ∙ ap (λ l. l ++ drop count left) (begins ∙ sym front)
+        ∙ ap (λ l. take count buffer ++ l) (drop-drop count position shown) in
     subst (λ l. drop position l ≡ take count buffer ++ drop (position + count) l) same split
 
 -- after a fault of the source it has failed, and after a want of memory it is as sound as it was

@@ -1,5 +1,7 @@
 -- Lemmas on the steps of a line buffer.
-use Rattle.std.proofs.Common.{◌≡◌, ◌≢◌, ℕ, suc, ◌+◌, ◌-◌, ◌<◌, ◌≤◌, Bool, true, false, if◌then◌else◌, List, [], ◌∷◌, ◌++◌, length, take, drop, Option, None, Some, Result, Err, refl, sym, ap, ◌∙◌, subst, append_assoc, append-nil, take-append-drop, length-append, length-take, arith, unwrap_or}
+use Rattle.std.proofs.Common.{◌≡◌, ◌≢◌, ℕ, suc, ◌+◌, ◌-◌, ◌<◌, ◌≤◌, Bool, true, false, if◌then◌else◌, List, [], ◌∷◌}
+use Rattle.std.proofs.Common.{◌++◌, length, take, drop, Option, None, Some, Result, Err, refl, sym, ap, ◌∙◌, subst}
+use Rattle.std.proofs.Common.{append_assoc, append-nil, take-append-drop, length-append, length-take, arith, unwrap_or}
 use Rattle.std.proofs.lemmas.List.Elements.{All-append, All-take}
 use Rattle.std.specs.Io.KnownBytes.{Keeps, Consumes, IsAtEnd, prepend_known}
 use Rattle.byte_lines.specs.Lines.{HasNoFeed, HasLine, HasNoLine, HasMore}
@@ -10,10 +12,12 @@ use Rattle.byte_lines.specs.declared.line_buf.LineBuf.{LineBuf}
 use Rattle.byte_lines.specs.declared.line_buf.Found.{Found}
 use Rattle.byte_lines.specs.declared.error.DeviceError.{DeviceError}
 use Rattle.byte_lines.specs.declared.error.DeviceError.TheVariants.{Io}
-use Rattle.byte_lines.proofs.StreamFacts.{Consumes-from_kept, Consumes-front, Consumes-feed, HasLine-after, HasNoLine-after, HasNoLine-end, HasMore-text, IsAtEnd-empty}
+use Rattle.byte_lines.proofs.StreamFacts.{Consumes-from_kept, Consumes-front, Consumes-feed, HasLine-after}
+use Rattle.byte_lines.proofs.StreamFacts.{HasNoLine-after, HasNoLine-end, HasMore-text, IsAtEnd-empty}
 
 -- the bytes before the first line feed, or all
-front_plain : (ahead : List ℕ) (place : Option ℕ) (count : ℕ) → AtFeed ahead place → count ≡ unwrap_or place (length ahead) → HasNoFeed (take count ahead) × (count ≤ length ahead)
+front_plain : (ahead : List ℕ) (place : Option ℕ) (count : ℕ) → AtFeed ahead place
+    → count ≡ unwrap_or place (length ahead) → HasNoFeed (take count ahead) × (count ≤ length ahead)
 front_plain ahead None count none is = (All-take (λ (x : ℕ). x ≢ 10) count ahead none, omega arith)
 front_plain ahead (Some k) count feed is = (subst (λ n. HasNoFeed (take n ahead)) (sym is) feed.plain, omega (arith, feed.inside))
 
@@ -33,15 +37,18 @@ too_much false line ahead left place count waiting plain feed is over rest =
 
 -- ---- what the exits of a call say
 
-pub spent_on : (front old new : List ℕ) (before after total : ℕ) → length (front ++ old) + before ≤ total → length new + after ≤ length old + before → length (front ++ new) + after ≤ total
+pub spent_on : (front old new : List ℕ) (before after total : ℕ) → length (front ++ old) + before ≤ total
+    → length new + after ≤ length old + before → length (front ++ new) + after ≤ total
 spent_on front old new before after total spent less = omega (arith, length-append front old, length-append front new)
 
-pub TakesFound-io : {S : Type 0} (remaining : S → Option (List ℕ)) (budget : S → ℕ) (old : LineBuf) (before : S) (new : LineBuf) (after : S) (result : Result Found DeviceError) (e : DeviceError)
+pub TakesFound-io : {S : Type 0} (remaining : S → Option (List ℕ)) (budget : S
+    → ℕ) (old : LineBuf) (before : S) (new : LineBuf) (after : S) (result : Result Found DeviceError) (e : DeviceError)
     → result ≡ Err e → e ≡ Io → left_of budget new after ≤ left_of budget old before → TakesFound remaining budget old before new after result
 TakesFound-io remaining budget old before new after result e is io spends =
     subst (TakesFound remaining budget old before new after) (sym (is ∙ ap Err io)) (record { finds = tt; keeps = λ bad. cc; spends = spends; falls = tt })
 
-pub TakesFound-memory : {S : Type 0} (remaining : S → Option (List ℕ)) (budget : S → ℕ) (old : LineBuf) (before : S) (new : LineBuf) (after : S) (result : Result Found DeviceError) (e : DeviceError)
+pub TakesFound-memory : {S : Type 0} (remaining : S → Option (List ℕ)) (budget : S
+    → ℕ) (old : LineBuf) (before : S) (new : LineBuf) (after : S) (result : Result Found DeviceError) (e : DeviceError)
     → result ≡ Err e → Keeps (stream_of remaining old before) (stream_of remaining new after) → left_of budget new after ≤ left_of budget old before
     → TakesFound remaining budget old before new after result
 TakesFound-memory remaining budget old before new after result e is keeps spends =
@@ -59,16 +66,20 @@ pub kept_none : (given : Bool) (line ahead : List ℕ) → line ≡ [] → (if g
 kept_none true line ahead none = refl
 kept_none false line ahead none = ap (λ l. l ++ ahead) none
 
-passed : (s : Option (List ℕ)) (bytes ahead : List ℕ) (a : Option (List ℕ)) → Keeps s (prepend_known bytes a) → (p : SkipsText bytes ahead) → Consumes s (prepend_known ahead a) p.text
+passed : (s : Option (List ℕ)) (bytes ahead : List ℕ) (a : Option (List ℕ)) → Keeps s (prepend_known bytes a)
+    → (p : SkipsText bytes ahead) → Consumes s (prepend_known ahead a) p.text
 passed s bytes ahead a keeps p = Consumes-from_kept s (prepend_known bytes a) (prepend_known ahead a) p.text keeps (Consumes-front bytes p.text ahead a p.parts)
 
-pub long_line : (s : Option (List ℕ)) (bytes ahead rest left : List ℕ) (a b : Option (List ℕ)) → Keeps s (prepend_known bytes a) → SkipsText bytes ahead → left ≡ rest
-    → ((text : List ℕ) × HasLine (prepend_known ahead a) (prepend_known rest b) text) → (text : List ℕ) × HasLine s (prepend_known left b) text × (8388608 < length text)
+pub long_line : (s : Option (List ℕ)) (bytes ahead rest left : List ℕ) (a b : Option (List ℕ))
+    → Keeps s (prepend_known bytes a) → SkipsText bytes ahead → left ≡ rest
+    → ((text : List ℕ) × HasLine (prepend_known ahead a) (prepend_known rest b) text)
+        → (text : List ℕ) × HasLine s (prepend_known left b) text × (8388608 < length text)
 long_line s bytes ahead rest left a b keeps p same (text, line) =
     let whole = HasLine-after s (prepend_known ahead a) (prepend_known rest b) p.text text p.plain (passed s bytes ahead a keeps p) line in
     (p.text ++ text, subst (λ l. HasLine s (prepend_known l b) (p.text ++ text)) (sym same) whole, omega (arith, length-append p.text text, p.long))
 
-pub long_cut : (s : Option (List ℕ)) (bytes ahead rest left : List ℕ) (a b : Option (List ℕ)) → Keeps s (prepend_known bytes a) → SkipsText bytes ahead → left ≡ rest
+pub long_cut : (s : Option (List ℕ)) (bytes ahead rest left : List ℕ) (a b : Option (List ℕ))
+    → Keeps s (prepend_known bytes a) → SkipsText bytes ahead → left ≡ rest
     → HasNoLine (prepend_known ahead a) → IsAtEnd (prepend_known rest b) → HasNoLine s × HasMore s × IsAtEnd (prepend_known left b)
 long_cut s bytes ahead rest left a b keeps p same none end =
     let came = passed s bytes ahead a keeps p in (
@@ -81,7 +92,8 @@ pub length_passed : (bytes ahead : List ℕ) → SkipsText bytes ahead → lengt
 length_passed bytes ahead p = omega (arith, ap length p.parts, length-append p.text ahead, p.long)
 
 -- all that is kept is a rest
-pub short_cut : (s : Option (List ℕ)) (bytes : List ℕ) (a : Option (List ℕ)) → Keeps s (prepend_known bytes a) → HasNoFeed bytes → 0 < length bytes → IsAtEnd a → HasNoLine s × HasMore s
+pub short_cut : (s : Option (List ℕ)) (bytes : List ℕ) (a : Option (List ℕ)) → Keeps s (prepend_known bytes a)
+    → HasNoFeed bytes → 0 < length bytes → IsAtEnd a → HasNoLine s × HasMore s
 short_cut s bytes a keeps plain some end =
     let came = Consumes-from_kept s (prepend_known bytes a) (prepend_known [] a) bytes keeps (Consumes-front bytes bytes [] a (sym (append-nil bytes))) in
     (HasNoLine-end s (prepend_known [] a) bytes plain came (IsAtEnd-empty [] a refl end), HasMore-text s (prepend_known [] a) bytes some came)

@@ -1,5 +1,8 @@
 -- Lemmas on lines, and on streams that are passed piece by piece.
-use Rattle.std.proofs.Common.{◌≡◌, ◌≢◌, ℕ, ◌+◌, ◌-◌, ◌<◌, ◌≤◌, ◌==◌, Bool, false, List, [], ◌∷◌, ◌++◌, length, take, drop, get_or, slice_range, Option, None, Some, refl, sym, ap, ◌∙◌, subst, append_assoc, append-nil, take-append-drop, add-one, drop-cons, length-append, length-take, drop-drop, arith}
+use Rattle.std.proofs.Common.{◌≡◌, ◌≢◌, ℕ, ◌+◌, ◌-◌, ◌<◌, ◌≤◌, ◌==◌, Bool, false, List, [], ◌∷◌, ◌++◌, length, take}
+use Rattle.std.proofs.Common.{drop, get_or, slice_range, Option, None, Some, refl, sym, ap, ◌∙◌, subst, append_assoc}
+use Rattle.std.proofs.Common.{append-nil, take-append-drop, add-one, drop-cons, length-append, length-take, drop-drop}
+use Rattle.std.proofs.Common.{arith}
 use Rattle.std.proofs.lemmas.Bool.{ne_eqb, eqb-true, eq-eqb}
 use Rattle.std.proofs.lemmas.List.{take_all, get_or-take, drop-take}
 use Rattle.std.proofs.lemmas.List.Elements.{All-append, All-drop, All-nil}
@@ -57,7 +60,9 @@ slice_range-passed bytes start end n within =
 
 -- ---- bytes before those of a source
 
-pub prepend_known-front : (front bs cs : List ℕ) (a b : Option (List ℕ)) → Keeps (prepend_known bs a) (prepend_known cs b) → Keeps (prepend_known (front ++ bs) a) (prepend_known (front ++ cs) b)
+pub prepend_known-front : (front bs cs : List ℕ) (a b : Option (List ℕ))
+    → Keeps (prepend_known bs a) (prepend_known cs b)
+    → Keeps (prepend_known (front ++ bs) a) (prepend_known (front ++ cs) b)
 prepend_known-front front bs cs None b kept = tt
 prepend_known-front front bs cs (Some x) None kept = absurd kept
 prepend_known-front front bs cs (Some x) (Some y) kept = append_assoc front cs y ∙ ap (λ l. front ++ l) kept ∙ sym (append_assoc front bs x)
@@ -72,7 +77,8 @@ pub Consumes-front : (bs front rest : List ℕ) (a : Option (List ℕ)) → bs �
 Consumes-front bs front rest None parts = tt
 Consumes-front bs front rest (Some x) parts = ap (λ l. l ++ x) parts ∙ append_assoc front rest x
 
-pub Consumes-feed : (bs front rest : List ℕ) (a : Option (List ℕ)) → bs ≡ front ++ (10 ∷ rest) → Consumes (prepend_known bs a) (prepend_known rest a) (front ++ (10 ∷ []))
+pub Consumes-feed : (bs front rest : List ℕ) (a : Option (List ℕ)) → bs ≡ front ++ (10 ∷ rest)
+    → Consumes (prepend_known bs a) (prepend_known rest a) (front ++ (10 ∷ []))
 Consumes-feed bs front rest a parts = Consumes-front bs (front ++ (10 ∷ [])) rest a (parts ∙ sym (append_assoc front (10 ∷ []) rest))
 
 -- a text without a line feed was passed
@@ -109,7 +115,8 @@ pub went_to_feed : (a b : Option (List ℕ)) (bs : List ℕ) (place : ℕ) → W
 went_to_feed a b bs place went feed =
     let front = take place bs in
     let rest = drop (place + 1) bs in
-    (went.text ++ front, HasLine-after a (prepend_known bs b) (prepend_known rest b) went.text front went.plain went.parts (feed.plain, Consumes-feed bs front rest b feed.parts))
+    (went.text ++ front, HasLine-after a (prepend_known bs b) (prepend_known rest b) went.text front went.plain
+        went.parts (feed.plain, Consumes-feed bs front rest b feed.parts))
 
 pub HasNoLine-end : (a b : Option (List ℕ)) (text : List ℕ) → HasNoFeed text → Consumes a b text → IsAtEnd b → HasNoLine a
 HasNoLine-end None b text plain passed end = tt

@@ -1,5 +1,6 @@
 -- Flags that are raised, and how many
-use Rattle.std.proofs.Common.{◌≡◌, ℕ, zero, suc, ◌+◌, ◌-◌, ◌<◌, ◌≤◌, ◌⊎◌, inl, inr, Bool, true, false, ◌&&◌, cond, List, [], ◌∷◌, length, get_or, take, map, Some, arith, refl, sym, ap, ◌∙◌, subst}
+use Rattle.std.proofs.Common.{◌≡◌, ℕ, zero, suc, ◌+◌, ◌-◌, ◌<◌, ◌≤◌, ◌⊎◌, inl, inr, Bool, true, false, ◌&&◌, cond, List}
+use Rattle.std.proofs.Common.{[], ◌∷◌, length, get_or, take, map, Some, arith, refl, sym, ap, ◌∙◌, subst}
 use Rattle.std.specs.Prelude.{Contains, slice_get, not, count_by, ◌↔◌}
 use Rattle.std.proofs.lemmas.Bool.{cases_lt, cases_eq, cases_Bool, both_ways, and_parts, and_from, not-true, not_from_false, false_from_ne_true}
 use Rattle.std.proofs.lemmas.List.{length-map, take_all, get_or_past}
@@ -29,7 +30,9 @@ abbrev pub passing : (ℕ → Bool) → ℕ → List ℕ
 passing test zero = []
 passing test (suc n) = cond (test n) (n ∷ passing test n) (passing test n)
 
-passing-cases : (test : ℕ → Bool) (n : ℕ) (b : Bool) → test n ≡ b → (k : ℕ) → Contains (cond b (n ∷ passing test n) (passing test n)) k → ((k ≡ n) × (test n ≡ true)) ⊎ Contains (passing test n) k
+passing-cases : (test : ℕ → Bool) (n : ℕ) (b : Bool) → test n ≡ b → (k : ℕ)
+    → Contains (cond b (n ∷ passing test n) (passing test n)) k
+    → ((k ≡ n) × (test n ≡ true)) ⊎ Contains (passing test n) k
 passing-cases test n true e k c = elim (contains_cases n (passing test n) k c) [ inl a ↦ inl (sym a, e) | inr d ↦ inr d ]
 passing-cases test n false e k c = inr c
 
@@ -81,7 +84,9 @@ length-passing_flags flags (suc n) l =
     elim (cases_Bool (is_raised flags n)) [
       | inl a ↦
           let more = count_by_more_yes (λ flag. flag) flags n false (omega (arith, l)) a in
-          length-passing_yes (λ k. is_raised flags k) n (is_raised flags n) a ∙ ap suc before ∙ (let s : suc (count_by (λ flag. flag) (take n flags)) ≡ count_by (λ flag. flag) (take n flags) + 1 = omega arith in s) ∙ sym more ∙ ap (λ k. count_by (λ flag. flag) (take k flags)) (sym e)
+          length-passing_yes (λ k. is_raised flags k) n (is_raised flags n) a ∙ ap suc before
+              ∙ (let s : suc (count_by (λ flag. flag) (take n flags)) ≡ count_by (λ flag. flag) (take n flags) + 1 =
+              omega arith in s) ∙ sym more ∙ ap (λ k. count_by (λ flag. flag) (take k flags)) (sym e)
       | inr a ↦
           let more = count_by_more_no (λ flag. flag) flags n false (omega (arith, l)) a in
           length-passing_no (λ k. is_raised flags k) n (is_raised flags n) a ∙ before ∙ sym more ∙ ap (λ k. count_by (λ flag. flag) (take k flags)) (sym e)
@@ -93,7 +98,9 @@ count-passing flags n l = more n (n - length flags) (omega (arith, l))
     more : (n d : ℕ) → n ≡ length flags + d → length (passing (λ k. is_raised flags k) n) ≡ raised_count flags
     more n zero e =
         let at : n ≡ length flags = omega (arith, e) in
-        ap (λ k. length (passing (λ i. is_raised flags i) k)) at ∙ length-passing_flags flags (length flags) (omega arith) ∙ ap (count_by (λ flag. flag)) (take_all (length flags) flags (omega arith))
+        ap (λ k. length (passing (λ i. is_raised flags i) k)) at
+            ∙ length-passing_flags flags (length flags) (omega arith)
+            ∙ ap (count_by (λ flag. flag)) (take_all (length flags) flags (omega arith))
     more zero (suc d) e = absurd (omega (arith, e))
     more (suc n) (suc d) e =
         length-passing_no (λ k. is_raised flags k) n (is_raised flags n) (get_or_past flags n false (omega (arith, e))) ∙ more n d (omega (arith, e))
@@ -116,16 +123,19 @@ module _ (narrow wide : ℕ → Bool) (within : (k : ℕ) → narrow k ≡ true 
             elim (cases_Bool (wide n)) [
               | inl w ↦
                   let o : only_wide n ≡ true = ap (λ b. wide n && not b) a ∙ ap (λ b. b && true) w in
-                  omega (arith, before, length-passing_no narrow n (narrow n) a, length-passing_yes wide n (wide n) w, length-passing_yes only_wide n (only_wide n) o)
+                  omega (arith, before, length-passing_no narrow n (narrow n) a, length-passing_yes wide n (wide n) w,
+                      length-passing_yes only_wide n (only_wide n) o)
               | inr w ↦
                   let o : only_wide n ≡ false = ap (λ b. b && not (narrow n)) w in
-                  omega (arith, before, length-passing_no narrow n (narrow n) a, length-passing_no wide n (wide n) w, length-passing_no only_wide n (only_wide n) o)
+                  omega (arith, before, length-passing_no narrow n (narrow n) a, length-passing_no wide n (wide n) w,
+                      length-passing_no only_wide n (only_wide n) o)
             ]
       ]
 
 -- ---- how many are gained
 
-pub different-map : {A B : Type 0} (f : A → B) (xs : List A) → AreDifferent xs → ((x y : A) → Contains xs x → Contains xs y → f x ≡ f y → x ≡ y) → AreDifferent (map f xs)
+pub different-map : {A B : Type 0} (f : A → B) (xs : List A) → AreDifferent xs
+    → ((x y : A) → Contains xs x → Contains xs y → f x ≡ f y → x ≡ y) → AreDifferent (map f xs)
 different-map f [] d one = tt
 different-map f (x ∷ xs) d one = (
   λ c. let h = mapped f xs (f x) c in d.0 (subst (Contains xs) (one h.item x (contains_later x xs h.item h.has) (contains_first x xs) h.is) h.has),
@@ -146,17 +156,20 @@ module _ (none : Pair) (fewer more : Meaning) (some_pairs pairs : List Pair) (so
       in
       (l, slice_get-get_or pairs n none (omega (arith, l, there.size)))
 
-  new-member : (n : ℕ) → is_raised flags n ≡ true → is_raised some_flags n ≡ false → IsMember more (get_or pairs n none) × (IsMember fewer (get_or pairs n none) → ⊥)
+  new-member : (n : ℕ) → is_raised flags n ≡ true → is_raised some_flags n ≡ false
+      → IsMember more (get_or pairs n none) × (IsMember fewer (get_or pairs n none) → ⊥)
   new-member n e f =
       let at = raised-pair n e in (
         there.sound n (get_or pairs n none) e at.1,
         λ h.
             let g = here.all (get_or pairs n none) h in
-            let is = there.once n g.0 (get_or pairs n none) (there.listed n e) (there.listed g.0 (kept g.0 g.1)) at.1 (agree g.0 (get_or pairs n none) (kept g.0 g.1) g.1 g.2) in
+            let is = there.once n g.0 (get_or pairs n none) (there.listed n e) (there.listed g.0 (kept g.0 g.1)) at.1
+                (agree g.0 (get_or pairs n none) (kept g.0 g.1) g.1 g.2) in
             both_ways (is_raised some_flags n) f (ap (λ k. is_raised some_flags k) is ∙ g.1),
       )
 
-  pub gain-from_flags : (n : ℕ) → raised_count flags ≡ raised_count some_flags + n → length some_flags ≤ length flags → IsCount (λ (p : Pair). IsMember more p × (IsMember fewer p → ⊥)) n
+  pub gain-from_flags : (n : ℕ) → raised_count flags ≡ raised_count some_flags + n → length some_flags ≤ length flags
+      → IsCount (λ (p : Pair). IsMember more p × (IsMember fewer p → ⊥)) n
   gain-from_flags n e sizes =
       let wide : ℕ → Bool = λ k. is_raised flags k in
       let narrow : ℕ → Bool = λ k. is_raised some_flags k in
@@ -171,7 +184,8 @@ module _ (none : Pair) (fewer more : Meaning) (some_pairs pairs : List Pair) (so
         different = different-map (λ k. get_or pairs k none) list (passing-differ (only_wide narrow wide kept) (length flags)) (λ x y cx cy s.
             let a = parts x cx in
             let b = parts y cy in
-            there.once x y (get_or pairs x none) (there.listed x a.1) (there.listed y b.1) (raised-pair x a.1).1 ((raised-pair y b.1).1 ∙ ap (λ (p : Pair). Some p) (sym s)));
+            there.once x y (get_or pairs x none) (there.listed x a.1) (there.listed y b.1) (raised-pair x a.1).1
+                ((raised-pair y b.1).1 ∙ ap (λ (p : Pair). Some p) (sym s)));
         exactly = λ p. (
           λ c.
               let h = mapped (λ k. get_or pairs k none) list p c in
@@ -183,17 +197,28 @@ module _ (none : Pair) (fewer more : Meaning) (some_pairs pairs : List Pair) (so
               let at = raised-pair g.0 g.1 in
               let off : is_raised some_flags g.0 ≡ false = false_from_ne_true (is_raised some_flags g.0) (λ t.
               let q = slice_get-get_or some_pairs g.0 none (omega (arith, some_within g.0 t, here.size)) in
-              h.1 (subst (IsMember fewer) (same_Some (get_or some_pairs g.0 none) p (sym (agree g.0 (get_or some_pairs g.0 none) g.1 t q) ∙ g.2)) (here.sound g.0 (get_or some_pairs g.0 none) t q)))
+              h.1 (subst (IsMember fewer)
+                  (same_Some (get_or some_pairs g.0 none) p
+                  (sym (agree g.0 (get_or some_pairs g.0 none) g.1 t q) ∙ g.2))
+                  (here.sound g.0 (get_or some_pairs g.0 none) t q)))
               in
-              let c : Contains list g.0 = passing-from (only_wide narrow wide kept) (length flags) g.0 at.0 (and_from (is_raised flags g.0) (not (is_raised some_flags g.0)) g.1 (not_from_false (is_raised some_flags g.0) off)) in
-              subst (Contains (map (λ k. get_or pairs k none) list)) (get_or_from_slice_get pairs g.0 p none g.2) (contains_map (λ k. get_or pairs k none) list g.0 c),
+              let c : Contains list g.0 =
+                  passing-from (only_wide narrow wide kept) (length flags) g.0 at.0
+                  (and_from (is_raised flags g.0) (not (is_raised some_flags g.0)) g.1
+                  (not_from_false (is_raised some_flags g.0) off)) in
+              subst (Contains (map (λ k. get_or pairs k none) list)) (get_or_from_slice_get pairs g.0 p none g.2)
+                  (contains_map (λ k. get_or pairs k none) list g.0 c),
         );
         count = length-map list (λ k. get_or pairs k none)
-            ∙ (let s : length list ≡ n = omega (arith, length-only_wide narrow wide kept (length flags), count-passing flags (length flags) (omega arith), count-passing some_flags (length flags) sizes, e) in s);
+            ∙ (let s : length list ≡ n =
+                omega (arith, length-only_wide narrow wide kept (length flags),
+                count-passing flags (length flags) (omega arith), count-passing some_flags (length flags) sizes, e) in
+                s);
       }
     where
       some_within : (k : ℕ) → is_raised some_flags k ≡ true → k < length some_flags
-      some_within k t = elim (cases_lt k (length some_flags)) [ inl b ↦ b | inr b ↦ absurd (both_ways (is_raised some_flags k) (get_or_past some_flags k false b) t) ]
+      some_within k t = elim (cases_lt k (length some_flags))
+          [ inl b ↦ b | inr b ↦ absurd (both_ways (is_raised some_flags k) (get_or_past some_flags k false b) t) ]
 
 -- ---- fewer flags, and none
 
@@ -204,6 +229,8 @@ passing-none test (suc n) h = length-passing_no test n (test n) (h n) ∙ passin
 pub count-lowered : (flags : List Bool) → ((k : ℕ) → is_raised flags k ≡ false) → raised_count flags ≡ 0
 count-lowered flags h = sym (count-passing flags (length flags) (omega arith)) ∙ passing-none (λ k. is_raised flags k) (length flags) h
 
-pub count-fewer : (fewer more : List Bool) → length fewer ≤ length more → ((k : ℕ) → is_raised fewer k ≡ true → is_raised more k ≡ true) → raised_count fewer ≤ raised_count more
+pub count-fewer : (fewer more : List Bool) → length fewer ≤ length more
+    → ((k : ℕ) → is_raised fewer k ≡ true → is_raised more k ≡ true) → raised_count fewer ≤ raised_count more
 count-fewer fewer more l h =
-    omega (arith, length-only_wide (λ k. is_raised fewer k) (λ k. is_raised more k) h (length more), count-passing fewer (length more) l, count-passing more (length more) (omega arith))
+    omega (arith, length-only_wide (λ k. is_raised fewer k) (λ k. is_raised more k) h (length more),
+        count-passing fewer (length more) l, count-passing more (length more) (omega arith))

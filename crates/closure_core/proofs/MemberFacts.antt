@@ -9,7 +9,9 @@ use Rattle.receipt_core.specs.Acceptance.{IsFitting, Vouches, Leads, Meaning, Is
 
 -- ---- a chain goes on by one
 
-pub leads_more : (c : Configuration) (records : List Distrust) (from : Pair) (chain : List Receipt) (to : Pair) (r : Receipt) → Leads c records from chain to → IsFitting c r → Vouches records to r → Leads c records from (chain ++ r ∷ []) (pair_of r)
+pub leads_more : (c : Configuration) (records : List Distrust) (from : Pair) (chain : List Receipt) (to : Pair)
+    (r : Receipt) → Leads c records from chain to → IsFitting c r → Vouches records to r
+    → Leads c records from (chain ++ r ∷ []) (pair_of r)
 leads_more c records from [] to r leads fits vouches = (fits, subst (λ (p : Pair). Vouches records p r) (sym leads) vouches, refl)
 leads_more c records from (s ∷ chain) to r leads fits vouches = (leads.0, leads.1, leads_more c records (pair_of s) chain to r leads.2 fits vouches)
 
@@ -17,7 +19,8 @@ pub all_more : {X : Type 0} (P : X → Type 0) (xs : List X) (x : X) → AllByRe
 all_more P [] x all h = (h, tt)
 all_more P (y ∷ ys) x all h = (all.0, all_more P ys x all.1 h)
 
-pub member_step : (m : Meaning) (p : Pair) (r : Receipt) → IsMember m p → Contains m.held r → IsFitting m.config r → Vouches m.records p r → IsMember m (pair_of r)
+pub member_step : (m : Meaning) (p : Pair) (r : Receipt) → IsMember m p → Contains m.held r → IsFitting m.config r
+    → Vouches m.records p r → IsMember m (pair_of r)
 member_step m p r is held fits vouches = record {
   seed = is.seed;
   configured = is.configured;
@@ -37,7 +40,8 @@ member_released m r is = member_step m is.voucher r is.accepted is.held is.fits 
 
 -- ---- each closed set has every member
 
-along : (m : Meaning) (set : Pair → Type 0) → IsClosed m set → (from : Pair) (chain : List Receipt) (to : Pair) → set from → AllByRecursion (Contains m.held) chain → Leads m.config m.records from chain to → set to
+along : (m : Meaning) (set : Pair → Type 0) → IsClosed m set → (from : Pair) (chain : List Receipt) (to : Pair)
+    → set from → AllByRecursion (Contains m.held) chain → Leads m.config m.records from chain to → set to
 along m set closed from [] to h held leads = subst set leads h
 along m set closed from (r ∷ chain) to h held leads =
     along m set closed (pair_of r) chain to (closed.steps from r h held.0 leads.0 leads.1) held.1 leads.2
@@ -47,7 +51,8 @@ member_least m set closed p is = along m set closed (pair_of_seed is.seed) is.ch
 
 -- ---- more receipts and fewer records of distrust
 
-pub member_more : (m n : Meaning) → m.config ≡ n.config → ((r : Receipt) → Contains m.held r → Contains n.held r) → ((x : Distrust) → Contains n.records x → Contains m.records x) → (p : Pair) → IsMember m p → IsMember n p
+pub member_more : (m n : Meaning) → m.config ≡ n.config → ((r : Receipt) → Contains m.held r → Contains n.held r)
+    → ((x : Distrust) → Contains n.records x → Contains m.records x) → (p : Pair) → IsMember m p → IsMember n p
 member_more m n same more fewer =
     member_least m (IsMember n) record {
       seeds = λ s has. member_seed n s (subst (λ (c : Configuration). Contains c.seeds s) same has);

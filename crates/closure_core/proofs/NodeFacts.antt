@@ -9,12 +9,16 @@ use Rattle.std.proofs.lemmas.List.Elements.{All-rest}
 use Rattle.receipt_core.specs.Receipt.{Pair}
 use Rattle.closure_core.specs.Inside.Nodes.{AreNumbers, is_raised, raised_documents, flags_of, count_at}
 
-pub next_kept : (pairs : List Pair) (flags : List Bool) (before after : List ℕ) (n : ℕ) → AreNumbers pairs flags before → before ≡ n ∷ after → AreNumbers pairs flags after
+pub next_kept : (pairs : List Pair) (flags : List Bool) (before after : List ℕ) (n : ℕ) → AreNumbers pairs flags before
+    → before ≡ n ∷ after → AreNumbers pairs flags after
 next_kept pairs flags before after n are e = record { flagged = are.flagged; within = All-rest (λ (k : ℕ). k < length pairs) n after before e are.within }
 
-pub next_skips : (pairs : List Pair) (flags : List Bool) (before after : List ℕ) (n : ℕ) → before ≡ n ∷ after → is_raised flags n ≡ false → raised_documents pairs flags after ≡ raised_documents pairs flags before
+pub next_skips : (pairs : List Pair) (flags : List Bool) (before after : List ℕ) (n : ℕ) → before ≡ n ∷ after
+    → is_raised flags n ≡ false → raised_documents pairs flags after ≡ raised_documents pairs flags before
 next_skips pairs flags before after n e lowered =
-    sym (ap (raised_documents pairs flags) e ∙ ap (λ b. cons_option (cond b (option_map (λ p. p.document) (slice_get pairs n)) None) (raised_documents pairs flags after)) lowered)
+    sym (ap (raised_documents pairs flags) e
+        ∙ ap (λ b. cons_option (cond b (option_map (λ p. p.document) (slice_get pairs n)) None)
+        (raised_documents pairs flags after)) lowered)
 
 abbrev pub is_counted : ℕ → Bool
 is_counted count = not (count == 0)

@@ -1,5 +1,6 @@
 -- Sets that are kept as rising lists
-use Rattle.std.proofs.Common.{◌≡◌, ℕ, zero, suc, ◌+◌, ◌<◌, ◌≤◌, ◌⊎◌, inl, inr, List, [], ◌∷◌, length, get_or, false, add-one, Less, Equal, Greater, refl, sym, ap, ap₂, ◌∙◌, subst, arith}
+use Rattle.std.proofs.Common.{◌≡◌, ℕ, zero, suc, ◌+◌, ◌<◌, ◌≤◌, ◌⊎◌, inl, inr, List, [], ◌∷◌, length, get_or, false}
+use Rattle.std.proofs.Common.{add-one, Less, Equal, Greater, refl, sym, ap, ap₂, ◌∙◌, subst, arith}
 use Rattle.std.specs.Cmp.{IsTotalOrder}
 use Rattle.std.specs.Ordering.{ordering_reverse, ordering_index, is_lt}
 use Rattle.std.specs.declared.cmp.Ordering.{Ordering}
@@ -41,13 +42,15 @@ module _ {X : Type 0} {R : X → X → Ordering} (o : IsTotalOrder R) where
     ]
   ]
 
-  tail_has : (x z : X) (others more : List X) → Below x others → ((y : X) → Contains (x ∷ others) y → Contains (x ∷ more) y) → Contains others z → Contains more z
+  tail_has : (x z : X) (others more : List X) → Below x others
+      → ((y : X) → Contains (x ∷ others) y → Contains (x ∷ more) y) → Contains others z → Contains more z
   tail_has x z others more below all has = elim (contains_cases x more z (all z (contains_later x others z has))) [
     | inl e ↦ absurd (not_again x others below (subst (Contains others) (sym e) has))
     | inr there ↦ there
   ]
 
-  pub rising_same : (xs ys : List X) → IsStrictlySortedBy R xs → IsStrictlySortedBy R ys → ((x : X) → Contains xs x → Contains ys x) → ((x : X) → Contains ys x → Contains xs x) → xs ≡ ys
+  pub rising_same : (xs ys : List X) → IsStrictlySortedBy R xs → IsStrictlySortedBy R ys
+      → ((x : X) → Contains xs x → Contains ys x) → ((x : X) → Contains ys x → Contains xs x) → xs ≡ ys
   unfolding IsStrictlySortedBy
   rising_same [] [] p q there back = refl
   rising_same [] (y ∷ ys) p q there back = absurd (contains_none y (back y (contains_first y ys)))
@@ -62,7 +65,8 @@ module _ {X : Type 0} {R : X → X → Ordering} (o : IsTotalOrder R) where
 
   -- ---- one item more
 
-  placed_has : (r : Ordering) (x h y : X) (t longer : List X) → Contains (placed r x h t longer) y → (Contains longer y → (x ≡ y) ⊎ Contains t y) → (x ≡ y) ⊎ Contains (h ∷ t) y
+  placed_has : (r : Ordering) (x h y : X) (t longer : List X) → Contains (placed r x h t longer) y
+      → (Contains longer y → (x ≡ y) ⊎ Contains t y) → (x ≡ y) ⊎ Contains (h ∷ t) y
   placed_has Less x h y t longer has rest = contains_cases x (h ∷ t) y has
   placed_has Equal x h y t longer has rest = inr has
   placed_has Greater x h y t longer has rest = elim (contains_cases h longer y has) [
@@ -106,7 +110,9 @@ module _ {X : Type 0} {R : X → X → Ordering} (o : IsTotalOrder R) where
   pub turned_less : (x y : X) → R x y ≡ Less → R y x ≡ Greater
   turned_less x y e = o.antisymm y x ∙ ap ordering_reverse e
 
-  placed_rising : (r : Ordering) (x h : X) (t longer : List X) → R x h ≡ r → IsStrictlySortedBy R (h ∷ t) → IsStrictlySortedBy R longer → ((y : X) → Contains longer y → (x ≡ y) ⊎ Contains t y) → IsStrictlySortedBy R (placed r x h t longer)
+  placed_rising : (r : Ordering) (x h : X) (t longer : List X) → R x h ≡ r → IsStrictlySortedBy R (h ∷ t)
+      → IsStrictlySortedBy R longer → ((y : X) → Contains longer y → (x ≡ y) ⊎ Contains t y)
+      → IsStrictlySortedBy R (placed r x h t longer)
   unfolding IsStrictlySortedBy
   placed_rising Less x h t longer e rising rest only =
       ((e, each_from (λ y. R x y ≡ Less) t (λ y has. o.trans x h y e (each_has (λ z. R h z ≡ Less) t y rising.0 has))), rising)
@@ -138,14 +144,17 @@ module _ {X : Type 0} {R : X → X → Ordering} (o : IsTotalOrder R) where
   gap_step : (x h : X) (t longer : List X) (r : Ordering) → R x h ≡ r → placed (R x h) x h t longer ≡ placed r x h t longer
   gap_step x h t longer r e = ap (λ s. placed s x h t longer) e
 
-  pub with_item_at : (x : X) (xs : List X) (n : ℕ) → n ≤ length xs → AllWithin (λ y. R y x ≡ Less) xs 0 n → AllWithin (λ y. R y x ≡ Greater) xs n (length xs) → with_item R x xs ≡ insert xs n x
+  pub with_item_at : (x : X) (xs : List X) (n : ℕ) → n ≤ length xs → AllWithin (λ y. R y x ≡ Less) xs 0 n
+      → AllWithin (λ y. R y x ≡ Greater) xs n (length xs) → with_item R x xs ≡ insert xs n x
   with_item_at x [] zero within before after = refl
   with_item_at x [] (suc n) within before after = absurd (omega arith)
   with_item_at x (h ∷ t) zero within before after =
       gap_step x h t (with_item R x t) Less (turned h x (after 0 h (omega arith) (omega arith)))
   with_item_at x (h ∷ t) (suc n) within before after =
       let first : R x h ≡ Greater = turned_less h x (before 0 h (omega arith) (omega arith)) in
-      let rest : with_item R x t ≡ insert t n x = with_item_at x t n (omega arith) (λ k d low high. before (suc k) d (omega arith) (omega arith)) (λ k d low high. after (suc k) d (omega arith) (omega arith)) in
+      let rest : with_item R x t ≡ insert t n x =
+          with_item_at x t n (omega arith) (λ k d low high. before (suc k) d (omega arith) (omega arith))
+          (λ k d low high. after (suc k) d (omega arith) (omega arith)) in
       gap_step x h t (with_item R x t) Greater first ∙ ap (λ ys. h ∷ ys) rest
 
   -- ---- a rising list is sorted
@@ -183,7 +192,9 @@ module _ {X : Type 0} {R : X → X → Ordering} (o : IsTotalOrder R) where
     ]
   ]
 
-  pub with_items_gets : (P : X → Type 0) → ((x y : X) → P x → P y → R x y ≡ Equal → x ≡ y) → (items set : List X) → ((x : X) → Contains items x → P x) → ((x : X) → Contains set x → P x) → (x : X) → Contains items x → Contains (with_items R items set) x
+  pub with_items_gets : (P : X → Type 0) → ((x y : X) → P x → P y → R x y ≡ Equal → x ≡ y) → (items set : List X)
+      → ((x : X) → Contains items x → P x) → ((x : X) → Contains set x → P x) → (x : X) → Contains items x
+      → Contains (with_items R items set) x
   with_items_gets P exact [] set all those x has = absurd (contains_none x has)
   with_items_gets P exact (i ∷ items) set all those x has =
       let here : Contains (with_item R i set) i = with_item_gets i set (λ y old. exact i y (all i (contains_first i items)) (those y old)) in

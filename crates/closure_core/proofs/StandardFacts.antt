@@ -26,7 +26,8 @@ one_comes_behind_absent : document_cmp second unranked ≡ Greater
 one_comes_behind_absent = refl
 
 -- only what is raised is lent, and in the order of the numbers
-raised_alone : raised_documents (document_of [] first ∷ document_of [] second ∷ document_of [] unranked ∷ []) (true ∷ false ∷ true ∷ []) (2 ∷ 1 ∷ 0 ∷ []) ≡ unranked ∷ first ∷ []
+raised_alone : raised_documents (document_of [] first ∷ document_of [] second ∷ document_of [] unranked ∷ [])
+    (true ∷ false ∷ true ∷ []) (2 ∷ 1 ∷ 0 ∷ []) ≡ unranked ∷ first ∷ []
 raised_alone = refl
 
 -- nothing changes where nothing changes

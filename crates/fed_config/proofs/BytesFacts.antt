@@ -24,7 +24,8 @@ some_bytes (b ∷ bytes) tree json = omega arith
 pub json_of : (bytes text : List ℕ) (tree : Data) → IsUtf8 bytes → text ≡ bytes → read text ≡ Some tree → IsJson bytes tree
 json_of bytes text tree utf8 same found = (utf8, subst (λ t. read t ≡ Some tree) same found)
 
-pub shape_exit : (bytes : List ℕ) (tree : Data) (e : ConfigError) → IsJson bytes tree → Fails Shape ((w : Written) × SaysWritten tree w) e → RefusesConfigBytes bytes e
+pub shape_exit : (bytes : List ℕ) (tree : Data) (e : ConfigError) → IsJson bytes tree
+    → Fails Shape ((w : Written) × SaysWritten tree w) e → RefusesConfigBytes bytes e
 shape_exit bytes tree e json (inl is) = subst (RefusesConfigBytes bytes) (sym is) (json.0, some_bytes bytes tree json)
 shape_exit bytes tree e json (inr f) = subst (RefusesConfigBytes bytes) (sym f.0) (tree, json, λ w h. f.1 (w, h))
 
@@ -39,7 +40,9 @@ refuses bytes w BadSeed text h = (w, text, h)
 refuses bytes w TooMany text h = (w, text, h)
 refuses bytes w NoMemory text h = (text.json.0, some_bytes bytes text.tree text.json)
 
-pub read_exit : (bytes : List ℕ) (tree : Data) (w : Written) (r : Result Configuration ConfigError) → IsJson bytes tree → SaysWritten tree w → MatchResult r (IsRead w) (RefusesRead w) → MatchResult r (IsConfig bytes) (RefusesConfigBytes bytes)
+pub read_exit : (bytes : List ℕ) (tree : Data) (w : Written) (r : Result Configuration ConfigError) → IsJson bytes tree
+    → SaysWritten tree w → MatchResult r (IsRead w) (RefusesRead w)
+    → MatchResult r (IsConfig bytes) (RefusesConfigBytes bytes)
 read_exit bytes tree w (Ok c) json says h = record {
   written = w;
   text = record { tree = tree; json = json; says = says };

@@ -24,7 +24,8 @@ use Rattle.spiffe_name.specs.TrustDomain.{IsDomainText}
 use Rattle.bundle_doc.specs.Bundle.{Bundle, IsBundle, Means, canonical_text, document_tree}
 use Rattle.fed_config.specs.EndpointUrl.{IsEndpointUrl, KeepsUrl}
 use Rattle.fed_config.specs.Written.{RelationshipText, SeedText, Written, SaysRelationshipText, SaysSeedText, SaysWritten, IsText}
-use Rattle.fed_config.specs.Configuration.{Configuration, HasShortUrls, IsConfiguration, IsRelationship, IsSeed, config_text, config_tree, relationship_tree, seed_tree}
+use Rattle.fed_config.specs.Configuration.{Configuration, HasShortUrls, IsConfiguration, IsRelationship, IsSeed}
+use Rattle.fed_config.specs.Configuration.{config_text, config_tree, relationship_tree, seed_tree}
 use Rattle.fed_config.specs.Reading.{IsConfig, IsMeant, IsSetOf, SaysRelationship, SaysSeed}
 use Rattle.fed_config.specs.declared.relationship.Relationship.{Relationship}
 use Rattle.fed_config.specs.declared.seed.Seed.{Seed}
@@ -104,7 +105,8 @@ keeps_itself url h short =
 
 -- ---- lists of one image
 
-map_one : {X Y : Type 0} (P : X → Type 0) (f : X → Y) → ((x y : X) → P x → P y → f x ≡ f y → x ≡ y) → (xs ys : List X) → AllByRecursion P xs → AllByRecursion P ys → map f xs ≡ map f ys → xs ≡ ys
+map_one : {X Y : Type 0} (P : X → Type 0) (f : X → Y) → ((x y : X) → P x → P y → f x ≡ f y → x ≡ y) → (xs ys : List X)
+    → AllByRecursion P xs → AllByRecursion P ys → map f xs ≡ map f ys → xs ≡ ys
 map_one P f one [] [] p q e = refl
 map_one P f one [] (y ∷ ys) p q e = absurd (cc)
 map_one P f one (x ∷ xs) [] p q e = absurd (cc)
@@ -138,7 +140,10 @@ itself : {X : Type 0} (cmp : X → X → Ordering) (xs : List X) → IsStrictlyS
 itself cmp xs rising = record { rising = rising; members = λ x. (λ h. h, λ h. h) }
 
 -- what is written is plain
-module _ (plain_domain : (text : List ℕ) → IsDomainText text → IsPlainText text) (plain_id : (id : Id) → IsId id → IsPlainText id.text) (plain_document : (b : Bundle) → IsBundle b → IsPlain (document_tree b)) (shallow_document : (b : Bundle) → depth (document_tree b) ≤ 4) (reads : (value : Data) → IsPlain value → depth value ≤ max_depth → IsJson (compact_text value) value) where
+module _ (plain_domain : (text : List ℕ) → IsDomainText text → IsPlainText text) (plain_id : (id : Id) → IsId id
+    → IsPlainText id.text) (plain_document : (b : Bundle) → IsBundle b
+    → IsPlain (document_tree b)) (shallow_document : (b : Bundle) → depth (document_tree b) ≤ 4) (reads : (value : Data)
+    → IsPlain value → depth value ≤ max_depth → IsJson (compact_text value) value) where
   plain_relationship : (r : Relationship) → IsRelationship r → IsPlain (relationship_tree r)
   plain_relationship r h = (
     ascii (codes "domain") refl,
@@ -194,10 +199,14 @@ module _ (plain_domain : (text : List ℕ) → IsDomainText text → IsPlainText
 
   -- ---- a text stands for one configuration
 
-  module _ (one_id : (one other : Id) → IsId one → IsId other → one.text ≡ other.text → one ≡ other) (one_document : (b c : Bundle) → IsBundle b → IsBundle c → canonical_text b ≡ canonical_text c → b ≡ c) where
+  module _ (one_id : (one other : Id) → IsId one → IsId other → one.text ≡ other.text
+      → one ≡ other) (one_document : (b c : Bundle) → IsBundle b → IsBundle c → canonical_text b ≡ canonical_text c
+      → b ≡ c) where
     one_relationship : (r s : Relationship) → IsRelationship r → IsRelationship s → text_of r ≡ text_of s → r ≡ s
     unfolding text_of
-    one_relationship r s p q e = same_relationship r s (ap (λ t. t.domain) e) (one_id r.endpoint s.endpoint p.endpoint q.endpoint (ap (λ t. t.endpoint) e)) (ap (λ t. t.url) e)
+    one_relationship r s p q e =
+        same_relationship r s (ap (λ t. t.domain) e)
+        (one_id r.endpoint s.endpoint p.endpoint q.endpoint (ap (λ t. t.endpoint) e)) (ap (λ t. t.url) e)
 
     one_seed : (s u : Seed) → IsSeed s → IsSeed u → seed_text_of s ≡ seed_text_of u → s ≡ u
     unfolding seed_text_of
@@ -221,7 +230,8 @@ module _ (plain_domain : (text : List ℕ) → IsDomainText text → IsPlainText
   -- ---- what is written is read as the configuration
 
   module _ (means_document : (b : Bundle) → IsBundle b → Means (document_tree b) b) where
-    each_relationship : (rs : List Relationship) → AllByRecursion IsRelationship rs → AllByRecursion (λ r. length r.url ≤ 2048) rs → AllZip SaysRelationship (map text_of rs) rs
+    each_relationship : (rs : List Relationship) → AllByRecursion IsRelationship rs
+        → AllByRecursion (λ r. length r.url ≤ 2048) rs → AllZip SaysRelationship (map text_of rs) rs
     unfolding text_of
     each_relationship [] h short = tt
     each_relationship (r ∷ rs) h short = (
@@ -261,7 +271,9 @@ module _ (plain_domain : (text : List ℕ) → IsDomainText text → IsPlainText
       written = texts_of c;
       text = is_text c h;
       meant = is_meant c h short;
-      single = single_in (map text_of c.relationships) (map seed_text_of c.seeds) c.relationships c.relationships (each_relationship c.relationships h.each_relationship short) (IsPermutation-refl c.relationships) h.rising_relationships;
+      single = single_in (map text_of c.relationships) (map seed_text_of c.seeds) c.relationships c.relationships
+          (each_relationship c.relationships h.each_relationship short) (IsPermutation-refl c.relationships)
+          h.rising_relationships;
       few_relationships = subst (λ n. n ≤ 1024) (sym (map_length text_of c.relationships)) h.few_relationships;
       few_seeds = subst (λ n. n ≤ 4096) (sym (map_length seed_text_of c.seeds)) h.few_seeds;
       is = h;

@@ -12,8 +12,10 @@ pub count_of-members : (es : List (String Global × Value)) → count_of (member
 count_of-members [] = refl
 count_of-members (e ∷ es) = ap suc (count_of-members es)
 
-pub counted : (tree : Data) (es : List (String Global × Value)) (n count : ℕ) → Some (members_view es) ≡ as_object tree → n ≡ length es → IsTrue (n == count) ↔ HasCount tree count
+pub counted : (tree : Data) (es : List (String Global × Value)) (n count : ℕ) → Some (members_view es) ≡ as_object tree
+    → n ≡ length es → IsTrue (n == count) ↔ HasCount tree count
 counted tree es n count is len = (
   λ h. (members_view es, sym is, count_of-members es ∙ sym len ∙ (Decides-eqb n count).0 h),
-  λ h. let same : members_view es ≡ h.0 = (let both : Some (members_view es) ≡ Some h.0 = is ∙ h.1 in cc) in (Decides-eqb n count).1 (len ∙ sym (count_of-members es) ∙ ap count_of same ∙ h.2),
+  λ h. let same : members_view es ≡ h.0 = (let both : Some (members_view es) ≡ Some h.0 = is ∙ h.1 in cc) in
+      (Decides-eqb n count).1 (len ∙ sym (count_of-members es) ∙ ap count_of same ∙ h.2),
 )

@@ -17,7 +17,9 @@ one_list c ds es p q =
     (λ d h. Has-Contains es d (q.complete d (p.sound d (Contains-Has ds d h))))
     (λ d h. Has-Contains ds d (p.complete d (q.sound d (Contains-Has es d h))))
 
-pub place_found : (c : Configuration) (ds : List (List ℕ)) (domain : List ℕ) (r : Result ℕ ℕ) → AreDomains c ds → IsSearchInRange r (length ds) → IsBinarySearchResult (λ d. slice_cmp nat_cmp d domain) ds r → IsPlace c domain (result_ok r)
+pub place_found : (c : Configuration) (ds : List (List ℕ)) (domain : List ℕ) (r : Result ℕ ℕ) → AreDomains c ds
+    → IsSearchInRange r (length ds) → IsBinarySearchResult (λ d. slice_cmp nat_cmp d domain) ds r
+    → IsPlace c domain (result_ok r)
 place_found c ds domain (Ok i) are within position =
     λ es others.
     subst (λ l. slice_get l i ≡ Some domain) (one_list c ds es are others)
@@ -26,7 +28,9 @@ place_found c ds domain (Err i) are within position =
     λ h. not_found nat_list_cmp_total (λ d. d) ds domain i (sorted nat_list_cmp_total ds are.rising) position domain (are.complete domain h) refl
 
 pub relationship_not_found : (rs : List Relationship) (domain : List ℕ) (i : ℕ) → IsStrictlySortedBy relationship_cmp rs
-    → (IsNonDecreasingBy (λ r. ordering_index (slice_cmp nat_cmp r.domain domain)) rs → IsPartitionPoint (λ r. slice_cmp nat_cmp r.domain domain ≡ Less) (λ r. slice_cmp nat_cmp r.domain domain ≡ Greater) rs i)
+    → (IsNonDecreasingBy (λ r. ordering_index (slice_cmp nat_cmp r.domain domain)) rs
+        → IsPartitionPoint (λ r. slice_cmp nat_cmp r.domain domain ≡ Less)
+        (λ r. slice_cmp nat_cmp r.domain domain ≡ Greater) rs i)
     → (r : Relationship) → Contains rs r → r.domain ≡ domain → ⊥
 relationship_not_found rs domain i rising splits =
     not_found nat_list_cmp_total (λ r. r.domain) rs domain i (sorted (on_total (λ (r : Relationship). r.domain) nat_list_cmp_total) rs rising) splits

@@ -1,5 +1,6 @@
 -- The domains that are gathered, sorted and each once, are those of the configuration.
-use Rattle.std.proofs.Common.{◌≡◌, ℕ, ◌+◌, ◌<◌, ◌⊎◌, inl, inr, List, [], ◌∷◌, ◌++◌, length, get_or, drop, map, refl, sym, ap, ◌∙◌, subst, append_assoc, bytes_eq}
+use Rattle.std.proofs.Common.{◌≡◌, ℕ, ◌+◌, ◌<◌, ◌⊎◌, inl, inr, List, [], ◌∷◌, ◌++◌, length, get_or, drop, map, refl}
+use Rattle.std.proofs.Common.{sym, ap, ◌∙◌, subst, append_assoc, bytes_eq}
 use Rattle.std.specs.List.{flat_map, dedup}
 use Rattle.std.specs.List.Sorted.{IsPermutation, IsSorted}
 use Rattle.std.specs.Cmp.Lexicographic.{nat_list_eq_equiv, nat_list_cmp_total, texts_ties}
@@ -22,9 +23,11 @@ pub gathered_next : (rs : List Relationship) (seeds : List Seed) (i : ℕ) (r : 
     → out ++ gathered (drop i rs) seeds ≡ ((out ++ r.domain ∷ []) ++ r.endpoint.domain ∷ []) ++ gathered (drop (i + 1) rs) seeds
 gathered_next rs seeds i r out below at =
     ap (λ l. out ++ gathered l seeds) (from_drop rs i r below at)
-    ∙ sym (append_assoc (out ++ r.domain ∷ []) (r.endpoint.domain ∷ []) (gathered (drop (i + 1) rs) seeds) ∙ append_assoc out (r.domain ∷ []) (r.endpoint.domain ∷ gathered (drop (i + 1) rs) seeds))
+    ∙ sym (append_assoc (out ++ r.domain ∷ []) (r.endpoint.domain ∷ []) (gathered (drop (i + 1) rs) seeds)
+        ∙ append_assoc out (r.domain ∷ []) (r.endpoint.domain ∷ gathered (drop (i + 1) rs) seeds))
 
-pub mapped_next : {X Y : Type 0} (f : X → Y) (xs : List X) (i : ℕ) (x : X) (out : List Y) → i < length xs → x ≡ get_or xs i x → out ++ map f (drop i xs) ≡ (out ++ f x ∷ []) ++ map f (drop (i + 1) xs)
+pub mapped_next : {X Y : Type 0} (f : X → Y) (xs : List X) (i : ℕ) (x : X) (out : List Y) → i < length xs
+    → x ≡ get_or xs i x → out ++ map f (drop i xs) ≡ (out ++ f x ∷ []) ++ map f (drop (i + 1) xs)
 mapped_next f xs i x out below at =
     ap (λ l. out ++ map f l) (from_drop xs i x below at) ∙ sym (append_assoc out (f x ∷ []) (map f (drop (i + 1) xs)))
 
@@ -87,14 +90,22 @@ sound rs seeds d h = elim (either (flat_map both_domains rs) (map (λ s. s.domai
 
 complete : (rs : List Relationship) (seeds : List Seed) (d : List ℕ) → HasDomain (of rs seeds) d → Has (gathered rs seeds) d
 complete rs seeds d (inl p) = left (flat_map both_domains rs) _ d (subst (Has (flat_map both_domains rs)) p.2 (own_there rs p.0 (Has-Contains rs p.0 p.1)))
-complete rs seeds d (inr (inl p)) = left (flat_map both_domains rs) _ d (subst (Has (flat_map both_domains rs)) p.2 (endpoint_there rs p.0 (Has-Contains rs p.0 p.1)))
-complete rs seeds d (inr (inr p)) = right (flat_map both_domains rs) _ d (subst (Has (map (λ s. s.domain) seeds)) p.2 (seed_there seeds p.0 (Has-Contains seeds p.0 p.1)))
+complete rs seeds d (inr (inl p)) =
+    left (flat_map both_domains rs) _ d
+    (subst (Has (flat_map both_domains rs)) p.2 (endpoint_there rs p.0 (Has-Contains rs p.0 p.1)))
+complete rs seeds d (inr (inr p)) =
+    right (flat_map both_domains rs) _ d
+    (subst (Has (map (λ s. s.domain) seeds)) p.2 (seed_there seeds p.0 (Has-Contains seeds p.0 p.1)))
 
-pub AreDomains-dedup : (rs : List Relationship) (seeds : List Seed) (ys : List (List ℕ)) → IsPermutation (gathered rs seeds) ys → IsSorted domain_cmp ys → AreDomains (of rs seeds) (dedup bytes_eq ys)
+pub AreDomains-dedup : (rs : List Relationship) (seeds : List Seed) (ys : List (List ℕ))
+    → IsPermutation (gathered rs seeds) ys → IsSorted domain_cmp ys → AreDomains (of rs seeds) (dedup bytes_eq ys)
 AreDomains-dedup rs seeds ys moved sorted =
     let all = gathered rs seeds in
     record {
       rising = IsStrictlySortedBy-dedup nat_list_cmp_total texts_ties ys sorted;
-      sound = λ d h. sound rs seeds d (Has-Contains all d (Contains-permutation ys all d (IsPermutation-sym all ys moved) (Contains-from_dedup bytes_eq ys d h)));
-      complete = λ d h. Contains-dedup nat_list_eq_equiv (λ a b e. (bytes_eq-Decides a b).0 e) ys d (Contains-permutation all ys d moved (Contains-Has all d (complete rs seeds d h)));
+      sound = λ d h. sound rs seeds d
+          (Has-Contains all d (Contains-permutation ys all d (IsPermutation-sym all ys moved)
+          (Contains-from_dedup bytes_eq ys d h)));
+      complete = λ d h. Contains-dedup nat_list_eq_equiv (λ a b e. (bytes_eq-Decides a b).0 e) ys d
+          (Contains-permutation all ys d moved (Contains-Has all d (complete rs seeds d h)));
     }

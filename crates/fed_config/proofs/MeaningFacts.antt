@@ -59,8 +59,12 @@ unfolding written_of
 one_written tree w v p q =
     let trees = one_array tree (codes "relationships") p.relationships q.relationships p.has_relationships q.has_relationships in
     let others = one_array tree (codes "seeds") p.seeds q.seeds p.has_seeds q.has_seeds in
-    let a : w.relationships ≡ v.relationships = zip_one SaysRelationshipText one_relationship_text q.relationships w.relationships v.relationships (subst (λ l. AllZip SaysRelationshipText l w.relationships) trees p.each_relationship) q.each_relationship in
-    let b : w.seeds ≡ v.seeds = zip_one SaysSeedText one_seed_text q.seeds w.seeds v.seeds (subst (λ l. AllZip SaysSeedText l w.seeds) others p.each_seed) q.each_seed in
+    let a : w.relationships ≡ v.relationships =
+        zip_one SaysRelationshipText one_relationship_text q.relationships w.relationships v.relationships
+        (subst (λ l. AllZip SaysRelationshipText l w.relationships) trees p.each_relationship) q.each_relationship in
+    let b : w.seeds ≡ v.seeds =
+        zip_one SaysSeedText one_seed_text q.seeds w.seeds v.seeds
+        (subst (λ l. AllZip SaysSeedText l w.seeds) others p.each_seed) q.each_seed in
     let same : written_of w.relationships w.seeds ≡ written_of v.relationships v.seeds = cc in same
 
 pub same_written : (bytes : List ℕ) (w v : Written) → IsText bytes w → IsText bytes v → w ≡ v
@@ -82,7 +86,8 @@ one_url text u v p q =
 seed_from : List ℕ → Bundle → Seed
 seed_from domain document = record { domain = domain; document = document }
 
-same_set : {X : Type 0} {cmp : X → X → Ordering} (o : IsTotalOrder cmp) (xs ys set other : List X) → xs ≡ ys → IsSetOf cmp xs set → IsSetOf cmp ys other → set ≡ other
+same_set : {X : Type 0} {cmp : X → X → Ordering} (o : IsTotalOrder cmp) (xs ys set other : List X) → xs ≡ ys
+    → IsSetOf cmp xs set → IsSetOf cmp ys other → set ≡ other
 same_set {X} o xs ys set other e p q =
     rising_same o set other p.rising q.rising
     (λ x h. Has-Contains other x ((q.members x).1 (subst (λ l. Contains l x) e ((p.members x).0 (Contains-Has set x h)))))
@@ -91,7 +96,8 @@ same_set {X} o xs ys set other e p q =
 configuration_of : List Relationship → List Seed → Configuration
 configuration_of relationships seeds = record { relationships = relationships; seeds = seeds }
 
-module _ (one_id : (one other : Id) → IsId one → IsId other → one.text ≡ other.text → one ≡ other) (one_bundle : (value : Data) (b c : Bundle) → Means value b → Means value c → b ≡ c) where
+module _ (one_id : (one other : Id) → IsId one → IsId other → one.text ≡ other.text
+    → one ≡ other) (one_bundle : (value : Data) (b c : Bundle) → Means value b → Means value c → b ≡ c) where
   one_relationship : (t : RelationshipText) (r s : Relationship) → SaysRelationship t r → SaysRelationship t s → r ≡ s
   unfolding relationship_of
   one_relationship t r s p q =
@@ -112,7 +118,9 @@ module _ (one_id : (one other : Id) → IsId one → IsId other → one.text ≡
   one_meaning w b c p q =
       let rs = zip_one SaysRelationship one_relationship w.relationships p.relationships q.relationships p.each_relationship q.each_relationship in
       let ss = zip_one SaysSeed one_seed w.seeds p.seeds q.seeds p.each_seed q.each_seed in
-      let a : b.relationships ≡ c.relationships = same_set relationships_total p.relationships q.relationships b.relationships c.relationships rs p.relationship_set q.relationship_set in
+      let a : b.relationships ≡ c.relationships =
+          same_set relationships_total p.relationships q.relationships b.relationships c.relationships rs
+          p.relationship_set q.relationship_set in
       let d : b.seeds ≡ c.seeds = same_set seed_cmp_total p.seeds q.seeds b.seeds c.seeds ss p.seed_set q.seed_set in
       let same : configuration_of b.relationships b.seeds ≡ configuration_of c.relationships c.seeds = cc in same
 
@@ -134,10 +142,16 @@ module _ (one_id : (one other : Id) → IsId one → IsId other → one.text ≡
     each_left SaysRelationship HasName named p.written.relationships p.meant.relationships p.meant.each_relationship,
     each_left SaysSeed (λ t. IsDomainText t.domain) (λ t s h. subst IsDomainText h.domain h.is_domain) p.written.seeds p.meant.seeds p.meant.each_seed,
   )
-  passes bytes c p BadUrl = each_left SaysRelationship (λ t. (parts : Parts) × IsParsed t.url parts) (λ t r h. (h.url.parts, h.url.parsed)) p.written.relationships p.meant.relationships p.meant.each_relationship
-  passes bytes c p BadProfile = each_left SaysRelationship (λ t. IsProfile t.profile) (λ t r h. h.profile) p.written.relationships p.meant.relationships p.meant.each_relationship
+  passes bytes c p BadUrl = each_left SaysRelationship (λ t. (parts : Parts)
+      × IsParsed t.url parts) (λ t r h. (h.url.parts, h.url.parsed)) p.written.relationships p.meant.relationships
+      p.meant.each_relationship
+  passes bytes c p BadProfile =
+      each_left SaysRelationship (λ t. IsProfile t.profile) (λ t r h. h.profile) p.written.relationships
+      p.meant.relationships p.meant.each_relationship
   passes bytes c p DoubleRelationship = p.single
-  passes bytes c p BadSeed = each_left SaysSeed (λ t. (b : Bundle) × Means t.bundle b × Fits b) (λ t s h. (s.document, h.means, h.fits)) p.written.seeds p.meant.seeds p.meant.each_seed
+  passes bytes c p BadSeed =
+      each_left SaysSeed (λ t. (b : Bundle) × Means t.bundle b
+      × Fits b) (λ t s h. (s.document, h.means, h.fits)) p.written.seeds p.meant.seeds p.meant.each_seed
   passes bytes c p TooMany = record {
     relationships = p.few_relationships;
     seeds = p.few_seeds;

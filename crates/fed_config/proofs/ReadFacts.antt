@@ -1,5 +1,6 @@
 -- What is read, part after part, is a configuration, or is refused for its first cause.
-use Rattle.std.proofs.Common.{◌≡◌, ℕ, suc, get_or, Result, Ok, Err, ◌+◌, ◌≤◌, inl, inr, List, [], ◌∷◌, length, map, true, false, cond, refl, sym, ap, ap₂, ◌∙◌, subst, arith, bytes_eq, Less, Equal, is_lt}
+use Rattle.std.proofs.Common.{◌≡◌, ℕ, suc, get_or, Result, Ok, Err, ◌+◌, ◌≤◌, inl, inr, List, [], ◌∷◌, length, map}
+use Rattle.std.proofs.Common.{true, false, cond, refl, sym, ap, ap₂, ◌∙◌, subst, arith, bytes_eq, Less, Equal, is_lt}
 use Rattle.std.specs.Result.{MatchResult}
 use Rattle.std.specs.List.{AllByRecursion, AllZip, zip, count_by}
 use Rattle.std.specs.List.Sorted.{IsPermutation, IsSorted, IsStrictlySortedBy}
@@ -16,7 +17,10 @@ use Rattle.bundle_doc.specs.Bundle.{Bundle, Means, Fits}
 use Rattle.fed_config.specs.EndpointUrl.{IsParsed}
 use Rattle.fed_config.specs.Written.{RelationshipText, SeedText, Written}
 use Rattle.fed_config.specs.Configuration.{Configuration, IsConfiguration, IsRelationship, IsSeed, relationship_cmp, seed_cmp}
-use Rattle.fed_config.specs.Reading.{Fails, HasName, HasNames, HasUrls, HasProfiles, HasSingle, HasDocuments, HasFew, HasFewDomains, IsMeant, IsProfile, IsRead, IsSetOf, RefusesRead, RefusesWritten, HasRisingLists, SaysNames, SaysDomain, SaysUrl, SaysSeedDocument, SaysRelationship, SaysSeed, joined_relationship, joined_seed}
+use Rattle.fed_config.specs.Reading.{Fails, HasName, HasNames, HasUrls, HasProfiles, HasSingle, HasDocuments, HasFew}
+use Rattle.fed_config.specs.Reading.{HasFewDomains, IsMeant, IsProfile, IsRead, IsSetOf, RefusesRead, RefusesWritten}
+use Rattle.fed_config.specs.Reading.{HasRisingLists, SaysNames, SaysDomain, SaysUrl, SaysSeedDocument, SaysRelationship}
+use Rattle.fed_config.specs.Reading.{SaysSeed, joined_relationship, joined_seed}
 use Rattle.fed_config.specs.Entries.{seed_text}
 use Rattle.fed_config.specs.declared.error.ConfigError.{ConfigError}
 use Rattle.fed_config.specs.declared.error.ConfigError.TheVariants.{BadUrl, BadProfile, DoubleRelationship, BadSeed, TooMany}
@@ -49,18 +53,26 @@ has_name t n h = record {
 pub names_in : (ts : List RelationshipText) (ns : List Names) → AllZip SaysNames ts ns → AllByRecursion HasName ts
 names_in ts ns = each_left SaysNames HasName has_name ts ns
 
-pub domains_in : (es : List SeedEntry) (ds : List (List ℕ)) → AllZip (λ e d. SaysDomain (seed_text e) d) es ds → AllByRecursion (λ t. IsDomainText t.domain) (map seed_text es)
-domains_in es ds zip = each_unmap (λ t. IsDomainText t.domain) seed_text es (each_left (λ e d. SaysDomain (seed_text e) d) (λ e. IsDomainText (seed_text e).domain) (λ e d h. subst IsDomainText h.same h.is) es ds zip)
+pub domains_in : (es : List SeedEntry) (ds : List (List ℕ)) → AllZip (λ e d. SaysDomain (seed_text e) d) es ds
+    → AllByRecursion (λ t. IsDomainText t.domain) (map seed_text es)
+domains_in es ds zip = each_unmap (λ t. IsDomainText t.domain) seed_text es
+    (each_left (λ e d. SaysDomain (seed_text e) d) (λ e. IsDomainText (seed_text e).domain)
+    (λ e d h. subst IsDomainText h.same h.is) es ds zip)
 
 pub urls_in : (ts : List RelationshipText) (us : List (List ℕ)) → AllZip SaysUrl ts us → AllByRecursion (λ t. (parts : Parts) × IsParsed t.url parts) ts
 urls_in ts us = each_left SaysUrl (λ t. (parts : Parts) × IsParsed t.url parts) (λ t u h. (h.parts, h.parsed)) ts us
 
-pub documents_in : (es : List SeedEntry) (bs : List Bundle) → AllZip (λ e b. SaysSeedDocument (seed_text e) b) es bs → AllByRecursion (λ t. (b : Bundle) × Means t.bundle b × Fits b) (map seed_text es)
-documents_in es bs zip = each_unmap (λ t. (b : Bundle) × Means t.bundle b × Fits b) seed_text es (each_left (λ e b. SaysSeedDocument (seed_text e) b) (λ e. (b : Bundle) × Means (seed_text e).bundle b × Fits b) (λ e b h. (b, h.means, h.fits)) es bs zip)
+pub documents_in : (es : List SeedEntry) (bs : List Bundle) → AllZip (λ e b. SaysSeedDocument (seed_text e) b) es bs
+    → AllByRecursion (λ t. (b : Bundle) × Means t.bundle b × Fits b) (map seed_text es)
+documents_in es bs zip = each_unmap (λ t. (b : Bundle) × Means t.bundle b
+    × Fits b) seed_text es (each_left (λ e b. SaysSeedDocument (seed_text e) b) (λ e. (b : Bundle)
+    × Means (seed_text e).bundle b × Fits b) (λ e b h. (b, h.means, h.fits)) es bs zip)
 
 -- ---- joined
 
-pub join_said : (ts : List RelationshipText) (ns : List Names) (us : List (List ℕ)) → AllZip SaysNames ts ns → AllZip SaysUrl ts us → AllByRecursion (λ t. IsProfile t.profile) ts → AllZip SaysRelationship ts (map joined_relationship (zip ns us))
+pub join_said : (ts : List RelationshipText) (ns : List Names) (us : List (List ℕ)) → AllZip SaysNames ts ns
+    → AllZip SaysUrl ts us → AllByRecursion (λ t. IsProfile t.profile) ts
+    → AllZip SaysRelationship ts (map joined_relationship (zip ns us))
 join_said [] [] us names urls profiles = tt
 join_said [] (n ∷ ns) us names urls profiles = absurd names
 join_said (t ∷ ts) [] us names urls profiles = absurd names
@@ -70,7 +82,9 @@ join_said (t ∷ ts) (n ∷ ns) (u ∷ us) names urls profiles = (
   join_said ts ns us names.1 urls.1 profiles.1,
 )
 
-pub join_seeds_said : (es : List SeedEntry) (ds : List (List ℕ)) (bs : List Bundle) → AllZip (λ e d. SaysDomain (seed_text e) d) es ds → AllZip (λ e b. SaysSeedDocument (seed_text e) b) es bs → AllZip (λ e s. SaysSeed (seed_text e) s) es (map joined_seed (zip ds bs))
+pub join_seeds_said : (es : List SeedEntry) (ds : List (List ℕ)) (bs : List Bundle)
+    → AllZip (λ e d. SaysDomain (seed_text e) d) es ds → AllZip (λ e b. SaysSeedDocument (seed_text e) b) es bs
+    → AllZip (λ e s. SaysSeed (seed_text e) s) es (map joined_seed (zip ds bs))
 join_seeds_said [] [] bs domains documents = tt
 join_seeds_said [] (d ∷ ds) bs domains documents = absurd domains
 join_seeds_said (e ∷ es) [] bs domains documents = absurd domains
@@ -103,7 +117,8 @@ one_if d r = cond (bytes_eq r.domain d) 1 0
 abbrev pub Single : List Relationship → Type 0
 Single rs = (d : List ℕ) → count_by (λ r. bytes_eq r.domain d) rs ≤ 1
 
-count_written : (ts : List RelationshipText) (rs : List Relationship) (d : List ℕ) → AllZip SaysRelationship ts rs → count_by (λ t. bytes_eq t.domain d) ts ≡ count_by (λ r. bytes_eq r.domain d) rs
+count_written : (ts : List RelationshipText) (rs : List Relationship) (d : List ℕ) → AllZip SaysRelationship ts rs
+    → count_by (λ t. bytes_eq t.domain d) ts ≡ count_by (λ r. bytes_eq r.domain d) rs
 count_written [] [] d zip = refl
 count_written [] (r ∷ rs) d zip = absurd zip
 count_written (t ∷ ts) [] d zip = absurd zip
@@ -112,7 +127,8 @@ count_written (t ∷ ts) (r ∷ rs) d zip =
     ∙ ap₂ (λ m n. m + n) (ap (λ x. cond (bytes_eq x d) 1 0) (sym zip.0.domain)) (count_written ts rs d zip.1)
     ∙ sym (sum_by-cons (one_if d) r rs)
 
-none_above : (r : Relationship) (rs : List Relationship) → AllByRecursion (λ s. relationship_cmp r s ≡ Less) rs → (d : List ℕ) → r.domain ≡ d → count_by (λ s. bytes_eq s.domain d) rs ≡ 0
+none_above : (r : Relationship) (rs : List Relationship) → AllByRecursion (λ s. relationship_cmp r s ≡ Less) rs
+    → (d : List ℕ) → r.domain ≡ d → count_by (λ s. bytes_eq s.domain d) rs ≡ 0
 none_above r [] all d is = refl
 none_above r (s ∷ rs) all d is =
     let differ : bytes_eq s.domain d ≡ false = elim (cases_Bool (bytes_eq s.domain d)) [
@@ -129,13 +145,17 @@ strict_single [] rising d = omega arith
 strict_single (r ∷ rs) rising d =
     let counts = sum_by-cons (one_if d) r rs in
     elim (cases_Bool (bytes_eq r.domain d)) [
-      | inl same ↦ let none = none_above r rs rising.0 d ((bytes_eq-Decides r.domain d).0 same) in let one : one_if d r ≡ 1 = ap (λ b. cond b 1 0) same in omega arith
+      | inl same ↦ let none = none_above r rs rising.0 d ((bytes_eq-Decides r.domain d).0 same) in
+          let one : one_if d r ≡ 1 = ap (λ b. cond b 1 0) same in omega arith
       | inr other ↦ let rest = strict_single rs rising.1 d in let zero_here : one_if d r ≡ 0 = ap (λ b. cond b 1 0) other in omega arith
     ]
 
-pub single_in : (ts : List RelationshipText) (seeds : List SeedText) (rs ys : List Relationship) → AllZip SaysRelationship ts rs → IsPermutation rs ys → IsStrictlySortedBy relationship_cmp ys → HasSingle (record { relationships = ts; seeds = seeds })
+pub single_in : (ts : List RelationshipText) (seeds : List SeedText) (rs ys : List Relationship)
+    → AllZip SaysRelationship ts rs → IsPermutation rs ys → IsStrictlySortedBy relationship_cmp ys
+    → HasSingle (record { relationships = ts; seeds = seeds })
 single_in ts seeds rs ys zip moved rising d =
-    let counts : count_by (λ t. bytes_eq t.domain d) ts ≡ count_by (λ r. bytes_eq r.domain d) ys = count_written ts rs d zip ∙ sym (sum_by-IsPermutation (one_if d) rs ys moved) in
+    let counts : count_by (λ t. bytes_eq t.domain d) ts ≡ count_by (λ r. bytes_eq r.domain d) ys =
+        count_written ts rs d zip ∙ sym (sum_by-IsPermutation (one_if d) rs ys moved) in
     let few = strict_single ys rising d in subst (λ n. n ≤ 1) (sym counts) few
 
 -- sorted relationships with one a domain rise strictly
@@ -151,11 +171,15 @@ tail_single : (x : Relationship) (rs : List Relationship) → Single (x ∷ rs) 
 tail_single x rs single d = let counts = sum_by-cons (one_if d) x rs in let few = single d in omega arith
 
 tail_sorted : (x : Relationship) (rs : List Relationship) → IsSorted relationship_cmp (x ∷ rs) → IsSorted relationship_cmp rs
-tail_sorted x rs sorted k d low below = let more : suc k + 1 ≡ suc (k + 1) = omega arith in subst (λ n. is_lt (relationship_cmp (get_or (x ∷ rs) n d) (get_or rs k d)) ≡ false) more (sorted (suc k) d (omega arith) (omega arith))
+tail_sorted x rs sorted k d low below = let more : suc k + 1 ≡ suc (k + 1) = omega arith in
+    subst (λ n. is_lt (relationship_cmp (get_or (x ∷ rs) n d) (get_or rs k d)) ≡ false) more
+    (sorted (suc k) d (omega arith) (omega arith))
 
 next_below : (x y : Relationship) (rs : List Relationship) → IsSorted relationship_cmp (x ∷ y ∷ rs) → Single (x ∷ y ∷ rs) → relationship_cmp x y ≡ Less
 next_below x y rs sorted single =
-    let differ : bytes_eq x.domain y.domain ≡ false = elim (cases_Bool (bytes_eq x.domain y.domain)) [ inl same ↦ absurd (twice x y rs same single) | inr other ↦ other ] in
+    let differ : bytes_eq x.domain y.domain ≡ false =
+        elim (cases_Bool (bytes_eq x.domain y.domain))
+        [ inl same ↦ absurd (twice x y rs same single) | inr other ↦ other ] in
     below_by x y (relationship_cmp x y) refl (sorted 0 x (omega arith) (omega arith)) differ
 
 sorted_strict : (rs : List Relationship) → IsSorted relationship_cmp rs → Single rs → IsStrictlySortedBy relationship_cmp rs
@@ -167,7 +191,9 @@ sorted_strict (x ∷ y ∷ rs) sorted single =
     let first = next_below x y rs sorted single in
     ((first, below_all x y rs first rest.0), rest)
 
-pub not_single_in : (ts : List RelationshipText) (seeds : List SeedText) (rs ys : List Relationship) → AllZip SaysRelationship ts rs → IsPermutation rs ys → IsSorted relationship_cmp ys → (IsStrictlySortedBy relationship_cmp ys → ⊥) → HasSingle (record { relationships = ts; seeds = seeds }) → ⊥
+pub not_single_in : (ts : List RelationshipText) (seeds : List SeedText) (rs ys : List Relationship)
+    → AllZip SaysRelationship ts rs → IsPermutation rs ys → IsSorted relationship_cmp ys
+    → (IsStrictlySortedBy relationship_cmp ys → ⊥) → HasSingle (record { relationships = ts; seeds = seeds }) → ⊥
 not_single_in ts seeds rs ys zip moved sorted none single =
     none (sorted_strict ys sorted (λ d. subst (λ n. n ≤ 1) (count_written ts rs d zip ∙ sym (sum_by-IsPermutation (one_if d) rs ys moved)) (single d)))
 
@@ -186,7 +212,8 @@ zip_at_slice R slice xs ys e zip = subst (λ l. AllZip R l ys) e zip
 pub each_at_slice : {X : Type 0} (P : X → Type 0) (slice xs : List X) → slice ≡ xs → AllByRecursion P xs → AllByRecursion P slice
 each_at_slice P slice xs e each = subst (AllByRecursion P) (sym e) each
 
-module _ (ts : List RelationshipText) (es : List SeedEntry) (ns : List Names) (ds : List (List ℕ)) (names : AllZip SaysNames ts ns) (domains : AllZip (λ e d. SaysDomain (seed_text e) d) es ds) where
+module _ (ts : List RelationshipText) (es : List SeedEntry) (ns : List Names) (ds : List (List ℕ))
+    (names : AllZip SaysNames ts ns) (domains : AllZip (λ e d. SaysDomain (seed_text e) d) es ds) where
   pub has_names : HasNames (written ts es)
   has_names = (names_in ts ns names, domains_in es ds domains)
 
@@ -237,7 +264,9 @@ module _ (ts : List RelationshipText) (es : List SeedEntry) (ns : List Names) (d
                 are_sets = record {
                   rising_relationships = rising;
                   rising_seeds = set.rising;
-                  each_relationship = each_of_set relationship_cmp IsRelationship rs ys relationship_set (each_right SaysRelationship IsRelationship relationship_in ts rs said);
+                  each_relationship =
+                      each_of_set relationship_cmp IsRelationship rs ys relationship_set
+                      (each_right SaysRelationship IsRelationship relationship_in ts rs said);
                   each_seed = each_of_set seed_cmp IsSeed ss zs set are_seeds;
                   few_relationships = let l = length_permutation rs ys moved in let m = zip_length SaysRelationship ts rs said in omega arith;
                   few_seeds = let m = zip_length (λ e s. SaysSeed (seed_text e) s) es ss said_seeds in omega arith;
@@ -253,7 +282,9 @@ module _ (ts : List RelationshipText) (es : List SeedEntry) (ns : List Names) (d
                   seed_set = set;
                 }
 
-                pub finish : (r : Result Configuration ConfigError) → MatchResult r (λ c. (c ≡ of) × IsConfiguration c) (Fails TooMany (HasFewDomains of)) → MatchResult r (IsRead (written ts es)) (RefusesRead (written ts es))
+                pub finish : (r : Result Configuration ConfigError)
+                    → MatchResult r (λ c. (c ≡ of) × IsConfiguration c) (Fails TooMany (HasFewDomains of))
+                    → MatchResult r (IsRead (written ts es)) (RefusesRead (written ts es))
                 finish (Ok c) h = record {
                   meant = subst (IsMeant (written ts es)) (sym h.0) meant;
                   single = single;
@@ -261,4 +292,6 @@ module _ (ts : List RelationshipText) (es : List SeedEntry) (ns : List Names) (d
                   few_seeds = subst (λ n. n ≤ 4096) (sym (map_length seed_text es)) few_seeds;
                   is = h.1;
                 }
-                finish (Err e) h = exits (written ts es) TooMany (HasFewDomains of) e h (λ none. too_many (λ all. none (λ domains are. all.domains of domains meant are)))
+                finish (Err e) h =
+                    exits (written ts es) TooMany (HasFewDomains of) e h
+                    (λ none. too_many (λ all. none (λ domains are. all.domains of domains meant are)))

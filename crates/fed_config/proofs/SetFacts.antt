@@ -1,5 +1,6 @@
 -- Finite sets, kept as lists that rise strictly: a set has one such list, and a binary search finds its members.
-use Rattle.std.proofs.Common.{◌≡◌, ℕ, zero, suc, ◌<◌, ◌≤◌, ◌⊎◌, inl, inr, ⊎_elim, List, [], ◌∷◌, length, get_or, false, Some, Less, Equal, Greater, refl, sym, ap, ap₂, ◌∙◌, subst, arith, add-one}
+use Rattle.std.proofs.Common.{◌≡◌, ℕ, zero, suc, ◌<◌, ◌≤◌, ◌⊎◌, inl, inr, ⊎_elim, List, [], ◌∷◌, length, get_or, false}
+use Rattle.std.proofs.Common.{Some, Less, Equal, Greater, refl, sym, ap, ap₂, ◌∙◌, subst, arith, add-one}
 use Rattle.std.specs.Cmp.{IsTotalOrder}
 use Rattle.std.specs.Ordering.{ordering_reverse, ordering_index, is_lt}
 use Rattle.std.specs.declared.cmp.Ordering.{Ordering}
@@ -70,7 +71,8 @@ module _ {X : Type 0} {R : X → X → Ordering} (o : IsTotalOrder R) where
     | inr there ↦ there
   ]
 
-  pub rising_same : (xs ys : List X) → IsStrictlySortedBy R xs → IsStrictlySortedBy R ys → ((x : X) → Has xs x → Has ys x) → ((x : X) → Has ys x → Has xs x) → xs ≡ ys
+  pub rising_same : (xs ys : List X) → IsStrictlySortedBy R xs → IsStrictlySortedBy R ys
+      → ((x : X) → Has xs x → Has ys x) → ((x : X) → Has ys x → Has xs x) → xs ≡ ys
   unfolding IsStrictlySortedBy
   rising_same [] [] p q there back = refl
   rising_same [] (y ∷ ys) p q there back = absurd (back y (inl refl))
@@ -105,10 +107,15 @@ module _ {X K : Type 0} {R : K → K → Ordering} (o : IsTotalOrder R) (key : X
   by_key a b = R (key a) (key b)
 
   -- what is not found is no key of a member
-  pub not_found : (xs : List X) (x : K) (i : ℕ) → IsSorted by_key xs → (IsNonDecreasingBy (λ y. ordering_index (R (key y) x)) xs → IsPartitionPoint (λ y. R (key y) x ≡ Less) (λ y. R (key y) x ≡ Greater) xs i) → (y : X) → Contains xs y → key y ≡ x → ⊥
+  pub not_found : (xs : List X) (x : K) (i : ℕ) → IsSorted by_key xs
+      → (IsNonDecreasingBy (λ y. ordering_index (R (key y) x)) xs
+      → IsPartitionPoint (λ y. R (key y) x ≡ Less) (λ y. R (key y) x ≡ Greater) xs i) → (y : X) → Contains xs y
+      → key y ≡ x → ⊥
   not_found xs x i rising splits y has same =
       let split = splits (searchable_from_sorted o key xs x rising) in
-      let tied : R (key (get_or xs has.0 y)) x ≡ Equal = subst (λ z. R (key z) x ≡ Equal) (sym has.2) (subst (λ k. R (key y) k ≡ Equal) same (tied_itself o (key y))) in
+      let tied : R (key (get_or xs has.0 y)) x ≡ Equal =
+          subst (λ z. R (key z) x ≡ Equal) (sym has.2) (subst (λ k. R (key y) k ≡ Equal) same (tied_itself o (key y)))
+          in
       ⊎_elim
       (λ (before : has.0 < i). let less = split.0 has.0 y (omega arith) before in cc)
       (λ (behind : i ≤ has.0). let greater = split.1 has.0 y behind has.1 in cc)

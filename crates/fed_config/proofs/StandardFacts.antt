@@ -38,17 +38,28 @@ text_of_both = refl
 -- ---- what is written
 
 abbrev texts : Data
-texts = object (member (codes "domain") (string (codes "a")) (member (codes "endpoint") (string (codes "b")) (member (codes "profile") (string (codes "c")) (member (codes "url") (string (codes "d")) no_members))))
+texts = object (member (codes "domain") (string (codes "a"))
+    (member (codes "endpoint") (string (codes "b"))
+    (member (codes "profile") (string (codes "c")) (member (codes "url") (string (codes "d")) no_members))))
 
 pub says_texts : SaysRelationshipText texts (record { domain = codes "a"; endpoint = codes "b"; profile = codes "c"; url = codes "d" })
 says_texts = record { count = (_, refl, refl); domain = refl; endpoint = refl; profile = refl; url = refl }
 
 -- one member more
-pub more : (t : RelationshipText) → SaysRelationshipText (object (member (codes "a") (string []) (member (codes "domain") (string []) (member (codes "endpoint") (string []) (member (codes "profile") (string []) (member (codes "url") (string []) no_members)))))) t → ⊥
+pub more : (t : RelationshipText)
+    → SaysRelationshipText
+    (object (member (codes "a") (string [])
+    (member (codes "domain") (string [])
+    (member (codes "endpoint") (string [])
+    (member (codes "profile") (string []) (member (codes "url") (string []) no_members)))))) t → ⊥
 more t h = let same = h.count.1 in let five = h.count.2 in cc
 
 -- the URL is missing
-pub fewer : (t : RelationshipText) → SaysRelationshipText (object (member (codes "domain") (string []) (member (codes "endpoint") (string []) (member (codes "name") (string []) (member (codes "profile") (string []) no_members))))) t → ⊥
+pub fewer : (t : RelationshipText)
+    → SaysRelationshipText
+    (object (member (codes "domain") (string [])
+    (member (codes "endpoint") (string [])
+    (member (codes "name") (string []) (member (codes "profile") (string []) no_members))))) t → ⊥
 fewer t h = let none = h.url in cc
 
 pub no_array : (w : Written) → SaysWritten (array no_items) w → ⊥

@@ -7,7 +7,8 @@ use Rattle.url.specs.Input.{is_empty}
 use Rattle.url.proofs.InputLemmas.{is_empty_nonempty}
 use denote.Ref.{Bor}
 
-pub no_password : (password : List ℕ) (o : Option (Bor (List ℕ))) (r : Bool) → option_copied o ≡ cond (is_empty password) None (Some password) → is_some o ≡ not r → IsTrue r ↔ (password ≡ [])
+pub no_password : (password : List ℕ) (o : Option (Bor (List ℕ))) (r : Bool)
+    → option_copied o ≡ cond (is_empty password) None (Some password) → is_some o ≡ not r → IsTrue r ↔ (password ≡ [])
 no_password [] o true e is = (λ h. refl, λ h. refl)
 no_password [] None false e is = absurd (cc)
 no_password [] (Some x) false e is = absurd (cc)

@@ -30,18 +30,30 @@ pub narrower : (P Q : Type 0) (e : ConfigError) → (Q → P) → Fails Shape P 
 narrower P Q e go (inl is) = inl is
 narrower P Q e go (inr f) = inr (f.0, λ q. f.1 (go q))
 
-pub relationships_of : (tree : Data) (values : List Value) → HasArray tree (codes "relationships") (map view values) → SomeWritten tree → (ts : List RelationshipText) × AllZip (λ value t. SaysRelationshipText (view value) t) values ts
+pub relationships_of : (tree : Data) (values : List Value) → HasArray tree (codes "relationships") (map view values)
+    → SomeWritten tree → (ts : List RelationshipText)
+    × AllZip (λ value t. SaysRelationshipText (view value) t) values ts
 relationships_of tree values has h =
     let w = h.0 in let says : SaysWritten tree w = h.1 in
-    (w.relationships, zip_unmap SaysRelationshipText view values w.relationships (subst (λ l. AllZip SaysRelationshipText l w.relationships) (one_array tree (codes "relationships") says.relationships (map view values) says.has_relationships has) says.each_relationship))
+    (w.relationships, zip_unmap SaysRelationshipText view values w.relationships
+        (subst (λ l. AllZip SaysRelationshipText l w.relationships)
+        (one_array tree (codes "relationships") says.relationships (map view values) says.has_relationships has)
+        says.each_relationship))
 
-pub seeds_of : (tree : Data) (values : List Value) → HasArray tree (codes "seeds") (map view values) → SomeWritten tree → (ts : List SeedText) × AllZip (λ value t. SaysSeedText (view value) t) values ts
+pub seeds_of : (tree : Data) (values : List Value) → HasArray tree (codes "seeds") (map view values) → SomeWritten tree
+    → (ts : List SeedText) × AllZip (λ value t. SaysSeedText (view value) t) values ts
 seeds_of tree values has h =
     let w = h.0 in let says : SaysWritten tree w = h.1 in
-    (w.seeds, zip_unmap SaysSeedText view values w.seeds (subst (λ l. AllZip SaysSeedText l w.seeds) (one_array tree (codes "seeds") says.seeds (map view values) says.has_seeds has) says.each_seed))
+    (w.seeds, zip_unmap SaysSeedText view values w.seeds
+        (subst (λ l. AllZip SaysSeedText l w.seeds)
+        (one_array tree (codes "seeds") says.seeds (map view values) says.has_seeds has) says.each_seed))
 
-pub says : (tree : Data) (values others : List Value) (ts : List RelationshipText) (es : List SeedEntry) → HasCount tree 2 → HasArray tree (codes "relationships") (map view values) → HasArray tree (codes "seeds") (map view others)
-    → AllZip (λ value t. SaysRelationshipText (view value) t) values ts → AllZip (λ value e. SaysSeedText (view value) (seed_text e)) others es → SaysWritten tree (record { relationships = ts; seeds = map seed_text es })
+pub says : (tree : Data) (values others : List Value) (ts : List RelationshipText) (es : List SeedEntry)
+    → HasCount tree 2 → HasArray tree (codes "relationships") (map view values)
+    → HasArray tree (codes "seeds") (map view others)
+    → AllZip (λ value t. SaysRelationshipText (view value) t) values ts
+        → AllZip (λ value e. SaysSeedText (view value) (seed_text e)) others es
+        → SaysWritten tree (record { relationships = ts; seeds = map seed_text es })
 says tree values others ts es count has has_seeds zip zip_seeds = record {
   count = count;
   relationships = map view values;

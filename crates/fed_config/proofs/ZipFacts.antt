@@ -3,7 +3,8 @@ use Rattle.std.proofs.Common.{◌≡◌, ℕ, zero, suc, ◌+◌, ◌<◌, ◌�
 use Rattle.std.specs.List.{AllByRecursion, AllZip}
 
 module _ {X Y : Type 0} (R : X → Y → Type 0) where
-  push_suc : (xs : List X) (ys : List Y) (i : ℕ) (x : X) (y : Y) → i < length xs → x ≡ get_or xs i x → AllZip R (take i xs) ys → R x y → AllZip R (take (suc i) xs) (ys ++ y ∷ [])
+  push_suc : (xs : List X) (ys : List Y) (i : ℕ) (x : X) (y : Y) → i < length xs → x ≡ get_or xs i x
+      → AllZip R (take i xs) ys → R x y → AllZip R (take (suc i) xs) (ys ++ y ∷ [])
   push_suc [] ys i x y below at zip one = absurd (omega arith)
   push_suc (z ∷ xs) [] zero x y below at zip one = (subst (λ w. R w y) at one, tt)
   push_suc (z ∷ xs) (w ∷ ys) zero x y below at zip one = absurd zip
@@ -11,7 +12,8 @@ module _ {X Y : Type 0} (R : X → Y → Type 0) where
   push_suc (z ∷ xs) (w ∷ ys) (suc i) x y below at zip one = (zip.0, push_suc xs ys i x y (omega arith) at zip.1 one)
 
   -- one more of each
-  pub zip_more : (xs : List X) (ys : List Y) (i : ℕ) (x : X) (y : Y) → i < length xs → x ≡ get_or xs i x → AllZip R (take i xs) ys → R x y → AllZip R (take (i + 1) xs) (ys ++ y ∷ [])
+  pub zip_more : (xs : List X) (ys : List Y) (i : ℕ) (x : X) (y : Y) → i < length xs → x ≡ get_or xs i x
+      → AllZip R (take i xs) ys → R x y → AllZip R (take (i + 1) xs) (ys ++ y ∷ [])
   zip_more xs ys i x y below at zip one = subst (λ n. AllZip R (take n xs) (ys ++ y ∷ [])) (sym (add-one i)) (push_suc xs ys i x y below at zip one)
 
   -- all of them

@@ -39,10 +39,13 @@ all_push : {A : Type 0} (P : A → Type 0) (xs : List A) (y : A) → AllByRecurs
 all_push P [] y all p = (p, tt)
 all_push P (x ∷ xs) y all p = (all.0, all_push P xs y all.1 p)
 
-rising_push : {A : Type 0} (cmp : A → A → Ordering) (xs : List A) (y : A) → IsStrictlySortedBy cmp xs → ((x : A) → Has xs x → cmp x y ≡ Less) → IsStrictlySortedBy cmp (xs ++ y ∷ [])
+rising_push : {A : Type 0} (cmp : A → A → Ordering) (xs : List A) (y : A) → IsStrictlySortedBy cmp xs
+    → ((x : A) → Has xs x → cmp x y ≡ Less) → IsStrictlySortedBy cmp (xs ++ y ∷ [])
 unfolding IsStrictlySortedBy
 rising_push cmp [] y rising below = (tt, tt)
-rising_push cmp (x ∷ xs) y rising below = (all_push (λ z. cmp x z ≡ Less) xs y rising.0 (below x (inl refl)), rising_push cmp xs y rising.1 (λ z h. below z (inr h)))
+rising_push cmp (x ∷ xs) y rising below =
+    (all_push (λ z. cmp x z ≡ Less) xs y rising.0 (below x (inl refl)),
+    rising_push cmp xs y rising.1 (λ z h. below z (inr h)))
 
 -- ---- complaints of whole lines
 
@@ -54,7 +57,8 @@ none_of_rest : (texts : List (List ℕ)) (x : Complaint) → IsOfRest (only text
 none_of_rest texts x is = let more = is.more in omega arith
 
 of_line_before : (c : Configuration) (texts more : List (List ℕ)) (x : Complaint) → IsOfLine c texts x → IsOfLine c (texts ++ more) x
-of_line_before c texts more x is = record { place = is.place; number = is.number; text = is.text; stands = get_front texts more is.place is.text is.stands; refused = is.refused }
+of_line_before c texts more x is = record { place = is.place; number = is.number; text = is.text; stands =
+    get_front texts more is.place is.text is.stands; refused = is.refused }
 
 of_line_low : (c : Configuration) (texts : List (List ℕ)) (x : Complaint) → IsOfLine c texts x → x.number ≤ length texts
 of_line_low c texts x is = let low = slice_get_within texts is.place is.text is.stands in let at = is.number in omega arith
@@ -65,7 +69,8 @@ of_line_back c texts more x low is =
     record { place = is.place; number = is.number; text = is.text; stands = get_back texts more is.place is.text (omega arith) is.stands; refused = is.refused }
 
 -- the complaints of whole lines are of those lines
-pub whole_sound : (c : Configuration) (texts : List (List ℕ)) (xs : List Complaint) (x : Complaint) → AreComplaints c (only texts) xs → Contains xs x → IsOfLine c texts x
+pub whole_sound : (c : Configuration) (texts : List (List ℕ)) (xs : List Complaint) (x : Complaint)
+    → AreComplaints c (only texts) xs → Contains xs x → IsOfLine c texts x
 whole_sound c texts xs x are has = elim (are.sound x has) [ inl is ↦ is | inr rest ↦ absurd (none_of_rest texts x rest) ]
 
 -- ---- one line more
@@ -89,7 +94,8 @@ last_cases c texts text x is =
     let low = slice_get_within (texts ++ text ∷ []) is.place is.text is.stands in
     let size = length_push texts text in
     elim (below_or_last is.place (length texts) (omega arith)) [
-      | inl before ↦ inl (record { place = is.place; number = is.number; text = is.text; stands = get_back texts (text ∷ []) is.place is.text before is.stands; refused = is.refused })
+      | inl before ↦ inl (record { place = is.place; number = is.number; text = is.text; stands =
+          get_back texts (text ∷ []) is.place is.text before is.stands; refused = is.refused })
       | inr e ↦
           let here : Some is.text ≡ Some text = sym is.stands ∙ ap (slice_get (texts ++ text ∷ [])) e ∙ get_last texts text in
           let same : is.text ≡ text = cc in
@@ -101,7 +107,8 @@ last_cases c texts text x is =
     below_or_last zero (suc n) h = inl (omega arith)
     below_or_last (suc k) (suc n) h = elim (below_or_last k n (omega arith)) [ inl low ↦ inl (omega arith) | inr e ↦ inr (ap suc e) ]
 
-pub complaints_same : (c : Configuration) (texts : List (List ℕ)) (text : List ℕ) (xs : List Complaint) → AreComplaints c (only texts) xs → ((why : LineFault) → IsRefusedLine c text why → ⊥)
+pub complaints_same : (c : Configuration) (texts : List (List ℕ)) (text : List ℕ) (xs : List Complaint)
+    → AreComplaints c (only texts) xs → ((why : LineFault) → IsRefusedLine c text why → ⊥)
     → AreComplaints c (only (texts ++ text ∷ [])) xs
 complaints_same c texts text xs are none = record {
   rising = are.rising;
@@ -124,13 +131,15 @@ low_rising c texts xs why are =
     rising_push complaint_cmp xs (at_number (length texts + 1) why) are.rising
     (λ x has. let low = of_line_low c texts x (whole_sound c texts xs x are (Contains-from_has xs x has)) in cmp_less x.number (length texts + 1) (omega arith))
 
-pub complaints_more : (c : Configuration) (texts : List (List ℕ)) (text : List ℕ) (why : LineFault) (xs : List Complaint) → AreComplaints c (only texts) xs → IsRefusedLine c text why
+pub complaints_more : (c : Configuration) (texts : List (List ℕ)) (text : List ℕ) (why : LineFault)
+    (xs : List Complaint) → AreComplaints c (only texts) xs → IsRefusedLine c text why
     → AreComplaints c (only (texts ++ text ∷ [])) (xs ++ at_number (length texts + 1) why ∷ [])
 complaints_more c texts text why xs are refused = record {
   rising = low_rising c texts xs why are;
   sound = λ x has. elim (Contains-push_cases xs (at_number (length texts + 1) why) x has) [
     | inl before ↦ inl (of_line_before c texts (text ∷ []) x (whole_sound c texts xs x are before))
-    | inr e ↦ inl (subst (IsOfLine c (texts ++ text ∷ [])) e (record { place = length texts; number = refl; text = text; stands = get_last texts text; refused = refused }))
+    | inr e ↦ inl (subst (IsOfLine c (texts ++ text ∷ [])) e
+        (record { place = length texts; number = refl; text = text; stands = get_last texts text; refused = refused }))
   ];
   complete = λ x is. elim is [
     | inl of_line ↦ elim (last_cases c texts text x of_line) [
@@ -164,7 +173,8 @@ complaints_rest c texts rest xs are more = record {
 pub first_all : (c : Configuration) (lines : Lines) (xs : List Complaint) → AreComplaints c lines xs → AreFirstComplaints c lines xs
 first_all c lines xs are = record { rising = are.rising; sound = are.sound; before = λ x y has is low. are.complete y is }
 
-pub first_whole : (c : Configuration) (texts more : List (List ℕ)) (lines : Lines) (xs : List Complaint) → lines.whole ≡ texts ++ more → AreComplaints c (only texts) xs → AreFirstComplaints c lines xs
+pub first_whole : (c : Configuration) (texts more : List (List ℕ)) (lines : Lines) (xs : List Complaint)
+    → lines.whole ≡ texts ++ more → AreComplaints c (only texts) xs → AreFirstComplaints c lines xs
 first_whole c texts more lines xs e are = record {
   rising = are.rising;
   sound = λ x has. inl (subst (λ (t : List (List ℕ)). IsOfLine c t x) (sym e) (of_line_before c texts more x (whole_sound c texts xs x are has)));

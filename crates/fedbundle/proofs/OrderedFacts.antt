@@ -25,7 +25,8 @@ module _ {A : Type 0} (cmp : A → A → Ordering) (total : IsTotalOrder cmp) wh
   tail_rises x xs rising = rising.1
 
   -- the first item of the one is the first of the other, or all of the one is behind it
-  behind_first : (x : A) (xs : List A) (y : A) (ys : List A) → IsStrictlySortedBy cmp (x ∷ xs) → IsStrictlySortedBy cmp (y ∷ ys) → ((a : A) → Has (x ∷ xs) a → Has (y ∷ ys) a)
+  behind_first : (x : A) (xs : List A) (y : A) (ys : List A) → IsStrictlySortedBy cmp (x ∷ xs)
+      → IsStrictlySortedBy cmp (y ∷ ys) → ((a : A) → Has (x ∷ xs) a → Has (y ∷ ys) a)
       → Has ys x → (a : A) → Has (x ∷ xs) a → Has ys a
   behind_first x xs y ys p q within behind a has = elim (within a has) [
     | inr later ↦ later
@@ -87,14 +88,18 @@ pub one_telling : (c : Configuration) (lines : Lines) (xs ys : List Complaint) �
 one_telling c lines xs ys p q =
     same_list complaint_cmp complaint_total xs ys p.rising q.rising (λ x has. q.complete x (p.sound x has)) (λ x has. p.complete x (q.sound x has))
 
-pub first_telling : (c : Configuration) (lines : Lines) (xs ys : List Complaint) → AreFirstComplaints c lines xs → AreComplaints c lines ys → (rest : List Complaint) × (ys ≡ xs ++ rest)
+pub first_telling : (c : Configuration) (lines : Lines) (xs ys : List Complaint) → AreFirstComplaints c lines xs
+    → AreComplaints c lines ys → (rest : List Complaint) × (ys ≡ xs ++ rest)
 first_telling c lines xs ys p q =
     is_beginning complaint_cmp complaint_total xs ys p.rising q.rising
     (λ x has. Has-from_contains ys x (q.complete x (p.sound x (Contains-from_has xs x has))))
-    (λ x y has others below. Has-from_contains xs y (p.before x y (Contains-from_has xs x has) (q.sound y (Contains-from_has ys y others)) (below_number y x below)))
+    (λ x y has others below. Has-from_contains xs y
+        (p.before x y (Contains-from_has xs x has) (q.sound y (Contains-from_has ys y others))
+        (below_number y x below)))
 
 pub too_many_for_all : (c : Configuration) (texts : List (List ℕ)) (rs : List Receipt) → OverfillStore c texts → AreTaken c texts rs → 65536 < length rs
 too_many_for_all c texts rs many taken =
-    let fewer = no_longer receipt_cmp receipt_total many.some rs many.rising taken.rising (λ r has. Has-from_contains rs r (taken.complete r (many.each r (Contains-from_has many.some r has)))) in
+    let fewer = no_longer receipt_cmp receipt_total many.some rs many.rising taken.rising
+        (λ r has. Has-from_contains rs r (taken.complete r (many.each r (Contains-from_has many.some r has)))) in
     let low = many.many in
     omega (arith, fewer)

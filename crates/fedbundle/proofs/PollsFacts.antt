@@ -1,5 +1,7 @@
 -- The lines of polls, one after another, and what each tells
-use Rattle.std.proofs.Common.{◌≡◌, ℕ, ℤ, ◌+◌, ◌<◌, inl, inr, Bool, true, false, cond, List, [], ◌∷◌, ◌++◌, map, length, get_or, take, codes, Option, None, Some, refl, sym, ap, ◌∙◌, subst, append_assoc, append-nil, if◌then◌else◌, Result, Ok, Err, OnOk}
+use Rattle.std.proofs.Common.{◌≡◌, ℕ, ℤ, ◌+◌, ◌<◌, inl, inr, Bool, true, false, cond, List, [], ◌∷◌, ◌++◌, map, length}
+use Rattle.std.proofs.Common.{get_or, take, codes, Option, None, Some, refl, sym, ap, ◌∙◌, subst, append_assoc}
+use Rattle.std.proofs.Common.{append-nil, if◌then◌else◌, Result, Ok, Err, OnOk}
 use Rattle.std.specs.Result.{is_ok}
 use Rattle.std.specs.List.{AllZip, Contains, concat}
 use Rattle.std.proofs.lemmas.List.{map-append}
@@ -28,7 +30,8 @@ standing_in-some (s ∷ log) domain has = elim (contains_cases s.domain (polled_
   | inr later ↦ by_test s (standing_in log domain) (bytes_eq s.domain domain) (standing_in-some log domain later)
 ]
 
-past_after : (hint : Option ℕ) (failures : ℕ) (last : Option ℤ) (e : PollError) → IsNextAfter hint failures last (Err e) → IsNextAfter hint failures last (Err PastRange)
+past_after : (hint : Option ℕ) (failures : ℕ) (last : Option ℤ) (e : PollError) → IsNextAfter hint failures last (Err e)
+    → IsNextAfter hint failures last (Err PastRange)
 past_after hint failures None e h = cc
 past_after hint failures (Some last) e h = (refl, h.1)
 
@@ -65,8 +68,10 @@ concat_more : (ls : List (List ℕ)) (l : List ℕ) → concat ls ++ l ≡ conca
 concat_more [] l = sym (append-nil l)
 concat_more (x ∷ ls) l = append_assoc x (concat ls) l ∙ ap (λ t. x ++ t) (concat_more ls l)
 
-pub lines_more : (m : Meaning) (log : List Standing) (now : ℤ) (rs : List Relationship) (k : ℕ) (r : Relationship) (old new : List ℕ) → k < length rs → r ≡ get_or rs k r
-    → ArePollLines m log now (map (λ r. r.domain) (take k rs)) old → AddsPollLine m log now r.domain old new → ArePollLines m log now (map (λ r. r.domain) (take (k + 1) rs)) new
+pub lines_more : (m : Meaning) (log : List Standing) (now : ℤ) (rs : List Relationship) (k : ℕ) (r : Relationship)
+    (old new : List ℕ) → k < length rs → r ≡ get_or rs k r
+    → ArePollLines m log now (map (λ r. r.domain) (take k rs)) old → AddsPollLine m log now r.domain old new
+        → ArePollLines m log now (map (λ r. r.domain) (take (k + 1) rs)) new
 lines_more m log now rs k r old new low is has adds =
     let domains : map (λ (r : Relationship). r.domain) (take (k + 1) rs) ≡ map (λ (r : Relationship). r.domain) (take k rs) ++ r.domain ∷ [] =
     ap (map (λ (r : Relationship). r.domain)) (taken_more rs k r low is) ∙ map-append (λ (r : Relationship). r.domain) (take k rs) (r ∷ []) in

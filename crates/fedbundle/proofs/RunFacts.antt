@@ -1,5 +1,6 @@
 -- A run over a stream of lines.
-use Rattle.std.proofs.Common.{◌≡◌, ℕ, ◌+◌, ◌≤◌, List, [], ◌∷◌, ◌++◌, length, take, inl, inr, Bool, Option, Some, None, IfSome, flat_map, refl, sym, ap, ◌∙◌, subst, arith, append_assoc, append-nil}
+use Rattle.std.proofs.Common.{◌≡◌, ℕ, ◌+◌, ◌≤◌, List, [], ◌∷◌, ◌++◌, length, take, inl, inr, Bool, Option, Some, None}
+use Rattle.std.proofs.Common.{IfSome, flat_map, refl, sym, ap, ◌∙◌, subst, arith, append_assoc, append-nil}
 use Rattle.std.specs.Prelude.{⊤, Ok, Err}
 use Rattle.std.specs.List.Sorted.{IsStrictlySortedBy}
 use Rattle.std.specs.Io.KnownBytes.{Appends, IsAtEnd, prepend_known}
@@ -60,14 +61,17 @@ told_more a b d xs x before here =
     subst (Appends a d) (sym (flat_map-append complaint_text xs (x ∷ []) ∙ ap (λ t. flat_map complaint_text xs ++ t) (append-nil (complaint_text x))))
     (Appends-trans a b d (flat_map complaint_text xs) (complaint_text x) before here)
 
-begun_more : (a b d : Option (List ℕ)) (xs : List Complaint) (x : Complaint) → Appends a b (flat_map complaint_text xs) → AppendsBeginning b d (complaint_text x)
+begun_more : (a b d : Option (List ℕ)) (xs : List Complaint) (x : Complaint) → Appends a b (flat_map complaint_text xs)
+    → AppendsBeginning b d (complaint_text x)
     → AppendsBeginning a d (flat_map complaint_text (xs ++ x ∷ []))
 begun_more a b d xs x before (count, here) =
     let texts = flat_map complaint_text xs in
     let text = complaint_text x in
     let whole : flat_map complaint_text (xs ++ x ∷ []) ≡ texts ++ text =
     flat_map-append complaint_text xs (x ∷ []) ∙ ap (λ t. texts ++ t) (append-nil text) in
-    (length texts + count, subst (Appends a d) (sym (ap (take (length texts + count)) whole ∙ take-append-add texts text count)) (Appends-trans a b d texts (take count text) before here))
+    (length texts + count, subst (Appends a d)
+        (sym (ap (take (length texts + count)) whole ∙ take-append-add texts text count))
+        (Appends-trans a b d texts (take count text) before here))
 
 begun_all : (a b : Option (List ℕ)) (text : List ℕ) → Appends a b text → AppendsBeginning a b text
 begun_all a b text all = (length text, subst (Appends a b) (sym (take-length text)) all)
@@ -81,7 +85,8 @@ pub record SoFar (c : Configuration) (stream left : Option (List ℕ)) (m : Mean
   pub numbered : number ≡ length read
   pub judged : HasJudged c (only read) m told tells count
 
-pub so_far_none : (c : Configuration) (stream : Option (List ℕ)) (kept : List ℕ) (m : Meaning) (told : Option (List ℕ)) → kept ≡ [] → m.config ≡ c → m.held ≡ [] → m.records ≡ []
+pub so_far_none : (c : Configuration) (stream : Option (List ℕ)) (kept : List ℕ) (m : Meaning) (told : Option (List ℕ))
+    → kept ≡ [] → m.config ≡ c → m.held ≡ [] → m.records ≡ []
     → SoFar c stream (prepend_known kept stream) m told told 0 0
 so_far_none c stream kept m told empty config held records = record {
   read = [];
@@ -100,9 +105,11 @@ so_far_none c stream kept m told empty config held records = record {
 }
 
 -- the receipt of a line is held
-taken_on : (c : Configuration) (read : List (List ℕ)) (text : List ℕ) (old new : HeldAndRoom) → IsConfiguration c → old.meaning.config ≡ c → AreTaken c read old.meaning.held → length old.meaning.held ≤ 65536
+taken_on : (c : Configuration) (read : List (List ℕ)) (text : List ℕ) (old new : HeldAndRoom) → IsConfiguration c
+    → old.meaning.config ≡ c → AreTaken c read old.meaning.held → length old.meaning.held ≤ 65536
     → TakesReceiptText old text new
-    → (new.meaning.config ≡ old.meaning.config) × (new.meaning.records ≡ old.meaning.records) × AreTaken c (read ++ text ∷ []) new.meaning.held × (length new.meaning.held ≤ 65536)
+    → (new.meaning.config ≡ old.meaning.config) × (new.meaning.records ≡ old.meaning.records)
+        × AreTaken c (read ++ text ∷ []) new.meaning.held × (length new.meaning.held ≤ 65536)
     × ((why : LineFault) → IsRefusedLine c text why → ⊥)
 taken_on c read text old new valid config taken few takes = by_case takes.taken takes.took
   where
@@ -115,7 +122,9 @@ taken_on c read text old new valid config taken few takes = by_case takes.taken 
     fits_then : IsFitting old.meaning.config r → AreTaken c (read ++ text ∷ []) (with_receipt r old.meaning.held)
     fits_then fits = taken_more c read text r old.meaning.held taken takes.is (subst (λ (d : Configuration). IsFitting d r) config fits)
 
-    by_case : (t : Taken) → Took old r new t → (new.meaning.config ≡ old.meaning.config) × (new.meaning.records ≡ old.meaning.records) × AreTaken c (read ++ text ∷ []) new.meaning.held × (length new.meaning.held ≤ 65536)
+    by_case : (t : Taken) → Took old r new t → (new.meaning.config ≡ old.meaning.config)
+        × (new.meaning.records ≡ old.meaning.records) × AreTaken c (read ++ text ∷ []) new.meaning.held
+        × (length new.meaning.held ≤ 65536)
         × ((why : LineFault) → IsRefusedLine c text why → ⊥)
     by_case (TakenNew n) took =
         let size = one_longer c read r old.meaning.held taken takes.is.is took.unheld in
@@ -131,12 +140,14 @@ taken_on c read text old new valid config taken few takes = by_case takes.taken 
         let held : new.meaning.held ≡ old.meaning.held = ap (λ (s : HeldAndRoom). s.meaning.held) took.same in (
           ap (λ (s : HeldAndRoom). s.meaning.config) took.same,
           ap (λ (s : HeldAndRoom). s.meaning.records) took.same,
-          subst (AreTaken c (read ++ text ∷ [])) (held_already c read r old.meaning.held taken took.held ∙ sym held) (taken_more c read text r old.meaning.held taken takes.is fits),
+          subst (AreTaken c (read ++ text ∷ [])) (held_already c read r old.meaning.held taken took.held ∙ sym held)
+              (taken_more c read text r old.meaning.held taken takes.is fits),
           (let same = ap length held in omega arith),
           λ why refused. unrefused c text r why valid takes.is fits refused,
         )
 
-pub so_far_taken : (c : Configuration) (stream left next : Option (List ℕ)) (old new : HeldAndRoom) (told tells now : Option (List ℕ)) (number count : ℕ) (text : List ℕ)
+pub so_far_taken : (c : Configuration) (stream left next : Option (List ℕ)) (old new : HeldAndRoom)
+    (told tells now : Option (List ℕ)) (number count : ℕ) (text : List ℕ)
     → IsConfiguration c → SoFar c stream left old.meaning told tells number count → HasLine left next text → TakesReceiptText old text new → now ≡ tells
     → SoFar c stream next new.meaning told now (number + 1) count
 so_far_taken c stream left next old new told tells now number count text valid so has takes kept =
@@ -157,8 +168,10 @@ so_far_taken c stream left next old new told tells now number count text valid s
       };
     }
 
-pub so_far_told : (c : Configuration) (stream left next : Option (List ℕ)) (old new : Meaning) (told tells now : Option (List ℕ)) (number count : ℕ) (text : List ℕ) (why : LineFault)
-    → IsConfiguration c → SoFar c stream left old told tells number count → HasLine left next text → IsRefusedLine c text why → new ≡ old → Appends tells now (complaint_text (at_number (number + 1) why))
+pub so_far_told : (c : Configuration) (stream left next : Option (List ℕ)) (old new : Meaning)
+    (told tells now : Option (List ℕ)) (number count : ℕ) (text : List ℕ) (why : LineFault)
+    → IsConfiguration c → SoFar c stream left old told tells number count → HasLine left next text
+        → IsRefusedLine c text why → new ≡ old → Appends tells now (complaint_text (at_number (number + 1) why))
     → SoFar c stream next new told now (number + 1) (count + 1)
 so_far_told c stream left next old new told tells now number count text why valid so has refused same here =
     let x = at_number (length so.read + 1) why in
@@ -170,7 +183,8 @@ so_far_told c stream left next old new told tells now number count text why vali
       judged = record {
         config = ap (λ (m : Meaning). m.config) same ∙ so.judged.config;
         records = ap (λ (m : Meaning). m.records) same ∙ so.judged.records;
-        taken = subst (λ (m : Meaning). AreTaken c (so.read ++ text ∷ []) m.held) (sym same) (taken_same c so.read text old.held so.judged.taken (untaken c text why valid refused));
+        taken = subst (λ (m : Meaning). AreTaken c (so.read ++ text ∷ []) m.held) (sym same)
+            (taken_same c so.read text old.held so.judged.taken (untaken c text why valid refused));
         few = subst (λ (m : Meaning). length m.held ≤ 65536) (sym same) so.judged.few;
         complaints = so.judged.complaints ++ x ∷ [];
         all = complaints_more c so.read text why so.judged.complaints so.judged.all refused;
@@ -181,10 +195,12 @@ so_far_told c stream left next old new told tells now number count text why vali
 
 -- ---- the end
 
-judged_at : (c : Configuration) (lines other : Lines) (m : Meaning) (told tells : Option (List ℕ)) (n : ℕ) → other ≡ lines → HasJudged c lines m told tells n → HasJudged c other m told tells n
+judged_at : (c : Configuration) (lines other : Lines) (m : Meaning) (told tells : Option (List ℕ)) (n : ℕ)
+    → other ≡ lines → HasJudged c lines m told tells n → HasJudged c other m told tells n
 judged_at c lines other m told tells n e judged = subst (λ (l : Lines). HasJudged c l m told tells n) (sym e) judged
 
-pub judged_end : (c : Configuration) (stream left : Option (List ℕ)) (m : Meaning) (told tells : Option (List ℕ)) (number count : ℕ) → SoFar c stream left m told tells number count → IsAtEnd left
+pub judged_end : (c : Configuration) (stream left : Option (List ℕ)) (m : Meaning) (told tells : Option (List ℕ))
+    (number count : ℕ) → SoFar c stream left m told tells number count → IsAtEnd left
     → IfSome stream (λ bytes. HasJudged c (lines_of bytes) m told tells count)
 judged_end c None left m told tells number count so end = tt
 judged_end c (Some xs) None m told tells number count so end = absurd so.passed
@@ -198,8 +214,10 @@ rest_after xs ys read passed none =
     let rest : lines_of ys ≡ record { whole = []; rest = ys } = lines_of-rest ys none in
     passed ∙ (λ i. record { whole = read ++ (rest i).whole; rest = (rest i).rest }) ∙ (λ i. record { whole = append-nil read i; rest = ys })
 
-pub judged_rest : (c : Configuration) (stream left : Option (List ℕ)) (m : Meaning) (told tells now : Option (List ℕ)) (number count : ℕ) → SoFar c stream left m told tells number count
-    → HasNoLine left → HasMore left → Appends tells now (complaint_text (at_number (number + 1) Cut)) → IfSome stream (λ bytes. HasJudged c (lines_of bytes) m told now (count + 1))
+pub judged_rest : (c : Configuration) (stream left : Option (List ℕ)) (m : Meaning) (told tells now : Option (List ℕ))
+    (number count : ℕ) → SoFar c stream left m told tells number count
+    → HasNoLine left → HasMore left → Appends tells now (complaint_text (at_number (number + 1) Cut))
+        → IfSome stream (λ bytes. HasJudged c (lines_of bytes) m told now (count + 1))
 judged_rest c None left m told tells now number count so none more here = tt
 judged_rest c (Some xs) None m told tells now number count so none more here = absurd so.passed
 judged_rest c (Some xs) (Some ys) m told tells now number count so none more here =
@@ -221,7 +239,8 @@ judged_rest c (Some xs) (Some ys) m told tells now number count so none more her
 whole_after : (xs ys : List ℕ) (read : List (List ℕ)) → Passed (Some xs) (Some ys) read → (lines_of xs).whole ≡ read ++ (lines_of ys).whole
 whole_after xs ys read passed = ap (λ (l : Lines). l.whole) passed
 
-pub begun_so_far : (c : Configuration) (stream left : Option (List ℕ)) (m : Meaning) (told tells now : Option (List ℕ)) (number count : ℕ) → SoFar c stream left m told tells number count → now ≡ tells
+pub begun_so_far : (c : Configuration) (stream left : Option (List ℕ)) (m : Meaning) (told tells now : Option (List ℕ))
+    (number count : ℕ) → SoFar c stream left m told tells number count → now ≡ tells
     → IfSome stream (λ bytes. BeginsTelling c (lines_of bytes) told now)
 begun_so_far c None left m told tells now number count so kept = tt
 begun_so_far c (Some xs) None m told tells now number count so kept = absurd so.passed
@@ -231,44 +250,55 @@ begun_so_far c (Some xs) (Some ys) m told tells now number count so kept = recor
   begun = begun_all told now _ (subst (λ (t : Option (List ℕ)). Appends told t (flat_map complaint_text so.judged.complaints)) (sym kept) so.judged.telling);
 }
 
-pub begun_line : (c : Configuration) (stream left next : Option (List ℕ)) (m : Meaning) (told tells now : Option (List ℕ)) (number count : ℕ) (text : List ℕ) (why : LineFault)
-    → SoFar c stream left m told tells number count → HasLine left next text → IsRefusedLine c text why → AppendsBeginning tells now (complaint_text (at_number (number + 1) why))
+pub begun_line : (c : Configuration) (stream left next : Option (List ℕ)) (m : Meaning)
+    (told tells now : Option (List ℕ)) (number count : ℕ) (text : List ℕ) (why : LineFault)
+    → SoFar c stream left m told tells number count → HasLine left next text → IsRefusedLine c text why
+        → AppendsBeginning tells now (complaint_text (at_number (number + 1) why))
     → IfSome stream (λ bytes. BeginsTelling c (lines_of bytes) told now)
 begun_line c None left next m told tells now number count text why so has refused here = tt
 begun_line c (Some xs) None next m told tells now number count text why so has refused here = absurd so.passed
 begun_line c (Some xs) (Some ys) None m told tells now number count text why so has refused here = absurd has.1
 begun_line c (Some xs) (Some ys) (Some zs) m told tells now number count text why so has refused here =
     let x = at_number (length so.read + 1) why in
-    let here_at : AppendsBeginning tells now (complaint_text x) = subst (λ n. AppendsBeginning tells now (complaint_text (at_number (n + 1) why))) so.numbered here in
+    let here_at : AppendsBeginning tells now (complaint_text x) =
+        subst (λ n. AppendsBeginning tells now (complaint_text (at_number (n + 1) why))) so.numbered here in
     record {
       complaints = so.judged.complaints ++ x ∷ [];
       first = first_whole c (so.read ++ text ∷ []) (lines_of zs).whole (lines_of xs) (so.judged.complaints ++ x ∷ [])
-          (whole_after xs zs (so.read ++ text ∷ []) (passed_line (Some xs) (Some ys) (Some zs) so.read text so.passed has)) (complaints_more c so.read text why so.judged.complaints so.judged.all refused);
+          (whole_after xs zs (so.read ++ text ∷ [])
+              (passed_line (Some xs) (Some ys) (Some zs) so.read text so.passed has))
+              (complaints_more c so.read text why so.judged.complaints so.judged.all refused);
       begun = begun_more told tells now so.judged.complaints x so.judged.telling here_at;
     }
 
-pub begun_rest : (c : Configuration) (stream left : Option (List ℕ)) (m : Meaning) (told tells now : Option (List ℕ)) (number count : ℕ) → SoFar c stream left m told tells number count
-    → HasNoLine left → HasMore left → AppendsBeginning tells now (complaint_text (at_number (number + 1) Cut)) → IfSome stream (λ bytes. BeginsTelling c (lines_of bytes) told now)
+pub begun_rest : (c : Configuration) (stream left : Option (List ℕ)) (m : Meaning) (told tells now : Option (List ℕ))
+    (number count : ℕ) → SoFar c stream left m told tells number count
+    → HasNoLine left → HasMore left → AppendsBeginning tells now (complaint_text (at_number (number + 1) Cut))
+        → IfSome stream (λ bytes. BeginsTelling c (lines_of bytes) told now)
 begun_rest c None left m told tells now number count so none more here = tt
 begun_rest c (Some xs) None m told tells now number count so none more here = absurd so.passed
 begun_rest c (Some xs) (Some ys) m told tells now number count so none more here =
     let x = at_number (length so.read + 1) Cut in
-    let here_at : AppendsBeginning tells now (complaint_text x) = subst (λ n. AppendsBeginning tells now (complaint_text (at_number (n + 1) Cut))) so.numbered here in
+    let here_at : AppendsBeginning tells now (complaint_text x) =
+        subst (λ n. AppendsBeginning tells now (complaint_text (at_number (n + 1) Cut))) so.numbered here in
     subst (λ (l : Lines). BeginsTelling c l told now) (sym (rest_after xs ys so.read so.passed none)) (record {
       complaints = so.judged.complaints ++ x ∷ [];
-      first = first_all c (record { whole = so.read; rest = ys }) (so.judged.complaints ++ x ∷ []) (complaints_rest c so.read ys so.judged.complaints so.judged.all more);
+      first = first_all c (record { whole = so.read; rest = ys }) (so.judged.complaints ++ x ∷ [])
+          (complaints_rest c so.read ys so.judged.complaints so.judged.all more);
       begun = begun_more told tells now so.judged.complaints x so.judged.telling here_at;
     })
 
 pub too_many : (c : Configuration) (stream left next : Option (List ℕ)) (old : HeldAndRoom) (told tells : Option (List ℕ)) (number count : ℕ) (text : List ℕ)
-    → SoFar c stream left old.meaning told tells number count → HasLine left next text → IsTextTooMany old text → IfSome stream (λ bytes. OverfillStore c (lines_of bytes).whole)
+    → SoFar c stream left old.meaning told tells number count → HasLine left next text → IsTextTooMany old text
+        → IfSome stream (λ bytes. OverfillStore c (lines_of bytes).whole)
 too_many c None left next old told tells number count text so has full = tt
 too_many c (Some xs) None next old told tells number count text so has full = absurd so.passed
 too_many c (Some xs) (Some ys) None old told tells number count text so has full = absurd has.1
 too_many c (Some xs) (Some ys) (Some zs) old told tells number count text so has full =
     let r = full.receipt in
     let fits : IsFitting c r = subst (λ (d : Configuration). IsFitting d r) so.judged.config full.full.fits in
-    let taken : AreTaken c (so.read ++ text ∷ []) (with_receipt r old.meaning.held) = taken_more c so.read text r old.meaning.held so.judged.taken full.is fits in
+    let taken : AreTaken c (so.read ++ text ∷ []) (with_receipt r old.meaning.held) =
+        taken_more c so.read text r old.meaning.held so.judged.taken full.is fits in
     let whole = whole_after xs zs (so.read ++ text ∷ []) (passed_line (Some xs) (Some ys) (Some zs) so.read text so.passed has) in
     record {
       some = with_receipt r old.meaning.held;
@@ -279,17 +309,21 @@ too_many c (Some xs) (Some ys) (Some zs) old told tells number count text so has
 
 -- ---- the answers to a line
 
-refused_here : (c : Configuration) (stream left : Option (List ℕ)) (old : HeldAndRoom) (told tells : Option (List ℕ)) (number count : ℕ) (text : List ℕ) (why : LineFault)
+refused_here : (c : Configuration) (stream left : Option (List ℕ)) (old : HeldAndRoom) (told tells : Option (List ℕ))
+    (number count : ℕ) (text : List ℕ) (why : LineFault)
     → SoFar c stream left old.meaning told tells number count → IsRefusedLine old.meaning.config text why → IsRefusedLine c text why
 refused_here c stream left old told tells number count text why so refused = subst (λ (d : Configuration). IsRefusedLine d text why) so.judged.config refused
 
-pub so_far_text : (c : Configuration) (stream left next : Option (List ℕ)) (old new : HeldAndRoom) (told tells now : Option (List ℕ)) (number count : ℕ) (text : List ℕ) (failed : Bool) (n : ℕ)
-    → IsConfiguration c → SoFar c stream left old.meaning told tells number count → HasLine left next text → TriesText old text (number + 1) new tells now failed (Ok n)
+pub so_far_text : (c : Configuration) (stream left next : Option (List ℕ)) (old new : HeldAndRoom)
+    (told tells now : Option (List ℕ)) (number count : ℕ) (text : List ℕ) (failed : Bool) (n : ℕ)
+    → IsConfiguration c → SoFar c stream left old.meaning told tells number count → HasLine left next text
+        → TriesText old text (number + 1) new tells now failed (Ok n)
     → SoFar c stream next new.meaning told now (number + 1) (count + n)
 so_far_text c stream left next old new told tells now number count text failed n valid so has tried = elim tried [
   | inl (takes, kept, none) ↦
       let same : count ≡ count + n = omega arith in
-      subst (SoFar c stream next new.meaning told now (number + 1)) same (so_far_taken c stream left next old new told tells now number count text valid so has takes kept)
+      subst (SoFar c stream next new.meaning told now (number + 1)) same
+          (so_far_taken c stream left next old new told tells now number count text valid so has takes kept)
   | inr (tellings, one) ↦
       let same : count + 1 ≡ count + n = omega arith in
       subst (SoFar c stream next new.meaning told now (number + 1)) same
@@ -297,16 +331,20 @@ so_far_text c stream left next old new told tells now number count text failed n
       (refused_here c stream left old told tells number count text tellings.why so tellings.refuses.refused) tellings.refuses.same tellings.now)
 ]
 
-pub at_most_one : (old new : HeldAndRoom) (text : List ℕ) (number : ℕ) (tells now : Option (List ℕ)) (failed : Bool) (n : ℕ) → TriesText old text number new tells now failed (Ok n) → n ≤ 1
+pub at_most_one : (old new : HeldAndRoom) (text : List ℕ) (number : ℕ) (tells now : Option (List ℕ)) (failed : Bool)
+    (n : ℕ) → TriesText old text number new tells now failed (Ok n) → n ≤ 1
 at_most_one old new text number tells now failed n tried = elim tried [ inl (takes, kept, none) ↦ omega arith | inr (tellings, one) ↦ omega arith ]
 
-pub stops_line : (c : Configuration) (stream told tells : Option (List ℕ)) (e : DeviceError) → IfSome stream (λ bytes. BeginsTelling c (lines_of bytes) told tells)
+pub stops_line : (c : Configuration) (stream told tells : Option (List ℕ)) (e : DeviceError)
+    → IfSome stream (λ bytes. BeginsTelling c (lines_of bytes) told tells)
     → IfSome stream (λ bytes. StopsJudging c (lines_of bytes) told tells (of_line e))
 stops_line c None told tells e begins = tt
 stops_line c (Some xs) told tells SourceFailed begins = begins
 stops_line c (Some xs) told tells NoMemoryForLine begins = begins
 
-full_too : (c : Configuration) (stream told tells : Option (List ℕ)) → IfSome stream (λ bytes. OverfillStore c (lines_of bytes).whole) → IfSome stream (λ bytes. BeginsTelling c (lines_of bytes) told tells)
+full_too : (c : Configuration) (stream told tells : Option (List ℕ))
+    → IfSome stream (λ bytes. OverfillStore c (lines_of bytes).whole)
+    → IfSome stream (λ bytes. BeginsTelling c (lines_of bytes) told tells)
     → IfSome stream (λ bytes. StopsJudging c (lines_of bytes) told tells Full)
 full_too c None told tells many begins = tt
 full_too c (Some xs) told tells many begins = (many, begins)
@@ -316,16 +354,20 @@ pub stops_io : (c : Configuration) (stream told tells : Option (List ℕ)) → I
 stops_io c None told tells begins = tt
 stops_io c (Some xs) told tells begins = begins
 
-pub stops_text : (c : Configuration) (stream left next : Option (List ℕ)) (old new : HeldAndRoom) (told tells now : Option (List ℕ)) (number count : ℕ) (text : List ℕ) (failed : Bool) (e : RunError)
+pub stops_text : (c : Configuration) (stream left next : Option (List ℕ)) (old new : HeldAndRoom)
+    (told tells now : Option (List ℕ)) (number count : ℕ) (text : List ℕ) (failed : Bool) (e : RunError)
     → SoFar c stream left old.meaning told tells number count → HasLine left next text → TriesText old text (number + 1) new tells now failed (Err e)
     → IfSome stream (λ bytes. StopsJudging c (lines_of bytes) told now e)
 stops_text c stream left next old new told tells now number count text failed Full so has (full, kept) =
-    full_too c stream told now (too_many c stream left next old told tells number count text so has full) (begun_so_far c stream left old.meaning told tells now number count so kept)
+    full_too c stream told now (too_many c stream left next old told tells number count text so has full)
+        (begun_so_far c stream left old.meaning told tells now number count so kept)
 stops_text c None left next old new told tells now number count text failed NoMemory so has kept = tt
-stops_text c (Some xs) left next old new told tells now number count text failed NoMemory so has kept = begun_so_far c (Some xs) left old.meaning told tells now number count so kept
+stops_text c (Some xs) left next old new told tells now number count text failed NoMemory so has kept =
+    begun_so_far c (Some xs) left old.meaning told tells now number count so kept
 stops_text c stream left next old new told tells now number count text failed Io so has (broken, begins) =
     stops_io c stream told now
-    (begun_line c stream left next old.meaning told tells now number count text begins.why so has (refused_here c stream left old told tells number count text begins.why so begins.refused) begins.begun)
+    (begun_line c stream left next old.meaning told tells now number count text begins.why so has
+        (refused_here c stream left old told tells number count text begins.why so begins.refused) begins.begun)
 
 -- ---- the whole run
 
@@ -347,18 +389,23 @@ end_of (x ∷ kept) None end = tt
 end_of [] (Some xs) end = end
 end_of (x ∷ kept) (Some xs) end = absurd (cc)
 
-pub begun_judged : (c : Configuration) (lines : Lines) (m : Meaning) (told tells : Option (List ℕ)) (n : ℕ) → HasJudged c lines m told tells n → BeginsTelling c lines told tells
-begun_judged c lines m told tells n judged = record { complaints = judged.complaints; first = first_all c lines judged.complaints judged.all; begun = begun_all told tells _ judged.telling }
+pub begun_judged : (c : Configuration) (lines : Lines) (m : Meaning) (told tells : Option (List ℕ)) (n : ℕ)
+    → HasJudged c lines m told tells n → BeginsTelling c lines told tells
+begun_judged c lines m told tells n judged =
+    record { complaints = judged.complaints; first = first_all c lines judged.complaints judged.all; begun =
+    begun_all told tells _ judged.telling }
 
 meaning_is : (c : Configuration) (m : Meaning) → m.config ≡ c → m.records ≡ [] → m ≡ meaning_of_receipts c m.held
 meaning_is c m config records = λ i. record { config = config i; held = m.held; records = records i }
 
-pub told_whole : (c : Configuration) (stream : Option (List ℕ)) (m : Meaning) (told tells : Option (List ℕ)) (n : ℕ) → IfSome stream (λ bytes. HasJudged c (lines_of bytes) m told tells n)
+pub told_whole : (c : Configuration) (stream : Option (List ℕ)) (m : Meaning) (told tells : Option (List ℕ)) (n : ℕ)
+    → IfSome stream (λ bytes. HasJudged c (lines_of bytes) m told tells n)
     → IfSome stream (λ bytes. BeginsTelling c (lines_of bytes) told tells)
 told_whole c None m told tells n judged = tt
 told_whole c (Some xs) m told tells n judged = begun_judged c (lines_of xs) m told tells n judged
 
-pub reporting : (c : Configuration) (stream : Option (List ℕ)) (m : Meaning) (told tells held holds : Option (List ℕ)) (n : ℕ) → IfSome stream (λ bytes. HasJudged c (lines_of bytes) m told tells n)
+pub reporting : (c : Configuration) (stream : Option (List ℕ)) (m : Meaning) (told tells held holds : Option (List ℕ))
+    (n : ℕ) → IfSome stream (λ bytes. HasJudged c (lines_of bytes) m told tells n)
     → BeginsReport m held holds → IfSome stream (λ bytes. BeginsReporting c (lines_of bytes) held holds)
 reporting c None m told tells held holds n judged begins = tt
 reporting c (Some xs) m told tells held holds n judged begins = record {
@@ -367,7 +414,8 @@ reporting c (Some xs) m told tells held holds n judged begins = record {
   begun = subst (λ (z : Meaning). BeginsReport z held holds) (meaning_is c m judged.config judged.records) begins;
 }
 
-pub reported : (c : Configuration) (stream : Option (List ℕ)) (m : Meaning) (told tells held holds : Option (List ℕ)) (n : ℕ) → IfSome stream (λ bytes. HasJudged c (lines_of bytes) m told tells n)
+pub reported : (c : Configuration) (stream : Option (List ℕ)) (m : Meaning) (told tells held holds : Option (List ℕ))
+    (n : ℕ) → IfSome stream (λ bytes. HasJudged c (lines_of bytes) m told tells n)
     → WritesReport m held holds → IfSome stream (λ bytes. Reports c (lines_of bytes) held holds told tells n)
 reported c None m told tells held holds n judged writes = tt
 reported c (Some xs) m told tells held holds n judged writes = record {

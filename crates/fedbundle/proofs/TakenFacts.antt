@@ -40,9 +40,11 @@ either_below cmp (x ∷ xs) a b rising p q = elim p [
   ]
 ]
 
-one_relationship : (c : Configuration) (a b : Relationship) → IsConfiguration c → Contains c.relationships a → Contains c.relationships b → a.domain ≡ b.domain → a ≡ b
+one_relationship : (c : Configuration) (a b : Relationship) → IsConfiguration c → Contains c.relationships a
+    → Contains c.relationships b → a.domain ≡ b.domain → a ≡ b
 one_relationship c a b is p q same =
-    elim (either_below relationship_cmp c.relationships a b is.rising_relationships (Has-from_contains c.relationships a p) (Has-from_contains c.relationships b q)) [
+    elim (either_below relationship_cmp c.relationships a b is.rising_relationships
+        (Has-from_contains c.relationships a p) (Has-from_contains c.relationships b q)) [
       | inl e ↦ e
       | inr apart ↦ elim apart [
         | inl below ↦ absurd (not_below_itself nat_list_cmp_total a.domain (subst (λ d. slice_cmp nat_cmp a.domain d ≡ Less) (sym same) below))
@@ -52,7 +54,8 @@ one_relationship c a b is p q same =
 
 -- ---- what is refused is not taken
 
-pub untaken : (c : Configuration) (text : List ℕ) (why : LineFault) → IsConfiguration c → IsRefusedLine c text why → (r : Receipt) → IsReceipt r → IsFitting c r → text ≡ line r → ⊥
+pub untaken : (c : Configuration) (text : List ℕ) (why : LineFault) → IsConfiguration c → IsRefusedLine c text why
+    → (r : Receipt) → IsReceipt r → IsFitting c r → text ≡ line r → ⊥
 untaken c text NotCanonical is refused r receipt fits e = refused.1 r (record { is = receipt; text = e })
 untaken c text TooLong is refused r receipt fits e = let same = ap length e in omega (arith, length-line r receipt)
 untaken c text UnknownDomain is (s, read, unknown) r receipt fits e =
@@ -94,7 +97,8 @@ one_cause c text UnknownDomain Cut p q = absurd q
 one_cause c text WrongEndpoint Cut p q = absurd q
 
 -- a refused line isn't that of a receipt that fits
-pub unrefused : (c : Configuration) (text : List ℕ) (r : Receipt) (why : LineFault) → IsConfiguration c → IsLine text r → IsFitting c r → IsRefusedLine c text why → ⊥
+pub unrefused : (c : Configuration) (text : List ℕ) (r : Receipt) (why : LineFault) → IsConfiguration c → IsLine text r
+    → IsFitting c r → IsRefusedLine c text why → ⊥
 unrefused c text r why is read fits refused = untaken c text why is refused r read.is fits read.text
 
 -- ---- one line more
@@ -130,14 +134,17 @@ sets = AreSets-from_total IsReceipt receipt_cmp receipt_total one_receipt
 pub all_receipts : (c : Configuration) (texts : List (List ℕ)) (receipts : List Receipt) → AreTaken c texts receipts → AllByRecursion IsReceipt receipts
 all_receipts c texts receipts taken = all_from_has IsReceipt receipts (λ r has. (taken.sound r (Contains-from_has receipts r has)).is)
 
-pub taken_more : (c : Configuration) (texts : List (List ℕ)) (text : List ℕ) (r : Receipt) (receipts : List Receipt) → AreTaken c texts receipts → IsLine text r → IsFitting c r
+pub taken_more : (c : Configuration) (texts : List (List ℕ)) (text : List ℕ) (r : Receipt) (receipts : List Receipt)
+    → AreTaken c texts receipts → IsLine text r → IsFitting c r
     → AreTaken c (texts ++ text ∷ []) (with_receipt r receipts)
 taken_more c texts text r receipts taken read fits =
     let all = all_receipts c texts receipts taken in
     record {
       rising = sets.rises r receipts taken.rising;
       sound = λ s has. elim ((sets.members r s receipts read.is all).0 has) [
-        | inl e ↦ subst (IsTaken c (texts ++ text ∷ [])) e (record { is = read.is; fits = fits; stands = subst (Contains (texts ++ text ∷ [])) read.text (Contains-push texts text) })
+        | inl e ↦ subst (IsTaken c (texts ++ text ∷ [])) e
+            (record { is = read.is; fits = fits; stands =
+            subst (Contains (texts ++ text ∷ [])) read.text (Contains-push texts text) })
         | inr before ↦ taken_before c texts (text ∷ []) s (taken.sound s before)
       ];
       complete = λ s is. (sets.members r s receipts read.is all).1 (elim (Contains-push_cases texts text (line s) is.stands) [
@@ -146,9 +153,11 @@ taken_more c texts text r receipts taken read fits =
       ]);
     }
 
-pub held_already : (c : Configuration) (texts : List (List ℕ)) (r : Receipt) (receipts : List Receipt) → AreTaken c texts receipts → Contains receipts r → with_receipt r receipts ≡ receipts
+pub held_already : (c : Configuration) (texts : List (List ℕ)) (r : Receipt) (receipts : List Receipt)
+    → AreTaken c texts receipts → Contains receipts r → with_receipt r receipts ≡ receipts
 held_already c texts r receipts taken has = sets.present r receipts taken.rising has
 
-pub one_longer : (c : Configuration) (texts : List (List ℕ)) (r : Receipt) (receipts : List Receipt) → AreTaken c texts receipts → IsReceipt r → (Contains receipts r → ⊥)
+pub one_longer : (c : Configuration) (texts : List (List ℕ)) (r : Receipt) (receipts : List Receipt)
+    → AreTaken c texts receipts → IsReceipt r → (Contains receipts r → ⊥)
     → length (with_receipt r receipts) ≡ length receipts + 1
 one_longer c texts r receipts taken is unheld = sets.longer r receipts is (all_receipts c texts receipts taken) unheld

@@ -1,5 +1,7 @@
 -- Building the command, and what it takes out of words
-use Rattle.std.proofs.Common.{rules, ◌≡◌, ℕ, ◌+◌, ◌<◌, Bool, true, false, ◌&&◌, not, List, [], ◌∷◌, ◌++◌, map, length, get_or, drop, drop-cons, add-one, fold, Option, Some, None, option_map, unwrap_or, refl, sym, ap, ◌∙◌, append_assoc}
+use Rattle.std.proofs.Common.{rules, ◌≡◌, ℕ, ◌+◌, ◌<◌, Bool, true, false, ◌&&◌, not, List, [], ◌∷◌, ◌++◌, map, length}
+use Rattle.std.proofs.Common.{get_or, drop, drop-cons, add-one, fold, Option, Some, None, option_map, unwrap_or, refl}
+use Rattle.std.proofs.Common.{sym, ap, ◌∙◌, append_assoc}
 use Rattle.std.proofs.lemmas.List.{map-append}
 use Rattle.clap.specs.Words.{Row, Text, is_simple}
 use Rattle.fedbundle.specs.declared.command_name.CommandName.{CommandName}
@@ -9,10 +11,12 @@ use Rattle.fedbundle.specs.Words.{leaf, the_command}
 next_at : {X : Type 0} (xs : List X) (k : ℕ) (x : X) → k < length xs → x ≡ get_or xs k x → drop k xs ≡ x ∷ drop (k + 1) xs
 next_at xs k x low is = drop-cons xs k x low ∙ (λ i. sym is i ∷ drop (sym (add-one k) i) xs)
 
-pub fold_more : {X Y : Type 0} (f : Y → X → Y) (xs : List X) (k : ℕ) (x : X) → k < length xs → x ≡ get_or xs k x → (o n : Y) → n ≡ f o x → fold f n (drop (k + 1) xs) ≡ fold f o (drop k xs)
+pub fold_more : {X Y : Type 0} (f : Y → X → Y) (xs : List X) (k : ℕ) (x : X) → k < length xs → x ≡ get_or xs k x
+    → (o n : Y) → n ≡ f o x → fold f n (drop (k + 1) xs) ≡ fold f o (drop k xs)
 fold_more f xs k x low is o n e = ap (λ y. fold f y (drop (k + 1) xs)) e ∙ ap (fold f o) (sym (next_at xs k x low is))
 
-pub texts_more : {X : Type 0} (g : X → Option Text) (xs : List X) (k : ℕ) (x : X) → k < length xs → x ≡ get_or xs k x → (o n : List Text) (t : Text) → n ≡ o ++ t ∷ [] → g x ≡ Some t
+pub texts_more : {X : Type 0} (g : X → Option Text) (xs : List X) (k : ℕ) (x : X) → k < length xs → x ≡ get_or xs k x
+    → (o n : List Text) (t : Text) → n ≡ o ++ t ∷ [] → g x ≡ Some t
     → map Some n ++ map g (drop (k + 1) xs) ≡ map Some o ++ map g (drop k xs)
 texts_more g xs k x low is o n t e found =
     ap (λ ts. map Some ts ++ map g (drop (k + 1) xs)) e ∙ ap (λ ts. ts ++ map g (drop (k + 1) xs)) (map-append Some o (t ∷ []))

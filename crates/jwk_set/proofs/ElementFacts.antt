@@ -45,7 +45,8 @@ roles : codes "x509-svid" ≡ codes "jwt-svid" → ⊥
 roles same = cc
 
 pub one_authority : (element : Data) (a b : Authority) → IsElement element a → IsElement element b → a ≡ b
-one_authority element (X509 key der) (X509 other cert) p q = ap₂ X509 (one_key element key other p.1 q.1) (one_certificate element der cert p.2 q.2 p.3.1.bytes q.3.1.bytes)
+one_authority element (X509 key der) (X509 other cert) p q =
+    ap₂ X509 (one_key element key other p.1 q.1) (one_certificate element der cert p.2 q.2 p.3.1.bytes q.3.1.bytes)
 one_authority element (X509 key der) (Jwt kid other) p q = absurd (roles (one_text element (codes "use") (codes "x509-svid") (codes "jwt-svid") p.0 q.0))
 one_authority element (Jwt kid key) (X509 other der) p q = absurd (roles (one_text element (codes "use") (codes "x509-svid") (codes "jwt-svid") q.0 p.0))
 one_authority element (Jwt kid key) (Jwt name other) p q = ap₂ Jwt (one_text element (codes "kid") kid name p.2 q.2) (one_key element key other p.1 q.1)

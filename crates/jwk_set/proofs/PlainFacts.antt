@@ -1,5 +1,6 @@
 -- The compact text of a plain value is read as that value.
-use Rattle.std.proofs.Common.{◌≡◌, ℕ, suc, ◌≤◌, List, [], ◌∷◌, Bool, true, false, max, Some, option_map, option_and_then, Greater, refl, sym, ap, ap₂, ◌∙◌, append-nil}
+use Rattle.std.proofs.Common.{◌≡◌, ℕ, suc, ◌≤◌, List, [], ◌∷◌, Bool, true, false, max, Some, option_map}
+use Rattle.std.proofs.Common.{option_and_then, Greater, refl, sym, ap, ap₂, ◌∙◌, append-nil}
 use Rattle.std.specs.Prelude.{⊤}
 use Rattle.std.specs.Ordering.{nat_cmp, ordering_reverse}
 use Rattle.std.specs.Cmp.Lexicographic.{slice_cmp}
@@ -14,9 +15,11 @@ use Rattle.json.proofs.Printed.Tokens.{tokens-print}
 use Rattle.json.proofs.Printed.Trees.{value-json_tokens, ArePrintable-json_tokens}
 use Rattle.json.proofs.Printed.Decimals.{IsNumber-decimal}
 use Rattle.json.proofs.Printed.Utf8.{are_ascii, IsUtf8-are_ascii, IsUtf8-quoted, IsUtf8-boolean}
-use Rattle.serde_json.specs.Data.{unsigned, negative, float, Data, null, boolean, number, string, array, object, Items, no_items, item, Members, no_members, member, put, depth, items_depth, members_depth}
+use Rattle.serde_json.specs.Data.{unsigned, negative, float, Data, null, boolean, number, string, array, object, Items}
+use Rattle.serde_json.specs.Data.{no_items, item, Members, no_members, member, put, depth, items_depth, members_depth}
 use Rattle.serde_json.specs.Read.{read, of_json, of_items, of_members, max_depth}
-use Rattle.serde_json.specs.Written.{outline, items_outline, members_outline, compact_text, items_text, members_text, comma_if, has_float, items_have_float, members_have_float}
+use Rattle.serde_json.specs.Written.{outline, items_outline, members_outline, compact_text, items_text, members_text}
+use Rattle.serde_json.specs.Written.{comma_if, has_float, items_have_float, members_have_float}
 use Rattle.serde_json.proofs.Texts.{print-outline}
 use Rattle.serde_json.proofs.Numbers.{number_of-decimal}
 use Rattle.jwk_set.specs.Json.{IsJson, IsBelowNames, IsPlain, ArePlain, HasPlainMembers}
@@ -86,7 +89,8 @@ join_one : (found : Members) (k : List ℕ) (d : Data) (ms : Members) → join (
 join_one no_members k d ms = refl
 join_one (member l e found) k d ms = ap (member l e) (join_one found k d ms)
 
-Apart_one : (found : Members) (k : List ℕ) (d : Data) (ms : Members) → Apart found (member k d ms) → IsBelowNames k ms → Apart (join found (member k d no_members)) ms
+Apart_one : (found : Members) (k : List ℕ) (d : Data) (ms : Members) → Apart found (member k d ms) → IsBelowNames k ms
+    → Apart (join found (member k d no_members)) ms
 Apart_one no_members k d ms h below = (below, tt)
 Apart_one (member l e found) k d ms h below = (h.0.1, Apart_one found k d ms h.1 below)
 

@@ -72,7 +72,8 @@ base64_of_abc = refl
 -- an RSA key with a certificate, beside a member that counts for nothing
 abbrev rsa_element : Data
 rsa_element =
-    element ((codes "kty", codes "RSA") ∷ (codes "alg", codes "RS256") ∷ (codes "n", codes "AQAB") ∷ (codes "use", codes "x509-svid") ∷ (codes "e", codes "AQAB") ∷ []) (chain (codes "YWJj"))
+    element ((codes "kty", codes "RSA") ∷ (codes "alg", codes "RS256") ∷ (codes "n", codes "AQAB") ∷
+        (codes "use", codes "x509-svid") ∷ (codes "e", codes "AQAB") ∷ []) (chain (codes "YWJj"))
 
 pub rsa_certificate : IsElement rsa_element (X509 (Rsa (codes "AQAB") (codes "AQAB")) (codes "abc"))
 unfolding base64_on_literals
@@ -81,17 +82,23 @@ rsa_certificate = (refl, (refl, refl, refl), refl, ((exponent, exponent), abc))
 -- RFC 7517, appendix A.1: the members of its elliptic curve key, as a JWT authority
 abbrev ec_texts : List ℕ → List (List ℕ × List ℕ)
 ec_texts kty =
-    (codes "kty", kty) ∷ (codes "crv", codes "P-256") ∷ (codes "x", codes "MKBCTNIcKUSDii11ySs3526iDZ8AiTo7Tu6KPAqv7D4") ∷ (codes "y", codes "4Etl6SRW2YiLUrN5vfvVHuhp7x8PxltmWWlbbM4IFyM") ∷ (codes "use", codes "jwt-svid") ∷ []
+    (codes "kty", kty) ∷ (codes "crv", codes "P-256") ∷ (codes "x", codes "MKBCTNIcKUSDii11ySs3526iDZ8AiTo7Tu6KPAqv7D4")
+        ∷ (codes "y", codes "4Etl6SRW2YiLUrN5vfvVHuhp7x8PxltmWWlbbM4IFyM") ∷ (codes "use", codes "jwt-svid") ∷ []
 
 pub ec_key : IsElement (element ((codes "kid", codes "1") ∷ ec_texts (codes "EC")) no_members)
     (Jwt (codes "1") (Ec (codes "P-256") (codes "MKBCTNIcKUSDii11ySs3526iDZ8AiTo7Tu6KPAqv7D4") (codes "4Etl6SRW2YiLUrN5vfvVHuhp7x8PxltmWWlbbM4IFyM")))
-ec_key = (refl, (refl, refl, refl, refl), refl, (record { some = λ e. cc; utf8 = IsUtf8-are_ascii (codes "1") refl }, (curve, url_text _ (λ e. cc) refl (λ e. cc), url_text _ (λ e. cc) refl (λ e. cc))))
+ec_key = (refl, (refl, refl, refl, refl), refl,
+    (record { some = λ e. cc; utf8 = IsUtf8-are_ascii (codes "1") refl },
+    (curve, url_text _ (λ e. cc) refl (λ e. cc), url_text _ (λ e. cc) refl (λ e. cc))))
 
 -- ---- elements that say nothing
 
 -- RFC 8037, appendix A.2: a key of another type
 abbrev okp_element : Data
-okp_element = element ((codes "kty", codes "OKP") ∷ (codes "crv", codes "Ed25519") ∷ (codes "x", codes "11qYAYKxCrfVS_7TyWQHOg7hcvPapiMlrwIaaPcHURo") ∷ (codes "use", codes "x509-svid") ∷ []) (chain (codes "YWJj"))
+okp_element =
+    element ((codes "kty", codes "OKP") ∷ (codes "crv", codes "Ed25519") ∷
+    (codes "x", codes "11qYAYKxCrfVS_7TyWQHOg7hcvPapiMlrwIaaPcHURo") ∷ (codes "use", codes "x509-svid") ∷ [])
+    (chain (codes "YWJj"))
 
 pub another_type : (a : Authority) → IsElement okp_element a → ⊥
 another_type (X509 (Rsa n e) der) h = let kty = h.1.0 in cc
@@ -104,7 +111,9 @@ no_key_id (X509 key der) h = let role = h.0 in cc
 no_key_id (Jwt kid key) h = let named = h.2 in cc
 
 pub two_certificates : (a : Authority)
-    → IsElement (element ((codes "use", codes "x509-svid") ∷ []) (member (codes "x5c") (array (item (string (codes "YWJj")) (item (string (codes "YWJj")) no_items))) no_members)) a → ⊥
+    → IsElement (element ((codes "use", codes "x509-svid") ∷ [])
+        (member (codes "x5c") (array (item (string (codes "YWJj")) (item (string (codes "YWJj")) no_items)))
+        no_members)) a → ⊥
 two_certificates (X509 key der) h = let certificate = h.2 in cc
 two_certificates (Jwt kid key) h = let role = h.0 in cc
 
@@ -117,10 +126,12 @@ no_object (Jwt kid key) h = let role = h.0 in cc
 pub jwt_has_no_key_id : key_id_of (Jwt (codes "k") (Rsa (codes "AQAB") (codes "AQAB"))) ≡ None
 jwt_has_no_key_id = refl
 
-pub text_of_rsa : element_text (X509 (Rsa (codes "AQAB") (codes "Ag")) (codes "abc")) ≡ codes "{\"e\":\"Ag\",\"kty\":\"RSA\",\"n\":\"AQAB\",\"use\":\"x509-svid\",\"x5c\":[\"YWJj\"]}"
+pub text_of_rsa : element_text (X509 (Rsa (codes "AQAB") (codes "Ag")) (codes "abc"))
+    ≡ codes "{\"e\":\"Ag\",\"kty\":\"RSA\",\"n\":\"AQAB\",\"use\":\"x509-svid\",\"x5c\":[\"YWJj\"]}"
 unfolding base64_on_literals escape_byte
 text_of_rsa = refl
 
-pub text_of_ec : element_text (Jwt (codes "k\"") (Ec (codes "P-256") (codes "AQ") (codes "Ag"))) ≡ codes "{\"crv\":\"P-256\",\"kid\":\"k\\\"\",\"kty\":\"EC\",\"use\":\"jwt-svid\",\"x\":\"AQ\",\"y\":\"Ag\"}"
+pub text_of_ec : element_text
+    (Jwt (codes "k\"") (Ec (codes "P-256") (codes "AQ") (codes "Ag"))) ≡ codes "{\"crv\":\"P-256\",\"kid\":\"k\\\"\",\"kty\":\"EC\",\"use\":\"jwt-svid\",\"x\":\"AQ\",\"y\":\"Ag\"}"
 unfolding escape_byte
 text_of_ec = refl

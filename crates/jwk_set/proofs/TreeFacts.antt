@@ -28,6 +28,7 @@ tokens-tree_of (X509 (Ec crv x y) der) = refl
 tokens-tree_of (Jwt kid (Rsa n e)) = refl
 tokens-tree_of (Jwt kid (Ec crv x y)) = refl
 
-pub print-text_of : (a : Authority) (opened new : Written) → opened.before ≡ [] → opened.tokens ≡ begin_object ∷ [] → AppendsTokens opened new (member_tokens a) → new.before ++ print new.tokens ≡ element_text a
+pub print-text_of : (a : Authority) (opened new : Written) → opened.before ≡ [] → opened.tokens ≡ begin_object ∷ []
+    → AppendsTokens opened new (member_tokens a) → new.before ++ print new.tokens ≡ element_text a
 print-text_of a opened new empty begun adds =
     ap₂ (λ b ts. b ++ print ts) (adds.before ∙ empty) (adds.tokens ∙ ap (λ ts. ts ++ member_tokens a) begun ∙ tokens-tree_of a) ∙ print-outline (tree_of a)

@@ -46,7 +46,8 @@ pub record IsArrowOf {A : Type 0} (of : Spot A → List A) (node : ℕ) (spots :
   pub node_is : arrow.node ≡ node + place
   pub label_is : arrow.label ≡ Some label
 
-pub arrow-cases : {A : Type 0} (of : Spot A → List A) (node : ℕ) (spots : List (Spot A)) (arrow : Arrow A) → Contains (arrows_from of node spots) arrow → IsArrowOf of node spots arrow
+pub arrow-cases : {A : Type 0} (of : Spot A → List A) (node : ℕ) (spots : List (Spot A)) (arrow : Arrow A)
+    → Contains (arrows_from of node spots) arrow → IsArrowOf of node spots arrow
 arrow-cases of node [] arrow c = absurd (omega (arith, c.1))
 arrow-cases {A = A} of node (spot ∷ spots) arrow c =
     elim (Contains-append_cases (map (arrow_at node) (of spot)) (arrows_from of (node + 1) spots) arrow c) [
@@ -74,7 +75,9 @@ arrow-cases {A = A} of node (spot ∷ spots) arrow c =
           }
     ]
 
-pub arrow-has : {A : Type 0} (of : Spot A → List A) (node : ℕ) (spots : List (Spot A)) (place : ℕ) (spot : Spot A) (label : A) → slice_get spots place ≡ Some spot → Contains (of spot) label → Contains (arrows_from of node spots) (arrow_at (node + place) label)
+pub arrow-has : {A : Type 0} (of : Spot A → List A) (node : ℕ) (spots : List (Spot A)) (place : ℕ) (spot : Spot A)
+    (label : A) → slice_get spots place ≡ Some spot → Contains (of spot) label
+    → Contains (arrows_from of node spots) (arrow_at (node + place) label)
 arrow-has of node [] place spot label at has = absurd (omega (arith, slice_get_within [] place spot at))
 arrow-has {A = A} of node (other ∷ spots) zero spot label at has =
     let same : other ≡ spot = same_Some other spot at in
@@ -89,11 +92,15 @@ arrow-has of node (other ∷ spots) (suc place) spot label at has =
 
 -- one more spot
 
-pub arrows-push : {A : Type 0} (of : Spot A → List A) (node : ℕ) (spots : List (Spot A)) (spot : Spot A) → arrows_from of node (spots ++ spot ∷ []) ≡ arrows_from of node spots ++ map (arrow_at (node + length spots)) (of spot)
+pub arrows-push : {A : Type 0} (of : Spot A → List A) (node : ℕ) (spots : List (Spot A)) (spot : Spot A)
+    → arrows_from of node (spots ++ spot ∷ []) ≡ arrows_from of node spots ++ map (arrow_at (node + length spots))
+    (of spot)
 arrows-push of node [] spot =
     let e : node + 0 ≡ node = omega arith in
     append-nil (map (arrow_at node) (of spot)) ∙ ap (λ n. map (arrow_at n) (of spot)) (sym e)
 arrows-push of node (other ∷ spots) spot =
     let e : (node + 1) + length spots ≡ node + suc (length spots) = omega arith in
-    ap (λ rest. map (arrow_at node) (of other) ++ rest) (arrows-push of (node + 1) spots spot ∙ ap (λ n. arrows_from of (node + 1) spots ++ map (arrow_at n) (of spot)) e)
+    ap (λ rest. map (arrow_at node) (of other) ++ rest)
+        (arrows-push of (node + 1) spots spot
+        ∙ ap (λ n. arrows_from of (node + 1) spots ++ map (arrow_at n) (of spot)) e)
     ∙ sym (append_assoc (map (arrow_at node) (of other)) (arrows_from of (node + 1) spots) (map (arrow_at (node + suc (length spots))) (of spot)))

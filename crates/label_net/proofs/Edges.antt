@@ -1,5 +1,6 @@
 -- The edges of a net and what stands at its nodes
-use Rattle.std.proofs.Common.{◌≡◌, ◌≢◌, ℕ, zero, suc, ◌+◌, ◌⊎◌, inl, inr, true, false, List, [], ◌∷◌, ◌++◌, length, get_or, map, Option, Some, None, arith, refl, sym, ap, ◌∙◌, subst}
+use Rattle.std.proofs.Common.{◌≡◌, ◌≢◌, ℕ, zero, suc, ◌+◌, ◌⊎◌, inl, inr, true, false, List, [], ◌∷◌, ◌++◌, length}
+use Rattle.std.proofs.Common.{get_or, map, Option, Some, None, arith, refl, sym, ap, ◌∙◌, subst}
 use Rattle.std.specs.Prelude.{Contains, slice_get, AllPairs}
 use Rattle.std.specs.Option.{option_to_list}
 use Rattle.std.proofs.lemmas.Bool.{cases_lt, cases_Bool, cases_order, both_ways}
@@ -43,7 +44,8 @@ slice_get-map_at f [] i x e = absurd (omega (arith, slice_get_within [] i x e))
 slice_get-map_at {B = B} f (z ∷ xs) zero x e = ap (λ y. Some (f y)) (same_Some z x e)
 slice_get-map_at f (z ∷ xs) (suc i) x e = slice_get-map_at f xs i x e
 
-pub slice_get-map_cases : {A B : Type 0} (f : A → B) (xs : List A) (i : ℕ) (y : B) → slice_get (map f xs) i ≡ Some y → (x : A) × (slice_get xs i ≡ Some x) × (f x ≡ y)
+pub slice_get-map_cases : {A B : Type 0} (f : A → B) (xs : List A) (i : ℕ) (y : B) → slice_get (map f xs) i ≡ Some y
+    → (x : A) × (slice_get xs i ≡ Some x) × (f x ≡ y)
 slice_get-map_cases f [] i y e = absurd (omega (arith, slice_get_within [] i y e))
 slice_get-map_cases f (z ∷ xs) zero y e = (z, refl, same_Some (f z) y e)
 slice_get-map_cases f (z ∷ xs) (suc i) y e = slice_get-map_cases f xs i y e
@@ -69,7 +71,8 @@ one_place xs once i j x a b =
 -- ---- edges and arrows
 
 -- an edge is the arrow that it is mapped to
-edge-offer_arrow : {A : Type 0} (labels : List A) (edges : List Edge) (i m l : ℕ) → IsEdge edges i m l → Contains (map (offer_arrow labels) edges) (record { node = m; label = slice_get labels l })
+edge-offer_arrow : {A : Type 0} (labels : List A) (edges : List Edge) (i m l : ℕ) → IsEdge edges i m l
+    → Contains (map (offer_arrow labels) edges) (record { node = m; label = slice_get labels l })
 edge-offer_arrow {A = A} labels edges i m l e =
     let edge : Edge = edge_at edges i in
     let has : Contains edges edge = (i, e.within, get_or_default edges i edge (record { from = 0; to = 0 }) e.within) in
@@ -80,7 +83,8 @@ edge-offer_arrow {A = A} labels edges i m l e =
     in
     subst (Contains (map (offer_arrow labels) edges)) same mapped
 
-edge-wait_arrow : {A : Type 0} (labels : List A) (edges : List Edge) (i l n : ℕ) → IsEdge edges i l n → Contains (map (wait_arrow labels) edges) (record { node = n; label = slice_get labels l })
+edge-wait_arrow : {A : Type 0} (labels : List A) (edges : List Edge) (i l n : ℕ) → IsEdge edges i l n
+    → Contains (map (wait_arrow labels) edges) (record { node = n; label = slice_get labels l })
 edge-wait_arrow {A = A} labels edges i l n e =
     let edge : Edge = edge_at edges i in
     let has : Contains edges edge = (i, e.within, get_or_default edges i edge (record { from = 0; to = 0 }) e.within) in
@@ -132,19 +136,26 @@ awaits-from_list (Some x) label c =
 module _ {A : Type 0} (spots : List (Spot A)) (labels : List A) (IsShut : A → Type 0) (net : Net) (h : Mirrors spots labels IsShut net) where
   pub offer-of_edge : (i m l : ℕ) → IsEdge net.offers i m l → IsOfferOf spots labels m l
   offer-of_edge i m l e =
-      let r = arrow-cases offered_at 0 spots (record { node = m; label = slice_get labels l }) (subst (λ arrows. Contains arrows (record { node = m; label = slice_get labels l })) h.offers (edge-offer_arrow labels net.offers i m l e)) in
+      let r = arrow-cases offered_at 0 spots (record { node = m; label = slice_get labels l })
+          (subst (λ arrows. Contains arrows (record { node = m; label = slice_get labels l })) h.offers
+          (edge-offer_arrow labels net.offers i m l e)) in
       let at : m ≡ r.place = omega (arith, r.node_is) in
       record { spot = r.spot; label = r.label; at = ap (λ n. slice_get spots n) at ∙ r.at; has = r.has; named = r.label_is }
 
   pub wait-of_edge : (j l n : ℕ) → IsEdge net.waits j l n → IsWaitOf spots labels n l
   wait-of_edge j l n e =
-      let r = arrow-cases awaited_at 0 spots (record { node = n; label = slice_get labels l }) (subst (λ arrows. Contains arrows (record { node = n; label = slice_get labels l })) h.waits (edge-wait_arrow labels net.waits j l n e)) in
+      let r = arrow-cases awaited_at 0 spots (record { node = n; label = slice_get labels l })
+          (subst (λ arrows. Contains arrows (record { node = n; label = slice_get labels l })) h.waits
+          (edge-wait_arrow labels net.waits j l n e)) in
       let at : n ≡ r.place = omega (arith, r.node_is) in
-      record { spot = r.spot; label = r.label; at = ap (λ k. slice_get spots k) at ∙ r.at; awaits = awaits-from_list r.spot.awaits r.label r.has; named = r.label_is }
+      record { spot = r.spot; label = r.label; at = ap (λ k. slice_get spots k) at ∙ r.at; awaits =
+          awaits-from_list r.spot.awaits r.label r.has; named = r.label_is }
 
   pub edge-of_offer : (m : ℕ) (spot : Spot A) (label : A) → slice_get spots m ≡ Some spot → Contains spot.offers label → HasOfferEdge net labels m label
   edge-of_offer m spot label at has =
-      let c : Contains (map (offer_arrow labels) net.offers) (arrow_at (0 + m) label) = subst (λ arrows. Contains arrows (arrow_at (0 + m) label)) (sym h.offers) (arrow-has offered_at 0 spots m spot label at has) in
+      let c : Contains (map (offer_arrow labels) net.offers) (arrow_at (0 + m) label) =
+          subst (λ arrows. Contains arrows (arrow_at (0 + m) label)) (sym h.offers)
+          (arrow-has offered_at 0 spots m spot label at has) in
       let f = Contains-from_map (offer_arrow labels) net.offers (arrow_at (0 + m) label) c in
       let e = edge-from_contains net.offers f.0 f.1 in
       let node : f.0.from ≡ m = omega (arith, ap (λ (a : Arrow A). a.node) f.2) in
@@ -158,7 +169,9 @@ module _ {A : Type 0} (spots : List (Spot A)) (labels : List A) (IsShut : A → 
   pub edge-of_wait : (n : ℕ) (spot : Spot A) (label : A) → slice_get spots n ≡ Some spot → spot.awaits ≡ Some label → HasWaitEdge net labels n label
   edge-of_wait n spot label at awaits =
       let has : Contains (awaited_at spot) label = subst (λ o. Contains (option_to_list o) label) (sym awaits) (Contains-head label []) in
-      let c : Contains (map (wait_arrow labels) net.waits) (arrow_at (0 + n) label) = subst (λ arrows. Contains arrows (arrow_at (0 + n) label)) (sym h.waits) (arrow-has awaited_at 0 spots n spot label at has) in
+      let c : Contains (map (wait_arrow labels) net.waits) (arrow_at (0 + n) label) =
+          subst (λ arrows. Contains arrows (arrow_at (0 + n) label)) (sym h.waits)
+          (arrow-has awaited_at 0 spots n spot label at has) in
       let f = Contains-from_map (wait_arrow labels) net.waits (arrow_at (0 + n) label) c in
       let e = edge-from_contains net.waits f.0 f.1 in
       let node : f.0.to ≡ n = omega (arith, ap (λ (a : Arrow A). a.node) f.2) in
@@ -171,7 +184,8 @@ module _ {A : Type 0} (spots : List (Spot A)) (labels : List A) (IsShut : A → 
 
   pub root-of_spot : (n : ℕ) (spot : Spot A) → slice_get spots n ≡ Some spot → is_root net n ≡ spot.rooted
   root-of_spot n spot at =
-      ap (λ rs. get_or rs n false) h.roots ∙ get_or_from_slice_get (map (λ (s : Spot A). s.rooted) spots) n spot.rooted false (slice_get-map_at (λ (s : Spot A). s.rooted) spots n spot at)
+      ap (λ rs. get_or rs n false) h.roots ∙ get_or_from_slice_get (map (λ (s : Spot A). s.rooted) spots) n spot.rooted
+          false (slice_get-map_at (λ (s : Spot A). s.rooted) spots n spot at)
 
   pub spot-of_root : (n : ℕ) → is_root net n ≡ true → (spot : Spot A) × (slice_get spots n ≡ Some spot)
   spot-of_root n e =
@@ -183,7 +197,9 @@ module _ {A : Type 0} (spots : List (Spot A)) (labels : List A) (IsShut : A → 
       ]
 
   -- an awaited label that is not shut, and that a reached node offers, reaches the node that awaits it
-  pub reached-on : (m n : ℕ) (here there : Spot A) (label : A) → IsReached net m → slice_get spots m ≡ Some here → slice_get spots n ≡ Some there → Contains here.offers label → there.awaits ≡ Some label → (IsShut label → ⊥) → IsReached net n
+  pub reached-on : (m n : ℕ) (here there : Spot A) (label : A) → IsReached net m → slice_get spots m ≡ Some here
+      → slice_get spots n ≡ Some there → Contains here.offers label → there.awaits ≡ Some label → (IsShut label → ⊥)
+      → IsReached net n
   reached-on m n here there label r at to has awaits open' =
       let o = edge-of_offer m here label at has in
       let w = edge-of_wait n there label to awaits in

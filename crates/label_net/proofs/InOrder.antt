@@ -1,5 +1,6 @@
 -- Labels in order are found, and one that is missing has a place
-use Rattle.std.proofs.Common.{◌≡◌, ℕ, zero, suc, ◌+◌, ◌-◌, ◌<◌, ◌≤◌, inl, inr, List, [], ◌∷◌, length, get_or, Option, Some, None, arith, refl, sym, ap, ◌∙◌, subst}
+use Rattle.std.proofs.Common.{◌≡◌, ℕ, zero, suc, ◌+◌, ◌-◌, ◌<◌, ◌≤◌, inl, inr, List, [], ◌∷◌, length, get_or, Option}
+use Rattle.std.proofs.Common.{Some, None, arith, refl, sym, ap, ◌∙◌, subst}
 use Rattle.std.specs.Prelude.{Contains, slice_get}
 use Rattle.std.specs.declared.cmp.Ordering.{Ordering}
 use Rattle.std.specs.declared.cmp.Ordering.TheVariants.{Less, Equal, Greater}
@@ -63,7 +64,9 @@ pub rising-from_in_order : (labels : List Label) (x : Label) → IsInOrder label
 rising-from_in_order labels x h = record {
   rising = λ i j d l within.
       elim (cases_order i j) [
-        | inl e ↦ let f : ordering_index (label_cmp (get_or labels i d) x) ≡ ordering_index (label_cmp (get_or labels j d) x) = ap (λ k. ordering_index (label_cmp (get_or labels k d) x)) e in omega (arith, f)
+        | inl e ↦ let f : ordering_index (label_cmp (get_or labels i d) x)
+            ≡ ordering_index (label_cmp (get_or labels j d) x) =
+            ap (λ k. ordering_index (label_cmp (get_or labels k d) x)) e in omega (arith, f)
         | inr c ↦
             elim c [
               | inl b ↦ index-rises (get_or labels i d) (get_or labels j d) x (h i j d b within) (label_cmp (get_or labels j d) x) refl
@@ -77,7 +80,8 @@ rising-from_in_order labels x h = record {
 after-less : (a x : Label) → label_cmp a x ≡ Greater → label_cmp x a ≡ Less
 after-less a x e = label-total.antisymm x a ∙ ap ordering_reverse e
 
-pub in_order-insert : (labels : List Label) (place : ℕ) (x : Label) → IsInOrder labels → IsMissing (λ a. label_cmp a x) labels place → IsInOrder (insert labels place x)
+pub in_order-insert : (labels : List Label) (place : ℕ) (x : Label) → IsInOrder labels
+    → IsMissing (λ a. label_cmp a x) labels place → IsInOrder (insert labels place x)
 in_order-insert labels place x h m i j d l within =
     let size = length-insert labels place x m.within in
     elim (cases_order j place) [
@@ -95,13 +99,17 @@ in_order-insert labels place x h m i j d l within =
                 (subst (λ a. label_cmp (get_or labels i d) a ≡ Less) (sym second) (h i j d l (omega (arith, b, m.within))))
             | inr b ↦
                 let j_is : j ≡ (j - 1) + 1 = omega (arith, b) in
-                let second : get_or (insert labels place x) j d ≡ get_or labels (j - 1) d = ap (λ k. get_or (insert labels place x) k d) j_is ∙ get_or-insert_above labels place x d (j - 1) (omega (arith, b)) m.within in
+                let second : get_or (insert labels place x) j d ≡ get_or labels (j - 1) d =
+                    ap (λ k. get_or (insert labels place x) k d) j_is
+                    ∙ get_or-insert_above labels place x d (j - 1) (omega (arith, b)) m.within in
                 let last : j - 1 < length labels = omega (arith, within, size, b) in
                 subst (λ a. label_cmp (get_or (insert labels place x) i d) a ≡ Less) (sym second)
                 (elim (cases_order i place) [
                   | inl e ↦
-                      let first : get_or (insert labels place x) i d ≡ x = ap (λ k. get_or (insert labels place x) k d) e ∙ get_or-insert_at labels place x d m.within in
-                      subst (λ a. label_cmp a (get_or labels (j - 1) d) ≡ Less) (sym first) (after-less (get_or labels (j - 1) d) x (m.after (j - 1) d (omega (arith, b)) last))
+                      let first : get_or (insert labels place x) i d ≡ x =
+                          ap (λ k. get_or (insert labels place x) k d) e ∙ get_or-insert_at labels place x d m.within in
+                      subst (λ a. label_cmp a (get_or labels (j - 1) d) ≡ Less) (sym first)
+                          (after-less (get_or labels (j - 1) d) x (m.after (j - 1) d (omega (arith, b)) last))
                   | inr f ↦
                       elim f [
                         | inl g ↦
@@ -109,7 +117,9 @@ in_order-insert labels place x h m i j d l within =
                             subst (λ a. label_cmp a (get_or labels (j - 1) d) ≡ Less) (sym first) (h i (j - 1) d (omega (arith, g, b)) last)
                         | inr g ↦
                             let i_is : i ≡ (i - 1) + 1 = omega (arith, g) in
-                            let first : get_or (insert labels place x) i d ≡ get_or labels (i - 1) d = ap (λ k. get_or (insert labels place x) k d) i_is ∙ get_or-insert_above labels place x d (i - 1) (omega (arith, g)) m.within in
+                            let first : get_or (insert labels place x) i d ≡ get_or labels (i - 1) d =
+                                ap (λ k. get_or (insert labels place x) k d) i_is
+                                ∙ get_or-insert_above labels place x d (i - 1) (omega (arith, g)) m.within in
                             subst (λ a. label_cmp a (get_or labels (j - 1) d) ≡ Less) (sym first) (h (i - 1) (j - 1) d (omega (arith, l, g)) last)
                       ]
                 ])
@@ -131,7 +141,8 @@ slice_get_none [] i e = omega arith
 slice_get_none (x ∷ xs) zero e = absurd (none-some x (sym e))
 slice_get_none (x ∷ xs) (suc i) e = let h = slice_get_none xs i e in omega (arith, h)
 
-pub Contains-picked : {A : Type 0} (items : List A) (numbers : List ℕ) (number : ℕ) (x : A) → Contains numbers number → slice_get items number ≡ Some x → Contains (picked items numbers) x
+pub Contains-picked : {A : Type 0} (items : List A) (numbers : List ℕ) (number : ℕ) (x : A) → Contains numbers number
+    → slice_get items number ≡ Some x → Contains (picked items numbers) x
 Contains-picked items [] number x c e = absurd (omega (arith, c.1))
 Contains-picked items (n ∷ numbers) number x c e =
     elim (Contains-cons_cases n numbers number c) [
@@ -149,7 +160,8 @@ length-picked items (n ∷ numbers) h =
     length-cons_option_if (slice_get items n) (picked items numbers) (λ e. omega (arith, h 0 0 (omega arith), slice_get_none items n e))
     ∙ ap suc (length-picked items numbers (All-tail (λ k. k < length items) n numbers h))
 
-pub missing-not_contained : (stock : Stock Label) (place : ℕ) (x : Label) → Arranges stock.order (length stock.items) → IsMissing (λ a. label_cmp a x) (in_order stock) place → Contains stock.items x → ⊥
+pub missing-not_contained : (stock : Stock Label) (place : ℕ) (x : Label) → Arranges stock.order (length stock.items)
+    → IsMissing (λ a. label_cmp a x) (in_order stock) place → Contains stock.items x → ⊥
 missing-not_contained stock place x a m c =
     let at : slice_get stock.items c.0 ≡ Some x = slice_get-get_or stock.items c.0 x c.1 ∙ ap (λ y. Some y) c.2 in
     let d = Contains-picked stock.items stock.order c.0 x (a.each c.0 c.1) at in

@@ -1,5 +1,6 @@
 -- A net stays a mirror
-use Rattle.std.proofs.Common.{◌≡◌, ◌≢◌, ℕ, zero, suc, ◌+◌, ◌<◌, ◌⊎◌, inl, inr, Bool, true, false, List, [], ◌∷◌, ◌++◌, length, get_or, set, map, Option, Some, None, arith, refl, sym, ap, ◌∙◌, subst}
+use Rattle.std.proofs.Common.{◌≡◌, ◌≢◌, ℕ, zero, suc, ◌+◌, ◌<◌, ◌⊎◌, inl, inr, Bool, true, false, List, [], ◌∷◌, ◌++◌}
+use Rattle.std.proofs.Common.{length, get_or, set, map, Option, Some, None, arith, refl, sym, ap, ◌∙◌, subst}
 use Rattle.std.specs.Prelude.{AllPairs, Contains, slice_get, ◌↔◌}
 use Rattle.std.specs.Option.{option_to_list}
 use Rattle.std.proofs.lemmas.List.{append-nil, append_assoc, map_push, length-map, length_push, get_or_append_left, set_at, get_or_push}
@@ -40,22 +41,27 @@ AreNamed-arrows of node [] = tt
 AreNamed-arrows of node (spot ∷ spots) =
     AreNamed-append (map (arrow_at node) (of spot)) (arrows_from of (node + 1) spots) (AreNamed-map node (of spot)) (AreNamed-arrows of (node + 1) spots)
 
-offers-named : {A : Type 0} (labels more : List A) (edges : List Edge) → AreNamed (map (offer_arrow labels) edges) → map (offer_arrow (labels ++ more)) edges ≡ map (offer_arrow labels) edges
+offers-named : {A : Type 0} (labels more : List A) (edges : List Edge) → AreNamed (map (offer_arrow labels) edges)
+    → map (offer_arrow (labels ++ more)) edges ≡ map (offer_arrow labels) edges
 offers-named labels more [] a = refl
 offers-named {A = A} labels more (edge ∷ edges) a =
     let e : slice_get (labels ++ more) edge.to ≡ slice_get labels edge.to = slice_get-more labels more edge.to a.0.0 a.0.1 ∙ sym a.0.1 in
-    let same : offer_arrow (labels ++ more) edge ≡ offer_arrow labels edge = ap (λ (o : Option A). let arrow : Arrow A = record { node = edge.from; label = o } in arrow) e in
+    let same : offer_arrow (labels ++ more) edge ≡ offer_arrow labels edge =
+        ap (λ (o : Option A). let arrow : Arrow A = record { node = edge.from; label = o } in arrow) e in
     ap (λ first. first ∷ map (offer_arrow (labels ++ more)) edges) same ∙ ap (λ rest. offer_arrow labels edge ∷ rest) (offers-named labels more edges a.1)
 
-waits-named : {A : Type 0} (labels more : List A) (edges : List Edge) → AreNamed (map (wait_arrow labels) edges) → map (wait_arrow (labels ++ more)) edges ≡ map (wait_arrow labels) edges
+waits-named : {A : Type 0} (labels more : List A) (edges : List Edge) → AreNamed (map (wait_arrow labels) edges)
+    → map (wait_arrow (labels ++ more)) edges ≡ map (wait_arrow labels) edges
 waits-named labels more [] a = refl
 waits-named {A = A} labels more (edge ∷ edges) a =
     let e : slice_get (labels ++ more) edge.from ≡ slice_get labels edge.from = slice_get-more labels more edge.from a.0.0 a.0.1 ∙ sym a.0.1 in
-    let same : wait_arrow (labels ++ more) edge ≡ wait_arrow labels edge = ap (λ (o : Option A). let arrow : Arrow A = record { node = edge.to; label = o } in arrow) e in
+    let same : wait_arrow (labels ++ more) edge ≡ wait_arrow labels edge =
+        ap (λ (o : Option A). let arrow : Arrow A = record { node = edge.to; label = o } in arrow) e in
     ap (λ first. first ∷ map (wait_arrow (labels ++ more)) edges) same ∙ ap (λ rest. wait_arrow labels edge ∷ rest) (waits-named labels more edges a.1)
 
 -- what is the label at a place when one more is added
-pub slice_get-push_cases : {A : Type 0} (xs : List A) (x : A) (i : ℕ) (y : A) → slice_get (xs ++ x ∷ []) i ≡ Some y → ((i < length xs) × (slice_get xs i ≡ Some y)) ⊎ ((i ≡ length xs) × (x ≡ y))
+pub slice_get-push_cases : {A : Type 0} (xs : List A) (x : A) (i : ℕ) (y : A) → slice_get (xs ++ x ∷ []) i ≡ Some y
+    → ((i < length xs) × (slice_get xs i ≡ Some y)) ⊎ ((i ≡ length xs) × (x ≡ y))
 slice_get-push_cases [] x zero y e = inr (refl, same_Some x y e)
 slice_get-push_cases [] x (suc i) y e = absurd (none-some y e)
 slice_get-push_cases (z ∷ xs) x zero y e = inl (omega arith, e)
@@ -151,7 +157,8 @@ module _ {A : Type 0} (spots : List (Spot A)) (labels : List A) (IsShut : A → 
         elim (slice_get-push_cases labels label number other e) [
           | inl a ↦
               let l : number < length net.closed = omega (arith, a.0, h.sizes) in
-              let same : get_or (net.closed ++ closed ∷ []) number false ≡ get_or net.closed number false = get_or_append_left net.closed (closed ∷ []) false number l in
+              let same : get_or (net.closed ++ closed ∷ []) number false ≡ get_or net.closed number false =
+                  get_or_append_left net.closed (closed ∷ []) false number l in
               let old = h.closed number other a.1 in
               (λ t. old.0 (sym same ∙ t), λ s. same ∙ old.1 s)
           | inr a ↦
@@ -169,7 +176,10 @@ module _ {A : Type 0} (spots : List (Spot A)) (labels : List A) (IsShut : A → 
   }
 
   -- other words for what is shut, and other flags that say so
-  pub Mirrors-shut : (IsShut' : A → Type 0) (flags : List Bool) → length flags ≡ length net.closed → ((number : ℕ) (label : A) → slice_get labels number ≡ Some label → (get_or flags number false ≡ true) ↔ IsShut' label) → Mirrors spots labels IsShut' (record net { closed = flags })
+  pub Mirrors-shut : (IsShut' : A → Type 0) (flags : List Bool) → length flags ≡ length net.closed
+      → ((number : ℕ) (label : A) → slice_get labels number ≡ Some label
+      → (get_or flags number false ≡ true) ↔ IsShut' label)
+      → Mirrors spots labels IsShut' (record net { closed = flags })
   Mirrors-shut IsShut' flags size when = record {
     roots = h.roots;
     sizes = size ∙ h.sizes;
@@ -191,7 +201,8 @@ offering_spot spot label = record spot { offers = spot.offers ++ label ∷ [] }
 abbrev pub awaiting_spot : {A : Type 0} → Spot A → A → Spot A
 awaiting_spot spot label = record spot { awaits = Some label }
 
-module _ {A : Type 0} (spots : List (Spot A)) (spot : Spot A) (labels : List A) (IsShut : A → Type 0) (net : Net) (h : Mirrors (spots ++ spot ∷ []) labels IsShut net) where
+module _ {A : Type 0} (spots : List (Spot A)) (spot : Spot A) (labels : List A) (IsShut : A
+    → Type 0) (net : Net) (h : Mirrors (spots ++ spot ∷ []) labels IsShut net) where
   pub Mirrors-root : Mirrors (spots ++ rooted_spot spot ∷ []) labels IsShut (with_root net (length spots))
   Mirrors-root = record {
     roots = ap (λ rs. set rs (length spots) true) (h.roots ∙ map_push (λ (s : Spot A). s.rooted) spots spot)

@@ -1,5 +1,8 @@
 -- What one more poll changes in a log, and how a log is searched
-use Rattle.std.proofs.Common.{◌≡◌, not, append-nil, ap₂, ℕ, zero, suc, ◌+◌, ◌<◌, ◌≤◌, min, inl, inr, ⊎_elim, ℤ, Bool, true, false, cond, if◌then◌else◌, List, [], ◌∷◌, ◌++◌, map, reverse, length, get_or, set, Option, Some, None, Result, Ok, Err, Less, Equal, Greater, refl, sym, ap, ◌∙◌, subst, arith}
+use Rattle.std.proofs.Common.{◌≡◌, not, append-nil, ap₂, ℕ, zero, suc, ◌+◌, ◌<◌, ◌≤◌, min, inl, inr, ⊎_elim, ℤ, Bool}
+use Rattle.std.proofs.Common.{true, false, cond, if◌then◌else◌, List, [], ◌∷◌, ◌++◌, map, reverse, length, get_or, set}
+use Rattle.std.proofs.Common.{Option, Some, None, Result, Ok, Err, Less, Equal, Greater, refl, sym, ap, ◌∙◌, subst}
+use Rattle.std.proofs.Common.{arith}
 use Rattle.std.specs.Ordering.{nat_cmp, ordering_reverse, ordering_index, is_lt}
 use Rattle.std.specs.Cmp.Lexicographic.{slice_cmp}
 use Rattle.std.specs.Str.{bytes_eq}
@@ -19,7 +22,9 @@ use Rattle.std.proofs.lemmas.Slice.Eq.{bytes_eq-Decides}
 use Rattle.spiffe_name.specs.TrustDomain.{IsDomainText}
 use Rattle.fed_config.specs.Configuration.{Configuration, IsConfiguration, IsRelationship, domain_cmp, relationship_cmp}
 use Rattle.fed_config.specs.declared.relationship.Relationship.{Relationship}
-use Rattle.poll_log.specs.Polling.{Poll, is_of_domain, has_failed, polls_of, first_moment, Standing, standing_of, log_of, polled_domains, IsLog, RecordsPoll, standing_in, IsNextAfter, IsNext, IsDueAfter, IsPollDue}
+use Rattle.poll_log.specs.Polling.{Poll, is_of_domain, has_failed, polls_of, first_moment, Standing, standing_of}
+use Rattle.poll_log.specs.Polling.{log_of, polled_domains, IsLog, RecordsPoll, standing_in, IsNextAfter, IsNext}
+use Rattle.poll_log.specs.Polling.{IsDueAfter, IsPollDue}
 use Rattle.poll_log.specs.Inside.Standings.{AreNames, after, kept_standing, IsIn, IsPlaceOf}
 use Rattle.poll_log.specs.declared.log.Standing as held
 use Rattle.poll_log.specs.declared.error.PollError.{PollError}
@@ -39,7 +44,8 @@ other_bytes a b differ = not_true (bytes_eq a b) (λ e. differ ((bytes_eq-Decide
 
 -- ---- one more poll
 
-polls_of-more : (domain : List ℕ) (polls : List Poll) (p : Poll) (q : Bool) → is_of_domain domain p ≡ q → polls_of domain (polls ++ p ∷ []) ≡ polls_of domain polls ++ cond q (p ∷ []) []
+polls_of-more : (domain : List ℕ) (polls : List Poll) (p : Poll) (q : Bool) → is_of_domain domain p ≡ q
+    → polls_of domain (polls ++ p ∷ []) ≡ polls_of domain polls ++ cond q (p ∷ []) []
 polls_of-more domain polls p q is = filter-append (is_of_domain domain) polls (p ∷ []) ∙ ap (λ b. polls_of domain polls ++ cond b (p ∷ []) []) is
 
 counted : (n : ℕ) (ok : Bool) → min 12 (cond (not ok) (1 + n) 0) ≡ (if ok then 0 else min (min 12 n) 11 + 1)
@@ -58,7 +64,8 @@ standing_of-same polls p =
 
 standing_of-other : (polls : List Poll) (p : Poll) (domain : List ℕ) → (p.domain ≡ domain → ⊥) → standing_of (polls ++ p ∷ []) domain ≡ standing_of polls domain
 standing_of-other polls p domain differ =
-    let more : polls_of domain (polls ++ p ∷ []) ≡ polls_of domain polls = polls_of-more domain polls p false (other_bytes p.domain domain differ) ∙ append-nil (polls_of domain polls) in
+    let more : polls_of domain (polls ++ p ∷ []) ≡ polls_of domain polls =
+        polls_of-more domain polls p false (other_bytes p.domain domain differ) ∙ append-nil (polls_of domain polls) in
     λ i. record { domain = domain; last = first_moment (reverse (more i)); failures = min 12 (suffix_len has_failed (more i)) }
 
 -- ---- a log
@@ -70,7 +77,9 @@ domains_of-log (d ∷ ds) polls = ap (λ l. d ∷ l) (domains_of-log ds polls)
 differs : (a b : List ℕ) → domain_cmp a b ≡ Less → a ≡ b → ⊥
 differs a b below same = not_below_itself nat_list_cmp_total b (subst (λ x. domain_cmp x b ≡ Less) same below)
 
-log_of-others : (domains : List (List ℕ)) (polls : List Poll) (p : Poll) → AllByRecursion (λ y. domain_cmp p.domain y ≡ Less) domains → log_of domains (polls ++ p ∷ []) ≡ log_of domains polls
+log_of-others : (domains : List (List ℕ)) (polls : List Poll) (p : Poll)
+    → AllByRecursion (λ y. domain_cmp p.domain y ≡ Less) domains
+    → log_of domains (polls ++ p ∷ []) ≡ log_of domains polls
 log_of-others [] polls p all = refl
 log_of-others (d ∷ ds) polls p all = ap₂ (λ s l. s ∷ l) (standing_of-other polls p d (differs p.domain d all.0)) (log_of-others ds polls p all.1)
 
@@ -80,7 +89,8 @@ each_at P (y ∷ ys) zero x all at = let same : y ≡ x = cc in subst P same all
 each_at P (y ∷ ys) (suc k) x all at = each_at P ys k x all.1 at
 
 -- what is kept for the poll's domain changes, and nothing else
-pub log_of-more : (domains : List (List ℕ)) (polls : List Poll) (p : Poll) (k : ℕ) (d : Standing) → IsStrictlySortedBy domain_cmp domains → slice_get domains k ≡ Some p.domain
+pub log_of-more : (domains : List (List ℕ)) (polls : List Poll) (p : Poll) (k : ℕ) (d : Standing)
+    → IsStrictlySortedBy domain_cmp domains → slice_get domains k ≡ Some p.domain
     → set (log_of domains polls) k (after (get_or (log_of domains polls) k d) p.moment p.ok) ≡ log_of domains (polls ++ p ∷ [])
 unfolding IsStrictlySortedBy
 log_of-more [] polls p k d rising at = cc
@@ -97,7 +107,9 @@ log_of-more (x ∷ xs) polls p (suc k) d rising at =
 pub rising_of : (log : List Standing) → IsLog log → IsStrictlySortedBy domain_cmp (polled_domains log)
 rising_of log is = subst (IsStrictlySortedBy domain_cmp) (sym (ap polled_domains is.is ∙ domains_of-log is.domains is.polls)) is.rising
 
-pub Adds-at : (log : List Standing) (p : Poll) (k : ℕ) (d : Standing) → IsLog log → slice_get (polled_domains log) k ≡ Some p.domain → RecordsPoll log p (set log k (after (get_or log k d) p.moment p.ok))
+pub Adds-at : (log : List Standing) (p : Poll) (k : ℕ) (d : Standing) → IsLog log
+    → slice_get (polled_domains log) k ≡ Some p.domain
+    → RecordsPoll log p (set log k (after (get_or log k d) p.moment p.ok))
 Adds-at log p k d is at domains polls log_is =
     let own : polled_domains log ≡ domains = ap polled_domains log_is ∙ domains_of-log domains polls in
     let rising : IsStrictlySortedBy domain_cmp domains = subst (IsStrictlySortedBy domain_cmp) own (rising_of log is) in
@@ -115,7 +127,9 @@ IsLog-more old new p is adds = record {
 
 -- ---- searches
 
-pub standing_in-at : (log : List Standing) (domain : List ℕ) (k : ℕ) (d : Standing) → IsStrictlySortedBy domain_cmp (polled_domains log) → slice_get (polled_domains log) k ≡ Some domain → standing_in log domain ≡ Some (get_or log k d)
+pub standing_in-at : (log : List Standing) (domain : List ℕ) (k : ℕ) (d : Standing)
+    → IsStrictlySortedBy domain_cmp (polled_domains log) → slice_get (polled_domains log) k ≡ Some domain
+    → standing_in log domain ≡ Some (get_or log k d)
 unfolding IsStrictlySortedBy
 standing_in-at [] domain k d rising at = cc
 standing_in-at (s ∷ log) domain zero d rising at =
@@ -141,7 +155,8 @@ module _ {X : Type 0} (key : X → List ℕ) where
   sorted_by_key : (xs : List X) → IsStrictlySortedBy domain_cmp (map key xs) → IsSorted (λ a b. domain_cmp (key a) (key b)) xs
   sorted_by_key xs rising k d low below =
       let size : length (map key xs) ≡ length xs = length-map xs key in
-      let less : domain_cmp (get_or (map key xs) k (key d)) (get_or (map key xs) (k + 1) (key d)) ≡ Less = Less-from_sorted domain_cmp (map key xs) k (k + 1) (key d) rising (omega arith) (omega arith) in
+      let less : domain_cmp (get_or (map key xs) k (key d)) (get_or (map key xs) (k + 1) (key d)) ≡ Less =
+          Less-from_sorted domain_cmp (map key xs) k (k + 1) (key d) rising (omega arith) (omega arith) in
       falls_back (key (get_or xs k d)) (key (get_or xs (k + 1) d))
       (subst (λ y. domain_cmp (key (get_or xs k d)) y ≡ Less) (get_or-map key xs (k + 1) d (key d) (omega arith))
       (subst (λ x. domain_cmp x (get_or (map key xs) (k + 1) (key d)) ≡ Less) (get_or-map key xs k d (key d) (omega arith)) less))
@@ -156,12 +171,15 @@ module _ {X : Type 0} (key : X → List ℕ) where
 
   -- what a binary search does not find is no key
   not_found : (xs : List X) (x : List ℕ) (i : ℕ) → IsStrictlySortedBy domain_cmp (map key xs)
-      → (IsNonDecreasingBy (λ y. ordering_index (domain_cmp (key y) x)) xs → IsPartitionPoint (λ y. domain_cmp (key y) x ≡ Less) (λ y. domain_cmp (key y) x ≡ Greater) xs i)
+      → (IsNonDecreasingBy (λ y. ordering_index (domain_cmp (key y) x)) xs
+          → IsPartitionPoint (λ y. domain_cmp (key y) x ≡ Less) (λ y. domain_cmp (key y) x ≡ Greater) xs i)
       → Contains (map key xs) x → ⊥
   not_found xs x i rising splits inside =
       let split = splits (searchable_from_sorted nat_list_cmp_total key xs x (sorted_by_key xs rising)) in
       let (y, (has, same)) = from_map xs x inside in
-      let tied : domain_cmp (key (get_or xs has.0 y)) x ≡ Equal = subst (λ z. domain_cmp (key z) x ≡ Equal) (sym has.2) (subst (λ k. domain_cmp (key y) k ≡ Equal) same (tied_itself nat_list_cmp_total (key y))) in
+      let tied : domain_cmp (key (get_or xs has.0 y)) x ≡ Equal =
+          subst (λ z. domain_cmp (key z) x ≡ Equal) (sym has.2)
+          (subst (λ k. domain_cmp (key y) k ≡ Equal) same (tied_itself nat_list_cmp_total (key y))) in
       ⊎_elim
       (λ (before : has.0 < i). let less = split.0 has.0 y (omega arith) before in cc)
       (λ (behind : i ≤ has.0). let greater = split.1 has.0 y behind has.1 in cc)
@@ -172,7 +190,8 @@ module _ {X : Type 0} (key : X → List ℕ) where
   slice_get_key (y ∷ xs) zero x below here = ap Some (here y)
   slice_get_key (y ∷ xs) (suc k) x below here = slice_get_key xs k x (omega arith) here
 
-  pub place_found : (xs : List X) (x : List ℕ) (r : Result ℕ ℕ) → IsStrictlySortedBy domain_cmp (map key xs) → IsSearchInRange r (length xs) → IsBinarySearchResult (λ y. domain_cmp (key y) x) xs r
+  pub place_found : (xs : List X) (x : List ℕ) (r : Result ℕ ℕ) → IsStrictlySortedBy domain_cmp (map key xs)
+      → IsSearchInRange r (length xs) → IsBinarySearchResult (λ y. domain_cmp (key y) x) xs r
       → IsIn (map key xs) x (result_ok r)
   place_found xs x (Ok k) rising within found = slice_get_key xs k x within (λ d. exact_bytes (key (get_or xs k d)) x (found d))
   place_found xs x (Err i) rising within splits = not_found xs x i rising splits
@@ -182,7 +201,8 @@ domains_of-kept [] = refl
 domains_of-kept (x ∷ xs) = ap (λ l. x.domain ∷ l) (domains_of-kept xs)
 
 -- a search in the standings as they are held
-pub standing_found : (xs : List held.Standing) (log : List Standing) (x : List ℕ) (r : Result ℕ ℕ) → map kept_standing xs ≡ log → IsLog log → IsSearchInRange r (length xs)
+pub standing_found : (xs : List held.Standing) (log : List Standing) (x : List ℕ) (r : Result ℕ ℕ)
+    → map kept_standing xs ≡ log → IsLog log → IsSearchInRange r (length xs)
     → IsBinarySearchResult (λ (s : held.Standing). slice_cmp nat_cmp s.domain x) xs r → IsPlaceOf log x (result_ok r)
 standing_found xs log x r log_is is within answer =
     let same : polled_domains log ≡ map (λ (s : held.Standing). s.domain) xs = sym (ap polled_domains log_is) ∙ domains_of-kept xs in
@@ -191,7 +211,8 @@ standing_found xs log x r log_is is within answer =
 
 -- ---- a new log
 
-below_names : (x : Relationship) (rs : List Relationship) → AllByRecursion (λ y. relationship_cmp x y ≡ Less) rs → AllByRecursion (λ y. domain_cmp x.domain y ≡ Less) (map (λ r. r.domain) rs)
+below_names : (x : Relationship) (rs : List Relationship) → AllByRecursion (λ y. relationship_cmp x y ≡ Less) rs
+    → AllByRecursion (λ y. domain_cmp x.domain y ≡ Less) (map (λ r. r.domain) rs)
 below_names x [] all = tt
 below_names x (r ∷ rs) all = (all.0, below_names x rs all.1)
 
@@ -207,7 +228,8 @@ each_name (r ∷ rs) all domain has = elim (contains_cases r.domain (map (λ r. 
   | inr later ↦ each_name rs all.1 domain later
 ]
 
-pub IsLog-new : (c : Configuration) (rs : List Relationship) (log : List Standing) → IsConfiguration c → rs ≡ c.relationships → log ≡ log_of (map (λ r. r.domain) rs) [] → IsLog log
+pub IsLog-new : (c : Configuration) (rs : List Relationship) (log : List Standing) → IsConfiguration c
+    → rs ≡ c.relationships → log ≡ log_of (map (λ r. r.domain) rs) [] → IsLog log
 IsLog-new c rs log form same is = record {
   domains = map (λ r. r.domain) rs;
   rising = rising_names rs (subst (IsStrictlySortedBy relationship_cmp) (sym same) form.rising_relationships);
@@ -218,18 +240,26 @@ IsLog-new c rs log form same is = record {
 
 -- ---- the standings as they are held
 
-kept_at : (items : List held.Standing) (log : List Standing) (k : ℕ) (x : held.Standing) → map kept_standing items ≡ log → x ≡ get_or items k x → k < length items → get_or log k (kept_standing x) ≡ kept_standing x
-kept_at items log k x log_is there within = ap (λ l. get_or l k (kept_standing x)) (sym log_is) ∙ get_or-map kept_standing items k x (kept_standing x) within ∙ ap kept_standing (sym there)
+kept_at : (items : List held.Standing) (log : List Standing) (k : ℕ) (x : held.Standing) → map kept_standing items ≡ log
+    → x ≡ get_or items k x → k < length items → get_or log k (kept_standing x) ≡ kept_standing x
+kept_at items log k x log_is there within = ap (λ l. get_or l k (kept_standing x)) (sym log_is)
+    ∙ get_or-map kept_standing items k x (kept_standing x) within ∙ ap kept_standing (sym there)
 
-pub kept-set : (items : List held.Standing) (log : List Standing) (k : ℕ) (x y : held.Standing) (moment : ℤ) (ok : Bool) → map kept_standing items ≡ log → x ≡ get_or items k x → k < length log → kept_standing y ≡ after (kept_standing x) moment ok
+pub kept-set : (items : List held.Standing) (log : List Standing) (k : ℕ) (x y : held.Standing) (moment : ℤ) (ok : Bool)
+    → map kept_standing items ≡ log → x ≡ get_or items k x → k < length log
+    → kept_standing y ≡ after (kept_standing x) moment ok
     → map kept_standing (set items k y) ≡ set log k (after (get_or log k (kept_standing x)) moment ok)
 kept-set items log k x y moment ok log_is there within changed =
     let inside : k < length items = omega (arith, ap length log_is, length-map items kept_standing) in
     map-set kept_standing items k y ∙ ap₂ (λ l s. set l k s) log_is (changed ∙ ap (λ s. after s moment ok) (sym (kept_at items log k x log_is there inside)))
 
-pub standing_in-held : (items : List held.Standing) (log : List Standing) (domain : List ℕ) (k : ℕ) (x : held.Standing) → map kept_standing items ≡ log → IsLog log → slice_get (polled_domains log) k ≡ Some domain → x ≡ get_or items k x → k < length items
+pub standing_in-held : (items : List held.Standing) (log : List Standing) (domain : List ℕ) (k : ℕ) (x : held.Standing)
+    → map kept_standing items ≡ log → IsLog log → slice_get (polled_domains log) k ≡ Some domain → x ≡ get_or items k x
+    → k < length items
     → standing_in log domain ≡ Some (kept_standing x)
-standing_in-held items log domain k x log_is is at there within = standing_in-at log domain k (kept_standing x) (rising_of log is) at ∙ ap Some (kept_at items log k x log_is there within)
+standing_in-held items log domain k x log_is is at there within =
+    standing_in-at log domain k (kept_standing x) (rising_of log is) at
+    ∙ ap Some (kept_at items log k x log_is there within)
 
 -- a place that is given lies within
 pub within_log : (log : List Standing) (k : ℕ) (domain : List ℕ) → slice_get (polled_domains log) k ≡ Some domain → k < length log
@@ -239,7 +269,8 @@ within_log (s ∷ log) (suc k) domain at = omega (arith, within_log log k domain
 
 -- ---- what is refused is not due
 
-not_due_after : (hint : Option ℕ) (failures : ℕ) (last : Option ℤ) (now : ℤ) (e : PollError) → IsNextAfter hint failures last (Err e) → IsDueAfter hint failures last now → ⊥
+not_due_after : (hint : Option ℕ) (failures : ℕ) (last : Option ℤ) (now : ℤ) (e : PollError)
+    → IsNextAfter hint failures last (Err e) → IsDueAfter hint failures last now → ⊥
 not_due_after hint failures None now e refused due = cc
 not_due_after hint failures (Some last) now e refused due = refused.1 due.0
 
@@ -248,7 +279,8 @@ not_due hint None now e refused due = due
 not_due hint (Some s) now e refused due = not_due_after hint s.failures s.last now e refused due
 
 pub slice_get-domain : (log : List Standing) (k : ℕ) (s : Standing) → k < length log → slice_get (polled_domains log) k ≡ Some (get_or log k s).domain
-slice_get-domain log k s within = slice_get-map (λ (x : Standing). x.domain) log k ∙ ap (option_map (λ (x : Standing). x.domain)) (slice_get-get_or log k s within)
+slice_get-domain log k s within = slice_get-map (λ (x : Standing). x.domain) log k
+    ∙ ap (option_map (λ (x : Standing). x.domain)) (slice_get-get_or log k s within)
 
 pub names_of : (log : List Standing) → IsLog log → AreNames (polled_domains log)
 names_of log is = subst AreNames (sym (ap polled_domains is.is ∙ domains_of-log is.domains is.polls)) is.names

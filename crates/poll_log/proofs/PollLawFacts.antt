@@ -21,8 +21,10 @@ one_outcome false false e = refl
 
 one_told : (domains : List (List ℕ)) (text : List ℕ) (s t : ToldPoll) → AreNames domains → Tells domains text s → Tells domains text t → s ≡ t
 one_told domains text s t names p q =
-    let words = one_word s.domain t.domain _ _ (plain_name s.domain (names s.domain p.known)) (plain_name t.domain (names t.domain q.known)) (sym p.is ∙ q.is) in
-    let parts = one_word (outcome_text s.ok) (outcome_text t.ok) (signed_decimal s.seconds) (signed_decimal t.seconds) (plain_outcome s.ok) (plain_outcome t.ok) words.1 in
+    let words = one_word s.domain t.domain _ _ (plain_name s.domain (names s.domain p.known))
+        (plain_name t.domain (names t.domain q.known)) (sym p.is ∙ q.is) in
+    let parts = one_word (outcome_text s.ok) (outcome_text t.ok) (signed_decimal s.seconds) (signed_decimal t.seconds)
+        (plain_outcome s.ok) (plain_outcome t.ok) words.1 in
     let ok : s.ok ≡ t.ok = one_outcome s.ok t.ok parts.0 in
     let seconds : s.seconds ≡ t.seconds = one_text s.seconds t.seconds p.within q.within parts.1 in
     λ i. record { domain = words.0 i; ok = ok i; seconds = seconds i }
@@ -30,7 +32,8 @@ one_told domains text s t names p q =
 one_poll : (domains : List (List ℕ)) (text : List ℕ) (p q : Poll) → AreNames domains → SaysPoll domains text p → SaysPoll domains text q → p ≡ q
 one_poll domains text p q names a b = a.is ∙ ap poll_of (one_told domains text a.told b.told names a.tells b.tells) ∙ sym b.is
 
-one_list : (domains : List (List ℕ)) (lines : List (List ℕ)) (ps qs : List Poll) → AreNames domains → AllZip (SaysPoll domains) lines ps → AllZip (SaysPoll domains) lines qs → ps ≡ qs
+one_list : (domains : List (List ℕ)) (lines : List (List ℕ)) (ps qs : List Poll) → AreNames domains
+    → AllZip (SaysPoll domains) lines ps → AllZip (SaysPoll domains) lines qs → ps ≡ qs
 one_list domains [] [] [] names a b = refl
 one_list domains [] (p ∷ ps) qs names a b = absurd a
 one_list domains [] [] (q ∷ qs) names a b = absurd b
@@ -42,19 +45,27 @@ names_in : (c : Configuration) → IsConfiguration c → AreNames (polled c)
 names_in c form = each_name c.relationships form.each_relationship
 
 pub one_log : (c : Configuration) (bytes : List ℕ) (a b : List Standing) → IsConfiguration c → IsLogOf (polled c) bytes a → IsLogOf (polled c) bytes b → a ≡ b
-one_log c bytes a b form p q = p.is ∙ ap (log_of (polled c)) (one_list (polled c) (lines_of bytes).whole p.polls q.polls (names_in c form) p.say q.say) ∙ sym q.is
+one_log c bytes a b form p q =
+    p.is ∙ ap (log_of (polled c)) (one_list (polled c) (lines_of bytes).whole p.polls q.polls (names_in c form) p.say
+    q.say) ∙ sym q.is
 
 -- the line behind the front says a poll too
-said_there : (domains : List (List ℕ)) (front : List (List ℕ)) (text : List ℕ) (later : List (List ℕ)) (ps : List Poll) → AllZip (SaysPoll domains) (front ++ text ∷ later) ps → (p : Poll) × SaysPoll domains text p
+said_there : (domains : List (List ℕ)) (front : List (List ℕ)) (text : List ℕ) (later : List (List ℕ)) (ps : List Poll)
+    → AllZip (SaysPoll domains) (front ++ text ∷ later) ps → (p : Poll) × SaysPoll domains text p
 said_there domains [] text later [] say = absurd say
 said_there domains [] text later (p ∷ ps) say = (p, say.0)
 said_there domains (l ∷ front) text later [] say = absurd say
 said_there domains (l ∷ front) text later (p ∷ ps) say = said_there domains front text later ps say.1
 
-found : (domains : List (List ℕ)) (bytes : List ℕ) (log : List Standing) (n : ℕ) (Fault : List ℕ → Type 0) → (bad : FirstBad domains (lines_of bytes).whole n Fault) → IsLogOf domains bytes log → (p : Poll) × SaysPoll domains bad.text p
-found domains bytes log n Fault bad is = said_there domains bad.front bad.text bad.later is.polls (subst (λ ls. AllZip (SaysPoll domains) ls is.polls) bad.whole is.say)
+found : (domains : List (List ℕ)) (bytes : List ℕ) (log : List Standing) (n : ℕ) (Fault : List ℕ → Type 0)
+    → (bad : FirstBad domains (lines_of bytes).whole n Fault) → IsLogOf domains bytes log
+    → (p : Poll) × SaysPoll domains bad.text p
+found domains bytes log n Fault bad is =
+    said_there domains bad.front bad.text bad.later is.polls
+    (subst (λ ls. AllZip (SaysPoll domains) ls is.polls) bad.whole is.say)
 
-pub no_log : (c : Configuration) (bytes : List ℕ) (e : PollError) (log : List Standing) → IsConfiguration c → RefusesPolls (polled c) bytes e → (e ≡ NoMemory → ⊥) → (e ≡ Io → ⊥) → IsLogOf (polled c) bytes log → ⊥
+pub no_log : (c : Configuration) (bytes : List ℕ) (e : PollError) (log : List Standing) → IsConfiguration c
+    → RefusesPolls (polled c) bytes e → (e ≡ NoMemory → ⊥) → (e ≡ Io → ⊥) → IsLogOf (polled c) bytes log → ⊥
 no_log c bytes NoMemory log form refused memory io is = memory refl
 no_log c bytes Io log form refused memory io is = io refl
 no_log c bytes NoRelationship log form refused memory io is = refused
@@ -65,5 +76,7 @@ no_log c bytes (BadLine n) log form refused memory io is = elim refused [
 ]
 no_log c bytes (BadMoment n) log form refused memory io is =
     let said = found (polled c) bytes log n (TellsNoMoment (polled c)) refused is in
-    let same : said.1.told ≡ refused.bad.told = one_told (polled c) refused.text said.1.told refused.bad.told (names_in c form) said.1.tells refused.bad.tells in
+    let same : said.1.told ≡ refused.bad.told =
+        one_told (polled c) refused.text said.1.told refused.bad.told (names_in c form) said.1.tells refused.bad.tells
+        in
     refused.bad.past (subst HasMoment same said.1.moment)

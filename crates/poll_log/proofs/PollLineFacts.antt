@@ -1,5 +1,6 @@
 -- What a poll line tells, word by word
-use Rattle.std.proofs.Common.{◌≡◌, ℕ, zero, suc, ◌==◌, not, Bool, true, false, List, [], ◌∷◌, ◌++◌, get_or, drop, None, Some, refl, sym, ap, ap₂, ◌∙◌, subst, arith}
+use Rattle.std.proofs.Common.{◌≡◌, ℕ, zero, suc, ◌==◌, not, Bool, true, false, List, [], ◌∷◌, ◌++◌, get_or, drop, None}
+use Rattle.std.proofs.Common.{Some, refl, sym, ap, ap₂, ◌∙◌, subst, arith}
 use Rattle.std.specs.Int.{w64}
 use Rattle.std.specs.Prelude.{FitsSigned}
 use Rattle.std.specs.Fmt.{signed_decimal}
@@ -43,7 +44,8 @@ has_space [] rest plain = is_space 32 refl (plain 0 0 (omega arith))
 has_space (b ∷ word) rest plain = has_space word rest (all_later b (word ++ (32 ∷ rest)) plain)
 
 -- a text has one first word
-pub one_word : (word other rest more : List ℕ) → AllPass is_no_space word → AllPass is_no_space other → word ++ (32 ∷ rest) ≡ other ++ (32 ∷ more) → (word ≡ other) × (rest ≡ more)
+pub one_word : (word other rest more : List ℕ) → AllPass is_no_space word → AllPass is_no_space other
+    → word ++ (32 ∷ rest) ≡ other ++ (32 ∷ more) → (word ≡ other) × (rest ≡ more)
 one_word [] [] rest more p q e = (refl, ap (drop 1) e)
 one_word [] (b ∷ other) rest more p q e = absurd (is_space b (let same : 32 ≡ b = cc in sym same) (q 0 0 (omega arith)))
 one_word (b ∷ word) [] rest more p q e = absurd (is_space b (let same : b ≡ 32 = cc in same) (p 0 0 (omega arith)))
@@ -71,7 +73,8 @@ module _ (domains : List (List ℕ)) (text word rest : List ℕ) (names : AreNam
 
   pub no_seconds : (ok : Bool) (seconds : List ℕ) → rest ≡ outcome_text ok ++ (32 ∷ seconds) → ReadsSeconds seconds None → TellsNothing domains text
   no_seconds ok seconds is none t tells =
-      let both = one_word (outcome_text t.ok) (outcome_text ok) (signed_decimal t.seconds) seconds (plain_outcome t.ok) (plain_outcome ok) ((told_words domains text word rest t names split tells).1 ∙ is) in
+      let both = one_word (outcome_text t.ok) (outcome_text ok) (signed_decimal t.seconds) seconds (plain_outcome t.ok)
+          (plain_outcome ok) ((told_words domains text word rest t names split tells).1 ∙ is) in
       none t.seconds tells.within (sym both.1)
 
 contains_at : {X : Type 0} (xs : List X) (k : ℕ) (x : X) → slice_get xs k ≡ Some x → Contains xs x
@@ -79,7 +82,8 @@ contains_at [] k x at = cc
 contains_at (y ∷ xs) zero x at = let same : y ≡ x = cc in (0, omega arith, same)
 contains_at (y ∷ xs) (suc k) x at = contains_later y xs x (contains_at xs k x at)
 
-pub tells_parts : (domains : List (List ℕ)) (text word rest seconds : List ℕ) (parts : Parts) → IsWord text word rest → slice_get domains parts.place ≡ Some word → rest ≡ outcome_text parts.ok ++ (32 ∷ seconds)
+pub tells_parts : (domains : List (List ℕ)) (text word rest seconds : List ℕ) (parts : Parts) → IsWord text word rest
+    → slice_get domains parts.place ≡ Some word → rest ≡ outcome_text parts.ok ++ (32 ∷ seconds)
     → seconds ≡ signed_decimal parts.seconds → FitsSigned w64 parts.seconds → TellsParts domains text parts
 tells_parts domains text word rest seconds parts split at outcome read fits = record {
   told = record { domain = word; ok = parts.ok; seconds = parts.seconds };

@@ -1,5 +1,7 @@
 -- Polls that are read line by line
-use Rattle.std.proofs.Common.{◌≡◌, ℕ, Bool, true, false, ◌+◌, ◌<◌, ◌≤◌, inl, inr, List, [], ◌∷◌, ◌++◌, length, Option, None, Some, IfSome, Err, refl, sym, ap, ◌∙◌, subst, arith, append_assoc, append-nil, length-append}
+use Rattle.std.proofs.Common.{◌≡◌, ℕ, Bool, true, false, ◌+◌, ◌<◌, ◌≤◌, inl, inr, List, [], ◌∷◌, ◌++◌, length, Option}
+use Rattle.std.proofs.Common.{None, Some, IfSome, Err, refl, sym, ap, ◌∙◌, subst, arith, append_assoc, append-nil}
+use Rattle.std.proofs.Common.{length-append}
 use Rattle.std.specs.List.{AllZip}
 use Rattle.std.specs.Fmt.{signed_decimal}
 use Rattle.std.specs.Io.KnownBytes.{IsAtEnd, prepend_known}
@@ -27,7 +29,8 @@ begin : (domains : List (List ℕ)) (a : Option (List ℕ)) → ReadTo domains a
 begin domains None = tt
 begin domains (Some xs) = record { front = []; say = tt; whole = refl; rest = refl; counted = refl }
 
-pub HasRead-none : (domains : List (List ℕ)) (a : Option (List ℕ)) (log : List Standing) → log ≡ log_of domains [] → HasRead domains a (prepend_known [] a) log 0
+pub HasRead-none : (domains : List (List ℕ)) (a : Option (List ℕ)) (log : List Standing) → log ≡ log_of domains []
+    → HasRead domains a (prepend_known [] a) log 0
 HasRead-none domains a log is = record { polls = []; is = is; lines = begin domains a }
 
 -- ---- one more line
@@ -35,7 +38,9 @@ HasRead-none domains a log is = record { polls = []; is = is; lines = begin doma
 first_line : (ys zs text : List ℕ) → HasLine (Some ys) (Some zs) text → lines_of ys ≡ with_line text (lines_of zs)
 first_line ys zs text line = ap lines_of line.1 ∙ lines_of-line text zs line.0
 
-passed : (domains : List (List ℕ)) (a b c : Option (List ℕ)) (polls : List Poll) (n : ℕ) (text : List ℕ) (p : Poll) → ReadTo domains a b polls n → HasLine b c text → SaysPoll domains text p → ReadTo domains a c (polls ++ p ∷ []) (n + 1)
+passed : (domains : List (List ℕ)) (a b c : Option (List ℕ)) (polls : List Poll) (n : ℕ) (text : List ℕ) (p : Poll)
+    → ReadTo domains a b polls n → HasLine b c text → SaysPoll domains text p
+    → ReadTo domains a c (polls ++ p ∷ []) (n + 1)
 passed domains None b c polls n text p read line says = tt
 passed domains (Some xs) None c polls n text p read line says = absurd read
 passed domains (Some xs) (Some ys) None polls n text p read line says = absurd line.1
@@ -49,7 +54,8 @@ passed domains (Some xs) (Some ys) (Some zs) polls n text p read line says =
       counted = omega (arith, read.counted, length-append read.front (text ∷ []));
     }
 
-pub HasRead-line : (domains : List (List ℕ)) (a b c : Option (List ℕ)) (old new : List Standing) (n : ℕ) (text : List ℕ) → HasRead domains a b old n → HasLine b c text → AddsLine old text new → HasRead domains a c new (n + 1)
+pub HasRead-line : (domains : List (List ℕ)) (a b c : Option (List ℕ)) (old new : List Standing) (n : ℕ) (text : List ℕ)
+    → HasRead domains a b old n → HasLine b c text → AddsLine old text new → HasRead domains a c new (n + 1)
 HasRead-line domains a b c old new n text read line added =
     let own : polled_domains old ≡ domains = ap polled_domains read.is ∙ domains_of-log domains read.polls in
     record {
@@ -64,7 +70,8 @@ own_domains domains a b log n read = ap polled_domains read.is ∙ domains_of-lo
 
 -- ---- the first bad line
 
-bad : (domains : List (List ℕ)) (a b c : Option (List ℕ)) (log : List Standing) (n : ℕ) (text : List ℕ) (Fault : List ℕ → Type 0) → HasRead domains a b log n → HasLine b c text → Fault text
+bad : (domains : List (List ℕ)) (a b c : Option (List ℕ)) (log : List Standing) (n : ℕ) (text : List ℕ) (Fault : List ℕ
+    → Type 0) → HasRead domains a b log n → HasLine b c text → Fault text
     → IfSome a (λ xs. FirstBad domains (lines_of xs).whole (n + 1) Fault)
 bad domains None b c log n text Fault read line fault = tt
 bad domains (Some xs) None c log n text Fault read line fault = absurd read.lines
@@ -86,13 +93,15 @@ if_some : (a : Option (List ℕ)) (P Q : List ℕ → Type 0) → ((xs : List �
 if_some None P Q f h = tt
 if_some (Some xs) P Q f h = f xs h
 
-pub RefusesPolls-line : (domains : List (List ℕ)) (a b c : Option (List ℕ)) (log : List Standing) (n : ℕ) (text : List ℕ) → HasRead domains a b log n → HasLine b c text → TellsNothing (polled_domains log) text
+pub RefusesPolls-line : (domains : List (List ℕ)) (a b c : Option (List ℕ)) (log : List Standing) (n : ℕ)
+    (text : List ℕ) → HasRead domains a b log n → HasLine b c text → TellsNothing (polled_domains log) text
     → IfSome a (λ xs. RefusesPolls domains xs (BadLine (n + 1)))
 RefusesPolls-line domains a b c log n text read line nothing =
     if_some a _ _ (λ xs first. inl first)
     (bad domains a b c log n text (TellsNothing domains) read line (subst (λ ds. TellsNothing ds text) (own_domains domains a b log n read) nothing))
 
-pub RefusesPolls-moment : (domains : List (List ℕ)) (a b c : Option (List ℕ)) (log : List Standing) (n : ℕ) (text : List ℕ) → HasRead domains a b log n → HasLine b c text → TellsNoMoment (polled_domains log) text
+pub RefusesPolls-moment : (domains : List (List ℕ)) (a b c : Option (List ℕ)) (log : List Standing) (n : ℕ)
+    (text : List ℕ) → HasRead domains a b log n → HasLine b c text → TellsNoMoment (polled_domains log) text
     → IfSome a (λ xs. RefusesPolls domains xs (BadMoment (n + 1)))
 RefusesPolls-moment domains a b c log n text read line none =
     bad domains a b c log n text (TellsNoMoment domains) read line (subst (λ ds. TellsNoMoment ds text) (own_domains domains a b log n read) none)
@@ -107,16 +116,20 @@ too_long domains text names long t tells =
     let name = (names t.domain tells.known).limit in
     let seconds = length-seconds t.seconds tells.within in
     let outcome = length-outcome t.ok in
-    omega (arith, ap length tells.is, length-append t.domain (32 ∷ (outcome_text t.ok ++ (32 ∷ signed_decimal t.seconds))), length-append (outcome_text t.ok) (32 ∷ signed_decimal t.seconds))
+    omega (arith, ap length tells.is, length-append t.domain
+        (32 ∷ (outcome_text t.ok ++ (32 ∷ signed_decimal t.seconds))),
+        length-append (outcome_text t.ok) (32 ∷ signed_decimal t.seconds))
 
 -- ---- the end
 
-pub RefusesPolls-cut : (domains : List (List ℕ)) (a b : Option (List ℕ)) (log : List Standing) (n : ℕ) → HasRead domains a b log n → HasNoLine b → HasMore b → IfSome a (λ xs. RefusesPolls domains xs (BadLine (n + 1)))
+pub RefusesPolls-cut : (domains : List (List ℕ)) (a b : Option (List ℕ)) (log : List Standing) (n : ℕ)
+    → HasRead domains a b log n → HasNoLine b → HasMore b → IfSome a (λ xs. RefusesPolls domains xs (BadLine (n + 1)))
 RefusesPolls-cut domains None b log n read none more = tt
 RefusesPolls-cut domains (Some xs) None log n read none more = absurd read.lines
 RefusesPolls-cut domains (Some xs) (Some ys) log n read none more =
     let rest : lines_of ys ≡ record { whole = []; rest = ys } = lines_of-rest ys none in
-    let whole : (lines_of xs).whole ≡ read.lines.front = read.lines.whole ∙ ap (λ (l : Lines). read.lines.front ++ l.whole) rest ∙ append-nil read.lines.front in
+    let whole : (lines_of xs).whole ≡ read.lines.front =
+        read.lines.whole ∙ ap (λ (l : Lines). read.lines.front ++ l.whole) rest ∙ append-nil read.lines.front in
     inr (record {
       polls = read.polls;
       say = subst (λ ls. AllZip (SaysPoll domains) ls read.polls) (sym whole) read.lines.say;
@@ -124,12 +137,14 @@ RefusesPolls-cut domains (Some xs) (Some ys) log n read none more =
       counted = omega (arith, read.lines.counted, ap length whole);
     })
 
-pub IsLogOf-end : (domains : List (List ℕ)) (a b : Option (List ℕ)) (log : List Standing) (n : ℕ) → HasRead domains a b log n → IsAtEnd b → IfSome a (λ xs. IsLogOf domains xs log)
+pub IsLogOf-end : (domains : List (List ℕ)) (a b : Option (List ℕ)) (log : List Standing) (n : ℕ)
+    → HasRead domains a b log n → IsAtEnd b → IfSome a (λ xs. IsLogOf domains xs log)
 IsLogOf-end domains None b log n read end = tt
 IsLogOf-end domains (Some xs) None log n read end = absurd read.lines
 IsLogOf-end domains (Some xs) (Some ys) log n read end =
     let rest : lines_of ys ≡ record { whole = []; rest = [] } = ap lines_of end in
-    let whole : (lines_of xs).whole ≡ read.lines.front = read.lines.whole ∙ ap (λ (l : Lines). read.lines.front ++ l.whole) rest ∙ append-nil read.lines.front in
+    let whole : (lines_of xs).whole ≡ read.lines.front =
+        read.lines.whole ∙ ap (λ (l : Lines). read.lines.front ++ l.whole) rest ∙ append-nil read.lines.front in
     record {
       polls = read.polls;
       say = subst (λ ls. AllZip (SaysPoll domains) ls read.polls) (sym whole) read.lines.say;
@@ -144,7 +159,9 @@ IsAtEnd-source (b ∷ kept) (Some xs) end = cc
 
 -- ---- the refusals of a line
 
-pub RefusesPolls-record : (domains : List (List ℕ)) (a b c : Option (List ℕ)) (log new : List Standing) (n : ℕ) (text : List ℕ) (e : PollError) → HasRead domains a b log n → HasLine b c text → RecordsLine log text (n + 1) new (Err e)
+pub RefusesPolls-record : (domains : List (List ℕ)) (a b c : Option (List ℕ)) (log new : List Standing) (n : ℕ)
+    (text : List ℕ) (e : PollError) → HasRead domains a b log n → HasLine b c text
+    → RecordsLine log text (n + 1) new (Err e)
     → IfSome a (λ xs. RefusesPolls domains xs e)
 RefusesPolls-record domains a b c log new n text (BadLine m) read line refused =
     subst (λ k. IfSome a (λ xs. RefusesPolls domains xs (BadLine k))) (sym refused.0) (RefusesPolls-line domains a b c log n text read line refused.1)
@@ -155,7 +172,8 @@ RefusesPolls-record domains a b c log new n text PastRange read line refused = a
 RefusesPolls-record domains a b c log new n text NoMemory read line refused = absurd refused
 RefusesPolls-record domains a b c log new n text Io read line refused = absurd refused
 
-pub RefusesPolls-long : (config : Configuration) (a b c : Option (List ℕ)) (log : List Standing) (n : ℕ) (text : List ℕ) → IsConfiguration config → HasRead (polled config) a b log n → HasLine b c text → 8388608 < length text
+pub RefusesPolls-long : (config : Configuration) (a b c : Option (List ℕ)) (log : List Standing) (n : ℕ) (text : List ℕ)
+    → IsConfiguration config → HasRead (polled config) a b log n → HasLine b c text → 8388608 < length text
     → IfSome a (λ xs. RefusesPolls (polled config) xs (BadLine (n + 1)))
 RefusesPolls-long config a b c log n text form read line long =
     let own : polled_domains log ≡ polled config = own_domains (polled config) a b log n read in

@@ -1,5 +1,6 @@
 -- Seconds in decimal: what is written of them is read as them
-use Rattle.std.proofs.Common.{◌≡◌, ℕ, zero, suc, false, Some, Err, ◌<◌, ◌≤◌, ◌^◌, ℤ, pos, negsuc, neg_ℤ, List, ◌∷◌, length, drop, Result, Ok, refl, sym, ap, ◌∙◌, subst, arith, decimal}
+use Rattle.std.proofs.Common.{◌≡◌, ℕ, zero, suc, false, Some, Err, ◌<◌, ◌≤◌, ◌^◌, ℤ, pos, negsuc, neg_ℤ, List, ◌∷◌}
+use Rattle.std.proofs.Common.{length, drop, Result, Ok, refl, sym, ap, ◌∙◌, subst, arith, decimal}
 use Rattle.std.specs.Int.{w64}
 use Rattle.std.specs.Prelude.{FitsSigned, MatchResult, is_ok}
 use Rattle.std.specs.Result.{result_ok}
@@ -58,7 +59,8 @@ answered (Err e) P Q x some all = cc
 pub not_parsed : {E : Type 0} (z : ℤ) (bs : List ℕ) (r : Result ℤ E) → false ≡ is_ok r → ParsesSigned w64 10 bs r → FitsSigned w64 z → bs ≡ signed_decimal z → ⊥
 not_parsed z bs r none h fits is = let whole = parse-seconds z bs r fits is h in cc (ap is_ok whole)
 
-pub parsed : {E : Type 0} (z x : ℤ) (bs : List ℕ) (r : Result ℤ E) → Some x ≡ result_ok r → ParsesSigned w64 10 bs r → FitsSigned w64 z → bs ≡ signed_decimal z → x ≡ z
+pub parsed : {E : Type 0} (z x : ℤ) (bs : List ℕ) (r : Result ℤ E) → Some x ≡ result_ok r → ParsesSigned w64 10 bs r
+    → FitsSigned w64 z → bs ≡ signed_decimal z → x ≡ z
 parsed z x bs r some h fits is = let whole = ap result_ok (parse-seconds z bs r fits is h) in cc
 
 pub fits_parsed : {E : Type 0} (x : ℤ) (bs : List ℕ) (r : Result ℤ E) → Some x ≡ result_ok r → ParsesSigned w64 10 bs r → FitsSigned w64 x

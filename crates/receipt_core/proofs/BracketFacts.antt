@@ -1,11 +1,13 @@
 -- No object's compact text is a proper beginning of another's: its last bracket closes its first.
-use Rattle.std.proofs.Common.{◌≡◌, ℕ, zero, suc, ◌+◌, ◌<◌, ◌^◌, ◌/◌, ◌%◌, ◌==◌, ◌||◌, Bool, true, false, cond, List, [], ◌∷◌, ◌++◌, decimal, nat_lt, refl, ap, sym, ◌∙◌, arith, append_assoc}
+use Rattle.std.proofs.Common.{◌≡◌, ℕ, zero, suc, ◌+◌, ◌<◌, ◌^◌, ◌/◌, ◌%◌, ◌==◌, ◌||◌, Bool, true, false, cond, List, []}
+use Rattle.std.proofs.Common.{◌∷◌, ◌++◌, decimal, nat_lt, refl, ap, sym, ◌∙◌, arith, append_assoc}
 use Rattle.std.proofs.lemmas.Bool.Decides.{nat_tests}
 use Rattle.std.proofs.lemmas.List.{append_cancel_right}
 use Rattle.std.proofs.lemmas.Fmt.{decimal_by_steps}
 use Rattle.std.specs.Char.{digit_char}
 use Rattle.json.specs.Print.{escape, escape_byte, escape_letter, quoted}
-use Rattle.serde_json.specs.Data.{unsigned, negative, float, Data, null, boolean, number, string, array, object, Items, no_items, item, Members, no_members, member}
+use Rattle.serde_json.specs.Data.{unsigned, negative, float, Data, null, boolean, number, string, array, object, Items}
+use Rattle.serde_json.specs.Data.{no_items, item, Members, no_members, member}
 use Rattle.serde_json.specs.Written.{compact_text, items_text, members_text, comma_if}
 use Rattle.jwk_set.specs.Json.{IsPlain, ArePlain, HasPlainMembers}
 use Rattle.receipt_core.proofs.OrderFacts.{Apart}
@@ -86,7 +88,8 @@ unescaped b h =
 
 inside_byte : (n b : ℕ) (rest : List ℕ) → inside n (escape_byte b ++ rest) ≡ inside n rest
 unfolding escape_byte
-inside_byte n b rest = in_cases n (nat_lt 0 (escape_letter b)) (nat_lt b 32) b (escape_letter b) (digit_char (b / 16)) (digit_char (b % 16)) rest (calm_hex b) (unescaped b)
+inside_byte n b rest = in_cases n (nat_lt 0 (escape_letter b)) (nat_lt b 32) b (escape_letter b) (digit_char (b / 16))
+    (digit_char (b % 16)) rest (calm_hex b) (unescaped b)
 
 inside_escape : (n : ℕ) (s rest : List ℕ) → inside n (escape s ++ 34 ∷ rest) ≡ outside n rest
 inside_escape n [] rest = refl
@@ -112,7 +115,8 @@ decimal_passes : (m : ℕ) → m < 2 ^ 64 → (n : ℕ) (rest : List ℕ) → ou
 decimal_passes =
     decimal_by_steps (λ m ds. (n : ℕ) (rest : List ℕ) → outside n (ds ++ rest) ≡ outside n rest)
     (λ m h n rest. digit_passes m n rest h)
-    (λ m ds h before n rest. ap (outside n) (append_assoc ds ((48 + m % 10) ∷ []) rest) ∙ before n ((48 + m % 10) ∷ rest) ∙ digit_passes (m % 10) n rest (omega arith))
+    (λ m ds h before n rest. ap (outside n) (append_assoc ds ((48 + m % 10) ∷ []) rest)
+        ∙ before n ((48 + m % 10) ∷ rest) ∙ digit_passes (m % 10) n rest (omega arith))
 
 comma_passes : (later : Bool) (n : ℕ) (rest : List ℕ) → outside n (comma_if later ++ rest) ≡ outside n rest
 comma_passes true n rest = refl
@@ -136,7 +140,8 @@ mutual
   items_close later no_items h zero rest = refl
   items_close later no_items h (suc n) rest = refl
   items_close later (item d ds) h n rest =
-      ap (outside n) (append_assoc (comma_if later) (compact_text d ++ items_text true ds) rest) ∙ comma_passes later n ((compact_text d ++ items_text true ds) ++ rest)
+      ap (outside n) (append_assoc (comma_if later) (compact_text d ++ items_text true ds) rest)
+          ∙ comma_passes later n ((compact_text d ++ items_text true ds) ++ rest)
       ∙ ap (outside n) (append_assoc (compact_text d) (items_text true ds) rest) ∙ passes d h.0 n (items_text true ds ++ rest)
       ∙ items_close true ds h.1 n rest
 

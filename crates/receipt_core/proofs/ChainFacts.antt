@@ -28,7 +28,8 @@ fits_any c r h = record { relationship = h.1; has = (h.0, h.2, h.3); domain = h.
 any_fits : (c : Configuration) (r : Receipt) → IsFitting c r → Any (λ x. (x.domain ≡ r.domain) × (x.endpoint ≡ r.endpoint)) c.relationships
 any_fits c r h = (h.has.0, h.relationship, h.has.1, h.has.2, (h.domain, h.endpoint))
 
-pub fitting_told : (c : Configuration) (rs : List Relationship) (r : Receipt) (b : Bool) → rs ≡ c.relationships → (IsTrue b ↔ Any (λ x. (x.domain ≡ r.domain) × (x.endpoint ≡ r.endpoint)) rs) → IsTrue b ↔ IsFitting c r
+pub fitting_told : (c : Configuration) (rs : List Relationship) (r : Receipt) (b : Bool) → rs ≡ c.relationships
+    → (IsTrue b ↔ Any (λ x. (x.domain ≡ r.domain) × (x.endpoint ≡ r.endpoint)) rs) → IsTrue b ↔ IsFitting c r
 fitting_told c rs r b e h =
     let told : IsTrue b ↔ Any (λ x. (x.domain ≡ r.domain) × (x.endpoint ≡ r.endpoint)) c.relationships =
     subst (λ (zs : List Relationship). IsTrue b ↔ Any (λ x. (x.domain ≡ r.domain) × (x.endpoint ≡ r.endpoint)) zs) e h in
@@ -38,7 +39,8 @@ fitting_told c rs r b e h =
 pub next_told : (records : List Distrust) (p : Pair) (r : Receipt) (b : Bool) → (Any (λ x. x ≡ distrust_of r.endpoint.domain r) records → ⊥)
     → (IsTrue b ↔ Any (λ t. t ≡ need_of r) (offers_of p)) → IsTrue b ↔ Vouches records p r
 next_told records p r b trusted h = (
-  λ t. (Vouches-by_offers records p r).1 (contains_from_any (offers_of p) (need_of r) (h.0 t), λ k. trusted (any_from_contains records (distrust_of r.endpoint.domain r) k)),
+  λ t. (Vouches-by_offers records p r).1 (contains_from_any (offers_of p) (need_of r) (h.0 t),
+      λ k. trusted (any_from_contains records (distrust_of r.endpoint.domain r) k)),
   λ v. h.1 (any_from_contains (offers_of p) (need_of r) ((Vouches-by_offers records p r).0 v).0),
 )
 
@@ -48,7 +50,8 @@ distrusted_told records p r h v = ((Vouches-by_offers records p r).0 v).1 (conta
 abbrev pub IsVoucher : Receipt → Seed → Type 0
 IsVoucher r s = (s.domain ≡ r.endpoint.domain) × HasKeyId s.document.authorities r.key × (doc_id_of s.domain s.document ≡ r.voucher.0)
 
-pub seeded_told : (c : Configuration) (seeds : List Seed) (records : List Distrust) (r : Receipt) (b : Bool) → seeds ≡ c.seeds → (Any (λ x. x ≡ distrust_of r.endpoint.domain r) records → ⊥)
+pub seeded_told : (c : Configuration) (seeds : List Seed) (records : List Distrust) (r : Receipt) (b : Bool)
+    → seeds ≡ c.seeds → (Any (λ x. x ≡ distrust_of r.endpoint.domain r) records → ⊥)
     → (IsTrue b ↔ Any (IsVoucher r) seeds) → IsTrue b ↔ HasVoucher c records r
 seeded_told c seeds records r b e trusted h = (
   λ t.
@@ -63,14 +66,17 @@ seeded_told c seeds records r b e trusted h = (
           trusted = λ k. trusted (any_from_contains records (distrust_of r.endpoint.domain r) (subst (λ d. Contains records (distrust_of d r)) found.4.0 k));
         };
       },
-  λ f. h.1 (subst (λ (zs : List Seed). Any (IsVoucher r) zs) (sym e) (f.configured.0, f.seed, f.configured.1, f.configured.2, (f.vouches.endpoint, f.vouches.key, f.vouches.voucher))),
+  λ f. h.1 (subst (λ (zs : List Seed). Any (IsVoucher r) zs) (sym e)
+      (f.configured.0, f.seed, f.configured.1, f.configured.2, (f.vouches.endpoint, f.vouches.key, f.vouches.voucher))),
 )
 
-pub distrusted_seeded : (c : Configuration) (records : List Distrust) (r : Receipt) → Any (λ x. x ≡ distrust_of r.endpoint.domain r) records → HasVoucher c records r → ⊥
+pub distrusted_seeded : (c : Configuration) (records : List Distrust) (r : Receipt)
+    → Any (λ x. x ≡ distrust_of r.endpoint.domain r) records → HasVoucher c records r → ⊥
 distrusted_seeded c records r h f = distrusted_told records (pair_of_seed f.seed) r h f.vouches
 
 -- a chain is its first receipt and what that leads on to
-pub chain_told : (c : Configuration) (records : List Distrust) (r : Receipt) (rest : List Receipt) (b : Bool) → IsFirst c records r → (IsTrue b ↔ LeadsOn c records (pair_of r) rest) → IsTrue b ↔ IsChain c records (r ∷ rest)
+pub chain_told : (c : Configuration) (records : List Distrust) (r : Receipt) (rest : List Receipt) (b : Bool)
+    → IsFirst c records r → (IsTrue b ↔ LeadsOn c records (pair_of r) rest) → IsTrue b ↔ IsChain c records (r ∷ rest)
 chain_told c records r rest b f h = (
   λ t. record { some = omega arith; seed = f.1.seed; configured = f.1.configured; leads = (f.0, f.1.vouches, h.0 t) },
   λ k. h.1 k.leads.2,
@@ -91,7 +97,8 @@ not_told P b h e p = let yes = h.1 p in cc
 
 -- ---- the end of a chain is accepted
 
-fewer_records : (c : Configuration) (records fewer : List Distrust) (from to : Pair) (chain : List Receipt) → ((x : Distrust) → Contains fewer x → Contains records x)
+fewer_records : (c : Configuration) (records fewer : List Distrust) (from to : Pair) (chain : List Receipt)
+    → ((x : Distrust) → Contains fewer x → Contains records x)
     → Leads c records from chain to → Leads c fewer from chain to
 fewer_records c records fewer from to [] within h = h
 fewer_records c records fewer from to (r ∷ chain) within h = (
@@ -100,7 +107,8 @@ fewer_records c records fewer from to (r ∷ chain) within h = (
   fewer_records c records fewer (pair_of r) to chain within h.2,
 )
 
-pub IsMember-chain : (m : Meaning) (records : List Distrust) (chain : List Receipt) (h : IsChain m.config records chain) → AllByRecursion (Contains m.held) chain
+pub IsMember-chain : (m : Meaning) (records : List Distrust) (chain : List Receipt) (h : IsChain m.config records chain)
+    → AllByRecursion (Contains m.held) chain
     → ((x : Distrust) → Contains m.records x → Contains records x) → IsMember m (last_pair (pair_of_seed h.seed) chain)
 IsMember-chain m records chain h held within = record {
   seed = h.seed;
@@ -114,7 +122,8 @@ last_pair-push : (from : Pair) (front : List Receipt) (r : Receipt) → last_pai
 last_pair-push from [] r = refl
 last_pair-push from (x ∷ front) r = last_pair-push (pair_of x) front r
 
-pub accepted_end : (m : Meaning) (records : List Distrust) (front : List Receipt) (r : Receipt) → IsChain m.config records (front ++ r ∷ []) → AllByRecursion (Contains m.held) (front ++ r ∷ [])
+pub accepted_end : (m : Meaning) (records : List Distrust) (front : List Receipt) (r : Receipt)
+    → IsChain m.config records (front ++ r ∷ []) → AllByRecursion (Contains m.held) (front ++ r ∷ [])
     → ((x : Distrust) → Contains m.records x → Contains records x) → IsMember m (pair_of r)
 accepted_end m records front r h held within =
     subst (IsMember m) (last_pair-push (pair_of_seed h.seed) front r) (IsMember-chain m records (front ++ r ∷ []) h held within)

@@ -1,5 +1,7 @@
 -- The digits of digests: plain, and in the order of the bytes.
-use Rattle.std.proofs.Common.{◌≡◌, ℕ, zero, suc, ◌+◌, ◌/◌, ◌%◌, ◌<◌, ◌==◌, Bool, true, cond, ◌&&◌, ◌⊎◌, inl, inr, nat_lt, List, [], ◌∷◌, length, slice_index, refl, ap, sym, ◌∙◌, arith, Ok, Err, Result, subst}
+use Rattle.std.proofs.Common.{◌≡◌, ℕ, zero, suc, ◌+◌, ◌/◌, ◌%◌, ◌<◌, ◌==◌, Bool, true, cond, ◌&&◌, ◌⊎◌, inl, inr}
+use Rattle.std.proofs.Common.{nat_lt, List, [], ◌∷◌, length, slice_index, refl, ap, sym, ◌∙◌, arith, Ok, Err, Result}
+use Rattle.std.proofs.Common.{subst}
 use Rattle.std.specs.Prelude.{MatchResult}
 use Rattle.hex.specs.declared.error.FromHexError.{FromHexError}
 use Rattle.std.proofs.lemmas.Bool.{and_parts, cases_lt, eqb-true}
@@ -84,7 +86,9 @@ byte_equal b c e =
 
 -- a byte's two digits are in order as the byte is
 byte_order : (b c : ℕ) → b < 256 → c < 256 → ordering_then (nat_cmp (b / 16) (c / 16)) (nat_cmp (b % 16) (c % 16)) ≡ nat_cmp b c
-byte_order b c p q = by_order_of (λ x y. ordering_then (nat_cmp (x / 16) (y / 16)) (nat_cmp (x % 16) (y % 16)) ≡ nat_cmp x y) b c (byte_less b c) (byte_equal b c) (byte_greater b c)
+byte_order b c p q =
+    by_order_of (λ x y. ordering_then (nat_cmp (x / 16) (y / 16)) (nat_cmp (x % 16) (y % 16)) ≡ nat_cmp x y) b c
+    (byte_less b c) (byte_equal b c) (byte_greater b c)
 
 abbrev pub AreOctets : List ℕ → Type 0
 AreOctets = AllByRecursion (λ b. b < 256)
@@ -96,7 +100,8 @@ encode_lower-order [] [] p q = refl
 encode_lower-order [] (c ∷ b) p q = refl
 encode_lower-order (x ∷ a) [] p q = refl
 encode_lower-order (x ∷ a) (y ∷ b) p q =
-    (λ i. ordering_then (same_order (x / 16) (y / 16) (omega (arith, p.0)) (omega (arith, q.0)) i) (ordering_then (same_order (x % 16) (y % 16) (omega arith) (omega arith) i) (encode_lower-order a b p.1 q.1 i)))
+    (λ i. ordering_then (same_order (x / 16) (y / 16) (omega (arith, p.0)) (omega (arith, q.0)) i)
+        (ordering_then (same_order (x % 16) (y % 16) (omega arith) (omega arith) i) (encode_lower-order a b p.1 q.1 i)))
     ∙ sym (then_assoc (nat_cmp (x / 16) (y / 16)) (nat_cmp (x % 16) (y % 16)) (slice_cmp nat_cmp a b))
     ∙ ap (λ o. ordering_then o (slice_cmp nat_cmp a b)) (byte_order x y p.0 q.0)
 
@@ -134,7 +139,8 @@ each_small [] h = tt
 each_small (x ∷ a) h = (small_digit (x / 16) (omega (arith, h.0)), (small_digit (x % 16) (omega arith), each_small a h.1))
 
 pub IsUtf8-encode_lower : (a : List ℕ) → AreOctets a → IsUtf8 (encode_lower a)
-IsUtf8-encode_lower a h = IsUtf8-from_ascii (encode_lower a) (IsAscii-from_all (encode_lower a) (All-from_recursion (λ b. b < 128) (encode_lower a) (each_small a h)))
+IsUtf8-encode_lower a h = IsUtf8-from_ascii (encode_lower a)
+    (IsAscii-from_all (encode_lower a) (All-from_recursion (λ b. b < 128) (encode_lower a) (each_small a h)))
 
 IsBytes-from_octets : (a : List ℕ) → AreOctets a → IsBytes a
 IsBytes-from_octets [] h zero = omega arith
@@ -153,7 +159,8 @@ decode_sized-encode_lower a h =
     by_pairs (encode_lower a) (length-encode_lower a h) ∙ decode_pairs-encode_with lower_digits IsDigits-lower_digits 0 a (IsBytes-from_octets a h.octets)
 
 -- what decoding into 32 bytes answers for a digest's digits
-pub decoded_digest : (text out d : List ℕ) (r : Result (Unit {0}) FromHexError) → MatchResult (decode_sized text 32) (λ bytes. (r ≡ Ok tt) × (out ≡ bytes)) (λ e. r ≡ Err e)
+pub decoded_digest : (text out d : List ℕ) (r : Result (Unit {0}) FromHexError)
+    → MatchResult (decode_sized text 32) (λ bytes. (r ≡ Ok tt) × (out ≡ bytes)) (λ e. r ≡ Err e)
     → encode_lower d ≡ text → IsDigest d → (r ≡ Ok tt) × (out ≡ d)
 decoded_digest text out d r h e is =
     let told : decode_sized text 32 ≡ Ok d = ap (λ t. decode_sized t 32) (sym e) ∙ decode_sized-encode_lower d is in

@@ -37,7 +37,8 @@ apart_tails b c x y e h = λ u v same.
     let whole : b ∷ x ≡ c ∷ y = h u v (λ i. e i ∷ same i) in
     cc
 
-by_order : (o whole inner outer : Ordering) → (o ≡ Equal → whole ≡ ordering_then inner outer) → ordering_then o whole ≡ ordering_then (ordering_then o inner) outer
+by_order : (o whole inner outer : Ordering) → (o ≡ Equal → whole ≡ ordering_then inner outer)
+    → ordering_then o whole ≡ ordering_then (ordering_then o inner) outer
 by_order Less whole inner outer h = refl
 by_order Equal whole inner outer h = h refl
 by_order Greater whole inner outer h = refl

@@ -49,11 +49,13 @@ no_less_itself : {A : Type 0} {cmp : A → A → Ordering} → IsTotalOrder cmp 
 no_less_itself {A} {cmp} o a h = let tied : cmp a a ≡ Equal = tied_itself o a in cc
 
 -- below the head of a rising list, so below all of it
-below_all : {A : Type 0} (cmp : A → A → Ordering) → IsTotalOrder cmp → (a head : A) (rest : List A) → cmp a head ≡ Less → AllByRecursion (λ y. cmp head y ≡ Less) rest → AllByRecursion (λ y. cmp a y ≡ Less) rest
+below_all : {A : Type 0} (cmp : A → A → Ordering) → IsTotalOrder cmp → (a head : A) (rest : List A) → cmp a head ≡ Less
+    → AllByRecursion (λ y. cmp head y ≡ Less) rest → AllByRecursion (λ y. cmp a y ≡ Less) rest
 below_all cmp o a head [] h all = tt
 below_all cmp o a head (x ∷ rest) h all = (o.trans a head x h all.0, below_all cmp o a head rest h all.1)
 
-rises : {A : Type 0} (cmp : A → A → Ordering) (head : A) (rest : List A) → AllByRecursion (λ y. cmp head y ≡ Less) rest → IsStrictlySortedBy cmp rest → IsStrictlySortedBy cmp (head ∷ rest)
+rises : {A : Type 0} (cmp : A → A → Ordering) (head : A) (rest : List A) → AllByRecursion (λ y. cmp head y ≡ Less) rest
+    → IsStrictlySortedBy cmp rest → IsStrictlySortedBy cmp (head ∷ rest)
 unfolding IsStrictlySortedBy
 rises cmp head rest all rising = (all, rising)
 
@@ -63,18 +65,23 @@ rises_empty cmp = tt
 
 -- ---- one item more
 
-placed_all : {A : Type 0} (Q : A → Type 0) (o : Ordering) (item head : A) (rest longer : List A) → Q item → Q head → AllByRecursion Q rest → AllByRecursion Q longer → AllByRecursion Q (placed o item head rest longer)
+placed_all : {A : Type 0} (Q : A → Type 0) (o : Ordering) (item head : A) (rest longer : List A) → Q item → Q head
+    → AllByRecursion Q rest → AllByRecursion Q longer → AllByRecursion Q (placed o item head rest longer)
 placed_all Q Less item head rest longer p q r l = (p, (q, r))
 placed_all Q Equal item head rest longer p q r l = (q, r)
 placed_all Q Greater item head rest longer p q r l = (q, l)
 
 -- what holds of the item and of all others holds of all
-pub with_item-all : {A : Type 0} (Q : A → Type 0) (cmp : A → A → Ordering) (item : A) (set : List A) → Q item → AllByRecursion Q set → AllByRecursion Q (with_item cmp item set)
+pub with_item-all : {A : Type 0} (Q : A → Type 0) (cmp : A → A → Ordering) (item : A) (set : List A) → Q item
+    → AllByRecursion Q set → AllByRecursion Q (with_item cmp item set)
 with_item-all Q cmp item [] p h = (p, tt)
-with_item-all Q cmp item (head ∷ rest) p h = placed_all Q (cmp item head) item head rest (with_item cmp item rest) p h.0 h.1 (with_item-all Q cmp item rest p h.1)
+with_item-all Q cmp item (head ∷ rest) p h =
+    placed_all Q (cmp item head) item head rest (with_item cmp item rest) p h.0 h.1
+    (with_item-all Q cmp item rest p h.1)
 
 placed_rises : {A : Type 0} (cmp : A → A → Ordering) → IsTotalOrder cmp → (o : Ordering) (item head : A) (rest longer : List A) → o ≡ cmp item head
-    → AllByRecursion (λ y. cmp head y ≡ Less) rest → IsStrictlySortedBy cmp rest → (cmp head item ≡ Less → AllByRecursion (λ y. cmp head y ≡ Less) longer) → IsStrictlySortedBy cmp longer
+    → AllByRecursion (λ y. cmp head y ≡ Less) rest → IsStrictlySortedBy cmp rest
+        → (cmp head item ≡ Less → AllByRecursion (λ y. cmp head y ≡ Less) longer) → IsStrictlySortedBy cmp longer
     → IsStrictlySortedBy cmp (placed o item head rest longer)
 placed_rises cmp t Less item head rest longer e above rising above_longer longer_rises =
     rises cmp item (head ∷ rest) (sym e, below_all cmp t item head rest (sym e) above) (rises cmp head rest above rising)
@@ -83,7 +90,8 @@ placed_rises cmp t Greater item head rest longer e above rising above_longer lon
     rises cmp head longer (above_longer (unturned t item head (sym e))) longer_rises
 
 -- the list still rises
-pub with_item-rising : {A : Type 0} (cmp : A → A → Ordering) → IsTotalOrder cmp → (item : A) (set : List A) → IsStrictlySortedBy cmp set → IsStrictlySortedBy cmp (with_item cmp item set)
+pub with_item-rising : {A : Type 0} (cmp : A → A → Ordering) → IsTotalOrder cmp → (item : A) (set : List A)
+    → IsStrictlySortedBy cmp set → IsStrictlySortedBy cmp (with_item cmp item set)
 with_item-rising cmp t item [] h = rises cmp item [] tt (rises_empty cmp)
 with_item-rising cmp t item (head ∷ rest) h =
     let above = sorted_head cmp head rest h in
@@ -91,7 +99,9 @@ with_item-rising cmp t item (head ∷ rest) h =
     placed_rises cmp t (cmp item head) item head rest (with_item cmp item rest) refl above rising
     (λ less. with_item-all (λ y. cmp head y ≡ Less) cmp item rest less above) (with_item-rising cmp t item rest rising)
 
-placed_has : {A : Type 0} (o : Ordering) (item head a : A) (rest longer : List A) → (Has longer a → (item ≡ a) ⊎ Has rest a) → Has (placed o item head rest longer) a → (item ≡ a) ⊎ Has (head ∷ rest) a
+placed_has : {A : Type 0} (o : Ordering) (item head a : A) (rest longer : List A)
+    → (Has longer a → (item ≡ a) ⊎ Has rest a) → Has (placed o item head rest longer) a
+    → (item ≡ a) ⊎ Has (head ∷ rest) a
 placed_has Less item head a rest longer k h = h
 placed_has Equal item head a rest longer k h = inr h
 placed_has Greater item head a rest longer k h = elim h [ inl e ↦ inr (inl e) | inr later ↦ elim (k later) [ inl e ↦ inl e | inr old ↦ inr (inr old) ] ]
@@ -101,7 +111,8 @@ pub with_item-has : {A : Type 0} (cmp : A → A → Ordering) (item : A) (set : 
 with_item-has cmp item [] a h = h
 with_item-has cmp item (head ∷ rest) a h = placed_has (cmp item head) item head a rest (with_item cmp item rest) (with_item-has cmp item rest a) h
 
-placed_keeps : {A : Type 0} (o : Ordering) (item head a : A) (rest longer : List A) → (Has rest a → Has longer a) → Has (head ∷ rest) a → Has (placed o item head rest longer) a
+placed_keeps : {A : Type 0} (o : Ordering) (item head a : A) (rest longer : List A) → (Has rest a → Has longer a)
+    → Has (head ∷ rest) a → Has (placed o item head rest longer) a
 placed_keeps Less item head a rest longer k h = inr h
 placed_keeps Equal item head a rest longer k h = h
 placed_keeps Greater item head a rest longer k h = elim h [ inl e ↦ inl e | inr later ↦ inr (k later) ]
@@ -111,7 +122,8 @@ pub with_item-keeps : {A : Type 0} (cmp : A → A → Ordering) (item : A) (set 
 with_item-keeps cmp item [] a h = absurd h
 with_item-keeps cmp item (head ∷ rest) a h = placed_keeps (cmp item head) item head a rest (with_item cmp item rest) (with_item-keeps cmp item rest a) h
 
-placed_new : {A : Type 0} (o : Ordering) (item head : A) (rest longer : List A) → (o ≡ Equal → head ≡ item) → Has longer item → Has (placed o item head rest longer) item
+placed_new : {A : Type 0} (o : Ordering) (item head : A) (rest longer : List A) → (o ≡ Equal → head ≡ item)
+    → Has longer item → Has (placed o item head rest longer) item
 placed_new Less item head rest longer same k = inl refl
 placed_new Equal item head rest longer same k = inl (same refl)
 placed_new Greater item head rest longer same k = inr k
@@ -121,7 +133,8 @@ abbrev pub IsExactOn : {A : Type 0} → (A → Type 0) → (A → A → Ordering
 IsExactOn {A} P cmp = (a b : A) → P a → P b → cmp a b ≡ Equal → a ≡ b
 
 -- the item is a member
-pub with_item-new : {A : Type 0} (P : A → Type 0) (cmp : A → A → Ordering) → IsExactOn P cmp → (item : A) (set : List A) → P item → AllByRecursion P set → Has (with_item cmp item set) item
+pub with_item-new : {A : Type 0} (P : A → Type 0) (cmp : A → A → Ordering) → IsExactOn P cmp → (item : A) (set : List A)
+    → P item → AllByRecursion P set → Has (with_item cmp item set) item
 with_item-new P cmp exact item [] p h = inl refl
 with_item-new P cmp exact item (head ∷ rest) p h =
     placed_new (cmp item head) item head rest (with_item cmp item rest) (λ e. sym (exact item head p h.0 e)) (with_item-new P cmp exact item rest p h.1)
@@ -141,18 +154,23 @@ placed_present {A} cmp t Greater item head rest longer e above h k =
     ]
 
 -- a member put in again changes nothing
-pub with_item-present : {A : Type 0} (cmp : A → A → Ordering) → IsTotalOrder cmp → (item : A) (set : List A) → IsStrictlySortedBy cmp set → Has set item → with_item cmp item set ≡ set
+pub with_item-present : {A : Type 0} (cmp : A → A → Ordering) → IsTotalOrder cmp → (item : A) (set : List A)
+    → IsStrictlySortedBy cmp set → Has set item → with_item cmp item set ≡ set
 with_item-present cmp t item [] h k = absurd k
 with_item-present cmp t item (head ∷ rest) h k =
-    placed_present cmp t (cmp item head) item head rest (with_item cmp item rest) refl (sorted_head cmp head rest h) k (with_item-present cmp t item rest (sorted_tail cmp head rest h))
+    placed_present cmp t (cmp item head) item head rest (with_item cmp item rest) refl (sorted_head cmp head rest h) k
+        (with_item-present cmp t item rest (sorted_tail cmp head rest h))
 
-placed_length : {A : Type 0} (o : Ordering) (item head : A) (rest longer : List A) → (o ≡ Equal → ⊥) → length longer ≡ length rest + 1 → length (placed o item head rest longer) ≡ length (head ∷ rest) + 1
+placed_length : {A : Type 0} (o : Ordering) (item head : A) (rest longer : List A) → (o ≡ Equal → ⊥)
+    → length longer ≡ length rest + 1 → length (placed o item head rest longer) ≡ length (head ∷ rest) + 1
 placed_length Less item head rest longer absent e = omega arith
 placed_length Equal item head rest longer absent e = absurd (absent refl)
 placed_length Greater item head rest longer absent e = omega arith
 
 -- a new one makes the set one longer
-pub with_item-length : {A : Type 0} (P : A → Type 0) (cmp : A → A → Ordering) → IsExactOn P cmp → (item : A) (set : List A) → P item → AllByRecursion P set → (Has set item → ⊥) → length (with_item cmp item set) ≡ length set + 1
+pub with_item-length : {A : Type 0} (P : A → Type 0) (cmp : A → A → Ordering) → IsExactOn P cmp
+    → (item : A) (set : List A) → P item → AllByRecursion P set → (Has set item → ⊥)
+    → length (with_item cmp item set) ≡ length set + 1
 with_item-length P cmp exact item [] p h absent = refl
 with_item-length P cmp exact item (head ∷ rest) p h absent =
     placed_length (cmp item head) item head rest (with_item cmp item rest) (λ e. absent (inl (sym (exact item head p h.0 e))))
@@ -161,14 +179,17 @@ with_item-length P cmp exact item (head ∷ rest) p h absent =
 -- ---- equal sets
 
 -- the heads of two rising lists with the same members
-same_heads : {A : Type 0} (cmp : A → A → Ordering) → IsTotalOrder cmp → (x y : A) (xs ys : List A) → AllByRecursion (λ z. cmp x z ≡ Less) xs → AllByRecursion (λ z. cmp y z ≡ Less) ys
+same_heads : {A : Type 0} (cmp : A → A → Ordering) → IsTotalOrder cmp → (x y : A) (xs ys : List A)
+    → AllByRecursion (λ z. cmp x z ≡ Less) xs → AllByRecursion (λ z. cmp y z ≡ Less) ys
     → Has (y ∷ ys) x → Has (x ∷ xs) y → x ≡ y
 same_heads cmp t x y xs ys above_x above_y in_ys in_xs =
     elim in_ys [
       | inl e ↦ sym e
       | inr later ↦ elim in_xs [
         | inl e ↦ e
-        | inr last ↦ absurd (no_less_itself t x (t.trans x y x (each_has (λ z. cmp x z ≡ Less) xs y above_x last) (each_has (λ z. cmp y z ≡ Less) ys x above_y later)))
+        | inr last ↦ absurd
+            (no_less_itself t x (t.trans x y x (each_has (λ z. cmp x z ≡ Less) xs y above_x last)
+            (each_has (λ z. cmp y z ≡ Less) ys x above_y later)))
       ]
     ]
 
@@ -192,7 +213,8 @@ same_members {A} cmp t (x ∷ xs) (y ∷ ys) p q there back =
     λ i. heads i ∷ tails i
 
 -- the order of two insertions makes no difference
-pub with_item-swap : {A : Type 0} (P : A → Type 0) (cmp : A → A → Ordering) → IsTotalOrder cmp → IsExactOn P cmp → (a b : A) (set : List A) → P a → P b → AllByRecursion P set → IsStrictlySortedBy cmp set
+pub with_item-swap : {A : Type 0} (P : A → Type 0) (cmp : A → A → Ordering) → IsTotalOrder cmp → IsExactOn P cmp
+    → (a b : A) (set : List A) → P a → P b → AllByRecursion P set → IsStrictlySortedBy cmp set
     → with_item cmp a (with_item cmp b set) ≡ with_item cmp b (with_item cmp a set)
 with_item-swap P cmp t exact a b set p q all h =
     same_members cmp t _ _
@@ -200,23 +222,28 @@ with_item-swap P cmp t exact a b set p q all h =
     (with_item-rising cmp t b (with_item cmp a set) (with_item-rising cmp t a set h))
     (one_way P cmp exact a b set p q all) (one_way P cmp exact b a set q p all)
   where
-    one_way : {A : Type 0} (P : A → Type 0) (cmp : A → A → Ordering) → IsExactOn P cmp → (a b : A) (set : List A) → P a → P b → AllByRecursion P set → (x : A) → Has (with_item cmp a (with_item cmp b set)) x → Has (with_item cmp b (with_item cmp a set)) x
+    one_way : {A : Type 0} (P : A → Type 0) (cmp : A → A → Ordering) → IsExactOn P cmp → (a b : A) (set : List A) → P a
+        → P b → AllByRecursion P set → (x : A) → Has (with_item cmp a (with_item cmp b set)) x
+        → Has (with_item cmp b (with_item cmp a set)) x
     one_way {A} P cmp exact a b set p q all x h =
         elim (with_item-has cmp a (with_item cmp b set) x h) [
           | inl e ↦ with_item-keeps cmp b (with_item cmp a set) x (subst (Has (with_item cmp a set)) e (with_item-new P cmp exact a set p all))
           | inr later ↦ elim (with_item-has cmp b set x later) [
-            | inl e ↦ subst (Has (with_item cmp b (with_item cmp a set))) e (with_item-new P cmp exact b (with_item cmp a set) q (with_item-all P cmp a set p all))
+            | inl e ↦ subst (Has (with_item cmp b (with_item cmp a set))) e
+                (with_item-new P cmp exact b (with_item cmp a set) q (with_item-all P cmp a set p all))
             | inr old ↦ with_item-keeps cmp b (with_item cmp a set) x (with_item-keeps cmp a set x old)
           ]
         ]
 
 -- ---- many items more
 
-pub with_items-all : {A : Type 0} (Q : A → Type 0) (cmp : A → A → Ordering) (items set : List A) → AllByRecursion Q items → AllByRecursion Q set → AllByRecursion Q (with_items cmp items set)
+pub with_items-all : {A : Type 0} (Q : A → Type 0) (cmp : A → A → Ordering) (items set : List A)
+    → AllByRecursion Q items → AllByRecursion Q set → AllByRecursion Q (with_items cmp items set)
 with_items-all Q cmp [] set p h = h
 with_items-all Q cmp (x ∷ items) set p h = with_items-all Q cmp items (with_item cmp x set) p.1 (with_item-all Q cmp x set p.0 h)
 
-pub with_items-rising : {A : Type 0} (cmp : A → A → Ordering) → IsTotalOrder cmp → (items set : List A) → IsStrictlySortedBy cmp set → IsStrictlySortedBy cmp (with_items cmp items set)
+pub with_items-rising : {A : Type 0} (cmp : A → A → Ordering) → IsTotalOrder cmp → (items set : List A)
+    → IsStrictlySortedBy cmp set → IsStrictlySortedBy cmp (with_items cmp items set)
 with_items-rising cmp t [] set h = h
 with_items-rising cmp t (x ∷ items) set h = with_items-rising cmp t items (with_item cmp x set) (with_item-rising cmp t x set h)
 
@@ -232,7 +259,8 @@ pub with_items-keeps : {A : Type 0} (cmp : A → A → Ordering) (items set : Li
 with_items-keeps cmp [] set a h = h
 with_items-keeps cmp (x ∷ items) set a h = with_items-keeps cmp items (with_item cmp x set) a (with_item-keeps cmp x set a h)
 
-pub with_items-new : {A : Type 0} (P : A → Type 0) (cmp : A → A → Ordering) → IsExactOn P cmp → (items set : List A) → AllByRecursion P items → AllByRecursion P set → (a : A) → Has items a → Has (with_items cmp items set) a
+pub with_items-new : {A : Type 0} (P : A → Type 0) (cmp : A → A → Ordering) → IsExactOn P cmp → (items set : List A)
+    → AllByRecursion P items → AllByRecursion P set → (a : A) → Has items a → Has (with_items cmp items set) a
 with_items-new P cmp exact [] set p h a k = absurd k
 with_items-new {A} P cmp exact (x ∷ items) set p h a k =
     elim k [
@@ -264,7 +292,8 @@ AreSets-from_total P cmp t exact = record {
   all_keep = λ items set p all. with_items-all P cmp items set p all;
   all_rise = λ items set h. with_items-rising cmp t items set h;
   all_members = λ items set a p all. (
-    λ h. elim (with_items-has cmp items set a (Has-from_contains _ a h)) [ inl k ↦ inl (Contains-from_has items a k) | inr k ↦ inr (Contains-from_has set a k) ],
+    λ h. elim (with_items-has cmp items set a (Has-from_contains _ a h))
+        [ inl k ↦ inl (Contains-from_has items a k) | inr k ↦ inr (Contains-from_has set a k) ],
     λ h. Contains-from_has _ a (elim h [
       | inl k ↦ with_items-new P cmp exact items set p all a (Has-from_contains items a k)
       | inr k ↦ with_items-keeps cmp items set a (Has-from_contains set a k)

@@ -1,5 +1,6 @@
 -- Vouching is one membership: what a receipt needs is among what a document offers.
-use Rattle.std.proofs.Common.{◌≡◌, ℕ, zero, suc, ◌<◌, List, [], ◌∷◌, length, ◌⊎◌, inl, inr, ◌↔◌, Option, Some, None, refl, sym, ap, ◌∙◌, subst, arith, map, fold, get_or}
+use Rattle.std.proofs.Common.{◌≡◌, ℕ, zero, suc, ◌<◌, List, [], ◌∷◌, length, ◌⊎◌, inl, inr, ◌↔◌, Option, Some, None}
+use Rattle.std.proofs.Common.{refl, sym, ap, ◌∙◌, subst, arith, map, fold, get_or}
 use Rattle.std.specs.Prelude.{Contains}
 use Rattle.std.specs.List.{AllByRecursion}
 use Rattle.std.proofs.lemmas.Map.Lookups.{exact_bytes}
@@ -27,7 +28,8 @@ abbrev HasKey : List Authority → KeyId → Type 0
 HasKey [] k = ⊥
 HasKey (a ∷ others) k = (key_id_of a ≡ Some k) ⊎ HasKey others k
 
-has_key_at : (authorities : List Authority) (k : KeyId) (n : ℕ) (a : Authority) → n < length authorities → get_or authorities n a ≡ a → key_id_of a ≡ Some k → HasKey authorities k
+has_key_at : (authorities : List Authority) (k : KeyId) (n : ℕ) (a : Authority) → n < length authorities
+    → get_or authorities n a ≡ a → key_id_of a ≡ Some k → HasKey authorities k
 has_key_at [] k n a lt e h = absurd (omega arith)
 has_key_at (x ∷ xs) k zero a lt e h = inl (ap key_id_of e ∙ h)
 has_key_at (x ∷ xs) k (suc n) a lt e h = inr (has_key_at xs k n a (omega arith) e h)
@@ -35,7 +37,8 @@ has_key_at (x ∷ xs) k (suc n) a lt e h = inr (has_key_at xs k n a (omega arith
 HasKeyId-from_recursion : (authorities : List Authority) (k : KeyId) → HasKey authorities k → HasKeyId authorities k
 HasKeyId-from_recursion [] k h = absurd h
 HasKeyId-from_recursion (x ∷ xs) k h =
-    elim h [ inl e ↦ (0, x, omega arith, refl, e) | inr later ↦ let rest = HasKeyId-from_recursion xs k later in (suc rest.0, rest.1, omega arith, rest.3, rest.4) ]
+    elim h [ inl e ↦ (0, x, omega arith, refl, e) | inr later ↦ let rest = HasKeyId-from_recursion xs k later in
+        (suc rest.0, rest.1, omega arith, rest.3, rest.4) ]
 
 abbrev more : List KeyId → Authority → List KeyId
 more keys authority = with_key_id (key_id_of authority) keys
@@ -85,7 +88,8 @@ has_map : (p : Pair) (keys : List KeyId) (k : KeyId) → Has keys k → Has (map
 has_map p [] k h = absurd h
 has_map p (x ∷ keys) k h = elim h [ inl e ↦ inl (ap (offer_of p) e) | inr later ↦ inr (has_map p keys k later) ]
 
-needed : (p : Pair) (r : Receipt) (k : KeyId) → offer_of p k ≡ need_of r → (p.domain ≡ r.endpoint.domain) × (doc_id_of p.domain p.document ≡ r.voucher.0) × (k ≡ r.key)
+needed : (p : Pair) (r : Receipt) (k : KeyId) → offer_of p k ≡ need_of r
+    → (p.domain ≡ r.endpoint.domain) × (doc_id_of p.domain p.document ≡ r.voucher.0) × (k ≡ r.key)
 needed p r k e = (ap (λ (t : Triple). t.domain) e, ap (λ (t : Triple). t.document.0) e, ap (λ (t : Triple). t.key) e)
 
 -- a document vouches for a receipt exactly if it offers what the receipt needs, and the key is not distrusted

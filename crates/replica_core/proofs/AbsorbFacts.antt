@@ -28,16 +28,21 @@ welcome-back m [] ys all = all
 welcome-back m (x ∷ xs) ys all = welcome-back (with_entry x m) xs ys all.1
 
 -- receipts are welcome once the records are held
-pub receipts-welcome : (m : Meaning) (xs : List Distrust) (rs : List Receipt) → AreWelcome m (of_records xs ++ of_receipts rs) → AreWelcome (record m { records = with_items distrust_cmp xs m.records }) (of_receipts rs)
+pub receipts-welcome : (m : Meaning) (xs : List Distrust) (rs : List Receipt)
+    → AreWelcome m (of_records xs ++ of_receipts rs)
+    → AreWelcome (record m { records = with_items distrust_cmp xs m.records }) (of_receipts rs)
 receipts-welcome m xs rs all = subst (λ (k : Meaning). AreWelcome k (of_receipts rs)) (with-records xs m) (welcome-back m (of_records xs) (of_receipts rs) all)
 
-pub all-welcome : (m : Meaning) (xs : List Distrust) (rs : List Receipt) → AreWelcome m (of_records xs) → AreWelcome (record m { records = with_items distrust_cmp xs m.records }) (of_receipts rs) → AreWelcome m (of_records xs ++ of_receipts rs)
+pub all-welcome : (m : Meaning) (xs : List Distrust) (rs : List Receipt) → AreWelcome m (of_records xs)
+    → AreWelcome (record m { records = with_items distrust_cmp xs m.records }) (of_receipts rs)
+    → AreWelcome m (of_records xs ++ of_receipts rs)
 all-welcome m xs rs front back =
     welcome-append m (of_records xs) (of_receipts rs) front (subst (λ (k : Meaning). AreWelcome k (of_receipts rs)) (sym (with-records xs m)) back)
 
 -- ---- the first one that is refused
 
-first-back : (m : Meaning) (xs ys : List Entry) (number : ℕ) (why : TakeError) → AreWelcome m xs → IsFirstRefused (with_entries xs m) ys number why → IsFirstRefused m (xs ++ ys) (length xs + number) why
+first-back : (m : Meaning) (xs ys : List Entry) (number : ℕ) (why : TakeError) → AreWelcome m xs
+    → IsFirstRefused (with_entries xs m) ys number why → IsFirstRefused m (xs ++ ys) (length xs + number) why
 first-back m xs ys number why front first =
     let place = first.place in
     let size = length-append xs first.before in
@@ -52,8 +57,10 @@ first-back m xs ys number why front first =
       named = first.named;
     }
 
-pub first-receipt : (m : Meaning) (xs : List Distrust) (rs : List Receipt) (records number : ℕ) (why : TakeError) → records ≡ length xs → AreWelcome m (of_records xs)
-    → IsFirstRefused (record m { records = with_items distrust_cmp xs m.records }) (of_receipts rs) number why → IsFirstRefused m (of_records xs ++ of_receipts rs) (records + number) why
+pub first-receipt : (m : Meaning) (xs : List Distrust) (rs : List Receipt) (records number : ℕ) (why : TakeError)
+    → records ≡ length xs → AreWelcome m (of_records xs)
+    → IsFirstRefused (record m { records = with_items distrust_cmp xs m.records }) (of_receipts rs) number why
+        → IsFirstRefused m (of_records xs ++ of_receipts rs) (records + number) why
 first-receipt m xs rs records number why size front first =
     let same : length (of_records xs) + number ≡ records + number = omega (arith, size, length-map xs Record) in
     subst (λ n. IsFirstRefused m (of_records xs ++ of_receipts rs) n why) same

@@ -39,9 +39,12 @@ course-parts i j b before asked answered after q a event h =
 
 in-course : (i j b : ℕ) (events : List Event) (c : Course i j b events) (event : Event)
     → (Contains c.before event ⊎ (Contains c.asked event ⊎ (Contains c.answered event ⊎ Contains c.after event))) → Contains events event
-in-course i j b events c event h = subst (λ es. Contains es event) (sym c.order) (course-parts i j b c.before c.asked c.answered c.after c.question_place c.answer_place event h)
+in-course i j b events c event h =
+    subst (λ es. Contains es event) (sym c.order)
+    (course-parts i j b c.before c.asked c.answered c.after c.question_place c.answer_place event h)
 
-course-run : (i j b : ℕ) (events : List Event) (rules : Rules) (start : World) (c : Course i j b events) → run_from rules start events ≡ run_from rules (after_taking rules start c) c.after
+course-run : (i j b : ℕ) (events : List Event) (rules : Rules) (start : World) (c : Course i j b events)
+    → run_from rules start events ≡ run_from rules (after_taking rules start c) c.after
 course-run i j b events rules start c =
     ap (run_from rules start) c.order
     ∙ fold-append (happens rules) start c.before _
@@ -99,19 +102,24 @@ no-restart : (rules : Rules) (w : World) (since : List Event) (i : ℕ) → Sett
 no-restart rules w since i s c = s.quiet (Restart i) c
 
 -- in the end nothing is held that was not held at the start
-held-end : (laws : Laws) (rules : Rules) (w : World) (since : List Event) → Settles rules w since → IsKept (IsHeld w) (IsRecorded w) (length w.sent) ⊥ (run_from rules w since)
+held-end : (laws : Laws) (rules : Rules) (w : World) (since : List Event) → Settles rules w since
+    → IsKept (IsHeld w) (IsRecorded w) (length w.sent) ⊥ (run_from rules w since)
 held-end laws rules w since s =
-    kept-run laws (IsHeld w) (IsRecorded w) (length w.sent) ⊥ rules since w (held-start w) (λ event c. quiet-admits rules (IsHeld w) (IsRecorded w) (length w.sent) event (s.quiet event c))
+    kept-run laws (IsHeld w) (IsRecorded w) (length w.sent) ⊥ rules since w (held-start w)
+        (λ event c. quiet-admits rules (IsHeld w) (IsRecorded w) (length w.sent) event (s.quiet event c))
 
 -- ---- what one replica has from another
 
 -- all that is held at the answer and at the taking is well formed
 pub course-forms : (laws : Laws) (rules : Rules) (i j b : ℕ) (events : List Event) (w : World) (c : Course i j b events) → IsKept IsReceipt IsDistrust 0 ⊤ w
-    → ((event : Event) → Contains events event → Admits rules IsReceipt IsDistrust 0 ⊤ event) → IsKept IsReceipt IsDistrust 0 ⊤ (at_answer rules w c) × IsKept IsReceipt IsDistrust 0 ⊤ (at_taking rules w c)
+    → ((event : Event) → Contains events event → Admits rules IsReceipt IsDistrust 0 ⊤ event)
+        → IsKept IsReceipt IsDistrust 0 ⊤ (at_answer rules w c) × IsKept IsReceipt IsDistrust 0 ⊤ (at_taking rules w c)
 course-forms laws rules i j b events w c h a =
     let answering : IsKept IsReceipt IsDistrust 0 ⊤ (at_answer rules w c) =
     kept-run laws IsReceipt IsDistrust 0 ⊤ rules c.asked (happens rules (at_question rules w c) (Ask i b))
-    (kept-event laws IsReceipt IsDistrust 0 ⊤ rules (at_question rules w c) (Ask i b) (kept-run laws IsReceipt IsDistrust 0 ⊤ rules c.before w h (λ event d. a event (in-course i j b events c event (inl d)))) tt)
+    (kept-event laws IsReceipt IsDistrust 0 ⊤ rules (at_question rules w c) (Ask i b)
+        (kept-run laws IsReceipt IsDistrust 0 ⊤ rules c.before w h
+        (λ event d. a event (in-course i j b events c event (inl d)))) tt)
     (λ event d. a event (in-course i j b events c event (inr (inl d))))
     in (
       answering,
@@ -120,15 +128,19 @@ course-forms laws rules i j b events w c h a =
           (λ event d. a event (in-course i j b events c event (inr (inr (inl d))))),
     )
 
-pub from-other : (laws : Laws) (rules : Rules) (w : World) (since : List Event) (i j b : ℕ) → IsStart rules w → Settles rules w since → i < rules.replicas → j < rules.replicas → i ≢ j → b ≤ 255
+pub from-other : (laws : Laws) (rules : Rules) (w : World) (since : List Event) (i j b : ℕ) → IsStart rules w
+    → Settles rules w since → i < rules.replicas → j < rules.replicas → i ≢ j → b ≤ 255
     → HasAll b (w.now j) ((run_from rules w since).now i)
 from-other laws rules w since i j b start s l m d n =
     let x = s.exchanges i j b l m d n in
     let c = x.course in
-    let quiet : (event : Event) → (Contains c.before event ⊎ (Contains c.asked event ⊎ (Contains c.answered event ⊎ Contains c.after event))) → IsQuiet (length w.sent) event = λ event h. s.quiet event (in-course i j b since c event h) in
+    let quiet : (event : Event)
+        → (Contains c.before event ⊎ (Contains c.asked event ⊎ (Contains c.answered event ⊎ Contains c.after event)))
+        → IsQuiet (length w.sent) event = λ event h. s.quiet event (in-course i j b since c event h) in
     let v = at_answer rules w c in
     let u = at_taking rules w c in
-    let formed = course-forms laws rules i j b since w c start.forms (λ event h. quiet-admits_all rules IsReceipt IsDistrust (length w.sent) event (s.quiet event h)) in
+    let formed = course-forms laws rules i j b since w c start.forms
+        (λ event h. quiet-admits_all rules IsReceipt IsDistrust (length w.sent) event (s.quiet event h)) in
     let given : IsPartOf (w.now j) (v.now j) =
     part-trans (w.now j) ((at_question rules w c).now j) (v.now j) (part-run laws rules j c.before w (λ h. quiet (Restart j) (inl h)))
     (part-trans ((at_question rules w c).now j) ((happens rules (at_question rules w c) (Ask i b)).now j) (v.now j)
@@ -171,7 +183,8 @@ all-records laws rules w since i start s l x h =
       ]
     ]
 
-pub agree : (laws : Laws) (rules : Rules) (w : World) (since : List Event) (i j : ℕ) → IsStart rules w → Throughout (λ k state. IsTidy state) (run_from rules w since)
+pub agree : (laws : Laws) (rules : Rules) (w : World) (since : List Event) (i j : ℕ) → IsStart rules w
+    → Throughout (λ k state. IsTidy state) (run_from rules w since)
     → Settles rules w since → i < rules.replicas → j < rules.replicas → (run_from rules w since).now i ≡ (run_from rules w since).now j
 agree laws rules w since i j start tidy s l m =
     let end = run_from rules w since in
@@ -179,11 +192,13 @@ agree laws rules w since i j start tidy s l m =
     let receipts : (end.now i).held ≡ (end.now j).held =
     laws.receipts.one (end.now i).held (end.now j).held
     (tidy.now i).rising (tidy.now j).rising
-    (λ r. (λ c. all-receipts laws rules w since j start s m r ((had.now i).receipts r c), λ c. all-receipts laws rules w since i start s l r ((had.now j).receipts r c)))
+    (λ r. (λ c. all-receipts laws rules w since j start s m r ((had.now i).receipts r c),
+        λ c. all-receipts laws rules w since i start s l r ((had.now j).receipts r c)))
     in
     let records : (end.now i).records ≡ (end.now j).records =
     laws.records.one (end.now i).records (end.now j).records
     (tidy.now i).records_rising (tidy.now j).records_rising
-    (λ x. (λ c. all-records laws rules w since j start s m x ((had.now i).records x c), λ c. all-records laws rules w since i start s l x ((had.now j).records x c)))
+    (λ x. (λ c. all-records laws rules w since j start s m x ((had.now i).records x c),
+        λ c. all-records laws rules w since i start s l x ((had.now j).records x c)))
     in
     ap₂ (λ h x. record { held = h; records = x }) receipts records

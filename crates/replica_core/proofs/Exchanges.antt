@@ -15,10 +15,12 @@ use Rattle.replica_core.proofs.Joins.{Laws, Keeps, joined-only}
 use Rattle.replica_core.proofs.Growing.{at-here, part-trans, part-event, part-run, sent-stays, replica-true}
 
 -- the question stands at its place
-asked-here : (rules : Rules) (w : World) (i b : ℕ) → i < rules.replicas → b ≤ 255 → slice_get (happens rules w (Ask i b)).sent (length w.sent) ≡ Some (question i b (ids_held (w.now i) b))
+asked-here : (rules : Rules) (w : World) (i b : ℕ) → i < rules.replicas → b ≤ 255
+    → slice_get (happens rules w (Ask i b)).sent (length w.sent) ≡ Some (question i b (ids_held (w.now i) b))
 asked-here rules w i b l m =
     let e : (is_replica rules i && nat_le b 255) ≡ true = and_from (is_replica rules i) (nat_le b 255) (replica-true rules i l) (le-leb b 255 m) in
-    ap (λ t. slice_get (apply w (where_so t (sends (question i b (ids_held (w.now i) b))))).sent (length w.sent)) e ∙ get-new w.sent (question i b (ids_held (w.now i) b))
+    ap (λ t. slice_get (apply w (where_so t (sends (question i b (ids_held (w.now i) b))))).sent (length w.sent)) e
+        ∙ get-new w.sent (question i b (ids_held (w.now i) b))
 
 abbrev content_of : State → ℕ → List (List ℕ) → State
 content_of state b ids = record { held = receipts_lacking state b ids; records = state.records }
@@ -39,7 +41,8 @@ absorbed-here rules w i j n k content l e t =
     ∙ at-here i (joined (w.now i) content) w.now
 
 -- an id that a question names is that of a receipt that the asker held
-named-held : (state : State) (b : ℕ) (r : Receipt) → is_named (ids_held state b) r ≡ true → (s : Receipt) × Contains state.held s × (receipt_id_of s ≡ receipt_id_of r)
+named-held : (state : State) (b : ℕ) (r : Receipt) → is_named (ids_held state b) r ≡ true
+    → (s : Receipt) × Contains state.held s × (receipt_id_of s ≡ receipt_id_of r)
 named-held state b r e =
     let found = any-from (λ id. bytes_eq id (receipt_id_of r)) (ids_held state b) e in
     let same : found.0 ≡ receipt_id_of r = (bytes_eq-Decides found.0 (receipt_id_of r)).0 found.2 in
@@ -63,16 +66,23 @@ gives laws i b asking given before part forms own = record {
             let s = named-held asking b r named in
             (s.0, laws.receipts.old (receipts_lacking given b (ids_held asking b)) before.held s.0 (part.receipts s.0 s.1), s.2)
         | inr unnamed ↦
-            let sent : Contains (receipts_lacking given b (ids_held asking b)) r = filter-to (lacking asking b) given.held r c (and_from (is_of_bucket b r) (not (is_named (ids_held asking b) r)) (eq-eqb (bucket_of_id r) b e) (ap not unnamed)) in
-            let each : AllByRecursion IsReceipt (receipts_lacking given b (ids_held asking b)) = each-to IsReceipt (receipts_lacking given b (ids_held asking b)) (λ s d. forms.receipts s (filter-from (lacking asking b) given.held s d).0) in
+            let sent : Contains (receipts_lacking given b (ids_held asking b)) r =
+                filter-to (lacking asking b) given.held r c
+                (and_from (is_of_bucket b r) (not (is_named (ids_held asking b) r)) (eq-eqb (bucket_of_id r) b e)
+                (ap not unnamed)) in
+            let each : AllByRecursion IsReceipt (receipts_lacking given b (ids_held asking b)) =
+                each-to IsReceipt (receipts_lacking given b (ids_held asking b))
+                (λ s d. forms.receipts s (filter-from (lacking asking b) given.held s d).0) in
             (r, laws.receipts.new (receipts_lacking given b (ids_held asking b)) before.held r each (each-to IsReceipt before.held own.receipts) sent, refl)
       ];
-  distrusts = λ x c. laws.records.new given.records before.records x (each-to IsDistrust given.records forms.records) (each-to IsDistrust before.records own.records) c;
+  distrusts = λ x c. laws.records.new given.records before.records x (each-to IsDistrust given.records forms.records)
+      (each-to IsDistrust before.records own.records) c;
 }
 
 -- The asker has then what the answerer held.
 pub exchange-gives : (laws : Laws) (rules : Rules) (start : World) (i j b : ℕ) (events : List Event) → i < rules.replicas → j < rules.replicas → b ≤ 255
-    → (x : Exchange rules start i j b events) → Keeps IsReceipt IsDistrust ((at_answer rules start x.course).now j) → Keeps IsReceipt IsDistrust ((at_taking rules start x.course).now i)
+    → (x : Exchange rules start i j b events) → Keeps IsReceipt IsDistrust ((at_answer rules start x.course).now j)
+        → Keeps IsReceipt IsDistrust ((at_taking rules start x.course).now i)
     → HasAll b ((at_answer rules start x.course).now j) ((after_taking rules start x.course).now i)
 exchange-gives laws rules start i j b events l m n x forms own =
     let w = at_question rules start x.course in
@@ -83,14 +93,22 @@ exchange-gives laws rules start i j b events l m n x forms own =
     (subst (λ k. slice_get (happens rules w (Ask i b)).sent k ≡ Some (question i b (ids_held (w.now i) b))) (sym x.asked_at) (asked-here rules w i b l n))
     in
     let a : slice_get u.sent x.course.answer_place ≡ Some (answer j x.course.question_place (content_of (v.now j) b (ids_held (w.now i) b))) =
-    sent-stays rules x.course.answered (happens rules v (Answer j x.course.question_place)) x.course.answer_place (answer j x.course.question_place (content_of (v.now j) b (ids_held (w.now i) b)))
-    (subst (λ k. slice_get (happens rules v (Answer j x.course.question_place)).sent k ≡ Some (answer j x.course.question_place (content_of (v.now j) b (ids_held (w.now i) b)))) (sym x.answered_at)
+    sent-stays rules x.course.answered (happens rules v (Answer j x.course.question_place)) x.course.answer_place
+        (answer j x.course.question_place (content_of (v.now j) b (ids_held (w.now i) b)))
+    (subst (λ k. slice_get (happens rules v (Answer j x.course.question_place)).sent k
+        ≡ Some (answer j x.course.question_place (content_of (v.now j) b (ids_held (w.now i) b)))) (sym x.answered_at)
     (answered-here rules v i j b x.course.question_place (ids_held (w.now i) b) m q))
     in
     let part : IsPartOf (w.now i) (u.now i) =
     part-trans (w.now i) (v.now i) (u.now i)
-    (part-trans (w.now i) ((happens rules w (Ask i b)).now i) (v.now i) (part-event laws rules w i (Ask i b) (λ e. cc)) (part-run laws rules i x.course.asked (happens rules w (Ask i b)) x.no_restart))
-    (part-trans (v.now i) ((happens rules v (Answer j x.course.question_place)).now i) (u.now i) (part-event laws rules v i (Answer j x.course.question_place) (λ e. cc)) (part-run laws rules i x.course.answered (happens rules v (Answer j x.course.question_place)) x.none_later))
+    (part-trans (w.now i) ((happens rules w (Ask i b)).now i) (v.now i) (part-event laws rules w i (Ask i b) (λ e. cc))
+        (part-run laws rules i x.course.asked (happens rules w (Ask i b)) x.no_restart))
+    (part-trans (v.now i) ((happens rules v (Answer j x.course.question_place)).now i) (u.now i)
+        (part-event laws rules v i (Answer j x.course.question_place) (λ e. cc))
+        (part-run laws rules i x.course.answered (happens rules v (Answer j x.course.question_place)) x.none_later))
     in
-    subst (HasAll b (v.now j)) (sym (absorbed-here rules u i j x.course.answer_place x.course.question_place (content_of (v.now j) b (ids_held (w.now i) b)) l a (x.whole (content_of (v.now j) b (ids_held (w.now i) b)) a)))
+    subst (HasAll b (v.now j))
+        (sym (absorbed-here rules u i j x.course.answer_place x.course.question_place
+        (content_of (v.now j) b (ids_held (w.now i) b)) l a
+        (x.whole (content_of (v.now j) b (ids_held (w.now i) b)) a)))
     (gives laws i b (w.now i) (v.now j) (u.now i) part forms own)

@@ -1,5 +1,7 @@
 -- What a closure that takes, or gains all of another, comes to hold.
-use Rattle.std.proofs.Common.{◌≡◌, ◌≢◌, ℕ, suc, ◌+◌, ◌<◌, ◌≤◌, ◌⊎◌, inl, inr, Bool, true, false, cond, ◌&&◌, ◌||◌, nat_le, List, [], ◌∷◌, ◌++◌, length, length-append, take, drop, get_or, refl, sym, ap, ◌∙◌, subst, arith, append_assoc, append-nil, leb-true, le-leb}
+use Rattle.std.proofs.Common.{◌≡◌, ◌≢◌, ℕ, suc, ◌+◌, ◌<◌, ◌≤◌, ◌⊎◌, inl, inr, Bool, true, false, cond, ◌&&◌, ◌||◌}
+use Rattle.std.proofs.Common.{nat_le, List, [], ◌∷◌, ◌++◌, length, length-append, take, drop, get_or, refl, sym, ap}
+use Rattle.std.proofs.Common.{◌∙◌, subst, arith, append_assoc, append-nil, leb-true, le-leb}
 use Rattle.std.proofs.Math.Seq.{take-suc, drop-cons}
 use Rattle.std.proofs.lemmas.List.{take-append-drop}
 use Rattle.std.specs.Prelude.{Contains, Ok, Err, Result, bytes_eq}
@@ -53,13 +55,17 @@ any-to p (y ∷ ys) x c e =
 same-id-to : (a b : Id) → a ≡ b → same_id a b ≡ true
 same-id-to a b e =
     and_from (bytes_eq a.text b.text && bytes_eq a.domain b.domain) (bytes_eq a.path b.path)
-    (and_from (bytes_eq a.text b.text) (bytes_eq a.domain b.domain) ((bytes_eq-Decides a.text b.text).1 (ap (λ (i : Id). i.text) e)) ((bytes_eq-Decides a.domain b.domain).1 (ap (λ (i : Id). i.domain) e)))
+    (and_from (bytes_eq a.text b.text) (bytes_eq a.domain b.domain)
+        ((bytes_eq-Decides a.text b.text).1 (ap (λ (i : Id). i.text) e))
+        ((bytes_eq-Decides a.domain b.domain).1 (ap (λ (i : Id). i.domain) e)))
     ((bytes_eq-Decides a.path b.path).1 (ap (λ (i : Id). i.path) e))
 
 pub fits-to : (config : Configuration) (r : Receipt) → IsFitting config r → is_fitting config r ≡ true
 fits-to config r fits =
     any-to (λ (o : Relationship). bytes_eq o.domain r.domain && same_id o.endpoint r.endpoint) config.relationships fits.relationship fits.has
-    (and_from (bytes_eq fits.relationship.domain r.domain) (same_id fits.relationship.endpoint r.endpoint) ((bytes_eq-Decides fits.relationship.domain r.domain).1 fits.domain) (same-id-to fits.relationship.endpoint r.endpoint fits.endpoint))
+    (and_from (bytes_eq fits.relationship.domain r.domain) (same_id fits.relationship.endpoint r.endpoint)
+        ((bytes_eq-Decides fits.relationship.domain r.domain).1 fits.domain)
+        (same-id-to fits.relationship.endpoint r.endpoint fits.endpoint))
 
 known-to : (a b c : Bool) → (a ≡ true) ⊎ ((b ≡ true) ⊎ (c ≡ true)) → cond a true (cond b true c) ≡ true
 known-to true b c h = refl
@@ -70,34 +76,41 @@ known-to false false c (inr (inr e)) = e
 
 pub knows-to : (config : Configuration) (domain : List ℕ) → HasDomain config domain → is_known config domain ≡ true
 knows-to config domain h =
-    known-to (list_any (λ (r : Relationship). bytes_eq r.domain domain) config.relationships) (list_any (λ (r : Relationship). bytes_eq r.endpoint.domain domain) config.relationships) (list_any (λ (s : Seed). bytes_eq s.domain domain) config.seeds)
+    known-to (list_any (λ (r : Relationship). bytes_eq r.domain domain) config.relationships)
+        (list_any (λ (r : Relationship). bytes_eq r.endpoint.domain domain) config.relationships)
+        (list_any (λ (s : Seed). bytes_eq s.domain domain) config.seeds)
     (elim h [
       | inl k ↦ inl (any-to (λ (r : Relationship). bytes_eq r.domain domain) config.relationships k.0 k.1 ((bytes_eq-Decides k.0.domain domain).1 k.2))
       | inr k ↦ inr (elim k [
-        | inl l ↦ inl (any-to (λ (r : Relationship). bytes_eq r.endpoint.domain domain) config.relationships l.0 l.1 ((bytes_eq-Decides l.0.endpoint.domain domain).1 l.2))
+        | inl l ↦ inl (any-to (λ (r : Relationship). bytes_eq r.endpoint.domain domain) config.relationships l.0 l.1
+            ((bytes_eq-Decides l.0.endpoint.domain domain).1 l.2))
         | inr l ↦ inr (any-to (λ (s : Seed). bytes_eq s.domain domain) config.seeds l.0 l.1 ((bytes_eq-Decides l.0.domain domain).1 l.2))
       ])
     ])
 
 -- ---- lists that rise
 
-above-seen : {A : Type 0} (cmp : A → A → Ordering) → IsTotalOrder cmp → (x : A) (seen later : List A) → IsStrictlySortedBy cmp (seen ++ x ∷ later) → AllByRecursion (λ y. cmp x y ≡ Greater) seen
+above-seen : {A : Type 0} (cmp : A → A → Ordering) → IsTotalOrder cmp → (x : A) (seen later : List A)
+    → IsStrictlySortedBy cmp (seen ++ x ∷ later) → AllByRecursion (λ y. cmp x y ≡ Greater) seen
 above-seen cmp total x [] later rising = tt
 above-seen cmp total x (y ∷ seen) later rising = (
   turned total y x (all_back (λ z. cmp y z ≡ Less) seen (x ∷ later) (rising_head cmp y (seen ++ x ∷ later) rising)).0,
   above-seen cmp total x seen later (rising_tail cmp y (seen ++ x ∷ later) rising),
 )
 
-not-seen : {A : Type 0} (cmp : A → A → Ordering) → IsTotalOrder cmp → (x : A) (seen later : List A) → IsStrictlySortedBy cmp (seen ++ x ∷ later) → Contains seen x → ⊥
+not-seen : {A : Type 0} (cmp : A → A → Ordering) → IsTotalOrder cmp → (x : A) (seen later : List A)
+    → IsStrictlySortedBy cmp (seen ++ x ∷ later) → Contains seen x → ⊥
 not-seen cmp total x seen later rising c =
     let greater : cmp x x ≡ Greater = each-from (λ y. cmp x y ≡ Greater) seen (above-seen cmp total x seen later rising) x c in
     let tied : cmp x x ≡ Equal = tied_itself total x in
     cc
 
-next-one : {A : Type 0} (cmp : A → A → Ordering) → IsTotalOrder cmp → (x : A) (seen later : List A) → IsStrictlySortedBy cmp (seen ++ x ∷ later) → with_item cmp x seen ≡ seen ++ x ∷ []
+next-one : {A : Type 0} (cmp : A → A → Ordering) → IsTotalOrder cmp → (x : A) (seen later : List A)
+    → IsStrictlySortedBy cmp (seen ++ x ∷ later) → with_item cmp x seen ≡ seen ++ x ∷ []
 next-one cmp total x seen later rising = at_end cmp x seen (above-seen cmp total x seen later rising)
 
-all-next : {A : Type 0} (cmp : A → A → Ordering) → IsTotalOrder cmp → (items seen : List A) → IsStrictlySortedBy cmp (seen ++ items) → with_items cmp items seen ≡ seen ++ items
+all-next : {A : Type 0} (cmp : A → A → Ordering) → IsTotalOrder cmp → (items seen : List A)
+    → IsStrictlySortedBy cmp (seen ++ items) → with_items cmp items seen ≡ seen ++ items
 all-next cmp total [] seen rising = sym (append-nil seen)
 all-next cmp total (x ∷ items) seen rising =
     ap (λ set. with_items cmp items set) (next-one cmp total x seen items rising)
@@ -107,7 +120,9 @@ all-next cmp total (x ∷ items) seen rising =
 -- ---- what refuses
 
 -- what may be held is refused for want of memory alone
-refusal-none : (old : Closed) (r : Receipt) (why : TakeError) → IsConfiguration old.meaning.config → RefusesReceipt old.meaning old.room r why → why ≢ NoMemory → IsFitting old.meaning.config r → length old.meaning.held < 65536 → ⊥
+refusal-none : (old : Closed) (r : Receipt) (why : TakeError) → IsConfiguration old.meaning.config
+    → RefusesReceipt old.meaning old.room r why → why ≢ NoMemory → IsFitting old.meaning.config r
+    → length old.meaning.held < 65536 → ⊥
 refusal-none old r UnknownDomain is h other fits few = h fits.relationship fits.has fits.domain
 refusal-none old r WrongEndpoint is h other fits few = fits_right old.meaning.config r is fits h
 refusal-none old r Full is h other fits few = let full = h.full in omega arith
@@ -115,31 +130,41 @@ refusal-none old r NoMemory is h other fits few = other refl
 refusal-none old r ConfigDiffers is h other fits few = h
 
 fewer : {A : Type 0} (seen : List A) (x : A) (later : List A) {n : ℕ} → length (seen ++ x ∷ later) ≤ n → length seen < n
-fewer seen x later {n} few = let long : length (seen ++ x ∷ later) ≡ length seen + length (x ∷ later) = length-append seen (x ∷ later) in let more : length (x ∷ later) ≡ length later + 1 = omega arith in omega (arith, long, more, few)
+fewer seen x later {n} few = let long : length (seen ++ x ∷ later) ≡ length seen + length (x ∷ later) =
+    length-append seen (x ∷ later) in let more : length (x ∷ later) ≡ length later + 1 = omega arith in
+    omega (arith, long, more, few)
 
 -- ---- one receipt
 
-pub unfit-taken : (old new : Closed) (r s : Receipt) (taken : Taken) → s ≡ r → Took old s new taken → is_fitting old.meaning.config r ≡ false → new.meaning ≡ old.meaning
+pub unfit-taken : (old new : Closed) (r s : Receipt) (taken : Taken) → s ≡ r → Took old s new taken
+    → is_fitting old.meaning.config r ≡ false → new.meaning ≡ old.meaning
 unfit-taken old new r s (TakenNew n) e h f =
     absurd (let fits : is_fitting old.meaning.config r ≡ true = fits-to old.meaning.config r (subst (IsFitting old.meaning.config) e h.fits) in cc)
 unfit-taken old new r s TakenAlready e h f = ap (λ (c : Closed). c.meaning) h.same
 
-pub next-taken : (old new : Closed) (r s : Receipt) (taken : Taken) (later : List Receipt) → s ≡ r → Took old s new taken → CanHold old.meaning.config (old.meaning.held ++ r ∷ later)
+pub next-taken : (old new : Closed) (r s : Receipt) (taken : Taken) (later : List Receipt) → s ≡ r
+    → Took old s new taken → CanHold old.meaning.config (old.meaning.held ++ r ∷ later)
     → new.meaning ≡ record old.meaning { held = old.meaning.held ++ r ∷ [] }
 next-taken old new r s (TakenNew n) later e h can =
-    h.meaning ∙ ap (λ held. record old.meaning { held = held }) (ap (λ t. with_item receipt_cmp t old.meaning.held) e ∙ next-one receipt_cmp receipt_total r old.meaning.held later can.rising)
+    h.meaning ∙ ap (λ held. record old.meaning { held = held })
+        (ap (λ t. with_item receipt_cmp t old.meaning.held) e
+        ∙ next-one receipt_cmp receipt_total r old.meaning.held later can.rising)
 next-taken old new r s TakenAlready later e h can =
     absurd (not-seen receipt_cmp receipt_total r old.meaning.held later can.rising (subst (Contains old.meaning.held) e h.held))
 
-pub next-refused : (old new : Closed) (r s : Receipt) (refused : Refused) (later : List Receipt) → s ≡ r → IsConfiguration old.meaning.config → HasRefused old s new refused → refused.why ≢ NoMemory
+pub next-refused : (old new : Closed) (r s : Receipt) (refused : Refused) (later : List Receipt) → s ≡ r
+    → IsConfiguration old.meaning.config → HasRefused old s new refused → refused.why ≢ NoMemory
     → CanHold old.meaning.config (old.meaning.held ++ r ∷ later) → ⊥
 next-refused old new r s refused later e is h other can =
-    let fits : IsFitting old.meaning.config s = subst (IsFitting old.meaning.config) (sym e) (all_back (IsFitting old.meaning.config) old.meaning.held (r ∷ later) can.fitting).0 in
+    let fits : IsFitting old.meaning.config s =
+        subst (IsFitting old.meaning.config) (sym e)
+        (all_back (IsFitting old.meaning.config) old.meaning.held (r ∷ later) can.fitting).0 in
     refusal-none old s refused.why is h.cause other fits (fewer old.meaning.held r later can.few)
 
 -- ---- one record
 
-pub unfit-distrusted : (old new : Meaning) (x : Distrust) (result : Result Distrusted TakeError) → TakesDistrust old x new result → is_known old.config x.domain ≡ false → new ≡ old
+pub unfit-distrusted : (old new : Meaning) (x : Distrust) (result : Result Distrusted TakeError)
+    → TakesDistrust old x new result → is_known old.config x.domain ≡ false → new ≡ old
 unfit-distrusted old new x (Ok (DistrustedNew n)) h f = absurd (let known : is_known old.config x.domain ≡ true = knows-to old.config x.domain h.domain in cc)
 unfit-distrusted old new x (Ok DistrustedAlready) h f = h.meaning
 unfit-distrusted old new x (Err why) h f = h.meaning
@@ -151,17 +176,21 @@ record-refused old x Full h known few = let full = h.full in omega arith
 record-refused old x NoMemory h known few = h
 record-refused old x ConfigDiffers h known few = h
 
-pub next-distrusted : (old new : Meaning) (x : Distrust) (result : Result Distrusted TakeError) (later : List Distrust) → TakesDistrust old x new result → CanHoldRecords old.config (old.records ++ x ∷ later)
+pub next-distrusted : (old new : Meaning) (x : Distrust) (result : Result Distrusted TakeError) (later : List Distrust)
+    → TakesDistrust old x new result → CanHoldRecords old.config (old.records ++ x ∷ later)
     → new ≡ record old { records = old.records ++ x ∷ [] }
 next-distrusted old new x (Ok (DistrustedNew n)) later h can =
     h.meaning ∙ ap (λ records. record old { records = records }) (next-one distrust_cmp distrust_total x old.records later can.rising)
 next-distrusted old new x (Ok DistrustedAlready) later h can = absurd (not-seen distrust_cmp distrust_total x old.records later can.rising h.held)
 next-distrusted old new x (Err why) later h can =
-    absurd (record-refused old x why h.cause (all_back (λ y. HasDomain old.config y.domain) old.records (x ∷ later) can.domains).0 (fewer old.records x later can.few))
+    absurd (record-refused old x why h.cause
+        (all_back (λ y. HasDomain old.config y.domain) old.records (x ∷ later) can.domains).0
+        (fewer old.records x later can.few))
 
 -- ---- all of another closure
 
-merge-refused : (m other : Meaning) (why : TakeError) → IsConfiguration m.config → AllByRecursion (IsFitting m.config) other.held → AllByRecursion (λ x. HasDomain m.config x.domain) other.records
+merge-refused : (m other : Meaning) (why : TakeError) → IsConfiguration m.config
+    → AllByRecursion (IsFitting m.config) other.held → AllByRecursion (λ x. HasDomain m.config x.domain) other.records
     → config_id_of m.config ≡ config_id_of other.config → RefusesMerge m other why → why ≢ NoMemory → AreTooMany m other
 merge-refused m other UnknownDomain is fitting domains same h n =
     absurd (elim h.1 [
@@ -185,10 +214,12 @@ too-many a b h =
       | inr f ↦ f
     ]
 
-pub grow-refused : (old new : Closed) (other : Meaning) (why : TakeError) → IsConfiguration other.config → IsMeaning other → HasRefusedMerge old other new why → old.meaning.config ≡ other.config → why ≢ NoMemory
+pub grow-refused : (old new : Closed) (other : Meaning) (why : TakeError) → IsConfiguration other.config
+    → IsMeaning other → HasRefusedMerge old other new why → old.meaning.config ≡ other.config → why ≢ NoMemory
     → new.meaning ≡ meaning_of_state old.meaning.config (grown (state_of old.meaning) (state_of other))
 grow-refused old new other why is valid h same n =
-    let many = merge-refused old.meaning other why (subst IsConfiguration (sym same) is) (subst (λ (c : Configuration). AllByRecursion (IsFitting c) other.held) (sym same) valid.fitting)
+    let many = merge-refused old.meaning other why (subst IsConfiguration (sym same) is)
+        (subst (λ (c : Configuration). AllByRecursion (IsFitting c) other.held) (sym same) valid.fitting)
     (subst (λ (c : Configuration). AllByRecursion (λ x. HasDomain c x.domain) other.records) (sym same) valid.domains) (ap config_id_of same) h.cause n in
     h.unchanged.meaning
     ∙ ap (λ b. meaning_of_state old.meaning.config (cond b (joined (state_of old.meaning) (state_of other)) (state_of old.meaning)))
@@ -201,10 +232,13 @@ grown-nothing m valid =
     let held : with_items receipt_cmp m.held [] ≡ m.held = all-next receipt_cmp receipt_total m.held [] valid.rising in
     let records : with_items distrust_cmp m.records [] ≡ m.records = all-next distrust_cmp distrust_total m.records [] valid.records_rising in
     let same : joined no_state (state_of m) ≡ state_of m = (λ i. record { held = held i; records = records i }) in
-    let within : is_within_limits (state_of m) ≡ true = and_from (nat_le (length m.held) 65536) (nat_le (length m.records) 4096) (le-leb (length m.held) 65536 valid.few) (le-leb (length m.records) 4096 valid.few_records) in
+    let within : is_within_limits (state_of m) ≡ true =
+        and_from (nat_le (length m.held) 65536) (nat_le (length m.records) 4096)
+        (le-leb (length m.held) 65536 valid.few) (le-leb (length m.records) 4096 valid.few_records) in
     ap (λ s. meaning_of_state m.config (cond (is_within_limits s) s no_state)) same ∙ ap (λ b. meaning_of_state m.config (cond b (state_of m) no_state)) within
 
-pub copy-same : (m copy new : Meaning) → IsMeaning m → copy ≡ empty_of m.config → new ≡ meaning_of_state copy.config (grown (state_of copy) (state_of m)) → new ≡ m
+pub copy-same : (m copy new : Meaning) → IsMeaning m → copy ≡ empty_of m.config
+    → new ≡ meaning_of_state copy.config (grown (state_of copy) (state_of m)) → new ≡ m
 copy-same m copy new valid e h = h ∙ ap (λ (c : Meaning). meaning_of_state c.config (grown (state_of c) (state_of m))) e ∙ grown-nothing m valid
 
 -- ---- one after another
@@ -217,15 +251,18 @@ front-more xs k x l e =
     let one : k + 1 ≡ suc k = omega arith in
     ap (λ n. take n xs) one ∙ take-suc xs k x l ∙ ap (λ y. take k xs ++ y ∷ []) (sym e)
 
-pub record-passed : (first old new : Meaning) (xs : List Distrust) (k : ℕ) (x : Distrust) → k < length xs → x ≡ get_or xs k x → old ≡ record first { records = take k xs }
+pub record-passed : (first old new : Meaning) (xs : List Distrust) (k : ℕ) (x : Distrust) → k < length xs
+    → x ≡ get_or xs k x → old ≡ record first { records = take k xs }
     → ((later : List Distrust) → CanHoldRecords old.config (old.records ++ x ∷ later) → new ≡ record old { records = old.records ++ x ∷ [] })
     → CanHoldRecords first.config xs → new ≡ record first { records = take (k + 1) xs }
 record-passed first old new xs k x l e so next can =
-    subst (λ (m : Meaning). (later : List Distrust) → CanHoldRecords m.config (m.records ++ x ∷ later) → new ≡ record m { records = m.records ++ x ∷ [] }) so next
+    subst (λ (m : Meaning). (later : List Distrust) → CanHoldRecords m.config (m.records ++ x ∷ later)
+        → new ≡ record m { records = m.records ++ x ∷ [] }) so next
     (drop (suc k) xs) (subst (CanHoldRecords first.config) (sym (front-split xs k x l e)) can)
     ∙ ap (λ records. record first { records = records }) (sym (front-more xs k x l e))
 
-pub receipt-passed : (first old new : Meaning) (rs : List Receipt) (k : ℕ) (r : Receipt) → k < length rs → r ≡ get_or rs k r → old ≡ record first { held = take k rs }
+pub receipt-passed : (first old new : Meaning) (rs : List Receipt) (k : ℕ) (r : Receipt) → k < length rs
+    → r ≡ get_or rs k r → old ≡ record first { held = take k rs }
     → ((later : List Receipt) → CanHold old.config (old.held ++ r ∷ later) → new ≡ record old { held = old.held ++ r ∷ [] })
     → CanHold first.config rs → new ≡ record first { held = take (k + 1) rs }
 receipt-passed first old new rs k r l e so next can =
@@ -233,7 +270,8 @@ receipt-passed first old new rs k r l e so next can =
     (drop (suc k) rs) (subst (CanHold first.config) (sym (front-split rs k r l e)) can)
     ∙ ap (λ held. record first { held = held }) (sym (front-more rs k r l e))
 
-pub gathered-all : (config : Configuration) (fresh between whole : Meaning) (rs : List Receipt) (xs : List Distrust) → CanHold config rs → CanHoldRecords config xs → fresh ≡ empty_of config
+pub gathered-all : (config : Configuration) (fresh between whole : Meaning) (rs : List Receipt) (xs : List Distrust)
+    → CanHold config rs → CanHoldRecords config xs → fresh ≡ empty_of config
     → (fresh.records ≡ [] → CanHoldRecords fresh.config xs → between ≡ record fresh { records = xs })
     → (between.held ≡ [] → CanHold between.config rs → whole ≡ record between { held = rs })
     → whole ≡ record { config = config; held = rs; records = xs }

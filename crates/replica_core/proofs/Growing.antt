@@ -1,5 +1,6 @@
 -- What one event changes of what a replica holds and saved, and of the messages.
-use Rattle.std.proofs.Common.{◌≡◌, ◌≢◌, ℕ, ◌+◌, ◌<◌, inl, inr, Bool, true, false, cond, ◌&&◌, nat_le, List, [], ◌∷◌, ◌++◌, arith, refl, sym, ap, ◌∙◌, subst, eq-eqb, ne_eqb, le-leb, append_assoc, append-nil}
+use Rattle.std.proofs.Common.{◌≡◌, ◌≢◌, ℕ, ◌+◌, ◌<◌, inl, inr, Bool, true, false, cond, ◌&&◌, nat_le, List, [], ◌∷◌}
+use Rattle.std.proofs.Common.{◌++◌, arith, refl, sym, ap, ◌∙◌, subst, eq-eqb, ne_eqb, le-leb, append_assoc, append-nil}
 use Rattle.std.specs.Prelude.{Contains, slice_get, Option, Some, None}
 use Rattle.std.proofs.lemmas.Bool.{cases_eq, and_parts}
 use Rattle.replica_core.specs.State.{State, joined, is_within_limits, first_of}
@@ -54,7 +55,8 @@ covered-where : (P : Effect → Type 0) (b : Bool) (effect : Effect) → P nothi
 covered-where P true effect n h = h refl
 covered-where P false effect n h = n
 
-covered-replies : (P : Effect → Type 0) (state : State) (j k : ℕ) (found : Option Message) → P nothing → ((message : Message) → P (sends message)) → P (replies state j k found)
+covered-replies : (P : Effect → Type 0) (state : State) (j k : ℕ) (found : Option Message) → P nothing
+    → ((message : Message) → P (sends message)) → P (replies state j k found)
 covered-replies P state j k None n h = n
 covered-replies P state j k (Some (question asker bucket ids)) n h = h _
 covered-replies P state j k (Some (answer answerer place content)) n h = n
@@ -94,7 +96,8 @@ part-event laws rules w i event d =
     })
 
 -- what a replica holds stays held while it doesn't restart
-pub part-run : (laws : Laws) (rules : Rules) (i : ℕ) (events : List Event) (w : World) → Lacks events (Restart i) → IsPartOf (w.now i) ((run_from rules w events).now i)
+pub part-run : (laws : Laws) (rules : Rules) (i : ℕ) (events : List Event) (w : World) → Lacks events (Restart i)
+    → IsPartOf (w.now i) ((run_from rules w events).now i)
 part-run laws rules i [] w l = part-refl (w.now i)
 part-run laws rules i (event ∷ events) w l =
     part-trans (w.now i) ((happens rules w event).now i) ((run_from rules (happens rules w event) events).now i)
@@ -124,7 +127,8 @@ sent-run rules (event ∷ events) w =
     let later = sent-run rules events (happens rules w event) in
     (first.0 ++ later.0, later.1 ∙ ap (λ s. s ++ later.0) first.1 ∙ append_assoc w.sent first.0 later.0)
 
-pub sent-stays : (rules : Rules) (events : List Event) (w : World) (n : ℕ) (message : Message) → slice_get w.sent n ≡ Some message → slice_get (run_from rules w events).sent n ≡ Some message
+pub sent-stays : (rules : Rules) (events : List Event) (w : World) (n : ℕ) (message : Message)
+    → slice_get w.sent n ≡ Some message → slice_get (run_from rules w events).sent n ≡ Some message
 sent-stays rules events w n message e =
     let rest = sent-run rules events w in
     ap (λ s. slice_get s n) rest.1 ∙ get-kept w.sent rest.0 n message e

@@ -19,7 +19,8 @@ use Rattle.replica_core.proofs.Members.{contains-none, map-from, map-to}
 use Rattle.replica_core.proofs.QuestionFacts.{bytes_of, bytes-rising, named_cmp}
 
 -- one id more of those that are still to come
-pub more-gathered : (r : Receipt) (id : ReceiptId) (rest others : List Receipt) (old new : List ReceiptId) (all : List (List ℕ)) → rest ≡ r ∷ others → id.0 ≡ receipt_id_of r → new ≡ old ++ id ∷ []
+pub more-gathered : (r : Receipt) (id : ReceiptId) (rest others : List Receipt) (old new : List ReceiptId)
+    (all : List (List ℕ)) → rest ≡ r ∷ others → id.0 ≡ receipt_id_of r → new ≡ old ++ id ∷ []
     → map bytes_of old ++ map receipt_id_of rest ≡ all → map bytes_of new ++ map receipt_id_of others ≡ all
 more-gathered r id rest others old new all e i n h =
     ap (λ ids. map bytes_of ids ++ map receipt_id_of others) n
@@ -46,7 +47,8 @@ same a b = bytes_eq a.0 b.0
 
 -- ---- sorted, and each once
 
-module _ (rs : List Receipt) (gathered sorted : List ReceiptId) (all : map bytes_of gathered ≡ map receipt_id_of rs) (moved : IsPermutation gathered sorted) where
+module _ (rs : List Receipt) (gathered sorted : List ReceiptId) (all : map bytes_of gathered ≡ map receipt_id_of rs)
+    (moved : IsPermutation gathered sorted) where
   kept-is : (id : List ℕ) → Contains (map bytes_of (dedup same sorted)) id → Contains (map receipt_id_of rs) id
   kept-is id has =
       let m = map-from bytes_of (dedup same sorted) id has in

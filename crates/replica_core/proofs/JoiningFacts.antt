@@ -34,7 +34,8 @@ none-left (x ∷ xs) e = absurd (omega (arith, e))
 
 -- ---- one record
 
-distrusts-held : (now new : Meaning) (x : Distrust) (done : Distrusted) → AreSets Always distrust_cmp → IsMeaning now → Distrusts now x new done → new ≡ with_entry (Record x) now
+distrusts-held : (now new : Meaning) (x : Distrust) (done : Distrusted) → AreSets Always distrust_cmp → IsMeaning now
+    → Distrusts now x new done → new ≡ with_entry (Record x) now
 distrusts-held now new x (DistrustedNew lost) sets is h = h.meaning
 distrusts-held now new x DistrustedAlready sets is h =
     h.meaning ∙ (λ i. record now { records = sym (sets.present x now.records is.records_rising h.held) i })
@@ -46,7 +47,8 @@ distrusts-refused now x Full welcome h = welcome Full (λ e. absurd (cc)) h
 distrusts-refused now x NoTakeMemory welcome h = h
 distrusts-refused now x OtherConfig welcome h = h
 
-distrusted : (now new : Meaning) (x : Distrust) (result : Result Distrusted TakeError) → AreSets Always distrust_cmp → IsMeaning now → IsWelcome now (Record x) → TakesDistrust now x new result
+distrusted : (now new : Meaning) (x : Distrust) (result : Result Distrusted TakeError) → AreSets Always distrust_cmp
+    → IsMeaning now → IsWelcome now (Record x) → TakesDistrust now x new result
     → new ≡ with_entry (Record x) now
 distrusted now new x (Ok done) sets is welcome h = distrusts-held now new x done sets is h
 distrusted now new x (Err why) sets is welcome h = absurd (distrusts-refused now x why welcome h.cause)
@@ -59,14 +61,19 @@ pub record IsDistrusting (start now : ClosureState) (all : List Distrust) (i : �
   pub room : now.room ≡ start.room
   pub welcome : AreWelcome now.meaning (of_records (drop i all))
 
-pub IsDistrusting-next : (start now new : ClosureState) (all : List Distrust) (i : ℕ) (x : Distrust) (result : Result Distrusted TakeError) → AreSets Always distrust_cmp → IsMeaning now.meaning
-    → IsDistrusting start now all i → i < length all → get_or all i x ≡ x → new.room ≡ now.room → TakesDistrust now.meaning x new.meaning result → IsDistrusting start new all (i + 1)
+pub IsDistrusting-next : (start now new : ClosureState) (all : List Distrust) (i : ℕ) (x : Distrust)
+    (result : Result Distrusted TakeError) → AreSets Always distrust_cmp → IsMeaning now.meaning
+    → IsDistrusting start now all i → i < length all → get_or all i x ≡ x → new.room ≡ now.room
+        → TakesDistrust now.meaning x new.meaning result → IsDistrusting start new all (i + 1)
 IsDistrusting-next start now new all i x result sets is so l e room h =
-    let welcome : AreWelcome now.meaning (of_records (x ∷ drop (i + 1) all)) = subst (λ (xs : List Distrust). AreWelcome now.meaning (of_records xs)) (drop-next all i x l e) so.welcome in
+    let welcome : AreWelcome now.meaning (of_records (x ∷ drop (i + 1) all)) =
+        subst (λ (xs : List Distrust). AreWelcome now.meaning (of_records xs)) (drop-next all i x l e) so.welcome in
     let held : new.meaning ≡ with_entry (Record x) now.meaning = distrusted now.meaning new.meaning x result sets is welcome.0 h in
     record {
       meaning = held ∙ ap (with_entry (Record x)) so.meaning
-          ∙ (λ j. record start.meaning { records = sym (ap (λ (xs : List Distrust). with_items distrust_cmp xs start.meaning.records) (take-next all i x l e) ∙ with_items-push distrust_cmp (take i all) start.meaning.records x) j });
+          ∙ (λ j. record start.meaning { records =
+              sym (ap (λ (xs : List Distrust). with_items distrust_cmp xs start.meaning.records) (take-next all i x l e)
+              ∙ with_items-push distrust_cmp (take i all) start.meaning.records x) j });
       room = room ∙ so.room;
       welcome = subst (λ (m : Meaning). AreWelcome m (of_records (drop (i + 1) all))) (sym held) welcome.1;
     }
@@ -79,7 +86,8 @@ record IsTaken (now : ClosureState) (r : Receipt) (new : ClosureState) : Type 0 
   pub receipts : now.room.receipts ≤ new.room.receipts + 1
   pub offers : now.room.offers ≤ new.room.offers + length (offers_of (pair_of r))
 
-takes-held : (now new : ClosureState) (r : Receipt) (taken : Taken) → AreSets IsReceipt receipt_cmp → IsMeaning now.meaning → Took now r new taken → IsTaken now r new
+takes-held : (now new : ClosureState) (r : Receipt) (taken : Taken) → AreSets IsReceipt receipt_cmp
+    → IsMeaning now.meaning → Took now r new taken → IsTaken now r new
 takes-held now new r (TakenNew count) sets is h = record { meaning = h.meaning; receipts = h.receipts; offers = h.offers }
 takes-held now new r TakenAlready sets is h =
     let stays : IsTaken now r now = record {
@@ -89,7 +97,8 @@ takes-held now new r TakenAlready sets is h =
     } in
     subst (λ (s : ClosureState). IsTaken now r s) (sym h.same) stays
 
-takes-refused : (now : ClosureState) (r : Receipt) (why : TakeError) → IsWelcome now.meaning (AReceipt r) → 0 < now.room.receipts → length (offers_of (pair_of r)) ≤ now.room.offers
+takes-refused : (now : ClosureState) (r : Receipt) (why : TakeError) → IsWelcome now.meaning (AReceipt r)
+    → 0 < now.room.receipts → length (offers_of (pair_of r)) ≤ now.room.offers
     → RefusesReceipt now.meaning now.room r why → ⊥
 takes-refused now r UnknownDomain welcome some ample h = welcome UnknownDomain (λ e. absurd (cc)) h
 takes-refused now r WrongEndpoint welcome some ample h = welcome WrongEndpoint (λ e. absurd (cc)) h
@@ -97,7 +106,8 @@ takes-refused now r Full welcome some ample h = welcome Full (λ e. absurd (cc))
 takes-refused now r NoTakeMemory welcome some ample h = h.beyond some ample
 takes-refused now r OtherConfig welcome some ample h = h
 
-taken : (now new : ClosureState) (r : Receipt) (result : Result Taken Refused) → AreSets IsReceipt receipt_cmp → IsMeaning now.meaning → IsWelcome now.meaning (AReceipt r) → 0 < now.room.receipts
+taken : (now new : ClosureState) (r : Receipt) (result : Result Taken Refused) → AreSets IsReceipt receipt_cmp
+    → IsMeaning now.meaning → IsWelcome now.meaning (AReceipt r) → 0 < now.room.receipts
     → length (offers_of (pair_of r)) ≤ now.room.offers → Takes now r new result → IsTaken now r new
 taken now new r (Ok done) sets is welcome some ample h = takes-held now new r done sets is h
 taken now new r (Err refused) sets is welcome some ample h = absurd (takes-refused now r refused.why welcome some ample h.cause)
@@ -106,17 +116,20 @@ taken now new r (Err refused) sets is welcome some ample h = absurd (takes-refus
 
 -- With the others all will be held, and these are welcome and have room.
 pub record IsJoining (start now : ClosureState) (all rest : List Receipt) : Type 0 where
-  pub meaning : record now.meaning { held = with_items receipt_cmp rest now.meaning.held } ≡ record start.meaning { held = with_items receipt_cmp all start.meaning.held }
+  pub meaning : record now.meaning { held = with_items receipt_cmp rest now.meaning.held }
+      ≡ record start.meaning { held = with_items receipt_cmp all start.meaning.held }
   pub welcome : AreWelcome now.meaning (of_receipts rest)
   pub room : IsRoomier (room_for rest) now.room
 
-pub IsJoining-start : (start : ClosureState) (all : List Receipt) → AreWelcome start.meaning (of_receipts all) → IsRoomier (room_for all) start.room → IsJoining start start all all
+pub IsJoining-start : (start : ClosureState) (all : List Receipt) → AreWelcome start.meaning (of_receipts all)
+    → IsRoomier (room_for all) start.room → IsJoining start start all all
 IsJoining-start start all welcome room = record { meaning = refl; welcome = welcome; room = room }
 
 offers-first : (r : Receipt) (later : List Receipt) → offers_count (r ∷ later) ≡ length (offers_of (pair_of r)) + offers_count later
 offers-first r later = sum_by-cons (λ s. length (offers_of (pair_of s))) r later
 
-joined-first : (start now new : ClosureState) (all later : List Receipt) (r : Receipt) (result : Result Taken Refused) → AreSets IsReceipt receipt_cmp → IsMeaning now.meaning → IsJoining start now all (r ∷ later)
+joined-first : (start now new : ClosureState) (all later : List Receipt) (r : Receipt) (result : Result Taken Refused)
+    → AreSets IsReceipt receipt_cmp → IsMeaning now.meaning → IsJoining start now all (r ∷ later)
     → Takes now r new result → IsJoining start new all later
 joined-first start now new all later r result sets is so h =
     let receipts = so.room.receipts in
@@ -131,11 +144,14 @@ joined-first start now new all later r result sets is so h =
       room = record { receipts = omega (arith, receipts, less); offers = omega (arith, offers, first, fewer) };
     }
 
-pub IsJoining-next : (start now new : ClosureState) (all rest later : List Receipt) (r : Receipt) (result : Result Taken Refused) → AreSets IsReceipt receipt_cmp → IsMeaning now.meaning → IsJoining start now all rest
+pub IsJoining-next : (start now new : ClosureState) (all rest later : List Receipt) (r : Receipt)
+    (result : Result Taken Refused) → AreSets IsReceipt receipt_cmp → IsMeaning now.meaning
+    → IsJoining start now all rest
     → rest ≡ r ∷ later → Takes now r new result → IsJoining start new all later
 IsJoining-next start now new all rest later r result sets is so e h =
     joined-first start now new all later r result sets is (subst (IsJoining start now all) e so) h
 
-pub IsJoining-end : (start now : ClosureState) (all rest : List Receipt) → IsJoining start now all rest → rest ≡ [] → now.meaning ≡ record start.meaning { held = with_items receipt_cmp all start.meaning.held }
+pub IsJoining-end : (start now : ClosureState) (all rest : List Receipt) → IsJoining start now all rest → rest ≡ []
+    → now.meaning ≡ record start.meaning { held = with_items receipt_cmp all start.meaning.held }
 IsJoining-end start now all rest so e =
     sym (ap (λ (xs : List Receipt). record now.meaning { held = with_items receipt_cmp xs now.meaning.held }) e) ∙ so.meaning

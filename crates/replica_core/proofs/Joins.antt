@@ -53,7 +53,8 @@ pub record Keeps (P : Receipt → Type 0) (Q : Distrust → Type 0) (state : Sta
   pub receipts : (r : Receipt) → Contains state.held r → P r
   pub records : (x : Distrust) → Contains state.records x → Q x
 
-pub keeps-joined : (laws : Laws) (P : Receipt → Type 0) (Q : Distrust → Type 0) (state gain : State) → Keeps P Q state → Keeps P Q gain → Keeps P Q (joined state gain)
+pub keeps-joined : (laws : Laws) (P : Receipt → Type 0) (Q : Distrust → Type 0) (state gain : State) → Keeps P Q state
+    → Keeps P Q gain → Keeps P Q (joined state gain)
 keeps-joined laws P Q state gain s g = record {
   receipts = λ r c. elim (laws.receipts.only gain.held state.held r c) [ inl a ↦ g.receipts r a | inr b ↦ s.receipts r b ];
   records = λ x c. elim (laws.records.only gain.records state.records x c) [ inl a ↦ g.records x a | inr b ↦ s.records x b ];

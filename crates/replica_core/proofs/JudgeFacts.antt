@@ -1,5 +1,6 @@
 -- Which entry of a list is the first that is not welcome.
-use Rattle.std.proofs.Common.{◌≡◌, ◌≢◌, true, false, ℕ, zero, suc, ◌+◌, ◌-◌, ◌<◌, ◌⊎◌, inl, inr, List, [], ◌∷◌, ◌++◌, length, get_or, take, drop, refl, sym, ap, ◌∙◌, subst, arith}
+use Rattle.std.proofs.Common.{◌≡◌, ◌≢◌, true, false, ℕ, zero, suc, ◌+◌, ◌-◌, ◌<◌, ◌⊎◌, inl, inr, List, [], ◌∷◌, ◌++◌}
+use Rattle.std.proofs.Common.{length, get_or, take, drop, refl, sym, ap, ◌∙◌, subst, arith}
 use Rattle.std.specs.Prelude.{Contains, slice_get, Option, Some, None}
 use Rattle.std.specs.declared.cmp.Ordering.{Ordering}
 use Rattle.std.specs.Option.{is_some}
@@ -33,7 +34,8 @@ take-next xs i x l e =
     let one : i + 1 ≡ suc i = omega arith in
     ap (λ n. take n xs) one ∙ take-suc xs i x l ∙ ap (λ y. take i xs ++ y ∷ []) e
 
-pub with_items-push : {X : Type 0} (cmp : X → X → Ordering) (items set : List X) (x : X) → with_items cmp (items ++ x ∷ []) set ≡ with_item cmp x (with_items cmp items set)
+pub with_items-push : {X : Type 0} (cmp : X → X → Ordering) (items set : List X) (x : X)
+    → with_items cmp (items ++ x ∷ []) set ≡ with_item cmp x (with_items cmp items set)
 with_items-push cmp [] set x = refl
 with_items-push cmp (y ∷ items) set x = with_items-push cmp items (with_item cmp y set) x
 
@@ -48,7 +50,8 @@ all-push P (y ∷ ys) x h p = (h.0, all-push P ys x h.1 p)
 
 -- ---- what is welcome
 
-pub welcome-push : (m : Meaning) (entries : List Entry) (entry : Entry) → AreWelcome m entries → IsWelcome (with_entries entries m) entry → AreWelcome m (entries ++ entry ∷ [])
+pub welcome-push : (m : Meaning) (entries : List Entry) (entry : Entry) → AreWelcome m entries
+    → IsWelcome (with_entries entries m) entry → AreWelcome m (entries ++ entry ∷ [])
 welcome-push m [] entry welcome is = (is, tt)
 welcome-push m (first ∷ entries) entry welcome is = (welcome.0, welcome-push (with_entry first m) entries entry welcome.1 is)
 
@@ -60,7 +63,8 @@ pub with-receipts : (rs : List Receipt) (m : Meaning) → with_entries (of_recei
 with-receipts [] m = refl
 with-receipts (r ∷ rs) m = with-receipts rs (with_entry (AReceipt r) m)
 
-pub known : (c : Configuration) (domain : List ℕ) (domains : List (List ℕ)) (place : Option ℕ) → AreDomains c domains → IsPlace c domain place → is_some place ≡ true → HasDomain c domain
+pub known : (c : Configuration) (domain : List ℕ) (domains : List (List ℕ)) (place : Option ℕ) → AreDomains c domains
+    → IsPlace c domain place → is_some place ≡ true → HasDomain c domain
 known c domain domains None are at e = absurd (cc)
 known c domain domains (Some n) are at e = are.sound domain (get-contains domains n domain (at domains are))
 
@@ -68,14 +72,18 @@ pub unknown : (c : Configuration) (domain : List ℕ) (place : Option ℕ) → I
 unknown c domain None at e = at
 unknown c domain (Some n) at e = absurd (cc)
 
-record-welcome : (m : Meaning) (x : Distrust) → HasDomain m.config x.domain → Contains m.records x ⊎ (length m.records < 4096) → (why : TakeError) → why ≢ NoTakeMemory → RefusesEntry m (Record x) why → ⊥
+record-welcome : (m : Meaning) (x : Distrust) → HasDomain m.config x.domain
+    → Contains m.records x ⊎ (length m.records < 4096) → (why : TakeError) → why ≢ NoTakeMemory
+    → RefusesEntry m (Record x) why → ⊥
 record-welcome m x domain place UnknownDomain ample h = h domain
 record-welcome m x domain place WrongEndpoint ample h = h
 record-welcome m x domain place Full ample h = elim place [ inl has ↦ h.unheld has | inr few ↦ let full = h.full in omega (arith, full, few) ]
 record-welcome m x domain place NoTakeMemory ample h = h
 record-welcome m x domain place OtherConfig ample h = h
 
-receipt-welcome : (m : Meaning) (r : Receipt) → IsConfiguration m.config → IsFitting m.config r → Contains m.held r ⊎ (length m.held < 65536) → (why : TakeError) → why ≢ NoTakeMemory → RefusesEntry m (AReceipt r) why → ⊥
+receipt-welcome : (m : Meaning) (r : Receipt) → IsConfiguration m.config → IsFitting m.config r
+    → Contains m.held r ⊎ (length m.held < 65536) → (why : TakeError) → why ≢ NoTakeMemory
+    → RefusesEntry m (AReceipt r) why → ⊥
 receipt-welcome m r form fits place UnknownDomain ample h = h fits.relationship fits.has fits.domain
 receipt-welcome m r form fits place WrongEndpoint ample h = fits_right m.config r form fits h
 receipt-welcome m r form fits place Full ample h = elim place [ inl has ↦ h.unheld has | inr few ↦ let full = h.full in omega (arith, full, few) ]
@@ -84,36 +92,47 @@ receipt-welcome m r form fits place OtherConfig ample h = h
 
 -- ---- one record more
 
-pub record-judged : (m : Meaning) (all : List Distrust) (i : ℕ) (x : Distrust) → i < length all → get_or all i x ≡ x → AreWelcome m (of_records (take i all)) → HasDomain m.config x.domain
-    → Contains (with_items distrust_cmp (take i all) m.records) x ⊎ (length (with_items distrust_cmp (take i all) m.records) < 4096) → AreWelcome m (of_records (take (i + 1) all))
+pub record-judged : (m : Meaning) (all : List Distrust) (i : ℕ) (x : Distrust) → i < length all → get_or all i x ≡ x
+    → AreWelcome m (of_records (take i all)) → HasDomain m.config x.domain
+    → Contains (with_items distrust_cmp (take i all) m.records) x
+        ⊎ (length (with_items distrust_cmp (take i all) m.records) < 4096)
+        → AreWelcome m (of_records (take (i + 1) all))
 record-judged m all i x l e welcome domain place =
     let set = with_items distrust_cmp (take i all) m.records in
-    let pushed : of_records (take (i + 1) all) ≡ of_records (take i all) ++ Record x ∷ [] = ap of_records (take-next all i x l e) ∙ map-append Record (take i all) (x ∷ []) in
+    let pushed : of_records (take (i + 1) all) ≡ of_records (take i all) ++ Record x ∷ [] =
+        ap of_records (take-next all i x l e) ∙ map-append Record (take i all) (x ∷ []) in
     subst (AreWelcome m) (sym pushed)
     (welcome-push m (of_records (take i all)) (Record x) welcome
     (subst (λ (k : Meaning). IsWelcome k (Record x)) (sym (with-records (take i all) m)) (record-welcome (record m { records = set }) x domain place)))
 
-pub receipt-judged : (m : Meaning) (all : List Receipt) (i : ℕ) (r : Receipt) → i < length all → get_or all i r ≡ r → AreWelcome m (of_receipts (take i all)) → IsConfiguration m.config → IsFitting m.config r
-    → Contains (with_items receipt_cmp (take i all) m.held) r ⊎ (length (with_items receipt_cmp (take i all) m.held) < 65536) → AreWelcome m (of_receipts (take (i + 1) all))
+pub receipt-judged : (m : Meaning) (all : List Receipt) (i : ℕ) (r : Receipt) → i < length all → get_or all i r ≡ r
+    → AreWelcome m (of_receipts (take i all)) → IsConfiguration m.config → IsFitting m.config r
+    → Contains (with_items receipt_cmp (take i all) m.held) r
+        ⊎ (length (with_items receipt_cmp (take i all) m.held) < 65536) → AreWelcome m (of_receipts (take (i + 1) all))
 receipt-judged m all i r l e welcome form fits place =
     let set = with_items receipt_cmp (take i all) m.held in
-    let pushed : of_receipts (take (i + 1) all) ≡ of_receipts (take i all) ++ AReceipt r ∷ [] = ap of_receipts (take-next all i r l e) ∙ map-append AReceipt (take i all) (r ∷ []) in
+    let pushed : of_receipts (take (i + 1) all) ≡ of_receipts (take i all) ++ AReceipt r ∷ [] =
+        ap of_receipts (take-next all i r l e) ∙ map-append AReceipt (take i all) (r ∷ []) in
     subst (AreWelcome m) (sym pushed)
     (welcome-push m (of_receipts (take i all)) (AReceipt r) welcome
     (subst (λ (k : Meaning). IsWelcome k (AReceipt r)) (sym (with-receipts (take i all) m)) (receipt-welcome (record m { held = set }) r form fits place)))
 
 pub places-next : {X : Type 0} (cmp : X → X → Ordering) (limit : ℕ) (all set : List X) (i more : ℕ) (x : X) → i < length all → get_or all i x ≡ x
-    → HasPlaces limit (length (with_item cmp x (with_items cmp (take i all) set))) more (length all - i - 1) → HasPlaces limit (length (with_items cmp (take (i + 1) all) set)) more (length all - (i + 1))
+    → HasPlaces limit (length (with_item cmp x (with_items cmp (take i all) set))) more (length all - i - 1)
+        → HasPlaces limit (length (with_items cmp (take (i + 1) all) set)) more (length all - (i + 1))
 places-next {X} cmp limit all set i more x l e places =
-    let grown : with_items cmp (take (i + 1) all) set ≡ with_item cmp x (with_items cmp (take i all) set) = ap (λ (xs : List X). with_items cmp xs set) (take-next all i x l e) ∙ with_items-push cmp (take i all) set x in
+    let grown : with_items cmp (take (i + 1) all) set ≡ with_item cmp x (with_items cmp (take i all) set) =
+        ap (λ (xs : List X). with_items cmp xs set) (take-next all i x l e) ∙ with_items-push cmp (take i all) set x in
     let fewer : length all - i - 1 ≡ length all - (i + 1) = omega arith in
     subst (λ n. HasPlaces limit (length (with_items cmp (take (i + 1) all) set)) more n) fewer
     (subst (λ (xs : List X). HasPlaces limit (length xs) more (length all - i - 1)) (sym grown) places)
 
 -- ---- the first one that is refused
 
-pub record-refused : (m : Meaning) (all : List Distrust) (i : ℕ) (x : Distrust) (why : TakeError) → i < length all → get_or all i x ≡ x → AreWelcome m (of_records (take i all))
-    → RefusesEntry (record m { records = with_items distrust_cmp (take i all) m.records }) (Record x) why → why ≢ NoTakeMemory → IsFirstRefused m (of_records all) (i + 2) why
+pub record-refused : (m : Meaning) (all : List Distrust) (i : ℕ) (x : Distrust) (why : TakeError) → i < length all
+    → get_or all i x ≡ x → AreWelcome m (of_records (take i all))
+    → RefusesEntry (record m { records = with_items distrust_cmp (take i all) m.records }) (Record x) why
+        → why ≢ NoTakeMemory → IsFirstRefused m (of_records all) (i + 2) why
 record-refused m all i x why l e welcome cause named =
     let size : length (of_records (take i all)) ≡ length (take i all) = length-map (take i all) Record in
     let front = length-take-le i all (omega (arith, l)) in
@@ -128,8 +147,10 @@ record-refused m all i x why l e welcome cause named =
       named = named;
     }
 
-pub receipt-refused : (m : Meaning) (all : List Receipt) (i : ℕ) (r : Receipt) (why : TakeError) → i < length all → get_or all i r ≡ r → AreWelcome m (of_receipts (take i all))
-    → RefusesEntry (record m { held = with_items receipt_cmp (take i all) m.held }) (AReceipt r) why → why ≢ NoTakeMemory → IsFirstRefused m (of_receipts all) (i + 2) why
+pub receipt-refused : (m : Meaning) (all : List Receipt) (i : ℕ) (r : Receipt) (why : TakeError) → i < length all
+    → get_or all i r ≡ r → AreWelcome m (of_receipts (take i all))
+    → RefusesEntry (record m { held = with_items receipt_cmp (take i all) m.held }) (AReceipt r) why
+        → why ≢ NoTakeMemory → IsFirstRefused m (of_receipts all) (i + 2) why
 receipt-refused m all i r why l e welcome cause named =
     let size : length (of_receipts (take i all)) ≡ length (take i all) = length-map (take i all) AReceipt in
     let front = length-take-le i all (omega (arith, l)) in

@@ -37,40 +37,50 @@ keeps-at : (P : Receipt → Type 0) (Q : Distrust → Type 0) (b : Bool) (state 
 keeps-at P Q true state other s o = s
 keeps-at P Q false state other s o = o
 
-kept-state : (P : Receipt → Type 0) (Q : Distrust → Type 0) (place : ℕ) (A : Type 0) (w : World) (i : ℕ) (state : State) → IsKept P Q place A w → Keeps P Q state → IsKept P Q place A (with_state w i state)
+kept-state : (P : Receipt → Type 0) (Q : Distrust → Type 0) (place : ℕ) (A : Type 0) (w : World) (i : ℕ) (state : State)
+    → IsKept P Q place A w → Keeps P Q state → IsKept P Q place A (with_state w i state)
 kept-state P Q place A w i state h s = record {
   now = λ j. keeps-at P Q (j == i) state (w.now j) s (h.now j);
   saved = h.saved;
   sent = h.sent;
 }
 
-kept-gained : (P : Receipt → Type 0) (Q : Distrust → Type 0) (place : ℕ) (A : Type 0) (b : Bool) (w : World) (i : ℕ) (state : State) → IsKept P Q place A w → Keeps P Q state → IsKept P Q place A (gained b w i state)
+kept-gained : (P : Receipt → Type 0) (Q : Distrust → Type 0) (place : ℕ) (A : Type 0) (b : Bool) (w : World) (i : ℕ)
+    (state : State) → IsKept P Q place A w → Keeps P Q state → IsKept P Q place A (gained b w i state)
 kept-gained P Q place A true w i state h s = kept-state P Q place A w i state h s
 kept-gained P Q place A false w i state h s = h
 
-kept-gains : (laws : Laws) (P : Receipt → Type 0) (Q : Distrust → Type 0) (place : ℕ) (A : Type 0) (w : World) (i : ℕ) (gain : State) → IsKept P Q place A w → Keeps P Q gain → IsKept P Q place A (apply w (gains i gain))
+kept-gains : (laws : Laws) (P : Receipt → Type 0) (Q : Distrust
+    → Type 0) (place : ℕ) (A : Type 0) (w : World) (i : ℕ) (gain : State) → IsKept P Q place A w → Keeps P Q gain
+    → IsKept P Q place A (apply w (gains i gain))
 kept-gains laws P Q place A w i gain h g =
     kept-gained P Q place A (is_within_limits (joined (w.now i) gain)) w i (joined (w.now i) gain) h (keeps-joined laws P Q (w.now i) gain (h.now i) g)
 
-kept-sends : (P : Receipt → Type 0) (Q : Distrust → Type 0) (place : ℕ) (A : Type 0) (w : World) (message : Message) → IsKept P Q place A w → KeepsMessage P Q message → IsKept P Q place A (apply w (sends message))
+kept-sends : (P : Receipt → Type 0) (Q : Distrust → Type 0) (place : ℕ) (A : Type 0) (w : World) (message : Message)
+    → IsKept P Q place A w → KeepsMessage P Q message → IsKept P Q place A (apply w (sends message))
 kept-sends P Q place A w message h m = record {
   now = h.now;
   saved = h.saved;
   sent = λ n other l e. elim (get-cases w.sent message n other e) [ inl s ↦ h.sent n other l s | inr s ↦ subst (KeepsMessage P Q) (sym s.1) m ];
 }
 
-kept-saves : (P : Receipt → Type 0) (Q : Distrust → Type 0) (place : ℕ) (A : Type 0) (w : World) (i : ℕ) → IsKept P Q place A w → IsKept P Q place A (apply w (saves i))
+kept-saves : (P : Receipt → Type 0) (Q : Distrust → Type 0) (place : ℕ) (A : Type 0) (w : World) (i : ℕ)
+    → IsKept P Q place A w → IsKept P Q place A (apply w (saves i))
 kept-saves P Q place A w i h = record {
   now = h.now;
   saved = λ a j. keeps-at P Q (j == i) (w.now i) (w.saved j) (h.now i) (h.saved a j);
   sent = h.sent;
 }
 
-kept-where : (P : Receipt → Type 0) (Q : Distrust → Type 0) (place : ℕ) (A : Type 0) (b : Bool) (w : World) (effect : Effect) → IsKept P Q place A w → (b ≡ true → IsKept P Q place A (apply w effect)) → IsKept P Q place A (apply w (where_so b effect))
+kept-where : (P : Receipt → Type 0) (Q : Distrust → Type 0) (place : ℕ) (A : Type 0) (b : Bool) (w : World)
+    (effect : Effect) → IsKept P Q place A w → (b ≡ true → IsKept P Q place A (apply w effect))
+    → IsKept P Q place A (apply w (where_so b effect))
 kept-where P Q place A true w effect h g = g refl
 kept-where P Q place A false w effect h g = h
 
-kept-replies : (P : Receipt → Type 0) (Q : Distrust → Type 0) (place : ℕ) (A : Type 0) (w : World) (state : State) (j k : ℕ) (message : Option Message) → IsKept P Q place A w → Keeps P Q state → IsKept P Q place A (apply w (replies state j k message))
+kept-replies : (P : Receipt → Type 0) (Q : Distrust
+    → Type 0) (place : ℕ) (A : Type 0) (w : World) (state : State) (j k : ℕ) (message : Option Message)
+    → IsKept P Q place A w → Keeps P Q state → IsKept P Q place A (apply w (replies state j k message))
 kept-replies P Q place A w state j k None h s = h
 kept-replies P Q place A w state j k (Some (question asker bucket ids)) h s =
     kept-sends P Q place A w (answer j k (record { held = receipts_lacking state bucket ids; records = state.records })) h (record {
@@ -79,12 +89,18 @@ kept-replies P Q place A w state j k (Some (question asker bucket ids)) h s =
     })
 kept-replies P Q place A w state j k (Some (answer answerer other content)) h s = h
 
-kept-whole : (laws : Laws) (P : Receipt → Type 0) (Q : Distrust → Type 0) (place : ℕ) (A : Type 0) (w : World) (i : ℕ) (found : Option Message) → IsKept P Q place A w → ((message : Message) → found ≡ Some message → KeepsMessage P Q message) → IsKept P Q place A (apply w (takes_whole i found))
+kept-whole : (laws : Laws) (P : Receipt → Type 0) (Q : Distrust
+    → Type 0) (place : ℕ) (A : Type 0) (w : World) (i : ℕ) (found : Option Message) → IsKept P Q place A w
+    → ((message : Message) → found ≡ Some message → KeepsMessage P Q message)
+    → IsKept P Q place A (apply w (takes_whole i found))
 kept-whole laws P Q place A w i None h s = h
 kept-whole laws P Q place A w i (Some (question asker bucket ids)) h s = h
 kept-whole laws P Q place A w i (Some (answer answerer other content)) h s = kept-gains laws P Q place A w i content h (s (answer answerer other content) refl)
 
-kept-part : (laws : Laws) (P : Receipt → Type 0) (Q : Distrust → Type 0) (place : ℕ) (A : Type 0) (w : World) (i m : ℕ) (found : Option Message) → IsKept P Q place A w → ((message : Message) → found ≡ Some message → KeepsMessage P Q message) → IsKept P Q place A (apply w (takes_part i m found))
+kept-part : (laws : Laws) (P : Receipt → Type 0) (Q : Distrust
+    → Type 0) (place : ℕ) (A : Type 0) (w : World) (i m : ℕ) (found : Option Message) → IsKept P Q place A w
+    → ((message : Message) → found ≡ Some message → KeepsMessage P Q message)
+    → IsKept P Q place A (apply w (takes_part i m found))
 kept-part laws P Q place A w i m None h s = h
 kept-part laws P Q place A w i m (Some (question asker bucket ids)) h s = h
 kept-part laws P Q place A w i m (Some (answer answerer other content)) h s =
@@ -102,19 +118,32 @@ one-record P Q x q = record {
   records = λ y c. elim (contains-cases x [] y c) [ inl e ↦ subst Q (sym e) q | inr d ↦ absurd (contains-none y d) ];
 }
 
-pub kept-event : (laws : Laws) (P : Receipt → Type 0) (Q : Distrust → Type 0) (place : ℕ) (A : Type 0) (rules : Rules) (w : World) (event : Event) → IsKept P Q place A w → Admits rules P Q place A event → IsKept P Q place A (happens rules w event)
+pub kept-event : (laws : Laws) (P : Receipt → Type 0) (Q : Distrust
+    → Type 0) (place : ℕ) (A : Type 0) (rules : Rules) (w : World) (event : Event) → IsKept P Q place A w
+    → Admits rules P Q place A event → IsKept P Q place A (happens rules w event)
 kept-event laws P Q place A rules w (Take i r) h a =
-    kept-where P Q place A (is_replica rules i && rules.fits r) w (gains i (record { held = r ∷ []; records = [] })) h (λ e. kept-gains laws P Q place A w i (record { held = r ∷ []; records = [] }) h (one-receipt P Q r (a (and_parts (is_replica rules i) (rules.fits r) e).0 (and_parts (is_replica rules i) (rules.fits r) e).1)))
+    kept-where P Q place A (is_replica rules i && rules.fits r) w (gains i (record { held = r ∷ []; records = [] })) h
+        (λ e. kept-gains laws P Q place A w i (record { held = r ∷ []; records = [] }) h
+        (one-receipt P Q r (a (and_parts (is_replica rules i) (rules.fits r) e).0
+        (and_parts (is_replica rules i) (rules.fits r) e).1)))
 kept-event laws P Q place A rules w (Revoke i x) h a =
-    kept-where P Q place A (is_replica rules i && rules.knows x.domain) w (gains i (record { held = []; records = x ∷ [] })) h (λ e. kept-gains laws P Q place A w i (record { held = []; records = x ∷ [] }) h (one-record P Q x (a (and_parts (is_replica rules i) (rules.knows x.domain) e).0 (and_parts (is_replica rules i) (rules.knows x.domain) e).1)))
+    kept-where P Q place A (is_replica rules i && rules.knows x.domain) w
+        (gains i (record { held = []; records = x ∷ [] })) h
+        (λ e. kept-gains laws P Q place A w i (record { held = []; records = x ∷ [] }) h
+        (one-record P Q x (a (and_parts (is_replica rules i) (rules.knows x.domain) e).0
+        (and_parts (is_replica rules i) (rules.knows x.domain) e).1)))
 kept-event laws P Q place A rules w (Ask i b) h a =
-    kept-where P Q place A (is_replica rules i && nat_le b 255) w (sends (question i b (ids_held (w.now i) b))) h (λ e. kept-sends P Q place A w (question i b (ids_held (w.now i) b)) h tt)
+    kept-where P Q place A (is_replica rules i && nat_le b 255) w (sends (question i b (ids_held (w.now i) b))) h
+        (λ e. kept-sends P Q place A w (question i b (ids_held (w.now i) b)) h tt)
 kept-event laws P Q place A rules w (Answer j k) h a =
-    kept-where P Q place A (is_replica rules j) w (replies (w.now j) j k (slice_get w.sent k)) h (λ e. kept-replies P Q place A w (w.now j) j k (slice_get w.sent k) h (h.now j))
+    kept-where P Q place A (is_replica rules j) w (replies (w.now j) j k (slice_get w.sent k)) h
+        (λ e. kept-replies P Q place A w (w.now j) j k (slice_get w.sent k) h (h.now j))
 kept-event laws P Q place A rules w (Absorb i k) h a =
-    kept-where P Q place A (is_replica rules i) w (takes_whole i (slice_get w.sent k)) h (λ e. kept-whole laws P Q place A w i (slice_get w.sent k) h (λ m f. h.sent k m a f))
+    kept-where P Q place A (is_replica rules i) w (takes_whole i (slice_get w.sent k)) h
+        (λ e. kept-whole laws P Q place A w i (slice_get w.sent k) h (λ m f. h.sent k m a f))
 kept-event laws P Q place A rules w (Part i k m) h a =
-    kept-where P Q place A (is_replica rules i) w (takes_part i m (slice_get w.sent k)) h (λ e. kept-part laws P Q place A w i m (slice_get w.sent k) h (λ o f. h.sent k o a f))
+    kept-where P Q place A (is_replica rules i) w (takes_part i m (slice_get w.sent k)) h
+        (λ e. kept-part laws P Q place A w i m (slice_get w.sent k) h (λ o f. h.sent k o a f))
 kept-event laws P Q place A rules w (Join i j) h a =
     kept-where P Q place A (is_replica rules i && is_replica rules j) w (gains i (w.now j)) h (λ e. kept-gains laws P Q place A w i (w.now j) h (h.now j))
 kept-event laws P Q place A rules w (Save i) h a =
@@ -122,7 +151,12 @@ kept-event laws P Q place A rules w (Save i) h a =
 kept-event laws P Q place A rules w (Restart i) h a =
     kept-where P Q place A (is_replica rules i) w (restarts i) h (λ e. kept-state P Q place A w i (w.saved i) h (h.saved a i))
 
-pub kept-run : (laws : Laws) (P : Receipt → Type 0) (Q : Distrust → Type 0) (place : ℕ) (A : Type 0) (rules : Rules) (events : List Event) (w : World) → IsKept P Q place A w → ((event : Event) → Contains events event → Admits rules P Q place A event) → IsKept P Q place A (run_from rules w events)
+pub kept-run : (laws : Laws) (P : Receipt → Type 0) (Q : Distrust
+    → Type 0) (place : ℕ) (A : Type 0) (rules : Rules) (events : List Event) (w : World) → IsKept P Q place A w
+    → ((event : Event) → Contains events event → Admits rules P Q place A event)
+    → IsKept P Q place A (run_from rules w events)
 kept-run laws P Q place A rules [] w h a = h
 kept-run laws P Q place A rules (event ∷ events) w h a =
-    kept-run laws P Q place A rules events (happens rules w event) (kept-event laws P Q place A rules w event h (a event (contains-here event events))) (λ other c. a other (contains-later event events other c))
+    kept-run laws P Q place A rules events (happens rules w event)
+        (kept-event laws P Q place A rules w event h (a event (contains-here event events)))
+        (λ other c. a other (contains-later event events other c))

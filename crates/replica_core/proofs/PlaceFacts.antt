@@ -1,5 +1,6 @@
 -- Whether an item is held, and whether there is a place for it.
-use Rattle.std.proofs.Common.{◌≡◌, ◌≢◌, ℕ, ◌+◌, ◌-◌, ◌<◌, ◌≤◌, inl, inr, Bool, true, false, ◌||◌, List, [], ◌∷◌, length, refl, sym, ap, ◌∙◌, subst, arith, eq-eqb}
+use Rattle.std.proofs.Common.{◌≡◌, ◌≢◌, ℕ, ◌+◌, ◌-◌, ◌<◌, ◌≤◌, inl, inr, Bool, true, false, ◌||◌, List, [], ◌∷◌, length}
+use Rattle.std.proofs.Common.{refl, sym, ap, ◌∙◌, subst, arith, eq-eqb}
 use Rattle.std.specs.Prelude.{◌↔◌, Contains, IsTrue, slice_index_or}
 use Rattle.std.specs.declared.cmp.Ordering.{Ordering}
 use Rattle.std.specs.declared.cmp.Ordering.TheVariants.{Less, Equal, Greater}
@@ -41,7 +42,8 @@ pub refuted : (b : Bool) (Q : Type 0) → b ≡ false → IsTrue b ↔ Q → Q �
 refuted b Q e iff q = let t = iff.1 q in let f : false ≡ true = sym e ∙ t in absurd (cc)
 
 -- who is looked for among those of its bucket is looked for among all
-pub bucket-has : (all held : List Receipt) (r : Receipt) (id : List ℕ) → id ≡ receipt_id_of r → all ≡ receipts_in (slice_index_or id 0 0) held → Contains held r → Contains all r
+pub bucket-has : (all held : List Receipt) (r : Receipt) (id : List ℕ) → id ≡ receipt_id_of r
+    → all ≡ receipts_in (slice_index_or id 0 0) held → Contains held r → Contains all r
 bucket-has all held r id i e has =
     let first = slice_index_or id 0 0 in
     subst (λ (xs : List Receipt). Contains xs r) (sym e)
@@ -93,7 +95,8 @@ module _ {X : Type 0} (P : X → Type 0) (cmp : X → X → Ordering) (sets : Ar
       let found = any-from (λ z. eq_by_cmp cmp z x) (y ∷ ys) e in
       subst (Contains (y ∷ ys)) (tied-same found.0 x (each-from P (y ∷ ys) all found.0 found.1) p found.2) found.1
 
-  pub among-before : (before set : List X) (x : X) (b found : Bool) → AllByRecursion P before → AllByRecursion P set → P x → b ≡ false → IsTrue b ↔ Contains set x
+  pub among-before : (before set : List X) (x : X) (b found : Bool) → AllByRecursion P before → AllByRecursion P set
+      → P x → b ≡ false → IsTrue b ↔ Contains set x
       → found ≡ list_any (λ y. eq_by_cmp cmp y x) before → IsTrue found ↔ Contains (with_items cmp before set) x
   among-before before set x b found all these p e iff value = (
     λ t. (sets.all_members before set x all these).1 (inl (any-same before x all p (sym value ∙ t))),
@@ -112,7 +115,8 @@ placed_grows Equal x h t longer more few = (omega arith, omega arith)
 placed_grows Greater x h t longer more few = (omega arith, omega arith)
 
 -- a set with one more is as long, or one longer
-pub with_item-grows : {X : Type 0} (cmp : X → X → Ordering) (x : X) (xs : List X) → (length xs ≤ length (with_item cmp x xs)) × (length (with_item cmp x xs) ≤ length xs + 1)
+pub with_item-grows : {X : Type 0} (cmp : X → X → Ordering) (x : X) (xs : List X)
+    → (length xs ≤ length (with_item cmp x xs)) × (length (with_item cmp x xs) ≤ length xs + 1)
 with_item-grows cmp x [] = (omega arith, omega arith)
 with_item-grows cmp x (h ∷ t) =
     let rest = with_item-grows cmp x t in
@@ -121,10 +125,12 @@ with_item-grows cmp x (h ∷ t) =
 
 pub with_items-grows : {X : Type 0} (cmp : X → X → Ordering) (items xs : List X) → length xs ≤ length (with_items cmp items xs)
 with_items-grows cmp [] xs = omega arith
-with_items-grows cmp (i ∷ items) xs = let first = with_item-grows cmp i xs in let rest = with_items-grows cmp items (with_item cmp i xs) in omega (arith, first.0)
+with_items-grows cmp (i ∷ items) xs = let first = with_item-grows cmp i xs in let rest =
+    with_items-grows cmp items (with_item cmp i xs) in omega (arith, first.0)
 
 -- there are enough places, whether or not it is held
-pub place-ample : {X : Type 0} (cmp : X → X → Ordering) (limit : ℕ) (set : List X) (x : X) (free left : ℕ) → 0 < left → HasPlaces limit (length set) free left → left ≤ free
+pub place-ample : {X : Type 0} (cmp : X → X → Ordering) (limit : ℕ) (set : List X) (x : X) (free left : ℕ) → 0 < left
+    → HasPlaces limit (length set) free left → left ≤ free
     → HasPlace cmp limit set x left (free - 1)
 place-ample cmp limit set x free left some places ample =
     let few = places.few in
@@ -135,7 +141,8 @@ place-ample cmp limit set x free left some places ample =
     }
 
 -- it is held, and takes no place
-pub place-held : {X : Type 0} (cmp : X → X → Ordering) (limit : ℕ) (set : List X) (x : X) (free left : ℕ) → HasPlaces limit (length set) free left → Contains set x → with_item cmp x set ≡ set
+pub place-held : {X : Type 0} (cmp : X → X → Ordering) (limit : ℕ) (set : List X) (x : X) (free left : ℕ)
+    → HasPlaces limit (length set) free left → Contains set x → with_item cmp x set ≡ set
     → HasPlace cmp limit set x left free
 place-held {X} cmp limit set x free left places has same =
     let few = places.few in
@@ -149,7 +156,8 @@ place-held {X} cmp limit set x free left places has same =
     }
 
 -- it is new, and takes one
-pub place-new : {X : Type 0} (cmp : X → X → Ordering) (limit : ℕ) (set : List X) (x : X) (free left : ℕ) → HasPlaces limit (length set) free left → free < left → free ≢ 0
+pub place-new : {X : Type 0} (cmp : X → X → Ordering) (limit : ℕ) (set : List X) (x : X) (free left : ℕ)
+    → HasPlaces limit (length set) free left → free < left → free ≢ 0
     → length (with_item cmp x set) ≡ length set + 1 → HasPlace cmp limit set x left (free - 1)
 place-new cmp limit set x free left places scarce some longer =
     let few = places.few in
@@ -162,7 +170,8 @@ place-new cmp limit set x free left places scarce some longer =
     }
 
 -- it is new, and there is none
-pub place-none : {X : Type 0} (limit : ℕ) (set : List X) (x : X) (free left : ℕ) → HasPlaces limit (length set) free left → free < left → free ≡ 0 → (Contains set x → ⊥) → HasNoPlace limit set x
+pub place-none : {X : Type 0} (limit : ℕ) (set : List X) (x : X) (free left : ℕ)
+    → HasPlaces limit (length set) free left → free < left → free ≡ 0 → (Contains set x → ⊥) → HasNoPlace limit set x
 place-none limit set x free left places scarce none lacks = record {
   unheld = lacks;
   full = elim places.exact [ inl ample ↦ absurd (omega (arith, ample, scarce)) | inr exact ↦ omega (arith, exact, none) ];

@@ -1,5 +1,6 @@
 -- What closures in memory show of a world, and what events leave of that.
-use Rattle.std.proofs.Common.{◌≡◌, ℕ, ◌-◌, ◌<◌, inl, inr, Bool, true, false, cond, ◌&&◌, List, [], ◌∷◌, ◌++◌, length, map, take, get_or, refl, sym, ap, ◌∙◌, subst, arith}
+use Rattle.std.proofs.Common.{◌≡◌, ℕ, ◌-◌, ◌<◌, inl, inr, Bool, true, false, cond, ◌&&◌, List, [], ◌∷◌, ◌++◌, length}
+use Rattle.std.proofs.Common.{map, take, get_or, refl, sym, ap, ◌∙◌, subst, arith}
 use Rattle.std.specs.Prelude.{slice_get, Option, Some, None, Ok, Err, Result, OnOk}
 use Rattle.std.specs.List.{AllByRecursion}
 use Rattle.std.proofs.lemmas.Bool.{cases_Bool, cases_eq}
@@ -40,7 +41,8 @@ module _ {A : Type 0} (meaning : A → Meaning) (config : Configuration) (n : �
   all-more P (y ∷ xs) x h p = (h.0, all-more P xs x h.1 p)
 
   pub plays-sends : (old new : Playing A) (w : World) (i : ℕ) (told : Sent) (message : Message) → i < n → Plays meaning config n old w
-      → new.held.items ≡ old.held.items → new.saved.items ≡ old.saved.items → new.sent.items ≡ old.sent.items ++ told ∷ [] → message_of told ≡ message → IsSound config message
+      → new.held.items ≡ old.held.items → new.saved.items ≡ old.saved.items
+          → new.sent.items ≡ old.sent.items ++ told ∷ [] → message_of told ≡ message → IsSound config message
       → Plays meaning config n new (apply w (where_so (is_replica (rules_of config n) i) (sends message)))
   plays-sends old new w i told message l h held saved sent says sound =
       subst (λ b. Plays meaning config n new (apply w (where_so b (sends message)))) (sym (replica-true (rules_of config n) i l)) (record {
@@ -50,7 +52,8 @@ module _ {A : Type 0} (meaning : A → Meaning) (config : Configuration) (n : �
         sound = all-more (IsSound config) w.sent message h.sound sound;
       })
 
-  pub plays-saves : (b : Bool) (old new : Playing A) (w : World) (i : ℕ) → Plays meaning config n old w → new.held.items ≡ old.held.items → new.sent.items ≡ old.sent.items
+  pub plays-saves : (b : Bool) (old new : Playing A) (w : World) (i : ℕ) → Plays meaning config n old w
+      → new.held.items ≡ old.held.items → new.sent.items ≡ old.sent.items
       → AreOf meaning config n new.saved.items (cond b (at_replica i (w.now i) w.saved) w.saved) → Plays meaning config n new (apply w (where_so b (saves i)))
   plays-saves true old new w i h held sent saved = record {
     held = subst (λ closures. AreOf meaning config n closures w.now) (sym held) h.held;
@@ -65,7 +68,8 @@ module _ {A : Type 0} (meaning : A → Meaning) (config : Configuration) (n : �
     sound = h.sound;
   }
 
-  pub plays-restarts : (b : Bool) (old new : Playing A) (w : World) (i : ℕ) → Plays meaning config n old w → new.saved.items ≡ old.saved.items → new.sent.items ≡ old.sent.items
+  pub plays-restarts : (b : Bool) (old new : Playing A) (w : World) (i : ℕ) → Plays meaning config n old w
+      → new.saved.items ≡ old.saved.items → new.sent.items ≡ old.sent.items
       → AreOf meaning config n new.held.items (cond b (at_replica i (w.saved i) w.now) w.now) → Plays meaning config n new (apply w (where_so b (restarts i)))
   plays-restarts true old new w i h saved sent held = record {
     held = held;
@@ -83,7 +87,9 @@ module _ {A : Type 0} (meaning : A → Meaning) (config : Configuration) (n : �
 -- ---- what events come to
 
 pub on-all : {E : Type 0} {V : Type 0} {A : Type 0} (meaning : A → Meaning) (config : Configuration) (old new : Playing A) (event : Event) (result : Result V E)
-    → ((n : ℕ) (w : World) → Plays meaning config n old w → OnOk result (Plays meaning config n new (happens (rules_of config n) w event))) → OnOk result (StandsForEvent meaning config old new event)
+    → ((n : ℕ) (w : World) → Plays meaning config n old w
+        → OnOk result (Plays meaning config n new (happens (rules_of config n) w event)))
+        → OnOk result (StandsForEvent meaning config old new event)
 on-all meaning config old new event (Ok v) h = λ n w p. h n w p
 on-all meaning config old new event (Err e) h = tt
 
@@ -114,7 +120,8 @@ receipt-gains config n w i r fresh more e unfit next =
     let with : is_fitting config r ≡ true → more ≡ record { config = config; held = r ∷ []; records = [] } =
     (λ t. follows [] (record { fitting = (fits-from config r t, tt); rising = one-rising receipt_cmp r; few = omega arith })) in (
       elim (cases_Bool (is_fitting config r)) [ inl t ↦ ap (λ (m : Meaning). m.config) (with t) | inr f ↦ ap (λ (m : Meaning). m.config) (without f) ],
-      gains-where w i (is_replica (rules_of config n) i) (is_fitting config r) (state_of more) (record { held = r ∷ []; records = [] }) (λ t. ap state_of (with t)) (λ f. ap state_of (without f)),
+      gains-where w i (is_replica (rules_of config n) i) (is_fitting config r) (state_of more)
+          (record { held = r ∷ []; records = [] }) (λ t. ap state_of (with t)) (λ f. ap state_of (without f)),
     )
 
 pub record-gains : (config : Configuration) (n : ℕ) (w : World) (i : ℕ) (x : Distrust) (fresh more : Meaning) → fresh ≡ empty_of config
@@ -124,17 +131,26 @@ pub record-gains : (config : Configuration) (n : ℕ) (w : World) (i : ℕ) (x :
 record-gains config n w i x fresh more e unfit next =
     let without : is_known config x.domain ≡ false → more ≡ empty_of config = subst (λ (m : Meaning). is_known m.config x.domain ≡ false → more ≡ m) e unfit in
     let follows : (later : List Distrust) → CanHoldRecords config (x ∷ later) → more ≡ record { config = config; held = []; records = x ∷ [] } =
-    subst (λ (m : Meaning). (later : List Distrust) → CanHoldRecords m.config (m.records ++ x ∷ later) → more ≡ record m { records = m.records ++ x ∷ [] }) e next in
+    subst (λ (m : Meaning). (later : List Distrust) → CanHoldRecords m.config (m.records ++ x ∷ later)
+        → more ≡ record m { records = m.records ++ x ∷ [] }) e next in
     let with : is_known config x.domain ≡ true → more ≡ record { config = config; held = []; records = x ∷ [] } =
     (λ t. follows [] (record { domains = (knows-from config x.domain t, tt); rising = one-rising distrust_cmp x; few = omega arith })) in (
       elim (cases_Bool (is_known config x.domain)) [ inl t ↦ ap (λ (m : Meaning). m.config) (with t) | inr f ↦ ap (λ (m : Meaning). m.config) (without f) ],
-      gains-where w i (is_replica (rules_of config n) i) (is_known config x.domain) (state_of more) (record { held = []; records = x ∷ [] }) (λ t. ap state_of (with t)) (λ f. ap state_of (without f)),
+      gains-where w i (is_replica (rules_of config n) i) (is_known config x.domain) (state_of more)
+          (record { held = []; records = x ∷ [] }) (λ t. ap state_of (with t)) (λ f. ap state_of (without f)),
     )
 
 -- a gain that is the event's
-pub gain-follows : {E : Type 0} {V : Type 0} {A : Type 0} (meaning : A → Meaning) (config : Configuration) (old new : Playing A) (event : Event) (i : ℕ) (more : Meaning) (result : Result V E)
-    → ((n : ℕ) (w : World) (c : Configuration) → more.config ≡ c → Plays meaning c n old w → OnOk result (Plays meaning c n new (apply w (where_so (is_replica (rules_of c n) i) (gains i (state_of more))))))
-    → ((n : ℕ) (w : World) → Plays meaning config n old w → (more.config ≡ config) × (apply w (where_so (is_replica (rules_of config n) i) (gains i (state_of more))) ≡ happens (rules_of config n) w event))
+pub gain-follows : {E : Type 0} {V : Type 0} {A : Type 0} (meaning : A
+    → Meaning) (config : Configuration) (old new : Playing A) (event : Event) (i : ℕ) (more : Meaning)
+    (result : Result V E)
+    → ((n : ℕ) (w : World) (c : Configuration) → more.config ≡ c → Plays meaning c n old w
+        → OnOk result
+        (Plays meaning c n new (apply w (where_so (is_replica (rules_of c n) i) (gains i (state_of more))))))
+    → ((n : ℕ) (w : World) → Plays meaning config n old w
+        → (more.config ≡ config)
+        × (apply w (where_so (is_replica (rules_of config n) i) (gains i (state_of more)))
+        ≡ happens (rules_of config n) w event))
     → OnOk result (StandsForEvent meaning config old new event)
 gain-follows meaning config old new event i more result h same =
     on-all meaning config old new event result (λ n w p.
@@ -168,34 +184,46 @@ and-right : (a b : Bool) → b ≡ true → (a && b) ≡ a
 and-right true b e = e
 and-right false b e = refl
 
-pub join-gains : (config : Configuration) (n : ℕ) (w : World) (i j : ℕ) (found more : Meaning) → j < n → found ≡ meaning_of_state config (w.now j) → more ≡ found
+pub join-gains : (config : Configuration) (n : ℕ) (w : World) (i j : ℕ) (found more : Meaning) → j < n
+    → found ≡ meaning_of_state config (w.now j) → more ≡ found
     → (more.config ≡ config) × (apply w (where_so (is_replica (rules_of config n) i) (gains i (state_of more))) ≡ happens (rules_of config n) w (Join i j))
 join-gains config n w i j found more l f m =
     let e = m ∙ f in (
       ap (λ (m : Meaning). m.config) e,
       ap (λ (m : Meaning). apply w (where_so (is_replica (rules_of config n) i) (gains i (state_of m)))) e
-          ∙ ap (λ b. apply w (where_so b (gains i (w.now j)))) (sym (and-right (is_replica (rules_of config n) i) (is_replica (rules_of config n) j) (replica-true (rules_of config n) j l))),
+          ∙ ap (λ b. apply w (where_so b (gains i (w.now j))))
+              (sym (and-right (is_replica (rules_of config n) i) (is_replica (rules_of config n) j)
+              (replica-true (rules_of config n) j l))),
     )
 
-pub absorb-gains : (config : Configuration) (n : ℕ) (w : World) (i k : ℕ) (content : State) (rs : List Receipt) (xs : List Distrust) (more : Meaning) → AllByRecursion (IsSound config) w.sent
-    → answered (slice_get w.sent k) ≡ Some content → rs ≡ content.held → xs ≡ content.records → (CanHold config rs → CanHoldRecords config xs → more ≡ record { config = config; held = rs; records = xs })
+pub absorb-gains : (config : Configuration) (n : ℕ) (w : World) (i k : ℕ) (content : State) (rs : List Receipt)
+    (xs : List Distrust) (more : Meaning) → AllByRecursion (IsSound config) w.sent
+    → answered (slice_get w.sent k) ≡ Some content → rs ≡ content.held → xs ≡ content.records
+        → (CanHold config rs → CanHoldRecords config xs → more ≡ record { config = config; held = rs; records = xs })
     → (more.config ≡ config) × (apply w (where_so (is_replica (rules_of config n) i) (gains i (state_of more))) ≡ happens (rules_of config n) w (Absorb i k))
 absorb-gains config n w i k content rs xs more sound a re xe built =
     let can = sound-at config w.sent k content sound a in
-    let e : more ≡ meaning_of_state config content = built (subst (CanHold config) (sym re) can.0) (subst (CanHoldRecords config) (sym xe) can.1) ∙ (λ ι. record { config = config; held = re ι; records = xe ι }) in (
+    let e : more ≡ meaning_of_state config content =
+        built (subst (CanHold config) (sym re) can.0) (subst (CanHoldRecords config) (sym xe) can.1)
+        ∙ (λ ι. record { config = config; held = re ι; records = xe ι }) in (
       ap (λ (m : Meaning). m.config) e,
       ap (λ (m : Meaning). apply w (where_so (is_replica (rules_of config n) i) (gains i (state_of m)))) e
           ∙ ap (λ (effect : Effect). apply w (where_so (is_replica (rules_of config n) i) effect)) (sym (some-taken i (slice_get w.sent k) content a)),
     )
 
-pub part-gains : (config : Configuration) (n : ℕ) (w : World) (i k count : ℕ) (content : State) (rs : List Receipt) (xs : List Distrust) (more : Meaning) → AllByRecursion (IsSound config) w.sent
+pub part-gains : (config : Configuration) (n : ℕ) (w : World) (i k count : ℕ) (content : State) (rs : List Receipt)
+    (xs : List Distrust) (more : Meaning) → AllByRecursion (IsSound config) w.sent
     → answered (slice_get w.sent k) ≡ Some content → rs ≡ take (count - length content.records) content.held → xs ≡ take count content.records
     → (CanHold config rs → CanHoldRecords config xs → more ≡ record { config = config; held = rs; records = xs })
-    → (more.config ≡ config) × (apply w (where_so (is_replica (rules_of config n) i) (gains i (state_of more))) ≡ happens (rules_of config n) w (Part i k count))
+    → (more.config ≡ config)
+        × (apply w (where_so (is_replica (rules_of config n) i) (gains i (state_of more)))
+        ≡ happens (rules_of config n) w (Part i k count))
 part-gains config n w i k count content rs xs more sound a re xe built =
     let can = sound-at config w.sent k content sound a in
     let e : more ≡ meaning_of_state config (first_of count content) =
-    built (subst (CanHold config) (sym re) (can-take config (count - length content.records) content.held can.0)) (subst (CanHoldRecords config) (sym xe) (knows-take config count content.records can.1)) ∙ (λ ι. record { config = config; held = re ι; records = xe ι }) in (
+    built (subst (CanHold config) (sym re) (can-take config (count - length content.records) content.held can.0))
+        (subst (CanHoldRecords config) (sym xe) (knows-take config count content.records can.1))
+        ∙ (λ ι. record { config = config; held = re ι; records = xe ι }) in (
       ap (λ (m : Meaning). m.config) e,
       ap (λ (m : Meaning). apply w (where_so (is_replica (rules_of config n) i) (gains i (state_of m)))) e
           ∙ ap (λ (effect : Effect). apply w (where_so (is_replica (rules_of config n) i) effect)) (sym (some-parted i count (slice_get w.sent k) content a)),
@@ -204,16 +232,23 @@ part-gains config n w i k count content rs xs more sound a re xe built =
 abbrev reply_to : ℕ → ℕ → ℕ → List (List ℕ) → State → Message
 reply_to i k bucket ids s = answer i k (record { held = receipts_lacking s bucket ids; records = s.records })
 
-pub answer-follows : {A : Type 0} (meaning : A → Meaning) (config : Configuration) (n : ℕ) (old new : Playing A) (w : World) (i k : ℕ) (m : Meaning) (bucket : ℕ) (ids : List (List ℕ)) (told : Sent) → i < n → Plays meaning config n old w
-    → m ≡ meaning_of_state config (w.now i) → IsMeaning m → asked (slice_get w.sent k) ≡ Some (bucket, ids) → message_of told ≡ answer i k (record { held = receipts_lacking (state_of m) bucket ids; records = m.records })
-    → new.held.items ≡ old.held.items → new.saved.items ≡ old.saved.items → new.sent.items ≡ old.sent.items ++ told ∷ [] → Plays meaning config n new (happens (rules_of config n) w (Answer i k))
+pub answer-follows : {A : Type 0} (meaning : A → Meaning) (config : Configuration) (n : ℕ) (old new : Playing A)
+    (w : World) (i k : ℕ) (m : Meaning) (bucket : ℕ) (ids : List (List ℕ)) (told : Sent) → i < n
+    → Plays meaning config n old w
+    → m ≡ meaning_of_state config (w.now i) → IsMeaning m → asked (slice_get w.sent k) ≡ Some (bucket, ids)
+        → message_of told ≡ answer i k (record { held = receipts_lacking (state_of m) bucket ids; records = m.records })
+    → new.held.items ≡ old.held.items → new.saved.items ≡ old.saved.items → new.sent.items ≡ old.sent.items ++ told ∷ []
+        → Plays meaning config n new (happens (rules_of config n) w (Answer i k))
 answer-follows meaning config n old new w i k m bucket ids told l p e valid a says held saved sent =
     let same : state_of m ≡ w.now i = ap state_of e in
-    subst (λ (effect : Effect). Plays meaning config n new (apply w (where_so (is_replica (rules_of config n) i) effect))) (sym (replied (w.now i) i k bucket ids (slice_get w.sent k) a))
+    subst (λ (effect : Effect). Plays meaning config n new
+        (apply w (where_so (is_replica (rules_of config n) i) effect)))
+        (sym (replied (w.now i) i k bucket ids (slice_get w.sent k) a))
     (plays-sends meaning config n old new w i told (reply_to i k bucket ids (w.now i)) l p held saved sent (says ∙ ap (reply_to i k bucket ids) same)
     (subst (λ (s : State). IsSound config (reply_to i k bucket ids s)) same (sound-reply config m bucket ids (ap (λ (m : Meaning). m.config) e) valid)))
 
-pub here : {A : Type 0} (meaning : A → Meaning) (config : Configuration) (n : ℕ) (closures given : List A) (states : ℕ → State) (i : ℕ) (c : A) → AreOf meaning config n closures states → given ≡ closures → i < length given
+pub here : {A : Type 0} (meaning : A → Meaning) (config : Configuration) (n : ℕ) (closures given : List A) (states : ℕ
+    → State) (i : ℕ) (c : A) → AreOf meaning config n closures states → given ≡ closures → i < length given
     → c ≡ get_or given i c → (i < n) × (meaning c ≡ meaning_of_state config (states i))
 here meaning config n closures given states i c h e l f =
     let inside : i < n = omega (arith, l, ap length e, h.count) in

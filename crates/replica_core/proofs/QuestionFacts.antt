@@ -1,5 +1,6 @@
 -- Ids of receipts.
-use Rattle.std.proofs.Common.{◌≡◌, ◌∙◌, ℕ, ◌-◌, Bool, true, false, ◌+◌, ◌<◌, ◌≤◌, ⊎_elim, List, [], ◌∷◌, map, length, refl, sym, ap, Less, Equal, Greater, get_or, subst, arith}
+use Rattle.std.proofs.Common.{◌≡◌, ◌∙◌, ℕ, ◌-◌, Bool, true, false, ◌+◌, ◌<◌, ◌≤◌, ⊎_elim, List, [], ◌∷◌, map, length}
+use Rattle.std.proofs.Common.{refl, sym, ap, Less, Equal, Greater, get_or, subst, arith}
 use Rattle.std.specs.Prelude.{◌↔◌, Contains, Result, Ok, Err, IsTrue}
 use Rattle.std.specs.Result.{is_ok}
 use Rattle.std.specs.List.{AllByRecursion}
@@ -39,7 +40,8 @@ id_total = on_texts (λ (t : List ℕ). t)
 named_total : IsTotalOrder named_cmp
 named_total = on_texts bytes_of
 
-all-bytes : (x : ReceiptId) (ids : List ReceiptId) → AllByRecursion (λ y. id_cmp x.0 y ≡ Less) (map bytes_of ids) → AllByRecursion (λ y. named_cmp x y ≡ Less) ids
+all-bytes : (x : ReceiptId) (ids : List ReceiptId) → AllByRecursion (λ y. id_cmp x.0 y ≡ Less) (map bytes_of ids)
+    → AllByRecursion (λ y. named_cmp x y ≡ Less) ids
 all-bytes x [] a = tt
 all-bytes x (h ∷ t) a = (a.0, all-bytes x t a.1)
 
@@ -68,13 +70,16 @@ apart ids x place split item has same =
     (cases_lt has.0 place)
 
 -- what a binary search answers
-pub id_found : (ids : List ReceiptId) (x : ReceiptId) (r : Result ℕ ℕ) → IsStrictlySortedBy id_cmp (map bytes_of ids) → IsSearchInRange r (length ids) → IsBinarySearchResult (λ y. named_cmp y x) ids r
+pub id_found : (ids : List ReceiptId) (x : ReceiptId) (r : Result ℕ ℕ) → IsStrictlySortedBy id_cmp (map bytes_of ids)
+    → IsSearchInRange r (length ids) → IsBinarySearchResult (λ y. named_cmp y x) ids r
     → IsTrue (is_ok r) ↔ Contains (map bytes_of ids) x.0
 id_found ids x (Ok k) rising range found =
-    (λ t. subst (Contains (map bytes_of ids)) (exact_bytes (get_or ids k x).0 x.0 (found x)) (map-to bytes_of ids (get_or ids k x) (k, range, get_or_default ids k (get_or ids k x) x range)), λ h. refl)
+    (λ t. subst (Contains (map bytes_of ids)) (exact_bytes (get_or ids k x).0 x.0 (found x))
+        (map-to bytes_of ids (get_or ids k x) (k, range, get_or_default ids k (get_or ids k x) x range)), λ h. refl)
 id_found ids x (Err place) rising range found =
     let up = named-rising ids rising in
-    let split : IsPartitionPoint (λ y. named_cmp y x ≡ Less) (λ y. named_cmp y x ≡ Greater) ids place = found (searchable_from_sorted named_total (λ y. y) ids x (in-order ids up)) in
+    let split : IsPartitionPoint (λ y. named_cmp y x ≡ Less) (λ y. named_cmp y x ≡ Greater) ids place =
+        found (searchable_from_sorted named_total (λ y. y) ids x (in-order ids up)) in
     (λ t. absurd (cc), λ has. let m = map-from bytes_of ids x.0 has in absurd (apart ids x place split m.0 m.1 m.2))
 
 -- ids that are held rise
@@ -92,7 +97,8 @@ less Less e = refl
 less Equal e = absurd (let f : false ≡ true = e in cc)
 less Greater e = absurd (let f : false ≡ true = e in cc)
 
-bytes-all : (x : ReceiptId) (ids : List ReceiptId) → AllByRecursion (λ y. named_cmp x y ≡ Less) ids → AllByRecursion (λ y. id_cmp x.0 y ≡ Less) (map bytes_of ids)
+bytes-all : (x : ReceiptId) (ids : List ReceiptId) → AllByRecursion (λ y. named_cmp x y ≡ Less) ids
+    → AllByRecursion (λ y. id_cmp x.0 y ≡ Less) (map bytes_of ids)
 bytes-all x [] a = tt
 bytes-all x (h ∷ t) a = (a.0, bytes-all x t a.1)
 
@@ -102,11 +108,14 @@ bytes-rising [] r = tt
 bytes-rising (h ∷ t) r = (bytes-all h t r.0, bytes-rising t r.1)
 
 -- what the comparison of neighbours tells
-pub rising_told : (ids : List ReceiptId) (told : Bool) → IsAllAdjacentAnswer (λ x y b. b ≡ below x y) ids told → IsTrue told ↔ IsStrictlySortedBy id_cmp (map bytes_of ids)
+pub rising_told : (ids : List ReceiptId) (told : Bool) → IsAllAdjacentAnswer (λ x y b. b ≡ below x y) ids told
+    → IsTrue told ↔ IsStrictlySortedBy id_cmp (map bytes_of ids)
 unfolding IsStrictlySortedBy
 rising_told [] true all = (λ t. bytes-rising [] tt, λ r. refl)
 rising_told (first ∷ others) true all =
-    (λ t. bytes-rising (first ∷ others) (sorted_from_all_adjacent named_total (first ∷ others) first (λ k within. less _ (sym (all k first within)))), λ r. refl)
+    (λ t. bytes-rising (first ∷ others)
+        (sorted_from_all_adjacent named_total (first ∷ others) first (λ k within. less _ (sym (all k first within)))),
+        λ r. refl)
 rising_told [] false (k, within, falls) = absurd (omega arith)
 rising_told (first ∷ others) false (k, within, falls) = (
   λ t. absurd (cc),
@@ -124,11 +133,14 @@ pub record RisesTo (ids : List ReceiptId) (place : ℕ) : Type 0 where
 pub rises-all : (ids : List ReceiptId) (place : ℕ) → RisesTo ids place → length ids ≤ place → IsStrictlySortedBy id_cmp (map bytes_of ids)
 rises-all ids place r h = (rising_told ids true (λ k d within. r.each k d (omega arith))).0 refl
 
-same-pair : (ids : List ReceiptId) (j k : ℕ) (d e : ReceiptId) → j < length ids → k < length ids → below (get_or ids j d) (get_or ids k d) ≡ below (get_or ids j e) (get_or ids k e)
+same-pair : (ids : List ReceiptId) (j k : ℕ) (d e : ReceiptId) → j < length ids → k < length ids
+    → below (get_or ids j d) (get_or ids k d) ≡ below (get_or ids j e) (get_or ids k e)
 same-pair ids j k d e hj hk =
     ap (λ x. below x (get_or ids k d)) (get_or_default ids j d e hj) ∙ ap (below (get_or ids j e)) (get_or_default ids k d e hk)
 
-pub falls-at : (ids : List ReceiptId) (place : ℕ) (other : ReceiptId) → 0 < place → place < length ids → false ≡ below (get_or ids (place - 1) other) (get_or ids place other) → IsStrictlySortedBy id_cmp (map bytes_of ids) → ⊥
+pub falls-at : (ids : List ReceiptId) (place : ℕ) (other : ReceiptId) → 0 < place → place < length ids
+    → false ≡ below (get_or ids (place - 1) other) (get_or ids place other)
+    → IsStrictlySortedBy id_cmp (map bytes_of ids) → ⊥
 falls-at ids place other some h e rising =
     let at : place ≡ place - 1 + 1 = omega arith in
     let f : false ≡ true = (rising_told ids false (

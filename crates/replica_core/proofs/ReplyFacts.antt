@@ -11,7 +11,10 @@ use Rattle.replica_core.proofs.Members.{contains-none, contains-cases, any-from}
 use Rattle.std.proofs.lemmas.Bool.{cases_Bool}
 use Rattle.std.proofs.lemmas.Slice.Eq.{bytes_eq-Decides}
 
-filter-both : (b : Bool) (p q : Receipt → Bool) (r : Receipt) (rs kept : List Receipt) → p r ≡ b → filter q kept ≡ filter (λ s. p s && q s) rs → filter q (cond b (r ∷ kept) kept) ≡ cond (b && q r) (r ∷ filter (λ s. p s && q s) rs) (filter (λ s. p s && q s) rs)
+filter-both : (b : Bool) (p q : Receipt → Bool) (r : Receipt) (rs kept : List Receipt) → p r ≡ b
+    → filter q kept ≡ filter (λ s. p s && q s) rs
+    → filter q (cond b (r ∷ kept) kept) ≡ cond (b && q r) (r ∷ filter (λ s. p s && q s) rs)
+    (filter (λ s. p s && q s) rs)
 filter-both true p q r rs kept e h = ap (λ t. cond (q r) (r ∷ t) t) h
 filter-both false p q r rs kept e h = h
 
@@ -41,7 +44,8 @@ named-has ids r e =
     subst (Contains ids) ((bytes_eq-Decides found.0 (receipt_id_of r)).0 found.2) found.1
 
 -- the search among ids tells whether it is named
-pub tells-named : (ids : List (List ℕ)) (r : Receipt) (id : List ℕ) (found : Bool) → id ≡ receipt_id_of r → IsTrue found ↔ Contains ids id → is_named ids r ≡ found
+pub tells-named : (ids : List (List ℕ)) (r : Receipt) (id : List ℕ) (found : Bool) → id ≡ receipt_id_of r
+    → IsTrue found ↔ Contains ids id → is_named ids r ≡ found
 tells-named ids r id true e h = named-true ids r (subst (Contains ids) e (h.0 refl))
 tells-named ids r id false e h =
     elim (cases_Bool (is_named ids r)) [
@@ -49,10 +53,12 @@ tells-named ids r id false e h =
       | inr f ↦ f
     ]
 
-pub named-skipped : (ids : List (List ℕ)) (r : Receipt) (rest others : List Receipt) → rest ≡ r ∷ others → is_named ids r ≡ true → not_named ids others ≡ not_named ids rest
+pub named-skipped : (ids : List (List ℕ)) (r : Receipt) (rest others : List Receipt) → rest ≡ r ∷ others
+    → is_named ids r ≡ true → not_named ids others ≡ not_named ids rest
 named-skipped ids r rest others e t = ap (λ b. cond (not b) (r ∷ not_named ids others) (not_named ids others)) (sym t) ∙ ap (not_named ids) (sym e)
 
-pub unnamed-given : (ids : List (List ℕ)) (r : Receipt) (rest others : List Receipt) → rest ≡ r ∷ others → is_named ids r ≡ false → not_named ids rest ≡ r ∷ not_named ids others
+pub unnamed-given : (ids : List (List ℕ)) (r : Receipt) (rest others : List Receipt) → rest ≡ r ∷ others
+    → is_named ids r ≡ false → not_named ids rest ≡ r ∷ not_named ids others
 unnamed-given ids r rest others e t = ap (not_named ids) e ∙ ap (λ b. cond (not b) (r ∷ not_named ids others) (not_named ids others)) t
 
 -- a filter gives no more than there are

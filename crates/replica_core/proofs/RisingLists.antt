@@ -10,7 +10,8 @@ pub rising_nil : {A : Type 0} (cmp : A → A → Ordering) → IsStrictlySortedB
 unfolding IsStrictlySortedBy
 rising_nil cmp = tt
 
-pub rising_cons : {A : Type 0} (cmp : A → A → Ordering) (x : A) (xs : List A) → AllByRecursion (λ y. cmp x y ≡ Less) xs → IsStrictlySortedBy cmp xs → IsStrictlySortedBy cmp (x ∷ xs)
+pub rising_cons : {A : Type 0} (cmp : A → A → Ordering) (x : A) (xs : List A) → AllByRecursion (λ y. cmp x y ≡ Less) xs
+    → IsStrictlySortedBy cmp xs → IsStrictlySortedBy cmp (x ∷ xs)
 unfolding IsStrictlySortedBy
 rising_cons cmp x xs above rising = (above, rising)
 
@@ -34,14 +35,17 @@ pub all_back : {A : Type 0} (P : A → Type 0) (xs ys : List A) → AllByRecursi
 all_back P [] ys h = h
 all_back P (x ∷ xs) ys h = all_back P xs ys h.1
 
-pub rising_append : {A : Type 0} (cmp : A → A → Ordering) (xs ys : List A) → IsStrictlySortedBy cmp xs → IsStrictlySortedBy cmp ys → AllByRecursion (λ x. AllByRecursion (λ y. cmp x y ≡ Less) ys) xs
+pub rising_append : {A : Type 0} (cmp : A → A → Ordering) (xs ys : List A) → IsStrictlySortedBy cmp xs
+    → IsStrictlySortedBy cmp ys → AllByRecursion (λ x. AllByRecursion (λ y. cmp x y ≡ Less) ys) xs
     → IsStrictlySortedBy cmp (xs ++ ys)
 rising_append cmp [] ys p q between = q
 rising_append cmp (x ∷ xs) ys p q between =
-    rising_cons cmp x (xs ++ ys) (all_append (λ y. cmp x y ≡ Less) xs ys (rising_head cmp x xs p) between.0) (rising_append cmp xs ys (rising_tail cmp x xs p) q between.1)
+    rising_cons cmp x (xs ++ ys) (all_append (λ y. cmp x y ≡ Less) xs ys (rising_head cmp x xs p) between.0)
+        (rising_append cmp xs ys (rising_tail cmp x xs p) q between.1)
 
 -- ---- an item above all others
 
-pub at_end : {A : Type 0} (cmp : A → A → Ordering) (item : A) (set : List A) → AllByRecursion (λ y. cmp item y ≡ Greater) set → with_item cmp item set ≡ set ++ item ∷ []
+pub at_end : {A : Type 0} (cmp : A → A → Ordering) (item : A) (set : List A)
+    → AllByRecursion (λ y. cmp item y ≡ Greater) set → with_item cmp item set ≡ set ++ item ∷ []
 at_end cmp item [] h = refl
 at_end cmp item (head ∷ rest) h = ap (λ o. placed o item head rest (with_item cmp item rest)) h.0 ∙ ap (λ longer. head ∷ longer) (at_end cmp item rest h.1)

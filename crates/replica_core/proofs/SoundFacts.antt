@@ -28,19 +28,22 @@ none-rising : {X : Type 0} (cmp : X → X → Ordering) → IsStrictlySortedBy c
 unfolding IsStrictlySortedBy
 none-rising cmp = tt
 
-more-rising : {X : Type 0} (cmp : X → X → Ordering) (x : X) (xs : List X) → AllByRecursion (λ y. cmp x y ≡ Less) xs → IsStrictlySortedBy cmp xs → IsStrictlySortedBy cmp (x ∷ xs)
+more-rising : {X : Type 0} (cmp : X → X → Ordering) (x : X) (xs : List X) → AllByRecursion (λ y. cmp x y ≡ Less) xs
+    → IsStrictlySortedBy cmp xs → IsStrictlySortedBy cmp (x ∷ xs)
 unfolding IsStrictlySortedBy
 more-rising cmp x xs above rising = (above, rising)
 
 -- ---- what is answered at a place
 
-sound-here : (config : Configuration) (message : Message) (content : State) → IsSound config message → answered (Some message) ≡ Some content → CanHold config content.held × CanHoldRecords config content.records
+sound-here : (config : Configuration) (message : Message) (content : State) → IsSound config message
+    → answered (Some message) ≡ Some content → CanHold config content.held × CanHoldRecords config content.records
 sound-here config (question asker bucket ids) content h e = absurd (let no : None ≡ Some content = e in cc)
 sound-here config (answer answerer place other) content h e =
     let same : other ≡ content = (let some : Some other ≡ Some content = e in cc) in
     subst (λ (s : State). CanHold config s.held × CanHoldRecords config s.records) same h
 
-pub sound-at : (config : Configuration) (sent : List Message) (k : ℕ) (content : State) → AllByRecursion (IsSound config) sent → answered (slice_get sent k) ≡ Some content
+pub sound-at : (config : Configuration) (sent : List Message) (k : ℕ) (content : State)
+    → AllByRecursion (IsSound config) sent → answered (slice_get sent k) ≡ Some content
     → CanHold config content.held × CanHoldRecords config content.records
 sound-at config [] k content h e = absurd (let no : None ≡ Some content = e in cc)
 sound-at config (message ∷ sent) zero content h e = sound-here config message content h.0 e
@@ -56,16 +59,20 @@ all-take P (suc k) (x ∷ xs) h = (h.0, all-take P k xs h.1)
 rising-take : {X : Type 0} (cmp : X → X → Ordering) (k : ℕ) (xs : List X) → IsStrictlySortedBy cmp xs → IsStrictlySortedBy cmp (take k xs)
 rising-take cmp zero xs h = none-rising cmp
 rising-take cmp (suc k) [] h = none-rising cmp
-rising-take cmp (suc k) (x ∷ xs) h = more-rising cmp x (take k xs) (all-take (λ y. cmp x y ≡ Less) k xs (rising_head cmp x xs h)) (rising-take cmp k xs (rising_tail cmp x xs h))
+rising-take cmp (suc k) (x ∷ xs) h =
+    more-rising cmp x (take k xs) (all-take (λ y. cmp x y ≡ Less) k xs (rising_head cmp x xs h))
+    (rising-take cmp k xs (rising_tail cmp x xs h))
 
 few-take : {X : Type 0} (k : ℕ) (xs : List X) (m : ℕ) → length xs ≤ m → length (take k xs) ≤ m
 few-take k xs m l = let e : length (take k xs) ≡ min k (length xs) = length-take k xs in omega (arith, e, l)
 
 pub can-take : (config : Configuration) (k : ℕ) (rs : List Receipt) → CanHold config rs → CanHold config (take k rs)
-can-take config k rs h = record { fitting = all-take (IsFitting config) k rs h.fitting; rising = rising-take receipt_cmp k rs h.rising; few = few-take k rs 65536 h.few }
+can-take config k rs h = record { fitting = all-take (IsFitting config) k rs h.fitting; rising =
+    rising-take receipt_cmp k rs h.rising; few = few-take k rs 65536 h.few }
 
 pub knows-take : (config : Configuration) (k : ℕ) (xs : List Distrust) → CanHoldRecords config xs → CanHoldRecords config (take k xs)
-knows-take config k xs h = record { domains = all-take (λ x. HasDomain config x.domain) k xs h.domains; rising = rising-take distrust_cmp k xs h.rising; few = few-take k xs 4096 h.few }
+knows-take config k xs h = record { domains = all-take (λ x. HasDomain config x.domain) k xs h.domains; rising =
+    rising-take distrust_cmp k xs h.rising; few = few-take k xs 4096 h.few }
 
 all-filter : {X : Type 0} (P : X → Type 0) (p : X → Bool) (xs : List X) → AllByRecursion P xs → AllByRecursion P (filter p xs)
 all-filter P p xs h = each-to P (filter p xs) (λ x c. each-from P xs h x (filter-from p xs x c).0)
@@ -82,9 +89,11 @@ pub sound-reply : (config : Configuration) (m : Meaning) (bucket : ℕ) (ids : L
     → CanHold config (receipts_lacking (state_of m) bucket ids) × CanHoldRecords config m.records
 sound-reply config m bucket ids e h = (
   record {
-    fitting = all-filter (IsFitting config) (λ r. is_of_bucket bucket r && not (is_named ids r)) m.held (subst (λ (c : Configuration). AllByRecursion (IsFitting c) m.held) e h.fitting);
+    fitting = all-filter (IsFitting config) (λ r. is_of_bucket bucket r && not (is_named ids r)) m.held
+        (subst (λ (c : Configuration). AllByRecursion (IsFitting c) m.held) e h.fitting);
     rising = IsStrictlySortedBy-filter receipt_cmp (λ r. is_of_bucket bucket r && not (is_named ids r)) m.held h.rising;
     few = let fewer = fewer-filtered (λ r. is_of_bucket bucket r && not (is_named ids r)) m.held in let few = h.few in omega (arith, fewer, few);
   },
-  record { domains = subst (λ (c : Configuration). AllByRecursion (λ x. HasDomain c x.domain) m.records) e h.domains; rising = h.records_rising; few = h.few_records },
+  record { domains = subst (λ (c : Configuration). AllByRecursion (λ x. HasDomain c x.domain) m.records) e h.domains;
+      rising = h.records_rising; few = h.few_records },
 )

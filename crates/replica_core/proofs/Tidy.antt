@@ -26,7 +26,8 @@ throughout-at P i k state states here there =
       | inr d ↦ subst (P i) (sym (at-other i k state states d)) there
     ]
 
-throughout-gained : (P : ℕ → State → Type 0) (b : Bool) (w : World) (k : ℕ) (state : State) → Throughout P w → (b ≡ true → P k state) → Throughout P (gained b w k state)
+throughout-gained : (P : ℕ → State → Type 0) (b : Bool) (w : World) (k : ℕ) (state : State) → Throughout P w
+    → (b ≡ true → P k state) → Throughout P (gained b w k state)
 throughout-gained P true w k state h s = record { now = λ i. throughout-at P i k state w.now (s refl) (h.now i); saved = h.saved }
 throughout-gained P false w k state h s = h
 
@@ -34,17 +35,20 @@ throughout-gained P false w k state h s = h
 pub record IsKeptByGains (rules : Rules) (P : ℕ → State → Type 0) : Type 0 where
   pub gain : (k : ℕ) (state more : State) → is_replica rules k ≡ true → P k state → is_within_limits (joined state more) ≡ true → P k (joined state more)
 
-pub throughout-event : (rules : Rules) (P : ℕ → State → Type 0) → IsKeptByGains rules P → (w : World) (event : Event) → Throughout P w → Throughout P (happens rules w event)
+pub throughout-event : (rules : Rules) (P : ℕ → State → Type 0) → IsKeptByGains rules P → (w : World) (event : Event)
+    → Throughout P w → Throughout P (happens rules w event)
 throughout-event rules P kept w event h =
     covered rules w event (λ effect. Throughout P (apply w effect)) (record {
       idle = h;
-      more = λ k gain e. throughout-gained P (is_within_limits (joined (w.now k) gain)) w k (joined (w.now k) gain) h (λ b. kept.gain k (w.now k) gain e (h.now k) b);
+      more = λ k gain e. throughout-gained P (is_within_limits (joined (w.now k) gain)) w k (joined (w.now k) gain) h
+          (λ b. kept.gain k (w.now k) gain e (h.now k) b);
       told = λ message. record { now = h.now; saved = h.saved };
       kept = λ k e s. record { now = h.now; saved = λ i. throughout-at P i k (w.now k) w.saved (h.now k) (h.saved i) };
       again = λ k e s. record { now = λ i. throughout-at P i k (w.saved k) w.now (h.saved k) (h.now i); saved = h.saved };
     })
 
-pub throughout-run : (rules : Rules) (P : ℕ → State → Type 0) → IsKeptByGains rules P → (events : List Event) (w : World) → Throughout P w → Throughout P (run_from rules w events)
+pub throughout-run : (rules : Rules) (P : ℕ → State → Type 0) → IsKeptByGains rules P
+    → (events : List Event) (w : World) → Throughout P w → Throughout P (run_from rules w events)
 throughout-run rules P kept [] w h = h
 throughout-run rules P kept (event ∷ events) w h = throughout-run rules P kept events (happens rules w event) (throughout-event rules P kept w event h)
 

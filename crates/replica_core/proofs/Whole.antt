@@ -1,5 +1,6 @@
 -- The clauses of the law, each of every list of events.
-use Rattle.std.proofs.Common.{◌≡◌, ◌≢◌, ℕ, ◌<◌, ◌≤◌, ◌⊎◌, inl, inr, Bool, true, false, cond, ◌&&◌, nat_le, List, [], ◌∷◌, ◌++◌, length, arith, refl, sym, ap, ◌∙◌, subst, leb-true, ◌+◌}
+use Rattle.std.proofs.Common.{◌≡◌, ◌≢◌, ℕ, ◌<◌, ◌≤◌, ◌⊎◌, inl, inr, Bool, true, false, cond, ◌&&◌, nat_le, List, []}
+use Rattle.std.proofs.Common.{◌∷◌, ◌++◌, length, arith, refl, sym, ap, ◌∙◌, subst, leb-true, ◌+◌}
 use Rattle.std.specs.Prelude.{Contains, Some, None, ⊤, bytes_eq}
 use Rattle.std.specs.List.{AllByRecursion, list_any}
 use Rattle.std.proofs.lemmas.Bool.{and_parts}
@@ -39,7 +40,8 @@ empty-kept P Q place A = record {
 inside : (rules : Rules) (i : ℕ) → is_replica rules i ≡ true → i < rules.replicas
 inside rules i o = let within : i + 1 ≤ rules.replicas = leb-true (i + 1) rules.replicas o in omega arith
 
-taken-admits : (rules : Rules) (events : List Event) (event : Event) → Contains events event → Admits rules (WasTaken rules.replicas events) (WasRevoked rules.replicas events) 0 ⊤ event
+taken-admits : (rules : Rules) (events : List Event) (event : Event) → Contains events event
+    → Admits rules (WasTaken rules.replicas events) (WasRevoked rules.replicas events) 0 ⊤ event
 taken-admits rules events (Take i r) c = λ o e. (i, inside rules i o, c)
 taken-admits rules events (Revoke i x) c = λ o e. (i, inside rules i o, c)
 taken-admits rules events (Ask i b) c = tt
@@ -50,8 +52,11 @@ taken-admits rules events (Join i j) c = tt
 taken-admits rules events (Save i) c = tt
 taken-admits rules events (Restart i) c = tt
 
-comes-from : (laws : Laws) (rules : Rules) (events : List Event) → IsKept (WasTaken rules.replicas events) (WasRevoked rules.replicas events) 0 ⊤ (run rules events)
-comes-from laws rules events = kept-run laws (WasTaken rules.replicas events) (WasRevoked rules.replicas events) 0 ⊤ rules events empty_world (empty-kept (WasTaken rules.replicas events) (WasRevoked rules.replicas events) 0 ⊤) (taken-admits rules events)
+comes-from : (laws : Laws) (rules : Rules) (events : List Event)
+    → IsKept (WasTaken rules.replicas events) (WasRevoked rules.replicas events) 0 ⊤ (run rules events)
+comes-from laws rules events =
+    kept-run laws (WasTaken rules.replicas events) (WasRevoked rules.replicas events) 0 ⊤ rules events empty_world
+    (empty-kept (WasTaken rules.replicas events) (WasRevoked rules.replicas events) 0 ⊤) (taken-admits rules events)
 
 pub now-comes : (laws : Laws) (rules : Rules) (events : List Event) (i : ℕ) → ComesFrom rules.replicas events ((run rules events).now i)
 now-comes laws rules events i = let h = (comes-from laws rules events).now i in record { receipts = h.receipts; distrusts = h.records }
@@ -68,13 +73,15 @@ same-ids a b e =
     let text : a.text ≡ b.text = (bytes_eq-Decides a.text b.text).0 front.0 in
     let domain : a.domain ≡ b.domain = (bytes_eq-Decides a.domain b.domain).0 front.1 in
     let path : a.path ≡ b.path = (bytes_eq-Decides a.path b.path).0 parts.1 in
-    ap (λ t. record a { text = t }) text ∙ ap (λ t. record { text = b.text; domain = t; path = a.path }) domain ∙ ap (λ t. record { text = b.text; domain = b.domain; path = t }) path
+    ap (λ t. record a { text = t }) text ∙ ap (λ t. record { text = b.text; domain = t; path = a.path }) domain
+        ∙ ap (λ t. record { text = b.text; domain = b.domain; path = t }) path
 
 pub fits-from : (config : Configuration) (r : Receipt) → is_fitting config r ≡ true → IsFitting config r
 fits-from config r e =
     let found = any-from (λ (o : Relationship). bytes_eq o.domain r.domain && same_id o.endpoint r.endpoint) config.relationships e in
     let both = and_parts (bytes_eq found.0.domain r.domain) (same_id found.0.endpoint r.endpoint) found.2 in
-    record { relationship = found.0; has = found.1; domain = (bytes_eq-Decides found.0.domain r.domain).0 both.0; endpoint = same-ids found.0.endpoint r.endpoint both.1 }
+    record { relationship = found.0; has = found.1; domain = (bytes_eq-Decides found.0.domain r.domain).0 both.0;
+        endpoint = same-ids found.0.endpoint r.endpoint both.1 }
 
 known-cases : (a b c : Bool) → cond a true (cond b true c) ≡ true → (a ≡ true) ⊎ ((b ≡ true) ⊎ (c ≡ true))
 known-cases true b c e = inl refl
@@ -83,11 +90,16 @@ known-cases false false c e = inr (inr e)
 
 pub knows-from : (config : Configuration) (domain : List ℕ) → is_known config domain ≡ true → HasDomain config domain
 knows-from config domain e =
-    elim (known-cases (list_any (λ (r : Relationship). bytes_eq r.domain domain) config.relationships) (list_any (λ (r : Relationship). bytes_eq r.endpoint.domain domain) config.relationships) (list_any (λ (s : Seed). bytes_eq s.domain domain) config.seeds) e) [
-      | inl h ↦ let found = any-from (λ (r : Relationship). bytes_eq r.domain domain) config.relationships h in inl (found.0, found.1, (bytes_eq-Decides found.0.domain domain).0 found.2)
+    elim (known-cases (list_any (λ (r : Relationship). bytes_eq r.domain domain) config.relationships)
+        (list_any (λ (r : Relationship). bytes_eq r.endpoint.domain domain) config.relationships)
+        (list_any (λ (s : Seed). bytes_eq s.domain domain) config.seeds) e) [
+      | inl h ↦ let found = any-from (λ (r : Relationship). bytes_eq r.domain domain) config.relationships h in
+          inl (found.0, found.1, (bytes_eq-Decides found.0.domain domain).0 found.2)
       | inr k ↦ elim k [
-        | inl h ↦ let found = any-from (λ (r : Relationship). bytes_eq r.endpoint.domain domain) config.relationships h in inr (inl (found.0, found.1, (bytes_eq-Decides found.0.endpoint.domain domain).0 found.2))
-        | inr h ↦ let found = any-from (λ (s : Seed). bytes_eq s.domain domain) config.seeds h in inr (inr (found.0, found.1, (bytes_eq-Decides found.0.domain domain).0 found.2))
+        | inl h ↦ let found = any-from (λ (r : Relationship). bytes_eq r.endpoint.domain domain) config.relationships h
+            in inr (inl (found.0, found.1, (bytes_eq-Decides found.0.endpoint.domain domain).0 found.2))
+        | inr h ↦ let found = any-from (λ (s : Seed). bytes_eq s.domain domain) config.seeds h in
+            inr (inr (found.0, found.1, (bytes_eq-Decides found.0.domain domain).0 found.2))
       ]
     ]
 
@@ -98,7 +110,8 @@ IsReceiptOf config r = IsReceipt r × IsFitting config r
 abbrev IsDistrustOf : Configuration → Distrust → Type 0
 IsDistrustOf config x = IsDistrust x × HasDomain config x.domain
 
-forms-admits : (config : Configuration) (n : ℕ) (event : Event) → IsEvent event → Admits (rules_of config n) (IsReceiptOf config) (IsDistrustOf config) 0 ⊤ event
+forms-admits : (config : Configuration) (n : ℕ) (event : Event) → IsEvent event
+    → Admits (rules_of config n) (IsReceiptOf config) (IsDistrustOf config) 0 ⊤ event
 forms-admits config n (Take i r) h = λ o e. (h, fits-from config r e)
 forms-admits config n (Revoke i x) h = λ o e. (h, knows-from config x.domain e)
 forms-admits config n (Ask i b) h = tt
@@ -109,15 +122,18 @@ forms-admits config n (Join i j) h = tt
 forms-admits config n (Save i) h = tt
 forms-admits config n (Restart i) h = tt
 
-all-forms : (laws : Laws) (config : Configuration) (n : ℕ) (events : List Event) → AreEvents events → IsKept (IsReceiptOf config) (IsDistrustOf config) 0 ⊤ (run (rules_of config n) events)
+all-forms : (laws : Laws) (config : Configuration) (n : ℕ) (events : List Event) → AreEvents events
+    → IsKept (IsReceiptOf config) (IsDistrustOf config) 0 ⊤ (run (rules_of config n) events)
 all-forms laws config n events h =
-    kept-run laws (IsReceiptOf config) (IsDistrustOf config) 0 ⊤ (rules_of config n) events empty_world (empty-kept (IsReceiptOf config) (IsDistrustOf config) 0 ⊤)
+    kept-run laws (IsReceiptOf config) (IsDistrustOf config) 0 ⊤ (rules_of config n) events empty_world
+        (empty-kept (IsReceiptOf config) (IsDistrustOf config) 0 ⊤)
     (λ event c. forms-admits config n event (each-from IsEvent events h event c))
 
 all-tidy : (laws : Laws) (rules : Rules) (events : List Event) → Throughout (λ i state. IsTidy state) (run rules events)
 all-tidy laws rules events = throughout-run rules (λ i state. IsTidy state) (tidy-kept laws rules) events empty_world tidy-empty
 
-pub means : (laws : Laws) (config : Configuration) (n : ℕ) (events : List Event) (i : ℕ) → AreEvents events → IsMeaning (meaning_of_state config ((run (rules_of config n) events).now i))
+pub means : (laws : Laws) (config : Configuration) (n : ℕ) (events : List Event) (i : ℕ) → AreEvents events
+    → IsMeaning (meaning_of_state config ((run (rules_of config n) events).now i))
 means laws config n events i h =
     let state = (run (rules_of config n) events).now i in
     let forms = (all-forms laws config n events h).now i in
@@ -136,14 +152,21 @@ means laws config n events i h =
 
 -- ---- growth, saves and restarts
 
-pub grows : (laws : Laws) (rules : Rules) (events : List Event) (event : Event) (i : ℕ) → event ≢ Restart i → IsPartOf ((run rules events).now i) ((run rules (events ++ event ∷ [])).now i)
+pub grows : (laws : Laws) (rules : Rules) (events : List Event) (event : Event) (i : ℕ) → event ≢ Restart i
+    → IsPartOf ((run rules events).now i) ((run rules (events ++ event ∷ [])).now i)
 grows laws rules events event i d =
-    subst (λ (w : World). IsPartOf ((run rules events).now i) (w.now i)) (sym (fold-append (happens rules) empty_world events (event ∷ []))) (part-event laws rules (run rules events) i event d)
+    subst (λ (w : World). IsPartOf ((run rules events).now i) (w.now i))
+        (sym (fold-append (happens rules) empty_world events (event ∷ [])))
+        (part-event laws rules (run rules events) i event d)
 
-pub restarts-saved : (rules : Rules) (events : List Event) (i : ℕ) → i < rules.replicas → (run rules (events ++ Restart i ∷ [])).now i ≡ (run rules events).saved i
-restarts-saved rules events i l = ap (λ (w : World). w.now i) (fold-append (happens rules) empty_world events (Restart i ∷ [])) ∙ restarted-here rules i (run rules events) l
+pub restarts-saved : (rules : Rules) (events : List Event) (i : ℕ) → i < rules.replicas
+    → (run rules (events ++ Restart i ∷ [])).now i ≡ (run rules events).saved i
+restarts-saved rules events i l =
+    ap (λ (w : World). w.now i) (fold-append (happens rules) empty_world events (Restart i ∷ []))
+    ∙ restarted-here rules i (run rules events) l
 
-pub saved-last : (rules : Rules) (events since : List Event) (i : ℕ) → i < rules.replicas → Lacks since (Save i) → (run rules (events ++ Save i ∷ since)).saved i ≡ (run rules events).now i
+pub saved-last : (rules : Rules) (events since : List Event) (i : ℕ) → i < rules.replicas → Lacks since (Save i)
+    → (run rules (events ++ Save i ∷ since)).saved i ≡ (run rules events).now i
 saved-last rules events since i l h =
     ap (λ (w : World). w.saved i) (fold-append (happens rules) empty_world events (Save i ∷ since))
     ∙ saved-run rules i since (happens rules (run rules events) (Save i)) h
@@ -154,7 +177,8 @@ never-saved rules events i h = saved-run rules i events empty_world h
 
 -- ---- exchanges and agreement
 
-plain-message : (config : Configuration) (message : Message) → KeepsMessage (IsReceiptOf config) (IsDistrustOf config) message → KeepsMessage IsReceipt IsDistrust message
+plain-message : (config : Configuration) (message : Message)
+    → KeepsMessage (IsReceiptOf config) (IsDistrustOf config) message → KeepsMessage IsReceipt IsDistrust message
 plain-message config (question asker bucket ids) h = tt
 plain-message config (answer answerer place content) h = record { receipts = λ r c. (h.receipts r c).0; records = λ x c. (h.records x c).0 }
 
@@ -181,28 +205,36 @@ starts laws config n events h =
     record {
       forms = plain-kept config (run (rules_of config n) events) (all-forms laws config n events h);
       tidy = all-tidy laws (rules_of config n) events;
-      outside = throughout-run (rules_of config n) (IsOutside (rules_of config n)) (outside-kept (rules_of config n)) events empty_world (outside-empty (rules_of config n));
+      outside = throughout-run (rules_of config n) (IsOutside (rules_of config n)) (outside-kept (rules_of config n))
+          events empty_world (outside-empty (rules_of config n));
     }
 
-pub exchanged : (laws : Laws) (config : Configuration) (n : ℕ) (first since : List Event) (i j b : ℕ) → AreEvents first → AreEvents since → i < n → j < n → b ≤ 255
+pub exchanged : (laws : Laws) (config : Configuration) (n : ℕ) (first since : List Event) (i j b : ℕ) → AreEvents first
+    → AreEvents since → i < n → j < n → b ≤ 255
     → (x : Exchange (rules_of config n) (run (rules_of config n) first) i j b since)
-    → HasAll b ((at_answer (rules_of config n) (run (rules_of config n) first) x.course).now j) ((after_taking (rules_of config n) (run (rules_of config n) first) x.course).now i)
+    → HasAll b ((at_answer (rules_of config n) (run (rules_of config n) first) x.course).now j)
+        ((after_taking (rules_of config n) (run (rules_of config n) first) x.course).now i)
 exchanged laws config n first since i j b f s l m k x =
     let w = run (rules_of config n) first in
-    let formed = course-forms laws (rules_of config n) i j b since w x.course (starts laws config n first f).forms (λ event c. event-admits (rules_of config n) event (each-from IsEvent since s event c)) in
+    let formed = course-forms laws (rules_of config n) i j b since w x.course (starts laws config n first f).forms
+        (λ event c. event-admits (rules_of config n) event (each-from IsEvent since s event c)) in
     exchange-gives laws (rules_of config n) w i j b since l m k x (formed.0.now j) (formed.1.now i)
 
 pub agreed : (laws : Laws) (config : Configuration) (n : ℕ) (first since : List Event) (i j : ℕ) → AreEvents first → i < n → j < n
-    → Settles (rules_of config n) (run (rules_of config n) first) since → (run (rules_of config n) (first ++ since)).now i ≡ (run (rules_of config n) (first ++ since)).now j
+    → Settles (rules_of config n) (run (rules_of config n) first) since
+        → (run (rules_of config n) (first ++ since)).now i ≡ (run (rules_of config n) (first ++ since)).now j
 agreed laws config n first since i j f l m s =
     let rules = rules_of config n in
     let same : run rules (first ++ since) ≡ run_from rules (run rules first) since = fold-append (happens rules) empty_world first since in
-    let tidy : Throughout (λ k state. IsTidy state) (run_from rules (run rules first) since) = subst (Throughout (λ k state. IsTidy state)) same (all-tidy laws rules (first ++ since)) in
+    let tidy : Throughout (λ k state. IsTidy state) (run_from rules (run rules first) since) =
+        subst (Throughout (λ k state. IsTidy state)) same (all-tidy laws rules (first ++ since)) in
     subst (λ (w : World). w.now i ≡ w.now j) (sym same) (agree laws rules (run rules first) since i j (starts laws config n first f) tidy s l m)
 
 -- ---- accepted is least
 
-follows : (c : Configuration) (records : List Distrust) (from to : Pair) (r : Receipt) (chain : List Receipt) → Leads c records from chain to → IsFitting c r → Vouches records to r → Leads c records from (chain ++ r ∷ []) (pair_of r)
+follows : (c : Configuration) (records : List Distrust) (from to : Pair) (r : Receipt) (chain : List Receipt)
+    → Leads c records from chain to → IsFitting c r → Vouches records to r
+    → Leads c records from (chain ++ r ∷ []) (pair_of r)
 follows c records from to r [] l f v = (f, subst (λ p. Vouches records p r) (sym l) v, refl)
 follows c records from to r (q ∷ chain) l f v = (l.0, l.1, follows c records (pair_of q) to r chain l.2 f v)
 
@@ -222,7 +254,8 @@ members-closed m = record {
   };
 }
 
-along : (m : Meaning) (set : Pair → Bool) → IsClosed m (λ p. set p ≡ true) → (chain : List Receipt) (from to : Pair) → set from ≡ true → AllByRecursion (Contains m.held) chain → Leads m.config m.records from chain to → set to ≡ true
+along : (m : Meaning) (set : Pair → Bool) → IsClosed m (λ p. set p ≡ true) → (chain : List Receipt) (from to : Pair)
+    → set from ≡ true → AllByRecursion (Contains m.held) chain → Leads m.config m.records from chain to → set to ≡ true
 along m set h [] from to s a l = subst (λ p. set p ≡ true) l s
 along m set h (r ∷ chain) from to s a l = along m set h chain (pair_of r) to (h.steps from r s a.0 l.0 l.1) a.1 l.2
 

@@ -47,37 +47,51 @@ abbrev all_of : Receipt → Receipt → Distrust → State
 all_of a b x = record { held = a ∷ b ∷ []; records = x ∷ [] }
 
 same-zero : (a b : Receipt) (x : Distrust) → AreApart a b x → (run three (starts a b x ++ one_course)).now 0 ≡ all_of a b x
-same-zero a b x h = simp (h.bucket, h.other_bucket, h.less, h.greater, h.same, h.other_same, h.same_record, h.named, h.other_named, h.apart, h.other_apart, h.ids_less, h.ids_greater)
+same-zero a b x h = simp (h.bucket, h.other_bucket, h.less, h.greater, h.same, h.other_same, h.same_record, h.named,
+    h.other_named, h.apart, h.other_apart, h.ids_less, h.ids_greater)
 
 same-one : (a b : Receipt) (x : Distrust) → AreApart a b x → (run three (starts a b x ++ one_course)).now 1 ≡ all_of a b x
-same-one a b x h = simp (h.bucket, h.other_bucket, h.less, h.greater, h.same, h.other_same, h.same_record, h.named, h.other_named, h.apart, h.other_apart, h.ids_less, h.ids_greater)
+same-one a b x h = simp (h.bucket, h.other_bucket, h.less, h.greater, h.same, h.other_same, h.same_record, h.named,
+    h.other_named, h.apart, h.other_apart, h.ids_less, h.ids_greater)
 
 same-two : (a b : Receipt) (x : Distrust) → AreApart a b x → (run three (starts a b x ++ one_course)).now 2 ≡ all_of a b x
-same-two a b x h = simp (h.bucket, h.other_bucket, h.less, h.greater, h.same, h.other_same, h.same_record, h.named, h.other_named, h.apart, h.other_apart, h.ids_less, h.ids_greater)
+same-two a b x h = simp (h.bucket, h.other_bucket, h.less, h.greater, h.same, h.other_same, h.same_record, h.named,
+    h.other_named, h.apart, h.other_apart, h.ids_less, h.ids_greater)
 
 -- the world between the halves
 abbrev halfway : Receipt → Receipt → Distrust → World
 halfway a b x = record {
-  now = at_replica 0 (all_of a b x) (at_replica 2 (record { held = b ∷ []; records = x ∷ [] }) (at_replica 2 (record { held = b ∷ []; records = x ∷ [] }) (at_replica 2 (record { held = []; records = x ∷ [] })
+  now = at_replica 0 (all_of a b x) (at_replica 2 (record { held = b ∷ []; records = x ∷ [] })
+      (at_replica 2 (record { held = b ∷ []; records = x ∷ [] }) (at_replica 2 (record { held = []; records = x ∷ [] })
       (at_replica 1 (record { held = b ∷ []; records = [] }) (at_replica 0 (record { held = a ∷ []; records = [] }) (λ i. no_state))))));
   saved = λ i. no_state;
-  sent = question 2 1 [] ∷ answer 1 0 (record { held = b ∷ []; records = [] }) ∷ question 0 1 (receipt_id_of a ∷ []) ∷ answer 2 2 (record { held = b ∷ []; records = x ∷ [] }) ∷ [];
+  sent = question 2 1 [] ∷ answer 1 0 (record { held = b ∷ []; records = [] }) ∷ question 0 1 (receipt_id_of a ∷ []) ∷
+      answer 2 2 (record { held = b ∷ []; records = x ∷ [] }) ∷ [];
 }
 
 half : (a b : Receipt) (x : Distrust) → AreApart a b x → run three (starts a b x ++ first_half) ≡ halfway a b x
-half a b x h = simp (h.bucket, h.other_bucket, h.less, h.greater, h.same, h.other_same, h.same_record, h.named, h.other_named, h.apart, h.other_apart, h.ids_less, h.ids_greater)
+half a b x h = simp (h.bucket, h.other_bucket, h.less, h.greater, h.same, h.other_same, h.same_record, h.named,
+    h.other_named, h.apart, h.other_apart, h.ids_less, h.ids_greater)
 
-again : (a b : Receipt) (x : Distrust) → AreApart a b x → (i : ℕ) → (run three ((starts a b x ++ first_half) ++ second_half)).now i ≡ (run_from three (halfway a b x) second_half).now i
-again a b x h i = ap (λ (w : World). w.now i) (fold-append (happens three) empty_world (starts a b x ++ first_half) second_half ∙ ap (λ (w : World). run_from three w second_half) (half a b x h))
+again : (a b : Receipt) (x : Distrust) → AreApart a b x → (i : ℕ)
+    → (run three ((starts a b x ++ first_half) ++ second_half)).now i
+    ≡ (run_from three (halfway a b x) second_half).now i
+again a b x h i =
+    ap (λ (w : World). w.now i) (fold-append (happens three) empty_world (starts a b x ++ first_half) second_half
+    ∙ ap (λ (w : World). run_from three w second_half) (half a b x h))
 
 again-zero : (a b : Receipt) (x : Distrust) → AreApart a b x → (run three ((starts a b x ++ first_half) ++ second_half)).now 0 ≡ all_of a b x
-again-zero a b x h = again a b x h 0 ∙ simp (h.bucket, h.other_bucket, h.less, h.greater, h.same, h.other_same, h.same_record, h.named, h.other_named, h.apart, h.other_apart, h.ids_less, h.ids_greater)
+again-zero a b x h =
+    again a b x h 0 ∙ simp (h.bucket, h.other_bucket, h.less, h.greater, h.same, h.other_same, h.same_record, h.named,
+    h.other_named, h.apart, h.other_apart, h.ids_less, h.ids_greater)
 
 again-one : (a b : Receipt) (x : Distrust) → AreApart a b x → (run three ((starts a b x ++ first_half) ++ second_half)).now 1 ≡ all_of a b x
-again-one a b x h = again a b x h 1 ∙ simp (h.bucket, h.other_bucket, h.less, h.greater, h.same, h.other_same, h.same_record, h.named, h.other_named, h.apart, h.other_apart, h.ids_less, h.ids_greater)
+again-one a b x h = again a b x h 1 ∙ simp (h.bucket, h.other_bucket, h.less, h.greater, h.same, h.other_same,
+    h.same_record, h.named, h.other_named, h.apart, h.other_apart, h.ids_less, h.ids_greater)
 
 again-two : (a b : Receipt) (x : Distrust) → AreApart a b x → (run three ((starts a b x ++ first_half) ++ second_half)).now 2 ≡ all_of a b x
-again-two a b x h = again a b x h 2 ∙ simp (h.bucket, h.other_bucket, h.less, h.greater, h.same, h.other_same, h.same_record, h.named, h.other_named, h.apart, h.other_apart, h.ids_less, h.ids_greater)
+again-two a b x h = again a b x h 2 ∙ simp (h.bucket, h.other_bucket, h.less, h.greater, h.same, h.other_same,
+    h.same_record, h.named, h.other_named, h.apart, h.other_apart, h.ids_less, h.ids_greater)
 
 -- ---- what the premises of agreement are for
 

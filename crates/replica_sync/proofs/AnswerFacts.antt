@@ -24,18 +24,23 @@ wish config bucket = Some (record { config = config; bucket = bucket })
 abbrev pub reply_with : Configuration → ℕ → State → Reply
 reply_with config bucket content = record { bucket = bucket; config = config_id_of config; content = content }
 
-told_is : (config : Configuration) (bucket : ℕ) (text : List ℕ) (h : Head) (content : State) → TellsHead (wish config bucket) text h → length content.held ≡ h.count → length content.records ≡ h.distrusts
+told_is : (config : Configuration) (bucket : ℕ) (text : List ℕ) (h : Head) (content : State)
+    → TellsHead (wish config bucket) text h → length content.held ≡ h.count → length content.records ≡ h.distrusts
     → told_by_head h ≡ told_of (reply_with config bucket content)
 told_is config bucket text h content tells receipts records =
     λ i. record { bucket = tells.tells.about i; config = tells.own i; count = sym receipts i; distrusts = Some (sym records i); format = 2; buckets = 256 }
 
-reply_is : (config : Configuration) (bucket : ℕ) (text : List ℕ) (h : Head) (content : State) → TellsHead (wish config bucket) text h → length content.held ≡ h.count → length content.records ≡ h.distrusts
+reply_is : (config : Configuration) (bucket : ℕ) (text : List ℕ) (h : Head) (content : State)
+    → TellsHead (wish config bucket) text h → length content.held ≡ h.count → length content.records ≡ h.distrusts
     → ended text ++ text_of_lines (content_lines content) ≡ reply_text (reply_with config bucket content)
 reply_is config bucket text h content tells receipts records =
-    ap (λ (t : List ℕ). ended t ++ text_of_lines (content_lines content)) (tells.tells.line.spelt ∙ ap told_text (told_is config bucket text h content tells receipts records))
+    ap (λ (t : List ℕ). ended t ++ text_of_lines (content_lines content))
+        (tells.tells.line.spelt ∙ ap told_text (told_is config bucket text h content tells receipts records))
     ∙ ap (λ (t : List ℕ). ended (told_text (told_of (reply_with config bucket content))) ++ t) (text_of_content content)
 
-pub answer_taken : (m : Meaning) (config : Configuration) (bucket before : ℕ) (h : Head) (stream middle left : Option (List ℕ)) (new : Meaning) (read : ℕ) → config ≡ m.config → HasHead (wish config bucket) stream middle h
+pub answer_taken : (m : Meaning) (config : Configuration) (bucket before : ℕ) (h : Head)
+    (stream middle left : Option (List ℕ)) (new : Meaning) (read : ℕ) → config ≡ m.config
+    → HasHead (wish config bucket) stream middle h
     → TakesLines m middle h.count h.distrusts (before + 1) new left read → TakesReply m bucket stream before new left read
 answer_taken m config bucket before h stream middle left new read same head lines =
     let tells : TellsHead (wish m.config bucket) head.text h = subst (λ (k : Configuration). TellsHead (wish k bucket) head.text h) same head.tells in
@@ -56,7 +61,9 @@ answer_taken m config bucket before h stream middle left new read same head line
       read_is = lines.read_is;
     }
 
-pub answer_stops : (m : Meaning) (config : Configuration) (bucket first : ℕ) (h : Head) (stream middle : Option (List ℕ)) (new : Meaning) (e : SyncError) → config ≡ m.config → HasHead (wish config bucket) stream middle h
+pub answer_stops : (m : Meaning) (config : Configuration) (bucket first : ℕ) (h : Head)
+    (stream middle : Option (List ℕ)) (new : Meaning) (e : SyncError) → config ≡ m.config
+    → HasHead (wish config bucket) stream middle h
     → StopsWithin m middle h.count h.distrusts first new e → StopsReply m bucket first stream new e
 answer_stops m config bucket first h stream middle new e same head stops =
     let tells : TellsHead (wish m.config bucket) head.text h = subst (λ (k : Configuration). TellsHead (wish k bucket) head.text h) same head.tells in
@@ -78,7 +85,9 @@ answer_stops m config bucket first h stream middle new e same head stops =
       meaning = stops.taken.meaning;
     }
 
-pub answer_refused : (m : Meaning) (config : Configuration) (bucket first : ℕ) (stream after : Option (List ℕ)) (e : SyncError) → config ≡ m.config → RefusesHead (wish config bucket) stream after e → StopsReply m bucket first stream m e
+pub answer_refused : (m : Meaning) (config : Configuration) (bucket first : ℕ) (stream after : Option (List ℕ))
+    (e : SyncError) → config ≡ m.config → RefusesHead (wish config bucket) stream after e
+    → StopsReply m bucket first stream m e
 answer_refused m config bucket first stream after e same refused = record {
   content = no_state;
   cause = inl (record { after = after; cause = subst (λ (k : Configuration). RefusesHead (wish k bucket) stream after e) same refused; none = refl });
@@ -86,6 +95,11 @@ answer_refused m config bucket first stream after e same refused = record {
 }
 
 -- nothing of it is read where the question is not written
-pub answer_unread : (m : Meaning) (bucket first : ℕ) (stream : Option (List ℕ)) (e : SyncError) → (e ≡ Io) ⊎ (e ≡ NoMemory) → StopsReply m bucket first stream m e
-answer_unread m bucket first stream e (inl failed) = answer_refused m m.config bucket first stream stream e refl (subst (RefusesHead (wish m.config bucket) stream stream) (sym failed) tt)
-answer_unread m bucket first stream e (inr refused) = answer_refused m m.config bucket first stream stream e refl (subst (RefusesHead (wish m.config bucket) stream stream) (sym refused) tt)
+pub answer_unread : (m : Meaning) (bucket first : ℕ) (stream : Option (List ℕ)) (e : SyncError)
+    → (e ≡ Io) ⊎ (e ≡ NoMemory) → StopsReply m bucket first stream m e
+answer_unread m bucket first stream e (inl failed) =
+    answer_refused m m.config bucket first stream stream e refl
+    (subst (RefusesHead (wish m.config bucket) stream stream) (sym failed) tt)
+answer_unread m bucket first stream e (inr refused) =
+    answer_refused m m.config bucket first stream stream e refl
+    (subst (RefusesHead (wish m.config bucket) stream stream) (sym refused) tt)

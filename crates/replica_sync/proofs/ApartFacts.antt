@@ -1,5 +1,6 @@
 -- No stream is both read and refused.
-use Rattle.std.proofs.Common.{◌≡◌, ◌≢◌, ℕ, ◌<◌, ◌==◌, ◌⊎◌, inl, inr, Bool, true, false, List, [], ◌∷◌, ◌++◌, length, Option, None, Some, refl, ap, sym, ◌∙◌, subst, arith, append_assoc, append-nil}
+use Rattle.std.proofs.Common.{◌≡◌, ◌≢◌, ℕ, ◌<◌, ◌==◌, ◌⊎◌, inl, inr, Bool, true, false, List, [], ◌∷◌, ◌++◌, length}
+use Rattle.std.proofs.Common.{Option, None, Some, refl, ap, sym, ◌∙◌, subst, arith, append_assoc, append-nil}
 use Rattle.std.proofs.lemmas.List.{append_cancel_left}
 use Rattle.std.proofs.lemmas.List.Concat.{flat_map-cons}
 use Rattle.std.proofs.lemmas.List.Elements.{All-from_recursion}
@@ -76,15 +77,18 @@ first_of_lines : (text bytes after : List ℕ) → HasNoFeed text → bytes ≡ 
 first_of_lines text bytes after plain e = ap lines_of e ∙ lines_of-line text after plain
 
 -- two first lines of one stream
-one_first : (text other bytes after since : List ℕ) → HasNoFeed text → HasNoFeed other → bytes ≡ ended text ++ after → bytes ≡ ended other ++ since → text ≡ other
+one_first : (text other bytes after since : List ℕ) → HasNoFeed text → HasNoFeed other → bytes ≡ ended text ++ after
+    → bytes ≡ ended other ++ since → text ≡ other
 one_first text other bytes after since p q e f =
-    let both : with_line text (lines_of after) ≡ with_line other (lines_of since) = sym (first_of_lines text bytes after p e) ∙ first_of_lines other bytes since q f in
+    let both : with_line text (lines_of after) ≡ with_line other (lines_of since) =
+        sym (first_of_lines text bytes after p e) ∙ first_of_lines other bytes since q f in
     let heads : text ∷ (lines_of after).whole ≡ other ∷ (lines_of since).whole = ap (λ (l : Lines). l.whole) both in
     cc
 
 -- ---- the first line
 
-right_first : (format : Format) (config : Configuration) (text : List ℕ) (e : SyncError) → text ≡ header_line format config → ((e ≡ BadHeader) × (8388608 < length text)) ⊎ RefusesHeader config text e → ⊥
+right_first : (format : Format) (config : Configuration) (text : List ℕ) (e : SyncError)
+    → text ≡ header_line format config → ((e ≡ BadHeader) × (8388608 < length text)) ⊎ RefusesHeader config text e → ⊥
 right_first format config text e is (inl long) =
     let same = ap length is in let short = short_first format config in let more = long.1 in omega (arith, same, short, more)
 right_first format config text BadHeader is (inr h) =
@@ -95,7 +99,8 @@ right_first format config text ConfigDiffers is (inr h) =
     h.other same.0
 right_first format config text VersionDiffers is (inr h) =
     let first = is_first_line format config in
-    let same = one_header text (digits_of config) (digits_of config) h.version (version_of format) h.is (record { form = first.form; few = first.few; spelt = is }) in
+    let same = one_header text (digits_of config) (digits_of config) h.version (version_of format) h.is
+        (record { form = first.form; few = first.few; spelt = is }) in
     h.other format same.1
 right_first format config text (NotCanonical n) is (inr h) = h
 right_first format config text (NotRising n) is (inr h) = h
@@ -105,13 +110,16 @@ right_first format config text (Refused n why) is (inr h) = h
 right_first format config text Io is (inr h) = h
 right_first format config text NoMemory is (inr h) = h
 
-bad_first : (format : Format) (config : Configuration) (bytes tail : List ℕ) (e : SyncError) → bytes ≡ ended (header_line format config) ++ tail → HasBadFirst config (Some bytes) e → ⊥
+bad_first : (format : Format) (config : Configuration) (bytes tail : List ℕ) (e : SyncError)
+    → bytes ≡ ended (header_line format config) ++ tail → HasBadFirst config (Some bytes) e → ⊥
 bad_first format config bytes tail e whole h = by_rest h.after h.is
   where
     by_rest : (after : Option (List ℕ)) → HasLine (Some bytes) after h.text → ⊥
     by_rest None is = is.1
     by_rest (Some rest) is =
-        right_first format config h.text e (one_first h.text (header_line format config) bytes rest tail is.0 (fed (header_line format config) (feedless_first format config)) is.1 whole) h.cause
+        right_first format config h.text e
+            (one_first h.text (header_line format config) bytes rest tail is.0
+            (fed (header_line format config) (feedless_first format config)) is.1 whole) h.cause
 
 no_line : (format : Format) (config : Configuration) (bytes tail : List ℕ) → bytes ≡ ended (header_line format config) ++ tail → HasNoFeed bytes → ⊥
 no_line format config bytes tail whole none =
@@ -119,7 +127,8 @@ no_line format config bytes tail whole none =
     let both : [] ≡ header_line format config ∷ (lines_of tail).whole = ap (λ (l : Lines). l.whole) (sym (lines_of-rest bytes none) ∙ lines) in
     cc
 
-refused_first : (format : Format) (config : Configuration) (bytes tail : List ℕ) (e : SyncError) → e ≢ Io → e ≢ NoMemory → bytes ≡ ended (header_line format config) ++ tail → RefusesFirst config (Some bytes) e → ⊥
+refused_first : (format : Format) (config : Configuration) (bytes tail : List ℕ) (e : SyncError) → e ≢ Io → e ≢ NoMemory
+    → bytes ≡ ended (header_line format config) ++ tail → RefusesFirst config (Some bytes) e → ⊥
 refused_first format config bytes tail BadHeader calm ample whole h = bad_first format config bytes tail BadHeader whole h
 refused_first format config bytes tail ConfigDiffers calm ample whole h = bad_first format config bytes tail ConfigDiffers whole h
 refused_first format config bytes tail VersionDiffers calm ample whole h = bad_first format config bytes tail VersionDiffers whole h
@@ -155,7 +164,8 @@ same_count format m k valid other e =
     let sets = held_back m.records k.records m.held k.held valid.distrusts other.distrusts valid.receipts other.receipts e in
     (λ i. count_of format (length (sets.receipts i)) (length (sets.records i)))
 
-good_place : (format : Format) (m k : Meaning) (rest text after : List ℕ) (e : SyncError) → e ≢ NoMemory → IsTail format m k rest → HasNoFeed text → rest ≡ ended text ++ after → RefusesPlace format k text e → ⊥
+good_place : (format : Format) (m k : Meaning) (rest text after : List ℕ) (e : SyncError) → e ≢ NoMemory
+    → IsTail format m k rest → HasNoFeed text → rest ≡ ended text ++ after → RefusesPlace format k text e → ⊥
 good_place format m k rest text after e ample tail plain is cause = elim (next_line format m k rest text after tail plain is) [
   | inl at ↦ no_fault_of_count format k text e tail.other (at.is ∙ same_count format m k tail.valid tail.other at.front) ample cause
   | inr at ↦ no_fault_of_held format m k text at.later e tail.configured tail.valid tail.other tail.told tail.same at.parts ample cause
@@ -169,7 +179,8 @@ bad_line format m k rest e ample tail h = by_rest h.after h.is
     by_rest (Some left) is = good_place format m k rest h.text left e ample tail is.0 is.1 h.cause
 
 -- a line that tells the numbers is none of what is held
-count_apart : (format : Format) (m : Meaning) (text : List ℕ) (ys later : List (List ℕ)) (k : Meaning) → IsMeaning k → text ≡ count_line format k → held_lines m ≡ ys ++ text ∷ later → ⊥
+count_apart : (format : Format) (m : Meaning) (text : List ℕ) (ys later : List (List ℕ)) (k : Meaning) → IsMeaning k
+    → text ≡ count_line format k → held_lines m ≡ ys ++ text ∷ later → ⊥
 count_apart format m text ys later k valid is e =
     let count = is_count format k valid in
     no_count text count.rest (is ∙ count.begins) (all_back IsThird ys (text ∷ later) (subst (AllByRecursion IsThird) e (third_held m.records m.held))).0
@@ -198,7 +209,8 @@ cut format m k rest tail none =
     tail.whole ∙ ap (λ (l : Lines). held_lines k ++ l.whole) (lines_of-rest rest none) ∙ append-nil (held_lines k) in
     count_apart format k (count_line format m) (held_lines m) [] m tail.valid refl (sym whole)
 
-refused_next : (format : Format) (m k : Meaning) (rest : List ℕ) (e : SyncError) → e ≢ Io → e ≢ NoMemory → IsTail format m k rest → RefusesNext format k (Some rest) e → ⊥
+refused_next : (format : Format) (m k : Meaning) (rest : List ℕ) (e : SyncError) → e ≢ Io → e ≢ NoMemory
+    → IsTail format m k rest → RefusesNext format k (Some rest) e → ⊥
 refused_next format m k rest BadHeader calm ample tail h = h
 refused_next format m k rest ConfigDiffers calm ample tail h = h
 refused_next format m k rest VersionDiffers calm ample tail h = h
@@ -217,28 +229,35 @@ refused_next format m k rest NoMemory calm ample tail h = ample refl
 abbrev behind : Format → Meaning → List ℕ
 behind format m = text_of_lines (held_lines m) ++ ended (count_line format m)
 
-front_text : (format : Format) (config : Configuration) (m : Meaning) → m.config ≡ config → snapshot_text format m ≡ ended (header_line format config) ++ behind format m
+front_text : (format : Format) (config : Configuration) (m : Meaning) → m.config ≡ config
+    → snapshot_text format m ≡ ended (header_line format config) ++ behind format m
 front_text format config m same =
-    append_assoc (ended (header_line format m.config)) (text_of_lines (held_lines m)) (ended (count_line format m)) ∙ ap (λ c. ended (header_line format c) ++ behind format m) same
+    append_assoc (ended (header_line format m.config)) (text_of_lines (held_lines m)) (ended (count_line format m))
+        ∙ ap (λ c. ended (header_line format c) ++ behind format m) same
 
-begun_front : (format : Format) (config : Configuration) (k : Meaning) (rest : List ℕ) → k.config ≡ config → begun_text format k ++ rest ≡ ended (header_line format config) ++ (text_of_lines (held_lines k) ++ rest)
+begun_front : (format : Format) (config : Configuration) (k : Meaning) (rest : List ℕ) → k.config ≡ config
+    → begun_text format k ++ rest ≡ ended (header_line format config) ++ (text_of_lines (held_lines k) ++ rest)
 begun_front format config k rest same =
-    append_assoc (ended (header_line format k.config)) (text_of_lines (held_lines k)) rest ∙ ap (λ c. ended (header_line format c) ++ (text_of_lines (held_lines k) ++ rest)) same
+    append_assoc (ended (header_line format k.config)) (text_of_lines (held_lines k)) rest
+        ∙ ap (λ c. ended (header_line format c) ++ (text_of_lines (held_lines k) ++ rest)) same
 
-one_format : (config : Configuration) (f g : Format) (rest other : List ℕ) → ended (header_line f config) ++ rest ≡ ended (header_line g config) ++ other → f ≡ g
+one_format : (config : Configuration) (f g : Format) (rest other : List ℕ)
+    → ended (header_line f config) ++ rest ≡ ended (header_line g config) ++ other → f ≡ g
 one_format config First First rest other e = refl
 one_format config First Second rest other e = absurd (formats_apart (digits_of config) rest other e)
 one_format config Second First rest other e = absurd (formats_apart (digits_of config) other rest (sym e))
 one_format config Second Second rest other e = refl
 
-behind_lines : (format : Format) (m : Meaning) → IsMeaning m → lines_of (behind format m) ≡ record { whole = held_lines m ++ count_line format m ∷ []; rest = [] }
+behind_lines : (format : Format) (m : Meaning) → IsMeaning m
+    → lines_of (behind format m) ≡ record { whole = held_lines m ++ count_line format m ∷ []; rest = [] }
 behind_lines format m valid =
     ap (λ t. lines_of (text_of_lines (held_lines m) ++ t)) (sym (append-nil (ended (count_line format m))) ∙ sym (flat_map-cons ended (count_line format m) []))
     ∙ ap lines_of (sym (lines_append (held_lines m) (count_line format m ∷ [])) ∙ sym (append-nil (text_of_lines (held_lines m ++ count_line format m ∷ []))))
     ∙ lines_back (held_lines m ++ count_line format m ∷ []) [] (feedless_behind format m valid)
     ∙ ap (λ (w : List (List ℕ)). record { whole = w; rest = [] }) (append-nil (held_lines m ++ count_line format m ∷ []))
 
-tail_of : (config : Configuration) (format : Format) (m k : Meaning) (rest : List ℕ) → IsConfiguration config → IsMeaning m → IsMeaning k → m.config ≡ config → k.config ≡ config → IsTold format m
+tail_of : (config : Configuration) (format : Format) (m k : Meaning) (rest : List ℕ) → IsConfiguration config
+    → IsMeaning m → IsMeaning k → m.config ≡ config → k.config ≡ config → IsTold format m
     → behind format m ≡ text_of_lines (held_lines k) ++ rest → IsTail format m k rest
 tail_of config format m k rest is valid other p q told e =
     let lines = sym (behind_lines format m valid) ∙ ap lines_of e ∙ lines_back (held_lines k) rest (feedless_held k other) in
@@ -252,18 +271,29 @@ tail_of config format m k rest is valid other p q told e =
       none = sym (ap (λ (l : Lines). l.rest) lines);
     }
 
-refused_behind : (config : Configuration) (f : Format) (bytes : List ℕ) (m : Meaning) (e : SyncError) → IsConfiguration config → e ≢ Io → e ≢ NoMemory → IsMeaning m → m.config ≡ config → IsTold f m
-    → bytes ≡ ended (header_line f config) ++ behind f m → (g : Format) (k : Meaning) (left : Option (List ℕ)) → Begins config (Some bytes) g k left → RefusesNext g k left e → ⊥
+refused_behind : (config : Configuration) (f : Format) (bytes : List ℕ) (m : Meaning) (e : SyncError)
+    → IsConfiguration config → e ≢ Io → e ≢ NoMemory → IsMeaning m → m.config ≡ config → IsTold f m
+    → bytes ≡ ended (header_line f config) ++ behind f m → (g : Format) (k : Meaning) (left : Option (List ℕ))
+        → Begins config (Some bytes) g k left → RefusesNext g k left e → ⊥
 refused_behind config f bytes m e is calm ample valid same told whole g k None begins cause = begins.text
 refused_behind config f bytes m e is calm ample valid same told whole g k (Some rest) begins cause =
     let other : bytes ≡ ended (header_line g config) ++ (text_of_lines (held_lines k) ++ rest) = begins.text ∙ begun_front g config k rest begins.of_config in
     let formats : g ≡ f = sym (one_format config f g (behind f m) (text_of_lines (held_lines k) ++ rest) (sym whole ∙ other)) in
     let texts : behind f m ≡ text_of_lines (held_lines k) ++ rest =
-    append_cancel_left (ended (header_line f config)) (behind f m) (text_of_lines (held_lines k) ++ rest) (sym whole ∙ other ∙ ap (λ x. ended (header_line x config) ++ (text_of_lines (held_lines k) ++ rest)) formats) in
-    refused_next f m k rest e calm ample (tail_of config f m k rest is valid begins.valid same begins.of_config told texts) (subst (λ x. RefusesNext x k (Some rest) e) formats cause)
+    append_cancel_left (ended (header_line f config)) (behind f m) (text_of_lines (held_lines k) ++ rest)
+        (sym whole ∙ other ∙ ap (λ x. ended (header_line x config) ++ (text_of_lines (held_lines k) ++ rest)) formats)
+        in
+    refused_next f m k rest e calm ample
+        (tail_of config f m k rest is valid begins.valid same begins.of_config told texts)
+        (subst (λ x. RefusesNext x k (Some rest) e) formats cause)
 
 -- a stream that is read is not refused
-pub not_refused : (config : Configuration) (bytes : List ℕ) (m : Meaning) (e : SyncError) → IsConfiguration config → e ≢ Io → e ≢ NoMemory → IsSnapshot config (Some bytes) m → RefusesSnapshot config (Some bytes) e → ⊥
-not_refused config bytes m e is calm ample read (inl first) = refused_first read.format config bytes (behind read.format m) e calm ample (read.text ∙ front_text read.format config m read.of_config) first
+pub not_refused : (config : Configuration) (bytes : List ℕ) (m : Meaning) (e : SyncError) → IsConfiguration config
+    → e ≢ Io → e ≢ NoMemory → IsSnapshot config (Some bytes) m → RefusesSnapshot config (Some bytes) e → ⊥
+not_refused config bytes m e is calm ample read (inl first) =
+    refused_first read.format config bytes (behind read.format m) e calm ample
+    (read.text ∙ front_text read.format config m read.of_config) first
 not_refused config bytes m e is calm ample read (inr fault) =
-    refused_behind config read.format bytes m e is calm ample read.valid read.of_config read.told (read.text ∙ front_text read.format config m read.of_config) fault.format fault.m fault.left fault.begins fault.cause
+    refused_behind config read.format bytes m e is calm ample read.valid read.of_config read.told
+        (read.text ∙ front_text read.format config m read.of_config) fault.format fault.m fault.left fault.begins
+        fault.cause

@@ -24,13 +24,18 @@ pub record IsSameQuestion (p q : Question) (left rest : List ℕ) : Type 0 where
   pub question : p ≡ q
   pub behind : left ≡ rest
 
-pub same-question : (bytes : List ℕ) (p q : Question) (left rest : List ℕ) → IsAskable p → IsAskable q → bytes ≡ question_text p ++ left → bytes ≡ question_text q ++ rest → IsSameQuestion p q left rest
+pub same-question : (bytes : List ℕ) (p q : Question) (left rest : List ℕ) → IsAskable p → IsAskable q
+    → bytes ≡ question_text p ++ left → bytes ≡ question_text q ++ rest → IsSameQuestion p q left rest
 same-question bytes p q left rest is valid e f =
-    let line = same-line bytes (asked_text (asked_of p)) (asked_text (asked_of q)) left rest (plain-asked (asked_of p) is.asked) (plain-asked (asked_of q) valid.asked) e f in
-    let asked : asked_of p ≡ asked_of q = one-asked (asked_text (asked_of p)) (asked_of p) (asked_of q) (asked-line p is) (record { is = valid.asked; spelt = line.line }) in
+    let line = same-line bytes (asked_text (asked_of p)) (asked_text (asked_of q)) left rest
+        (plain-asked (asked_of p) is.asked) (plain-asked (asked_of q) valid.asked) e f in
+    let asked : asked_of p ≡ asked_of q =
+        one-asked (asked_text (asked_of p)) (asked_of p) (asked_of q) (asked-line p is)
+        (record { is = valid.asked; spelt = line.line }) in
     record { question = ap (λ (a : Asked). a.question) asked; behind = line.rest }
 
-pub one-question : (bytes : List ℕ) (p q : Question) (left rest : Option (List ℕ)) → IsAskable p → IsAskable q → Consumes (Some bytes) left (question_text p) → Consumes (Some bytes) rest (question_text q)
+pub one-question : (bytes : List ℕ) (p q : Question) (left rest : Option (List ℕ)) → IsAskable p → IsAskable q
+    → Consumes (Some bytes) left (question_text p) → Consumes (Some bytes) rest (question_text q)
     → (p ≡ q) × (left ≡ rest)
 one-question bytes p q None rest is valid e f = absurd e
 one-question bytes p q (Some left) None is valid e f = absurd f
@@ -40,7 +45,8 @@ one-question bytes p q (Some left) (Some rest) is valid e f =
 
 -- ---- no fault
 
-pub first-cause : (refuses : List ℕ → SyncError → Type 0) (bytes text after : List ℕ) (new : Option (List ℕ)) (e : SyncError) → HasNoFeed text → bytes ≡ ended text ++ after → HasBadFirstLine refuses (Some bytes) new e
+pub first-cause : (refuses : List ℕ → SyncError → Type 0) (bytes text after : List ℕ) (new : Option (List ℕ))
+    (e : SyncError) → HasNoFeed text → bytes ≡ ended text ++ after → HasBadFirstLine refuses (Some bytes) new e
     → ((e ≡ BadHeader) × (8388608 < length text)) ⊎ refuses text e
 first-cause refuses bytes text after new e plain is h =
     subst (λ t. ((e ≡ BadHeader) × (8388608 < length t)) ⊎ refuses t e) (is-first bytes text after h.text new plain is h.is).0 h.cause
@@ -67,10 +73,13 @@ no-bad-question config q (Refused n why) is own ample (inr h) = h
 no-bad-question config q Io is own ample (inr h) = h
 no-bad-question config q NoMemory is own ample (inr h) = ample refl
 
-module _ (config : Option Configuration) (bytes : List ℕ) (q : Question) (left : List ℕ) (is : IsAskable q) (own : IsOwn config q.config) (begins : bytes ≡ question_text q ++ left) where
+module _ (config : Option Configuration) (bytes : List ℕ) (q : Question) (left : List ℕ) (is : IsAskable q)
+    (own : IsOwn config q.config) (begins : bytes ≡ question_text q ++ left) where
   bad-first : (new : Option (List ℕ)) (e : SyncError) → e ≢ NoMemory → HasBadFirstLine (RefusesAsked config) (Some bytes) new e → ⊥
   bad-first new e ample h =
-      no-bad-question config q e is own ample (first-cause (RefusesAsked config) bytes (asked_text (asked_of q)) left new e (plain-asked (asked_of q) is.asked) begins h)
+      no-bad-question config q e is own ample
+          (first-cause (RefusesAsked config) bytes (asked_text (asked_of q)) left new e
+          (plain-asked (asked_of q) is.asked) begins h)
 
   pub no-question-fault : (new : Option (List ℕ)) (e : SyncError) → e ≢ Io → e ≢ NoMemory → RefusesQuestion config (Some bytes) new e → ⊥
   no-question-fault new BadHeader calm ample h = bad-first new BadHeader ample h
@@ -84,7 +93,8 @@ module _ (config : Option Configuration) (bytes : List ℕ) (q : Question) (left
   no-question-fault new Io calm ample h = calm refl
   no-question-fault new NoMemory calm ample h = ample refl
 
-pub question-read : (config : Option Configuration) (bytes : List ℕ) (q : Question) (left new : Option (List ℕ)) (e : SyncError) → IsAskable q → IsOwn config q.config → e ≢ Io → e ≢ NoMemory
+pub question-read : (config : Option Configuration) (bytes : List ℕ) (q : Question) (left new : Option (List ℕ))
+    (e : SyncError) → IsAskable q → IsOwn config q.config → e ≢ Io → e ≢ NoMemory
     → Consumes (Some bytes) left (question_text q) → RefusesQuestion config (Some bytes) new e → ⊥
 question-read config bytes q None new e is own calm ample begins h = begins
 question-read config bytes q (Some left) new e is own calm ample begins h = no-question-fault config bytes q left is own begins new e calm ample h

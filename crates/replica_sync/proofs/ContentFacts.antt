@@ -38,18 +38,21 @@ rising_one : {A : Type 0} (cmp : A → A → Ordering) (x : A) → IsStrictlySor
 unfolding IsStrictlySortedBy
 rising_one cmp x = (tt, tt)
 
-rising_cons : {A : Type 0} (cmp : A → A → Ordering) (x : A) (xs : List A) → AllByRecursion (λ y. cmp x y ≡ Less) xs → IsStrictlySortedBy cmp xs → IsStrictlySortedBy cmp (x ∷ xs)
+rising_cons : {A : Type 0} (cmp : A → A → Ordering) (x : A) (xs : List A) → AllByRecursion (λ y. cmp x y ≡ Less) xs
+    → IsStrictlySortedBy cmp xs → IsStrictlySortedBy cmp (x ∷ xs)
 unfolding IsStrictlySortedBy
 rising_cons cmp x xs above rising = (above, rising)
 
-rising_below : (lines : List (List ℕ)) (text : List ℕ) → IsStrictlySortedBy text_cmp lines → AllBelow text lines → IsStrictlySortedBy text_cmp (lines ++ text ∷ [])
+rising_below : (lines : List (List ℕ)) (text : List ℕ) → IsStrictlySortedBy text_cmp lines → AllBelow text lines
+    → IsStrictlySortedBy text_cmp (lines ++ text ∷ [])
 rising_below [] text rising below = rising_one text_cmp text
 rising_below (x ∷ lines) text rising below =
     rising_cons text_cmp x (lines ++ text ∷ []) (all_pushed (λ y. text_cmp x y ≡ Less) lines text (rising_head text_cmp x lines rising) below.0)
     (rising_below lines text (rising_tail text_cmp x lines rising) below.1)
 
 -- a text above the last one goes to the end
-pub rising_pushed : (lines : List (List ℕ)) (text : List ℕ) → IsStrictlySortedBy text_cmp lines → IsAbove (last_of lines) text → IsStrictlySortedBy text_cmp (lines ++ text ∷ [])
+pub rising_pushed : (lines : List (List ℕ)) (text : List ℕ) → IsStrictlySortedBy text_cmp lines
+    → IsAbove (last_of lines) text → IsStrictlySortedBy text_cmp (lines ++ text ∷ [])
 rising_pushed lines text rising above = rising_below lines text rising (below_last lines text rising above)
 
 pub joined_one : {A : Type 0} (cmp : A → A → Ordering) (xs set : List A) (x : A) → with_items cmp (xs ++ x ∷ []) set ≡ with_item cmp x (with_items cmp xs set)
@@ -57,7 +60,8 @@ joined_one cmp xs set x = fold-append (λ old item. with_item cmp item old) set 
 
 -- ---- lines
 
-lines_with_record : (content : State) (x : Distrust) → content.held ≡ [] → content_lines (pushed (Record x) content) ≡ content_lines content ++ distrust_line x ∷ []
+lines_with_record : (content : State) (x : Distrust) → content.held ≡ []
+    → content_lines (pushed (Record x) content) ≡ content_lines content ++ distrust_line x ∷ []
 lines_with_record content x none =
     ap (λ held. map distrust_line (content.records ++ x ∷ []) ++ map line held) none
     ∙ append-nil (map distrust_line (content.records ++ x ∷ []))
@@ -75,14 +79,16 @@ abbrev pub HasPlace : Entry → State → Type 0
 HasPlace (Record x) content = content.held ≡ []
 HasPlace (AReceipt r) content = Unit {0}
 
-pub lines_pushed : (entry : Entry) (content : State) → HasPlace entry content → content_lines (pushed entry content) ≡ content_lines content ++ entry_line entry ∷ []
+pub lines_pushed : (entry : Entry) (content : State) → HasPlace entry content
+    → content_lines (pushed entry content) ≡ content_lines content ++ entry_line entry ∷ []
 lines_pushed (Record x) content none = lines_with_record content x none
 lines_pushed (AReceipt r) content none = lines_with_receipt content r
 
 text_pushed : (lines : List (List ℕ)) (text : List ℕ) → text_of_lines (lines ++ text ∷ []) ≡ text_of_lines lines ++ ended text
 text_pushed lines text = flat_map-append ended lines (text ∷ []) ∙ ap (λ t. text_of_lines lines ++ t) (append-nil (ended text))
 
-pub consumes_one : (a b c : Option (List ℕ)) (lines : List (List ℕ)) (text : List ℕ) → Consumes a b (text_of_lines lines) → HasLine b c text → Consumes a c (text_of_lines (lines ++ text ∷ []))
+pub consumes_one : (a b c : Option (List ℕ)) (lines : List (List ℕ)) (text : List ℕ)
+    → Consumes a b (text_of_lines lines) → HasLine b c text → Consumes a c (text_of_lines (lines ++ text ∷ []))
 consumes_one a b c lines text before is =
     subst (Consumes a c) (sym (text_pushed lines text)) (consumes_both a b c (text_of_lines lines) (ended text) before is.1)
 
@@ -95,8 +101,12 @@ text_of_content content =
 
 -- ---- what is held
 
-pub gained_pushed : (old : Meaning) (content : State) (entry : Entry) → with_entry entry (meaning_gained old content) ≡ meaning_gained old (pushed entry content)
+pub gained_pushed : (old : Meaning) (content : State) (entry : Entry)
+    → with_entry entry (meaning_gained old content) ≡ meaning_gained old (pushed entry content)
 gained_pushed old content (Record x) =
-    ap (λ records. meaning_of_state old.config (record { held = with_items receipt_cmp content.held old.held; records = records })) (sym (joined_one distrust_cmp content.records old.records x))
+    ap (λ records. meaning_of_state old.config
+        (record { held = with_items receipt_cmp content.held old.held; records = records }))
+        (sym (joined_one distrust_cmp content.records old.records x))
 gained_pushed old content (AReceipt r) =
-    ap (λ held. meaning_of_state old.config (record { held = held; records = with_items distrust_cmp content.records old.records })) (sym (joined_one receipt_cmp content.held old.held r))
+    ap (λ held. meaning_of_state old.config (record { held = held; records =
+        with_items distrust_cmp content.records old.records })) (sym (joined_one receipt_cmp content.held old.held r))

@@ -36,7 +36,8 @@ third_held (x ∷ xs) rs = (third_record x, third_held xs rs)
 
 -- ---- the last line
 
-count_length : (format : Format) (receipts records : ℕ) → length (count_of format receipts records) ≡ 10 + length (decimal receipts) + length (records_part format records)
+count_length : (format : Format) (receipts records : ℕ)
+    → length (count_of format receipts records) ≡ 10 + length (decimal receipts) + length (records_part format records)
 unfolding count_of
 count_length format receipts records = simp length-append (omega arith)
 
@@ -60,7 +61,8 @@ is_count format m valid = record {
       omega (arith, whole, part, number);
 }
 
-pub no_fault_of_count : (format : Format) (m : Meaning) (text : List ℕ) (e : SyncError) → IsMeaning m → text ≡ count_line format m → e ≢ NoMemory → RefusesPlace format m text e → ⊥
+pub no_fault_of_count : (format : Format) (m : Meaning) (text : List ℕ) (e : SyncError) → IsMeaning m
+    → text ≡ count_line format m → e ≢ NoMemory → RefusesPlace format m text e → ⊥
 no_fault_of_count format m text BadHeader valid is ample h = h
 no_fault_of_count format m text ConfigDiffers valid is ample h = h
 no_fault_of_count format m text VersionDiffers valid is ample h = h

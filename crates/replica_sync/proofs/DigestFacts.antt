@@ -1,5 +1,7 @@
 -- The first line of each configuration is one, with the digits of its digest, and has no line feed.
-use Rattle.std.proofs.Common.{◌≡◌, ℕ, zero, suc, ◌+◌, ◌*◌, ◌/◌, ◌%◌, ◌<◌, ◌≤◌, ◌==◌, ◌&&◌, Bool, true, not, inl, inr, List, [], ◌∷◌, ◌++◌, length, codes, decimal, slice_index, refl, subst, arith, length-append}
+use Rattle.std.proofs.Common.{◌≡◌, ℕ, zero, suc, ◌+◌, ◌*◌, ◌/◌, ◌%◌, ◌<◌, ◌≤◌, ◌==◌, ◌&&◌, Bool, true, not, inl, inr}
+use Rattle.std.proofs.Common.{List, [], ◌∷◌, ◌++◌, length, codes, decimal, slice_index, refl, subst, arith}
+use Rattle.std.proofs.Common.{length-append}
 use Rattle.std.proofs.lemmas.Bool.{and_parts, cases_lt}
 use Rattle.std.proofs.lemmas.Fmt.{length-decimal-le}
 use Rattle.std.proofs.lemmas.List.Elements.{All-from_recursion}
@@ -99,7 +101,8 @@ pub feedless_first : (format : Format) (c : Configuration) → Feedless (header_
 unfolding header_of
 feedless_first format c =
     let few = few_versions format in
-    feedless_both (codes "{\"config\":\"") (digits_of c ++ (codes "\",\"format\":" ++ (decimal (version_of format) ++ codes "}"))) (feedless_by (codes "{\"config\":\"") refl)
+    feedless_both (codes "{\"config\":\"") (digits_of c ++ (codes "\",\"format\":" ++
+        (decimal (version_of format) ++ codes "}"))) (feedless_by (codes "{\"config\":\"") refl)
     (feedless_both (digits_of c) (codes "\",\"format\":" ++ (decimal (version_of format) ++ codes "}")) (feedless_digits (digits_of c) (each_of_config c))
     (feedless_both (codes "\",\"format\":") (decimal (version_of format) ++ codes "}") (feedless_by (codes "\",\"format\":") refl)
     (feedless_both (decimal (version_of format)) (codes "}") (feedless_decimal (version_of format) (omega (arith, few))) (feedless_by (codes "}") refl))))

@@ -1,11 +1,13 @@
 -- No line of a receipt or of a record has a line feed in it.
-use Rattle.std.proofs.Common.{◌≡◌, ◌≢◌, ℕ, ◌+◌, ◌<◌, ◌^◌, ◌/◌, ◌%◌, ◌==◌, ◌||◌, Bool, true, false, cond, List, [], ◌∷◌, ◌++◌, codes, decimal, nat_lt, refl, subst, arith}
+use Rattle.std.proofs.Common.{◌≡◌, ◌≢◌, ℕ, ◌+◌, ◌<◌, ◌^◌, ◌/◌, ◌%◌, ◌==◌, ◌||◌, Bool, true, false, cond, List, [], ◌∷◌}
+use Rattle.std.proofs.Common.{◌++◌, codes, decimal, nat_lt, refl, subst, arith}
 use Rattle.std.proofs.lemmas.Fmt.{decimal_by_steps}
 use Rattle.std.specs.Char.{digit_char}
 use Rattle.std.specs.List.{AllByRecursion}
 use Rattle.hex.specs.Hex.{encode_lower}
 use Rattle.json.specs.Print.{escape, escape_byte, escape_letter, quoted}
-use Rattle.serde_json.specs.Data.{unsigned, negative, float, Data, null, boolean, number, string, array, object, Items, no_items, item, Members, no_members, member}
+use Rattle.serde_json.specs.Data.{unsigned, negative, float, Data, null, boolean, number, string, array, object, Items}
+use Rattle.serde_json.specs.Data.{no_items, item, Members, no_members, member}
 use Rattle.serde_json.specs.Written.{compact_text, items_text, members_text, comma_if}
 use Rattle.jwk_set.specs.Json.{IsPlain, ArePlain, HasPlainMembers}
 use Rattle.bundle_doc.specs.Bundle.{document_tree}
@@ -45,7 +47,9 @@ feedless_byte : (b : ℕ) → Feedless (escape_byte b)
 unfolding escape_byte
 feedless_byte b =
     escaped_cases (nat_lt 0 (escape_letter b)) (nat_lt b 32) b (escape_letter b) (digit_char (b / 16)) (digit_char (b % 16))
-    (letter_cases ((b == 34) || (b == 92)) (b == 8) (b == 12) (b == 10) (b == 13) (b == 9) b (λ quote ten. let no : ((10 == 34) || (10 == 92)) ≡ true = subst (λ x. ((x == 34) || (x == 92)) ≡ true) ten quote in cc))
+    (letter_cases ((b == 34) || (b == 92)) (b == 8) (b == 12) (b == 10) (b == 13) (b == 9) b
+        (λ quote ten. let no : ((10 == 34) || (10 == 92)) ≡ true =
+        subst (λ x. ((x == 34) || (x == 92)) ≡ true) ten quote in cc))
     (digit_char_small (nat_lt (b / 16) 10) (b / 16)) (digit_char_small (nat_lt (b % 16) 10) (b % 16))
     (λ short control ten. let no : nat_lt 10 32 ≡ false = subst (λ x. nat_lt x 32 ≡ false) ten control in cc)
 
@@ -59,13 +63,15 @@ feedless_quoted s = ((λ e. omega arith), feedless_both (escape s) (34 ∷ []) (
 -- ---- values
 
 pub feedless_decimal : (m : ℕ) → m < 2 ^ 64 → Feedless (decimal m)
-feedless_decimal = decimal_by_steps (λ m ds. Feedless ds) (λ m h. ((λ e. omega arith), tt)) (λ m ds h before. feedless_both ds ((48 + m % 10) ∷ []) before ((λ e. omega arith), tt))
+feedless_decimal = decimal_by_steps (λ m ds. Feedless ds) (λ m h. ((λ e. omega arith), tt))
+    (λ m ds h before. feedless_both ds ((48 + m % 10) ∷ []) before ((λ e. omega arith), tt))
 
 feedless_comma : (later : Bool) → Feedless (comma_if later)
 feedless_comma true = ((λ e. omega arith), tt)
 feedless_comma false = tt
 
-feedless_member : (later : Bool) (name value others : List ℕ) → Feedless value → Feedless others → Feedless (comma_if later ++ (quoted name ++ 58 ∷ (value ++ others)))
+feedless_member : (later : Bool) (name value others : List ℕ) → Feedless value → Feedless others
+    → Feedless (comma_if later ++ (quoted name ++ 58 ∷ (value ++ others)))
 feedless_member later name value others h k =
     feedless_both (comma_if later) (quoted name ++ 58 ∷ (value ++ others)) (feedless_comma later)
     (feedless_both (quoted name) (58 ∷ (value ++ others)) (feedless_quoted name) ((λ e. omega arith), feedless_both value others h k))
@@ -90,7 +96,9 @@ mutual
 
   feedless_members : (later : Bool) (ms : Members) → HasPlainMembers ms → Feedless (members_text later ms)
   feedless_members later no_members h = ((λ e. omega arith), tt)
-  feedless_members later (member name d ms) h = feedless_member later name (compact_text d) (members_text true ms) (feedless_value d h.1) (feedless_members true ms h.3)
+  feedless_members later (member name d ms) h =
+      feedless_member later name (compact_text d) (members_text true ms) (feedless_value d h.1)
+      (feedless_members true ms h.3)
 
 -- ---- lines
 
@@ -101,7 +109,8 @@ pub feedless_line : (r : Receipt) → IsReceipt r → Feedless (line r)
 unfolding line
 feedless_line r h = (
   (λ e. omega arith),
-  feedless_member false (codes "doc") (compact_text (document_tree r.document)) _ (feedless_value (document_tree r.document) (IsPlain-document_tree r.document h.document))
+  feedless_member false (codes "doc") (compact_text (document_tree r.document)) _
+      (feedless_value (document_tree r.document) (IsPlain-document_tree r.document h.document))
       (feedless_member true (codes "domain") (quoted r.domain) _ (feedless_quoted r.domain)
       (feedless_member true (codes "endpoint") (quoted r.endpoint.text) _ (feedless_quoted r.endpoint.text)
       (feedless_member true (codes "key") (quoted (encode_lower r.key.0)) _ (feedless_quoted (encode_lower r.key.0))

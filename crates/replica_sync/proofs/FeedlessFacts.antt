@@ -1,5 +1,6 @@
 -- No first line has a line feed, and the first line of a stream is one.
-use Rattle.std.proofs.Common.{◌≡◌, ◌≢◌, ℕ, ◌<◌, ◌^◌, ◌==◌, ◌&&◌, not, Bool, true, List, [], ◌∷◌, ◌++◌, codes, decimal, Option, None, Some, refl, ap, sym, ◌∙◌, subst, arith}
+use Rattle.std.proofs.Common.{◌≡◌, ◌≢◌, ℕ, ◌<◌, ◌^◌, ◌==◌, ◌&&◌, not, Bool, true, List, [], ◌∷◌, ◌++◌, codes, decimal}
+use Rattle.std.proofs.Common.{Option, None, Some, refl, ap, sym, ◌∙◌, subst, arith}
 use Rattle.std.specs.List.{AllByRecursion, join_by}
 use Rattle.std.proofs.lemmas.Bool.{and_parts}
 use Rattle.std.proofs.lemmas.List.{append_cancel_left}
@@ -43,7 +44,9 @@ feedless-quoted id is =
 feedless-later : (ids : List (List ℕ)) → AllByRecursion IsDigest ids → Feedless (later_text ids)
 feedless-later [] h = tt
 feedless-later (id ∷ ids) h =
-    feedless_both (codes "," ++ quoted id) (later_text ids) (feedless_both (codes ",") (quoted id) (feedless-by (codes ",") refl) (feedless-quoted id h.0)) (feedless-later ids h.1)
+    feedless_both (codes "," ++ quoted id) (later_text ids)
+        (feedless_both (codes ",") (quoted id) (feedless-by (codes ",") refl) (feedless-quoted id h.0))
+        (feedless-later ids h.1)
 
 feedless-ids : (ids : List (List ℕ)) → AllByRecursion IsDigest ids → Feedless (join_by quoted (codes ",") ids)
 feedless-ids [] h = tt
@@ -98,7 +101,8 @@ pub record IsSameLine (text other after since : List ℕ) : Type 0 where
 first-of : (bytes text after : List ℕ) → HasNoFeed text → bytes ≡ ended text ++ after → lines_of bytes ≡ with_line text (lines_of after)
 first-of bytes text after none e = ap lines_of e ∙ lines_of-line text after none
 
-pub same-line : (bytes text other after since : List ℕ) → HasNoFeed text → HasNoFeed other → bytes ≡ ended text ++ after → bytes ≡ ended other ++ since → IsSameLine text other after since
+pub same-line : (bytes text other after since : List ℕ) → HasNoFeed text → HasNoFeed other → bytes ≡ ended text ++ after
+    → bytes ≡ ended other ++ since → IsSameLine text other after since
 same-line bytes text other after since p q e f =
     let both : with_line text (lines_of after) ≡ with_line other (lines_of since) = sym (first-of bytes text after p e) ∙ first-of bytes other since q f in
     let wholes : text ∷ (lines_of after).whole ≡ other ∷ (lines_of since).whole = ap (λ (l : Lines). l.whole) both in
@@ -112,7 +116,8 @@ no-first bytes text after p e none =
     cc
 
 -- the first line of a stream is the one that it begins with
-pub is-first : (bytes text after other : List ℕ) (new : Option (List ℕ)) → HasNoFeed text → bytes ≡ ended text ++ after → HasLine (Some bytes) new other → (other ≡ text) × (new ≡ Some after)
+pub is-first : (bytes text after other : List ℕ) (new : Option (List ℕ)) → HasNoFeed text → bytes ≡ ended text ++ after
+    → HasLine (Some bytes) new other → (other ≡ text) × (new ≡ Some after)
 is-first bytes text after other None p e is = absurd is.1
 is-first bytes text after other (Some since) p e is =
     let same = same-line bytes other text since after is.0 p is.1 e in

@@ -1,5 +1,6 @@
 -- The lines behind an answer's first: one more joins those that were read, and all of them are the answer.
-use Rattle.std.proofs.Common.{◌≡◌, ℕ, ◌+◌, ◌<◌, ◌≤◌, inl, inr, List, [], ◌∷◌, ◌++◌, length, length-append, map, Option, None, Some, refl, ap, sym, ◌∙◌, subst, arith, append_assoc, append-nil}
+use Rattle.std.proofs.Common.{◌≡◌, ℕ, ◌+◌, ◌<◌, ◌≤◌, inl, inr, List, [], ◌∷◌, ◌++◌, length, length-append, map, Option}
+use Rattle.std.proofs.Common.{None, Some, refl, ap, sym, ◌∙◌, subst, arith, append_assoc, append-nil}
 use Rattle.std.proofs.lemmas.Bool.{cases_lt}
 use Rattle.std.proofs.lemmas.List.{map-append}
 use Rattle.std.specs.Io.KnownBytes.{Consumes}
@@ -52,18 +53,22 @@ rising-one : (text : List ℕ) → IsStrictlySortedBy text_cmp (text ∷ [])
 unfolding IsStrictlySortedBy
 rising-one text = (tt, tt)
 
-rising-more : (x : List ℕ) (xs : List (List ℕ)) → AllByRecursion (λ y. text_cmp x y ≡ Less) xs → IsStrictlySortedBy text_cmp xs → IsStrictlySortedBy text_cmp (x ∷ xs)
+rising-more : (x : List ℕ) (xs : List (List ℕ)) → AllByRecursion (λ y. text_cmp x y ≡ Less) xs
+    → IsStrictlySortedBy text_cmp xs → IsStrictlySortedBy text_cmp (x ∷ xs)
 unfolding IsStrictlySortedBy
 rising-more x xs above rising = (above, rising)
 
-above-pushed : (x text : List ℕ) (xs : List (List ℕ)) → AllByRecursion (λ y. text_cmp x y ≡ Less) xs → text_cmp x text ≡ Less → AllByRecursion (λ y. text_cmp x y ≡ Less) (xs ++ text ∷ [])
+above-pushed : (x text : List ℕ) (xs : List (List ℕ)) → AllByRecursion (λ y. text_cmp x y ≡ Less) xs
+    → text_cmp x text ≡ Less → AllByRecursion (λ y. text_cmp x y ≡ Less) (xs ++ text ∷ [])
 above-pushed x text [] h k = (k, tt)
 above-pushed x text (y ∷ xs) h k = (h.0, above-pushed x text xs h.1 k)
 
-rising-pushed : (lines : List (List ℕ)) (text : List ℕ) → IsStrictlySortedBy text_cmp lines → AllBelow text lines → IsStrictlySortedBy text_cmp (lines ++ text ∷ [])
+rising-pushed : (lines : List (List ℕ)) (text : List ℕ) → IsStrictlySortedBy text_cmp lines → AllBelow text lines
+    → IsStrictlySortedBy text_cmp (lines ++ text ∷ [])
 rising-pushed [] text rising below = rising-one text
 rising-pushed (x ∷ lines) text rising below =
-    rising-more x (lines ++ text ∷ []) (above-pushed x text lines (rising_head text_cmp x lines rising) below.0) (rising-pushed lines text (rising_tail text_cmp x lines rising) below.1)
+    rising-more x (lines ++ text ∷ []) (above-pushed x text lines (rising_head text_cmp x lines rising) below.0)
+        (rising-pushed lines text (rising_tail text_cmp x lines rising) below.1)
 
 rising-none : IsStrictlySortedBy text_cmp []
 unfolding IsStrictlySortedBy
@@ -80,7 +85,8 @@ lines-with-receipt content r =
     ap (λ lines. map distrust_line content.records ++ lines) (map-append line content.held (r ∷ []))
     ∙ sym (append_assoc (map distrust_line content.records) (map line content.held) (line r ∷ []))
 
-lines-with-record : (content : State) (x : Distrust) → content.held ≡ [] → content_lines (pushed (Record x) content) ≡ content_lines content ++ distrust_line x ∷ []
+lines-with-record : (content : State) (x : Distrust) → content.held ≡ []
+    → content_lines (pushed (Record x) content) ≡ content_lines content ++ distrust_line x ∷ []
 lines-with-record content x none =
     ap (λ (held : List Receipt). map distrust_line (content.records ++ x ∷ []) ++ map line held) none
     ∙ append-nil (map distrust_line (content.records ++ x ∷ []))
@@ -93,15 +99,21 @@ pub record Grows (count distrusts : ℕ) (old : State) (text : List ℕ) (new : 
   pub begun : IsBegun count distrusts new
   pub lines : content_lines new ≡ content_lines old ++ text ∷ []
 
-rises : (old new : State) (text : List ℕ) → IsStrictlySortedBy text_cmp (content_lines old) → IsAbove (last_of (content_lines old)) text → content_lines new ≡ content_lines old ++ text ∷ []
+rises : (old new : State) (text : List ℕ) → IsStrictlySortedBy text_cmp (content_lines old)
+    → IsAbove (last_of (content_lines old)) text → content_lines new ≡ content_lines old ++ text ∷ []
     → IsStrictlySortedBy text_cmp (content_lines new)
-rises old new text rising above e = subst (IsStrictlySortedBy text_cmp) (sym e) (rising-pushed (content_lines old) text rising (below_last (content_lines old) text rising above))
+rises old new text rising above e =
+    subst (IsStrictlySortedBy text_cmp) (sym e)
+    (rising-pushed (content_lines old) text rising (below_last (content_lines old) text rising above))
 
 module _ (count distrusts : ℕ) (old : State) (begun : IsBegun count distrusts old) where
-  grows-by-record : (text : List ℕ) (x : Distrust) → length old.records < distrusts → IsNextEntry Records (last_of (content_lines old)) text (Record x) → Grows count distrusts old text (pushed (Record x) old)
+  grows-by-record : (text : List ℕ) (x : Distrust) → length old.records < distrusts
+      → IsNextEntry Records (last_of (content_lines old)) text (Record x)
+      → Grows count distrusts old text (pushed (Record x) old)
   grows-by-record text x more next =
       let longer : length (old.records ++ x ∷ []) ≡ length old.records + 1 = length-append old.records (x ∷ []) in
-      let lines : content_lines (pushed (Record x) old) ≡ content_lines old ++ text ∷ [] = lines-with-record old x (begun.order more) ∙ ap (λ t. content_lines old ++ t ∷ []) (sym next.is.spelt) in
+      let lines : content_lines (pushed (Record x) old) ≡ content_lines old ++ text ∷ [] =
+          lines-with-record old x (begun.order more) ∙ ap (λ t. content_lines old ++ t ∷ []) (sym next.is.spelt) in
       record {
         begun = record {
           valid = record { receipts = begun.valid.receipts; records = all-pushed _ old.records x begun.valid.records next.is.is };
@@ -113,11 +125,13 @@ module _ (count distrusts : ℕ) (old : State) (begun : IsBegun count distrusts 
         lines = lines;
       }
 
-  grows-by-receipt : (text : List ℕ) (r : Receipt) → length old.records ≡ distrusts → length old.held < count → IsNextEntry Receipts (last_of (content_lines old)) text (AReceipt r)
+  grows-by-receipt : (text : List ℕ) (r : Receipt) → length old.records ≡ distrusts → length old.held < count
+      → IsNextEntry Receipts (last_of (content_lines old)) text (AReceipt r)
       → Grows count distrusts old text (pushed (AReceipt r) old)
   grows-by-receipt text r all more next =
       let longer : length (old.held ++ r ∷ []) ≡ length old.held + 1 = length-append old.held (r ∷ []) in
-      let lines : content_lines (pushed (AReceipt r) old) ≡ content_lines old ++ text ∷ [] = lines-with-receipt old r ∙ ap (λ t. content_lines old ++ t ∷ []) (sym next.is.spelt) in
+      let lines : content_lines (pushed (AReceipt r) old) ≡ content_lines old ++ text ∷ [] =
+          lines-with-receipt old r ∙ ap (λ t. content_lines old ++ t ∷ []) (sym next.is.spelt) in
       record {
         begun = record {
           valid = record { receipts = all-pushed _ old.held r begun.valid.receipts next.is.is; records = begun.valid.records };
@@ -129,14 +143,16 @@ module _ (count distrusts : ℕ) (old : State) (begun : IsBegun count distrusts 
         lines = lines;
       }
 
-  grows-by : (wanted : Wanted) (text : List ℕ) (entry : Entry) → Wants count distrusts old wanted → IsNextEntry wanted (last_of (content_lines old)) text entry → Grows count distrusts old text (pushed entry old)
+  grows-by : (wanted : Wanted) (text : List ℕ) (entry : Entry) → Wants count distrusts old wanted
+      → IsNextEntry wanted (last_of (content_lines old)) text entry → Grows count distrusts old text (pushed entry old)
   grows-by Records text (Record x) wants next = grows-by-record text x wants next
   grows-by Records text (AReceipt r) wants next = absurd next.is.is
   grows-by Receipts text (Record x) wants next = absurd next.is.is
   grows-by Receipts text (AReceipt r) wants next = grows-by-receipt text r wants.0 wants.1 next
   grows-by Either text entry wants next = absurd wants
 
-  pub grows : (wanted : Wanted) (text : List ℕ) (new : State) → Wants count distrusts old wanted → Pushes wanted old text new → Grows count distrusts old text new
+  pub grows : (wanted : Wanted) (text : List ℕ) (new : State) → Wants count distrusts old wanted
+      → Pushes wanted old text new → Grows count distrusts old text new
   grows wanted text new wants p = subst (Grows count distrusts old text) (sym p.now) (grows-by wanted text p.entry wants p.next)
 
 -- ---- in a stream
@@ -155,37 +171,48 @@ gathers-none count distrusts stream content none = subst (λ s. Gathers count di
     nothing None = tt
     nothing (Some bytes) = refl
 
-pub gathers-more : (count distrusts : ℕ) (stream before after : Option (List ℕ)) (old new : State) → Gathers count distrusts stream old before → IsNextAnswerLine count distrusts old before new after
+pub gathers-more : (count distrusts : ℕ) (stream before after : Option (List ℕ)) (old new : State)
+    → Gathers count distrusts stream old before → IsNextAnswerLine count distrusts old before new after
     → Gathers count distrusts stream new after
 gathers-more count distrusts stream before after old new g f =
     let grown = grows count distrusts old g.begun f.wanted f.text new f.wants f.pushes in
     record {
       begun = grown.begun;
-      text = subst (Consumes stream after) (sym (ap text_of_lines grown.lines ∙ lines-text (content_lines old) f.text)) (consumes_both stream before after (text_of_lines (content_lines old)) (ended f.text) g.text f.is.1);
+      text = subst (Consumes stream after) (sym (ap text_of_lines grown.lines ∙ lines-text (content_lines old) f.text))
+          (consumes_both stream before after (text_of_lines (content_lines old)) (ended f.text) g.text f.is.1);
     }
 
 -- ---- the answer
 
-lines-of : {X : Type 0} (f : X → List ℕ) (xs : List X) (later : List (List ℕ)) → text_of_lines (map f xs ++ later) ≡ flat_map (λ x. ended (f x)) xs ++ text_of_lines later
+lines-of : {X : Type 0} (f : X → List ℕ) (xs : List X) (later : List (List ℕ))
+    → text_of_lines (map f xs ++ later) ≡ flat_map (λ x. ended (f x)) xs ++ text_of_lines later
 lines-of f [] later = refl
-lines-of f (x ∷ xs) later = ap (λ t. ended (f x) ++ t) (lines-of f xs later) ∙ sym (append_assoc (ended (f x)) (flat_map (λ y. ended (f y)) xs) (text_of_lines later))
+lines-of f (x ∷ xs) later = ap (λ t. ended (f x) ++ t) (lines-of f xs later)
+    ∙ sym (append_assoc (ended (f x)) (flat_map (λ y. ended (f y)) xs) (text_of_lines later))
 
 content-text : (content : State) → text_of_lines (content_lines content) ≡ flat_map record_text content.records ++ flat_map receipt_text content.held
 content-text content =
     lines-of distrust_line content.records (map line content.held)
-    ∙ ap (λ t. flat_map record_text content.records ++ t) (ap text_of_lines (sym (append-nil (map line content.held))) ∙ lines-of line content.held [] ∙ append-nil (flat_map receipt_text content.held))
+    ∙ ap (λ t. flat_map record_text content.records ++ t)
+        (ap text_of_lines (sym (append-nil (map line content.held))) ∙ lines-of line content.held []
+        ∙ append-nil (flat_map receipt_text content.held))
 
-told-whole : (h : Head) (content : State) → IsWhole h.count h.distrusts content → told_by_head h ≡ told_of (record { bucket = h.bucket; config = h.config.0; content = content })
-told-whole h content whole = λ i. record { bucket = h.bucket; config = h.config.0; count = sym whole.receipts i; distrusts = Some (sym whole.records i); format = 2; buckets = 256 }
+told-whole : (h : Head) (content : State) → IsWhole h.count h.distrusts content
+    → told_by_head h ≡ told_of (record { bucket = h.bucket; config = h.config.0; content = content })
+told-whole h content whole = λ i. record { bucket = h.bucket; config = h.config.0; count = sym whole.receipts i;
+    distrusts = Some (sym whole.records i); format = 2; buckets = 256 }
 
-pub whole-reply : (old middle new : Option (List ℕ)) (h : Head) (content : State) → HasHead None old middle h → GathersAll h.count h.distrusts middle content new
+pub whole-reply : (old middle new : Option (List ℕ)) (h : Head) (content : State) → HasHead None old middle h
+    → GathersAll h.count h.distrusts middle content new
     → Consumes old new (reply_text (record { bucket = h.bucket; config = h.config.0; content = content }))
 whole-reply old middle new h content head all =
-    let first : head.text ≡ told_text (told_of (record { bucket = h.bucket; config = h.config.0; content = content })) = head.tells.tells.line.spelt ∙ ap told_text (told-whole h content all.whole) in
+    let first : head.text ≡ told_text (told_of (record { bucket = h.bucket; config = h.config.0; content = content })) =
+        head.tells.tells.line.spelt ∙ ap told_text (told-whole h content all.whole) in
     subst (Consumes old new) ((λ i. ended (first i) ++ content-text content i))
     (consumes_both old middle new (ended head.text) (text_of_lines (content_lines content)) head.is.1 all.gathers.text)
 
-pub whole-answer : (old middle new : Option (List ℕ)) (h : Head) (content : State) → HasHead None old middle h → GathersAll h.count h.distrusts middle content new
+pub whole-answer : (old middle new : Option (List ℕ)) (h : Head) (content : State) → HasHead None old middle h
+    → GathersAll h.count h.distrusts middle content new
     → IsAnswer (record { bucket = h.bucket; config = h.config.0; content = content })
 whole-answer old middle new h content head all = record {
   told = subst IsGiveHeader (told-whole h content all.whole) head.tells.tells.line.is;
@@ -196,7 +223,8 @@ whole-answer old middle new h content head all = record {
 pub heads-told : (expected : Option Expected) (text : List ℕ) (h : Head) → TellsHead expected text h → Heads expected text h.count h.distrusts
 heads-told expected text h t = record { told = told_by_head h; tells = t.tells; own = t.own; spoken = (refl, refl); receipts = refl; records = refl }
 
-pub fails-behind : (old middle new : Option (List ℕ)) (h : Head) (e : SyncError) → HasHead None old middle h → StopsGathering h.count h.distrusts middle new e → RefusesGive old new e
+pub fails-behind : (old middle new : Option (List ℕ)) (h : Head) (e : SyncError) → HasHead None old middle h
+    → StopsGathering h.count h.distrusts middle new e → RefusesGive old new e
 fails-behind old middle new h e head fails = inr (record {
   count = h.count;
   distrusts = h.distrusts;

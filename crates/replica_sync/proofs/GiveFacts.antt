@@ -1,5 +1,7 @@
 -- A stream begins with one answer at most, and one that begins with a whole answer has no fault before its end.
-use Rattle.std.proofs.Common.{◌≡◌, ◌≢◌, ℕ, ◌+◌, ◌<◌, ◌≤◌, ◌^◌, ◌⊎◌, inl, inr, List, [], ◌∷◌, ◌++◌, codes, decimal, length, length-append, map, fold, Option, None, Some, refl, ap, sym, ◌∙◌, subst, arith, append_assoc, append-nil}
+use Rattle.std.proofs.Common.{◌≡◌, ◌≢◌, ℕ, ◌+◌, ◌<◌, ◌≤◌, ◌^◌, ◌⊎◌, inl, inr, List, [], ◌∷◌, ◌++◌, codes, decimal}
+use Rattle.std.proofs.Common.{length, length-append, map, fold, Option, None, Some, refl, ap, sym, ◌∙◌, subst, arith}
+use Rattle.std.proofs.Common.{append_assoc, append-nil}
 use Rattle.std.proofs.lemmas.Fmt.{length-decimal-le}
 use Rattle.std.proofs.lemmas.List.{append_cancel_left, length-map}
 use Rattle.std.specs.Io.KnownBytes.{Consumes}
@@ -52,7 +54,9 @@ short-part t is = by-count t.distrusts is.records
     by-count (Some n) h = let few = short-number n h in let both = length-append (codes ",\"distrusts\":") (decimal n) in omega (arith, few, both)
 
 parts-length : (b c n d f k : List ℕ)
-    → length (codes "{\"bucket\":" ++ (b ++ (codes ",\"config\":\"" ++ (c ++ (codes "\",\"count\":" ++ (n ++ (d ++ (codes ",\"format\":" ++ (f ++ (codes ",\"of\":" ++ (k ++ codes "}")))))))))))
+    → length (codes "{\"bucket\":" ++
+        (b ++ (codes ",\"config\":\"" ++ (c ++ (codes "\",\"count\":" ++
+        (n ++ (d ++ (codes ",\"format\":" ++ (f ++ (codes ",\"of\":" ++ (k ++ codes "}")))))))))))
     ≡ length b + length c + length n + length d + length f + length k + 48
 parts-length b c n d f k = simp length-append (omega arith)
 
@@ -68,7 +72,8 @@ short-told t is =
     let buckets = short-number t.buckets is.buckets in
     omega (arith, whole, bucket, config, count, part, format, buckets)
 
-no-bad-told : (expected : Option Expected) (r : Reply) (e : SyncError) → IsAnswer r → IsAbout expected r.bucket → IsOwn (config_of expected) r.config → e ≢ NoMemory
+no-bad-told : (expected : Option Expected) (r : Reply) (e : SyncError) → IsAnswer r → IsAbout expected r.bucket
+    → IsOwn (config_of expected) r.config → e ≢ NoMemory
     → ((e ≡ BadHeader) × (8388608 < length (told_text (told_of r)))) ⊎ RefusesTold expected (told_text (told_of r)) e → ⊥
 no-bad-told expected r e is about own ample (inl long) = let more = long.1 in let short = short-told (told_of r) is.told in omega (arith, more, short)
 no-bad-told expected r BadHeader is about own ample (inr none) = none (told_of r) (record { line = told-line r is; about = about })
@@ -89,11 +94,13 @@ no-bad-told expected r NoMemory is about own ample (inr h) = ample refl
 -- ---- the lines behind it
 
 -- the answer's first line, and the lines behind it
-pub in-lines : (bytes : List ℕ) (r : Reply) (rest : List ℕ) → bytes ≡ reply_text r ++ rest → bytes ≡ ended (told_text (told_of r)) ++ (text_of_lines (content_lines r.content) ++ rest)
+pub in-lines : (bytes : List ℕ) (r : Reply) (rest : List ℕ) → bytes ≡ reply_text r ++ rest
+    → bytes ≡ ended (told_text (told_of r)) ++ (text_of_lines (content_lines r.content) ++ rest)
 in-lines bytes r rest e =
     e ∙ append_assoc (ended (told_text (told_of r))) _ rest ∙ ap (λ t. ended (told_text (told_of r)) ++ (t ++ rest)) (sym (text_of_content r.content))
 
-feedless-all : {A : Type 0} (P : A → Type 0) (text : A → List ℕ) → ((a : A) → P a → Feedless (text a)) → (xs : List A) (later : List (List ℕ)) → AllByRecursion P xs → AllByRecursion Feedless later
+feedless-all : {A : Type 0} (P : A → Type 0) (text : A → List ℕ) → ((a : A) → P a → Feedless (text a))
+    → (xs : List A) (later : List (List ℕ)) → AllByRecursion P xs → AllByRecursion Feedless later
     → AllByRecursion Feedless (map text xs ++ later)
 feedless-all P text each [] later h k = k
 feedless-all P text each (x ∷ xs) later h k = (each x h.0, feedless-all P text each xs later h.1 k)
@@ -110,10 +117,12 @@ count-lines content =
     let receipts = length-map content.held line in
     omega (arith, both, records, receipts)
 
-same-lines : (m k : State) (rest after : List ℕ) → IsContent m → IsContent k → text_of_lines (content_lines m) ++ rest ≡ text_of_lines (content_lines k) ++ after
+same-lines : (m k : State) (rest after : List ℕ) → IsContent m → IsContent k
+    → text_of_lines (content_lines m) ++ rest ≡ text_of_lines (content_lines k) ++ after
     → content_lines m ++ (lines_of rest).whole ≡ content_lines k ++ (lines_of after).whole
 same-lines m k rest after is valid e =
-    ap (λ (l : Lines). l.whole) (sym (lines_back (content_lines m) rest (feedless-content m is)) ∙ ap lines_of e ∙ lines_back (content_lines k) after (feedless-content k valid))
+    ap (λ (l : Lines). l.whole) (sym (lines_back (content_lines m) rest (feedless-content m is)) ∙ ap lines_of e
+        ∙ lines_back (content_lines k) after (feedless-content k valid))
 
 -- ---- one answer
 
@@ -135,22 +144,31 @@ pub record IsSameReply (a b : Reply) (left rest : List ℕ) : Type 0 where
   pub reply : a ≡ b
   pub behind : left ≡ rest
 
-pub same-reply : (bytes : List ℕ) (a b : Reply) (left rest : List ℕ) → IsAnswer a → IsAnswer b → bytes ≡ reply_text a ++ left → bytes ≡ reply_text b ++ rest → IsSameReply a b left rest
+pub same-reply : (bytes : List ℕ) (a b : Reply) (left rest : List ℕ) → IsAnswer a → IsAnswer b
+    → bytes ≡ reply_text a ++ left → bytes ≡ reply_text b ++ rest → IsSameReply a b left rest
 same-reply bytes a b left rest is valid e f =
-    let first = same-line bytes (told_text (told_of a)) (told_text (told_of b)) _ _ (plain-told (told_of a) is.told) (plain-told (told_of b) valid.told) (in-lines bytes a left e) (in-lines bytes b rest f) in
-    let told : told_of a ≡ told_of b = one-told (told_text (told_of a)) (told_of a) (told_of b) (told-line a is) (record { is = valid.told; spelt = first.line }) in
+    let first = same-line bytes (told_text (told_of a)) (told_text (told_of b)) _ _ (plain-told (told_of a) is.told)
+        (plain-told (told_of b) valid.told) (in-lines bytes a left e) (in-lines bytes b rest f) in
+    let told : told_of a ≡ told_of b =
+        one-told (told_text (told_of a)) (told_of a) (told_of b) (told-line a is)
+        (record { is = valid.told; spelt = first.line }) in
     let receipts : length a.content.held ≡ length b.content.held = ap (λ (t : GiveHeader). t.count) told in
     let records : length a.content.records ≡ length b.content.records = some-once _ _ (ap (λ (t : GiveHeader). t.distrusts) told) in
     let many = count-lines a.content in
     let many_too = count-lines b.content in
-    let lines = same-front (content_lines a.content) (content_lines b.content) _ _ (omega (arith, receipts, records, many, many_too)) (same-lines a.content b.content left rest is.valid valid.valid first.rest) in
-    let sets = held_back a.content.records b.content.records a.content.held b.content.held is.valid.records valid.valid.records is.valid.receipts valid.valid.receipts lines.0 in
+    let lines = same-front (content_lines a.content) (content_lines b.content) _ _
+        (omega (arith, receipts, records, many, many_too))
+        (same-lines a.content b.content left rest is.valid valid.valid first.rest) in
+    let sets = held_back a.content.records b.content.records a.content.held b.content.held is.valid.records
+        valid.valid.records is.valid.receipts valid.valid.receipts lines.0 in
     record {
       reply = λ i. record { bucket = (told i).bucket; config = (told i).config; content = record { held = sets.receipts i; records = sets.records i } };
-      behind = append_cancel_left (text_of_lines (content_lines b.content)) left rest (ap (λ (ls : List (List ℕ)). text_of_lines ls ++ left) (sym lines.0) ∙ first.rest);
+      behind = append_cancel_left (text_of_lines (content_lines b.content)) left rest
+          (ap (λ (ls : List (List ℕ)). text_of_lines ls ++ left) (sym lines.0) ∙ first.rest);
     }
 
-pub one-reply : (bytes : List ℕ) (a b : Reply) (left rest : Option (List ℕ)) → IsAnswer a → IsAnswer b → Consumes (Some bytes) left (reply_text a) → Consumes (Some bytes) rest (reply_text b) → (a ≡ b) × (left ≡ rest)
+pub one-reply : (bytes : List ℕ) (a b : Reply) (left rest : Option (List ℕ)) → IsAnswer a → IsAnswer b
+    → Consumes (Some bytes) left (reply_text a) → Consumes (Some bytes) rest (reply_text b) → (a ≡ b) × (left ≡ rest)
 one-reply bytes a b None rest is valid e f = absurd e
 one-reply bytes a b (Some left) None is valid e f = absurd f
 one-reply bytes a b (Some left) (Some rest) is valid e f =
@@ -183,29 +201,37 @@ record StandsAt {A : Type 0} (P : A → Type 0) (f : A → List ℕ) (text : Lis
   pub is : P it
   pub spelt : text ≡ f it
 
-stands-at : {A : Type 0} (P : A → Type 0) (f : A → List ℕ) (xs : List A) (us ys vs : List (List ℕ)) (text : List ℕ) → AllByRecursion P xs → map f xs ++ us ≡ ys ++ text ∷ vs → length ys < length xs → StandsAt P f text
+stands-at : {A : Type 0} (P : A → Type 0) (f : A → List ℕ) (xs : List A) (us ys vs : List (List ℕ)) (text : List ℕ)
+    → AllByRecursion P xs → map f xs ++ us ≡ ys ++ text ∷ vs → length ys < length xs → StandsAt P f text
 stands-at P f [] us ys vs text h e less = absurd (omega (arith, less))
 stands-at P f (x ∷ xs) us [] vs text h e less = record { it = x; is = h.0; spelt = cc }
 stands-at P f (x ∷ xs) us (y ∷ ys) vs text h e less =
     let tail : map f xs ++ us ≡ ys ++ text ∷ vs = cc in
     stands-at P f xs us ys vs text h.1 tail (omega (arith, less))
 
-entry-at : (wanted : Wanted) (count distrusts : ℕ) (whole content : State) (text : List ℕ) (later : List (List ℕ)) → IsContent whole → IsBegun count distrusts content → count ≡ length whole.held → distrusts ≡ length whole.records
+entry-at : (wanted : Wanted) (count distrusts : ℕ) (whole content : State) (text : List ℕ) (later : List (List ℕ))
+    → IsContent whole → IsBegun count distrusts content → count ≡ length whole.held → distrusts ≡ length whole.records
     → Wants count distrusts content wanted → content_lines whole ≡ content_lines content ++ text ∷ later → (entry : Entry) × IsEntry wanted text entry
 entry-at Records count distrusts whole content text later is begun receipts records wants e =
-    let none : content_lines content ≡ map distrust_line content.records = ap (λ held. map distrust_line content.records ++ map line held) (begun.order wants) ∙ append-nil (map distrust_line content.records) in
+    let none : content_lines content ≡ map distrust_line content.records =
+        ap (λ held. map distrust_line content.records ++ map line held) (begun.order wants)
+        ∙ append-nil (map distrust_line content.records) in
     let few = length-map content.records distrust_line in
-    let at = stands-at IsDistrust distrust_line whole.records (map line whole.held) (map distrust_line content.records) later text is.records (e ∙ ap (λ ls. ls ++ text ∷ later) none) (omega (arith, few, records, wants)) in
+    let at = stands-at IsDistrust distrust_line whole.records (map line whole.held) (map distrust_line content.records)
+        later text is.records (e ∙ ap (λ ls. ls ++ text ∷ later) none) (omega (arith, few, records, wants)) in
     (Record at.it, record { is = at.is; spelt = at.spelt })
 entry-at Receipts count distrusts whole content text later is begun receipts records wants e =
     let all = wants.0 in
     let more = wants.1 in
     let many = length-map whole.records distrust_line in
     let many_too = length-map content.records distrust_line in
-    let behind = (same-front (map distrust_line whole.records) (map distrust_line content.records) (map line whole.held) (map line content.held ++ text ∷ later) (omega (arith, many, many_too, all, records))
+    let behind =
+        (same-front (map distrust_line whole.records) (map distrust_line content.records) (map line whole.held)
+        (map line content.held ++ text ∷ later) (omega (arith, many, many_too, all, records))
     (e ∙ append_assoc (map distrust_line content.records) (map line content.held) (text ∷ later))).1 in
     let few = length-map content.held line in
-    let at = stands-at IsReceipt line whole.held [] (map line content.held) later text is.receipts (append-nil (map line whole.held) ∙ behind) (omega (arith, few, receipts, more)) in
+    let at = stands-at IsReceipt line whole.held [] (map line content.held) later text is.receipts
+        (append-nil (map line whole.held) ∙ behind) (omega (arith, few, receipts, more)) in
     (AReceipt at.it, record { is = at.is; spelt = at.spelt })
 entry-at Either count distrusts whole content text later is begun receipts records wants e = absurd wants
 
@@ -218,7 +244,8 @@ last-above : (before text : List ℕ) (xs later : List (List ℕ)) → text_cmp 
     → text_cmp (fold (λ (l : List ℕ) (line : List ℕ). line) before xs) text ≡ Less
 last-above before text [] later h rising = h
 last-above before text (x ∷ xs) later h rising =
-    last-above x text xs later (all_back (λ y. text_cmp x y ≡ Less) xs (text ∷ later) (rising_head text_cmp x (xs ++ text ∷ later) rising)).0 (rising_tail text_cmp x (xs ++ text ∷ later) rising)
+    last-above x text xs later (all_back (λ y. text_cmp x y ≡ Less) xs (text ∷ later)
+        (rising_head text_cmp x (xs ++ text ∷ later) rising)).0 (rising_tail text_cmp x (xs ++ text ∷ later) rising)
 
 -- It is the line behind this beginning of the whole.
 pub record IsGood (whole content : State) (wanted : Wanted) (text : List ℕ) : Type 0 where
@@ -234,7 +261,8 @@ record IsPart (whole content : State) (count distrusts : ℕ) (rest after : List
   pub records : distrusts ≡ length whole.records
   pub lines : content_lines content ++ (lines_of rest).whole ≡ content_lines whole ++ (lines_of after).whole
 
-fewer : (count distrusts : ℕ) (whole content : State) (wanted : Wanted) → IsBegun count distrusts content → count ≡ length whole.held → distrusts ≡ length whole.records → Wants count distrusts content wanted
+fewer : (count distrusts : ℕ) (whole content : State) (wanted : Wanted) → IsBegun count distrusts content
+    → count ≡ length whole.held → distrusts ≡ length whole.records → Wants count distrusts content wanted
     → length (content_lines content) < length (content_lines whole)
 fewer count distrusts whole content Records begun receipts records wants =
     let few = count-lines content in
@@ -249,25 +277,32 @@ fewer count distrusts whole content Receipts begun receipts records wants =
     omega (arith, few, many, all, more, receipts, records)
 fewer count distrusts whole content Either begun receipts records wants = absurd wants
 
-module _ (whole content : State) (count distrusts : ℕ) (rest after : List ℕ) (valid : IsContent whole) (rising : IsStrictlySortedBy text_cmp (content_lines whole)) (part : IsPart whole content count distrusts rest after) where
+module _ (whole content : State) (count distrusts : ℕ) (rest after : List ℕ) (valid : IsContent whole)
+    (rising : IsStrictlySortedBy text_cmp (content_lines whole))
+    (part : IsPart whole content count distrusts rest after) where
   next-line : (wanted : Wanted) → Wants count distrusts content wanted → HasFurther (content_lines content) (lines_of rest).whole (content_lines whole)
   next-line wanted wants =
-      further (content_lines content) (lines_of rest).whole (content_lines whole) (lines_of after).whole part.lines (fewer count distrusts whole content wanted part.begun part.receipts part.records wants)
+      further (content_lines content) (lines_of rest).whole (content_lines whole) (lines_of after).whole part.lines
+          (fewer count distrusts whole content wanted part.begun part.receipts part.records wants)
 
-  good-line : (wanted : Wanted) (text : List ℕ) (later : List (List ℕ)) → Wants count distrusts content wanted → content_lines whole ≡ content_lines content ++ text ∷ later → IsGood whole content wanted text
+  good-line : (wanted : Wanted) (text : List ℕ) (later : List (List ℕ)) → Wants count distrusts content wanted
+      → content_lines whole ≡ content_lines content ++ text ∷ later → IsGood whole content wanted text
   good-line wanted text later wants lines =
       let found = entry-at wanted count distrusts whole content text later valid part.begun part.receipts part.records wants lines in
       record {
         entry = found.0;
         next = record {
           is = found.1;
-          above = last-above [] text (content_lines content) later (subst (IsAbove []) (sym found.1.spelt) (above-nothing found.0)) (subst (IsStrictlySortedBy text_cmp) lines rising);
+          above = last-above [] text (content_lines content) later
+              (subst (IsAbove []) (sym found.1.spelt) (above-nothing found.0))
+              (subst (IsStrictlySortedBy text_cmp) lines rising);
         };
         later = later;
         lines = lines;
       }
 
-  good-next : (wanted : Wanted) (text : List ℕ) (new : Option (List ℕ)) → Wants count distrusts content wanted → HasLine (Some rest) new text → IsGood whole content wanted text
+  good-next : (wanted : Wanted) (text : List ℕ) (new : Option (List ℕ)) → Wants count distrusts content wanted
+      → HasLine (Some rest) new text → IsGood whole content wanted text
   good-next wanted text None wants is = absurd is.1
   good-next wanted text (Some since) wants is =
       let more = next-line wanted wants in
@@ -303,7 +338,9 @@ module _ (whole content : State) (count distrusts : ℕ) (rest after : List ℕ)
 
 -- ---- no fault
 
-module _ (expected : Option Expected) (bytes : List ℕ) (r : Reply) (after : List ℕ) (is : IsAnswer r) (about : IsAbout expected r.bucket) (own : IsOwn (config_of expected) r.config) (begins : bytes ≡ reply_text r ++ after) where
+module _ (expected : Option Expected) (bytes : List ℕ) (r : Reply) (after : List ℕ) (is : IsAnswer r)
+    (about : IsAbout expected r.bucket) (own : IsOwn (config_of expected) r.config)
+    (begins : bytes ≡ reply_text r ++ after) where
   bad-first : (new : Option (List ℕ)) (e : SyncError) → e ≢ NoMemory → HasBadFirstLine (RefusesTold expected) (Some bytes) new e → ⊥
   bad-first new e ample h =
       no-bad-told expected r e is about own ample
@@ -321,10 +358,13 @@ module _ (expected : Option Expected) (bytes : List ℕ) (r : Reply) (after : Li
   no-head-fault new Io calm ample h = calm refl
   no-head-fault new NoMemory calm ample h = ample refl
 
-  is-part : (count distrusts : ℕ) (content : State) (rest : List ℕ) → AnswerBegins expected (Some bytes) count distrusts content (Some rest) → IsPart r.content content count distrusts rest after
+  is-part : (count distrusts : ℕ) (content : State) (rest : List ℕ)
+      → AnswerBegins expected (Some bytes) count distrusts content (Some rest)
+      → IsPart r.content content count distrusts rest after
   is-part count distrusts content rest b =
       let line = b.heads.tells.line in
-      let first = same-line bytes b.first (told_text (told_of r)) _ _ (subst HasNoFeed (sym line.spelt) (plain-told b.heads.told line.is)) (plain-told (told_of r) is.told)
+      let first = same-line bytes b.first (told_text (told_of r)) _ _
+          (subst HasNoFeed (sym line.spelt) (plain-told b.heads.told line.is)) (plain-told (told_of r) is.told)
       (b.text ∙ append_assoc (ended b.first) (text_of_lines (content_lines content)) rest) (in-lines bytes r after begins) in
       let told : b.heads.told ≡ told_of r = one-told b.first b.heads.told (told_of r) line (record { is = is.told; spelt = first.line }) in
       record {
@@ -334,15 +374,18 @@ module _ (expected : Option Expected) (bytes : List ℕ) (r : Reply) (after : Li
         lines = same-lines content r.content rest after b.begun.valid is.valid first.rest;
       }
 
-  pub no-fault-behind : (refuses : Wanted → List ℕ → List ℕ → SyncError → Type 0) (count distrusts : ℕ) (content : State) (left new : Option (List ℕ)) (e : SyncError)
+  pub no-fault-behind : (refuses : Wanted → List ℕ → List ℕ → SyncError
+      → Type 0) (count distrusts : ℕ) (content : State) (left new : Option (List ℕ)) (e : SyncError)
       → ((wanted : Wanted) (text : List ℕ) → IsGood r.content content wanted text → refuses wanted (last_of (content_lines content)) text e → ⊥)
-      → e ≢ Io → e ≢ NoMemory → AnswerBegins expected (Some bytes) count distrusts content left → RefusesNextEntry refuses count distrusts content left new e → ⊥
+      → e ≢ Io → e ≢ NoMemory → AnswerBegins expected (Some bytes) count distrusts content left
+          → RefusesNextEntry refuses count distrusts content left new e → ⊥
   no-fault-behind refuses count distrusts content None new e welcome calm ample b h = b.text
   no-fault-behind refuses count distrusts content (Some rest) new e welcome calm ample b h =
       no-next-fault r.content content count distrusts rest after is.valid is.rising (is-part count distrusts content rest b) refuses new e welcome calm ample h
 
 -- the text of a good line has no fault of its own
-no-text-fault : (whole content : State) (wanted : Wanted) (text : List ℕ) (e : SyncError) → e ≢ NoMemory → IsGood whole content wanted text → refused_text content wanted (last_of (content_lines content)) text e → ⊥
+no-text-fault : (whole content : State) (wanted : Wanted) (text : List ℕ) (e : SyncError) → e ≢ NoMemory
+    → IsGood whole content wanted text → refused_text content wanted (last_of (content_lines content)) text e → ⊥
 no-text-fault whole content wanted text BadHeader ample good h = h
 no-text-fault whole content wanted text ConfigDiffers ample good h = h
 no-text-fault whole content wanted text VersionDiffers ample good h = h
@@ -357,12 +400,14 @@ no-text-fault whole content wanted text (Refused n why) ample good h = h
 no-text-fault whole content wanted text Io ample good h = h
 no-text-fault whole content wanted text NoMemory ample good h = ample refl
 
-whole-read : (bytes : List ℕ) (r : Reply) (after : List ℕ) (new : Option (List ℕ)) (e : SyncError) → IsAnswer r → e ≢ Io → e ≢ NoMemory → bytes ≡ reply_text r ++ after → RefusesGive (Some bytes) new e → ⊥
+whole-read : (bytes : List ℕ) (r : Reply) (after : List ℕ) (new : Option (List ℕ)) (e : SyncError) → IsAnswer r → e ≢ Io
+    → e ≢ NoMemory → bytes ≡ reply_text r ++ after → RefusesGive (Some bytes) new e → ⊥
 whole-read bytes r after new e is calm ample begins (inl head) = no-head-fault None bytes r after is tt tt begins new e calm ample head
 whole-read bytes r after new e is calm ample begins (inr fault) =
     no-fault-behind None bytes r after is tt tt begins (refused_text fault.content) fault.count fault.distrusts fault.content fault.left new e
     (λ wanted text. no-text-fault r.content fault.content wanted text e ample) calm ample fault.begins fault.cause
 
-pub reply-read : (bytes : List ℕ) (r : Reply) (left new : Option (List ℕ)) (e : SyncError) → IsAnswer r → e ≢ Io → e ≢ NoMemory → Consumes (Some bytes) left (reply_text r) → RefusesGive (Some bytes) new e → ⊥
+pub reply-read : (bytes : List ℕ) (r : Reply) (left new : Option (List ℕ)) (e : SyncError) → IsAnswer r → e ≢ Io
+    → e ≢ NoMemory → Consumes (Some bytes) left (reply_text r) → RefusesGive (Some bytes) new e → ⊥
 reply-read bytes r None new e is calm ample begins h = begins
 reply-read bytes r (Some after) new e is calm ample begins h = whole-read bytes r after new e is calm ample begins h

@@ -1,5 +1,6 @@
 -- The first lines of answers, from their parts and back.
-use Rattle.std.proofs.Common.{◌≡◌, ℕ, ◌<◌, ◌^◌, false, List, ◌∷◌, ◌++◌, drop, get_or, codes, decimal, Option, None, Some, refl, ap, sym, ◌∙◌, arith, append_assoc}
+use Rattle.std.proofs.Common.{◌≡◌, ℕ, ◌<◌, ◌^◌, false, List, ◌∷◌, ◌++◌, drop, get_or, codes, decimal, Option, None}
+use Rattle.std.proofs.Common.{Some, refl, ap, sym, ◌∙◌, arith, append_assoc}
 use Rattle.std.specs.Prelude.{IfSome}
 use Rattle.std.specs.Char.{is_ascii_digit}
 use Rattle.replica_sync.specs.Messages.{distrusts_part}
@@ -12,7 +13,9 @@ abbrev pub format_label : List ℕ
 format_label = codes ",\"format\":"
 
 -- a comma follows the number of receipts
-pub part-begins : (distrusts : Option ℕ) (more : List ℕ) → distrusts_part distrusts ++ (format_label ++ more) ≡ 44 ∷ drop 1 (distrusts_part distrusts ++ (format_label ++ more))
+pub part-begins : (distrusts : Option ℕ) (more : List ℕ)
+    → distrusts_part distrusts ++ (format_label ++ more)
+    ≡ 44 ∷ drop 1 (distrusts_part distrusts ++ (format_label ++ more))
 part-begins None more = refl
 part-begins (Some n) more = refl
 
@@ -24,14 +27,20 @@ pub no-records : (text rest more : List ℕ) → text ≡ records_label ++ rest 
 no-records text rest more e f = let no : 100 ≡ 102 = sym (ap (λ (t : List ℕ). get_or t 2 0) e) ∙ ap (λ (t : List ℕ). get_or t 2 0) f in omega (arith, no)
 
 pub some-records : (text rest behind : List ℕ) (number : ℕ) → text ≡ records_label ++ rest
-    → ((n stop : ℕ) (more : List ℕ) → n < 2 ^ 64 → is_ascii_digit stop ≡ false → text ≡ records_label ++ (decimal n ++ (stop ∷ more)) → (number ≡ n) × (behind ≡ stop ∷ more))
-    → (distrusts : Option ℕ) (more : List ℕ) → IfSome distrusts (λ n. n < 2 ^ 64) → text ≡ distrusts_part distrusts ++ (format_label ++ more) → (Some number ≡ distrusts) × (behind ≡ format_label ++ more)
+    → ((n stop : ℕ) (more : List ℕ) → n < 2 ^ 64 → is_ascii_digit stop ≡ false
+        → text ≡ records_label ++ (decimal n ++ (stop ∷ more)) → (number ≡ n) × (behind ≡ stop ∷ more))
+    → (distrusts : Option ℕ) (more : List ℕ) → IfSome distrusts (λ n. n < 2 ^ 64)
+        → text ≡ distrusts_part distrusts ++ (format_label ++ more)
+        → (Some number ≡ distrusts) × (behind ≡ format_label ++ more)
 some-records text rest behind number begins right None more few e = absurd (no-records text rest more begins e)
 some-records text rest behind number begins right (Some n) more few e =
     let parts = right n 44 (drop 1 (format_label ++ more)) few refl (e ∙ append_assoc records_label (decimal n) (format_label ++ more)) in
     (ap Some parts.0, parts.1)
 
 pub none-records : (text : List ℕ) → ((rest : List ℕ) → text ≡ records_label ++ rest → ⊥)
-    → (distrusts : Option ℕ) (more : List ℕ) → IfSome distrusts (λ n. n < 2 ^ 64) → text ≡ distrusts_part distrusts ++ (format_label ++ more) → (None ≡ distrusts) × (text ≡ format_label ++ more)
+    → (distrusts : Option ℕ) (more : List ℕ) → IfSome distrusts (λ n. n < 2 ^ 64)
+        → text ≡ distrusts_part distrusts ++ (format_label ++ more) → (None ≡ distrusts) × (text ≡ format_label ++ more)
 none-records text none None more few e = (refl, e)
-none-records text none (Some n) more few e = absurd (none (decimal n ++ (format_label ++ more)) (e ∙ append_assoc records_label (decimal n) (format_label ++ more)))
+none-records text none (Some n) more few e =
+    absurd (none (decimal n ++ (format_label ++ more))
+    (e ∙ append_assoc records_label (decimal n) (format_label ++ more)))

@@ -17,12 +17,14 @@ second_label = codes "\",\"format\":"
 abbrev behind_digits : List ℕ → List ℕ
 behind_digits number = second_label ++ (number ++ codes "}")
 
-pub header_pushed : (t0 t1 t2 t3 t4 t5 digits number : List ℕ) → t0 ≡ [] → t1 ≡ t0 ++ first_label → t2 ≡ t1 ++ digits → t3 ≡ t2 ++ second_label → t4 ≡ t3 ++ number
+pub header_pushed : (t0 t1 t2 t3 t4 t5 digits number : List ℕ) → t0 ≡ [] → t1 ≡ t0 ++ first_label → t2 ≡ t1 ++ digits
+    → t3 ≡ t2 ++ second_label → t4 ≡ t3 ++ number
     → t5 ≡ t4 ++ codes "}" → t5 ≡ header_of digits number
 unfolding header_of
 header_pushed t0 t1 t2 t3 t4 t5 digits number e0 e1 e2 e3 e4 e5 = rw (e5, e4, e3, e2, e1, e0) (simp append_assoc)
 
-pub count_pushed : (format : Format) (t0 t1 t2 t3 t4 receipts records : List ℕ) → t0 ≡ [] → t1 ≡ t0 ++ count_beginning → t2 ≡ t1 ++ receipts → t3 ≡ t2 ++ records
+pub count_pushed : (format : Format) (t0 t1 t2 t3 t4 receipts records : List ℕ) → t0 ≡ [] → t1 ≡ t0 ++ count_beginning
+    → t2 ≡ t1 ++ receipts → t3 ≡ t2 ++ records
     → t4 ≡ t3 ++ codes "}" → t4 ≡ count_beginning ++ (receipts ++ (records ++ codes "}"))
 count_pushed format t0 t1 t2 t3 t4 receipts records e0 e1 e2 e3 e4 = rw (e4, e3, e2, e1, e0) (simp append_assoc)
 
@@ -44,16 +46,22 @@ long_rest text rest digits number e l s =
 
 pub told_digits : (text rest digits number : List ℕ) → text ≡ first_label ++ rest → IsSplit text digits number → take 64 rest ≡ digits
 told_digits text rest digits number e s =
-    ap (take 64) (behind_first text rest digits number e s) ∙ ap (λ n. take n (digits ++ behind_digits number)) (sym s.size) ∙ take-append_seam digits (behind_digits number)
+    ap (take 64) (behind_first text rest digits number e s)
+        ∙ ap (λ n. take n (digits ++ behind_digits number)) (sym s.size)
+        ∙ take-append_seam digits (behind_digits number)
 
 pub behind_second : (text rest digits number : List ℕ) → text ≡ first_label ++ rest → IsSplit text digits number → drop 64 rest ≡ behind_digits number
 behind_second text rest digits number e s =
-    ap (drop 64) (behind_first text rest digits number e s) ∙ ap (λ n. drop n (digits ++ behind_digits number)) (sym s.size) ∙ drop-append_seam digits (behind_digits number)
+    ap (drop 64) (behind_first text rest digits number e s)
+        ∙ ap (λ n. drop n (digits ++ behind_digits number)) (sym s.size)
+        ∙ drop-append_seam digits (behind_digits number)
 
-pub behind_third : (text rest last digits number : List ℕ) → text ≡ first_label ++ rest → drop 64 rest ≡ second_label ++ last → IsSplit text digits number → last ≡ number ++ codes "}"
+pub behind_third : (text rest last digits number : List ℕ) → text ≡ first_label ++ rest
+    → drop 64 rest ≡ second_label ++ last → IsSplit text digits number → last ≡ number ++ codes "}"
 behind_third text rest last digits number e f s = append_cancel_left second_label last (number ++ codes "}") (sym f ∙ behind_second text rest digits number e s)
 
-pub split_whole : (text rest last number : List ℕ) → text ≡ first_label ++ rest → 64 ≤ length rest → drop 64 rest ≡ second_label ++ last → last ≡ number ++ codes "}" → IsSplit text (take 64 rest) number
+pub split_whole : (text rest last number : List ℕ) → text ≡ first_label ++ rest → 64 ≤ length rest
+    → drop 64 rest ≡ second_label ++ last → last ≡ number ++ codes "}" → IsSplit text (take 64 rest) number
 unfolding header_of
 split_whole text rest last number e l f g = record {
   whole = e ∙ ap (λ r. first_label ++ r) (sym (take-append-drop 64 rest) ∙ ap (λ r. take 64 rest ++ r) (f ∙ ap (λ r. second_label ++ r) g));
@@ -66,7 +74,8 @@ pub one_split : (text d n d' n' : List ℕ) → IsSplit text d n → IsSplit tex
 one_split text d n d' n' s t =
     let e = has_first text d n s in
     let digits : d ≡ d' = sym (told_digits text (d ++ behind_digits n) d n e s) ∙ told_digits text (d ++ behind_digits n) d' n' e t in
-    let tails : behind_digits n ≡ behind_digits n' = sym (behind_second text (d ++ behind_digits n) d n e s) ∙ behind_second text (d ++ behind_digits n) d' n' e t in
+    let tails : behind_digits n ≡ behind_digits n' =
+        sym (behind_second text (d ++ behind_digits n) d n e s) ∙ behind_second text (d ++ behind_digits n) d' n' e t in
     (digits, append_cancel_right n n' (codes "}") (append_cancel_left second_label (n ++ codes "}") (n' ++ codes "}") tails))
 
 pub header_split : (text digits : List ℕ) (version : ℕ) → IsHeader text digits version → IsSplit text digits (decimal version)

@@ -34,16 +34,20 @@ AllBelow text = AllByRecursion (λ y. text_cmp y text ≡ Less)
 
 -- the order of the items is that of their texts
 module _ {A : Type 0} (P : A → Type 0) (cmp : A → A → Ordering) (text : A → List ℕ) (same : (a b : A) → P a → P b → text_cmp (text a) (text b) ≡ cmp a b) where
-  map_above : (x : A) (xs : List A) → P x → AllByRecursion P xs → AllByRecursion (λ y. cmp x y ≡ Less) xs → AllByRecursion (λ y. text_cmp (text x) y ≡ Less) (map text xs)
+  map_above : (x : A) (xs : List A) → P x → AllByRecursion P xs → AllByRecursion (λ y. cmp x y ≡ Less) xs
+      → AllByRecursion (λ y. text_cmp (text x) y ≡ Less) (map text xs)
   map_above x [] p ps h = tt
   map_above x (y ∷ xs) p ps h = (same x y p ps.0 ∙ h.0, map_above x xs p ps.1 h.1)
 
   pub map_rising : (xs : List A) → AllByRecursion P xs → IsStrictlySortedBy cmp xs → IsStrictlySortedBy text_cmp (map text xs)
   map_rising [] ps h = rising_nil text_cmp
-  map_rising (x ∷ xs) ps h = rising_cons text_cmp (text x) (map text xs) (map_above x xs ps.0 ps.1 (rising_head cmp x xs h)) (map_rising xs ps.1 (rising_tail cmp x xs h))
+  map_rising (x ∷ xs) ps h =
+      rising_cons text_cmp (text x) (map text xs) (map_above x xs ps.0 ps.1 (rising_head cmp x xs h))
+      (map_rising xs ps.1 (rising_tail cmp x xs h))
 
   -- texts that are all below one are those of items that are all below its item
-  pub below_text : (item : A) (xs : List A) → P item → AllByRecursion P xs → IsTotalOrder cmp → AllBelow (text item) (map text xs) → AllByRecursion (λ y. cmp item y ≡ Greater) xs
+  pub below_text : (item : A) (xs : List A) → P item → AllByRecursion P xs → IsTotalOrder cmp
+      → AllBelow (text item) (map text xs) → AllByRecursion (λ y. cmp item y ≡ Greater) xs
   below_text item [] p ps t h = tt
   below_text item (x ∷ xs) p ps t h = (turned t x item (sym (same x item ps.0 p) ∙ h.0), below_text item xs p ps.1 t h.1)
 
@@ -52,7 +56,8 @@ module _ {A : Type 0} (P : A → Type 0) (cmp : A → A → Ordering) (text : A 
 pub last_pushed : (lines : List (List ℕ)) (text : List ℕ) → last_of (lines ++ text ∷ []) ≡ text
 last_pushed lines text = fold-append (λ before line. line) [] lines (text ∷ [])
 
-below_head : (x text : List ℕ) (xs : List (List ℕ)) → IsStrictlySortedBy text_cmp (x ∷ xs) → text_cmp (fold (λ (l : List ℕ) (line : List ℕ). line) x xs) text ≡ Less → text_cmp x text ≡ Less
+below_head : (x text : List ℕ) (xs : List (List ℕ)) → IsStrictlySortedBy text_cmp (x ∷ xs)
+    → text_cmp (fold (λ (l : List ℕ) (line : List ℕ). line) x xs) text ≡ Less → text_cmp x text ≡ Less
 below_head x text [] rising h = h
 below_head x text (y ∷ xs) rising h =
     nat_list_cmp_total.trans x y text (rising_head text_cmp x (y ∷ xs) rising).0 (below_head y text xs (rising_tail text_cmp x (y ∷ xs) rising) h)
@@ -72,7 +77,8 @@ same_line r s p q = refl
 module _ (total : IsTotalOrder receipt_cmp) (records_total : IsTotalOrder distrust_cmp)
     (record_order : (x y : Distrust) → IsDistrust x → IsDistrust y → text_cmp (distrust_line x) (distrust_line y) ≡ distrust_cmp x y)
     (record_first : (x : Distrust) (r : Receipt) → IsDistrust x → IsReceipt r → text_cmp (distrust_line x) (line r) ≡ Less) where
-  above_record : (x : Distrust) (receipts : List Receipt) → IsDistrust x → AllByRecursion IsReceipt receipts → AllByRecursion (λ y. text_cmp (distrust_line x) y ≡ Less) (map line receipts)
+  above_record : (x : Distrust) (receipts : List Receipt) → IsDistrust x → AllByRecursion IsReceipt receipts
+      → AllByRecursion (λ y. text_cmp (distrust_line x) y ≡ Less) (map line receipts)
   above_record x [] p qs = tt
   above_record x (r ∷ receipts) p qs = (record_first x r p qs.0, above_record x receipts p qs.1)
 
@@ -88,17 +94,21 @@ module _ (total : IsTotalOrder receipt_cmp) (records_total : IsTotalOrder distru
       (map_rising IsReceipt receipt_cmp line same_line m.held valid.receipts valid.rising)
       (records_below m.records m.held valid.distrusts valid.receipts)
 
-  no_receipt_below : (x : Distrust) (receipts : List Receipt) → IsDistrust x → AllByRecursion IsReceipt receipts → AllBelow (distrust_line x) (map line receipts) → receipts ≡ []
+  no_receipt_below : (x : Distrust) (receipts : List Receipt) → IsDistrust x → AllByRecursion IsReceipt receipts
+      → AllBelow (distrust_line x) (map line receipts) → receipts ≡ []
   no_receipt_below x [] p qs h = refl
-  no_receipt_below x (r ∷ receipts) p qs h = let above : text_cmp (line r) (distrust_line x) ≡ Greater = turned nat_list_cmp_total (distrust_line x) (line r) (record_first x r p qs.0) in absurd (let less = h.0 in cc)
+  no_receipt_below x (r ∷ receipts) p qs h = let above : text_cmp (line r) (distrust_line x) ≡ Greater =
+      turned nat_list_cmp_total (distrust_line x) (line r) (record_first x r p qs.0) in absurd (let less = h.0 in cc)
 
   receipt_joins : (m : Meaning) (r : Receipt) → IsMeaning m → IsReceipt r → IsAbove (last_line m) (line r) → with_item receipt_cmp r m.held ≡ m.held ++ r ∷ []
   receipt_joins m r valid is above =
       at_end receipt_cmp r m.held
       (below_text IsReceipt receipt_cmp line same_line r m.held is valid.receipts total
-      (all_back (λ y. text_cmp y (line r) ≡ Less) (map distrust_line m.records) (map line m.held) (below_last (held_lines m) (line r) (lines_rise m valid) above)))
+      (all_back (λ y. text_cmp y (line r) ≡ Less) (map distrust_line m.records) (map line m.held)
+          (below_last (held_lines m) (line r) (lines_rise m valid) above)))
 
-  record_joins : (m : Meaning) (x : Distrust) → IsMeaning m → IsDistrust x → IsAbove (last_line m) (distrust_line x) → (with_item distrust_cmp x m.records ≡ m.records ++ x ∷ []) × (m.held ≡ [])
+  record_joins : (m : Meaning) (x : Distrust) → IsMeaning m → IsDistrust x → IsAbove (last_line m) (distrust_line x)
+      → (with_item distrust_cmp x m.records ≡ m.records ++ x ∷ []) × (m.held ≡ [])
   record_joins m x valid is above =
       let below = below_last (held_lines m) (distrust_line x) (lines_rise m valid) above in (
         at_end distrust_cmp x m.records
@@ -109,13 +119,16 @@ module _ (total : IsTotalOrder receipt_cmp) (records_total : IsTotalOrder distru
 
   -- ---- one more line
 
-  lines_with_receipt : (m : Meaning) (r : Receipt) → IsMeaning m → IsReceipt r → IsAbove (last_line m) (line r) → held_lines (with_entry (AReceipt r) m) ≡ held_lines m ++ line r ∷ []
+  lines_with_receipt : (m : Meaning) (r : Receipt) → IsMeaning m → IsReceipt r → IsAbove (last_line m) (line r)
+      → held_lines (with_entry (AReceipt r) m) ≡ held_lines m ++ line r ∷ []
   lines_with_receipt m r valid is above =
       ap (λ held. map distrust_line m.records ++ map line held) (receipt_joins m r valid is above)
       ∙ ap (λ lines. map distrust_line m.records ++ lines) (map-append line m.held (r ∷ []))
       ∙ sym (append_assoc (map distrust_line m.records) (map line m.held) (line r ∷ []))
 
-  lines_with_record : (m : Meaning) (x : Distrust) → IsMeaning m → IsDistrust x → IsAbove (last_line m) (distrust_line x) → held_lines (with_entry (Record x) m) ≡ held_lines m ++ distrust_line x ∷ []
+  lines_with_record : (m : Meaning) (x : Distrust) → IsMeaning m → IsDistrust x
+      → IsAbove (last_line m) (distrust_line x)
+      → held_lines (with_entry (Record x) m) ≡ held_lines m ++ distrust_line x ∷ []
   lines_with_record m x valid is above =
       let joins = record_joins m x valid is above in
       (λ i. map distrust_line (joins.0 i) ++ map line (joins.1 i))
@@ -128,7 +141,8 @@ module _ (total : IsTotalOrder receipt_cmp) (records_total : IsTotalOrder distru
   told_still First m r told = told
   told_still Second m r told = tt
 
-  further_receipt : (format : Format) (m : Meaning) (r : Receipt) → IsMeaning m → IsTold format m → IsReceipt r → IsAbove (last_line m) (line r) → IsFurther format m (line r) (with_entry (AReceipt r) m)
+  further_receipt : (format : Format) (m : Meaning) (r : Receipt) → IsMeaning m → IsTold format m → IsReceipt r
+      → IsAbove (last_line m) (line r) → IsFurther format m (line r) (with_entry (AReceipt r) m)
   further_receipt format m r valid told is above =
       let longer : length (with_item receipt_cmp r m.held) ≡ length m.held + 1 = ap length (receipt_joins m r valid is above) ∙ length-append m.held (r ∷ []) in
       record {
@@ -138,9 +152,11 @@ module _ (total : IsTotalOrder receipt_cmp) (records_total : IsTotalOrder distru
         number = omega (arith, longer);
       }
 
-  further_record : (m : Meaning) (x : Distrust) → IsMeaning m → IsDistrust x → IsAbove (last_line m) (distrust_line x) → IsFurther Second m (distrust_line x) (with_entry (Record x) m)
+  further_record : (m : Meaning) (x : Distrust) → IsMeaning m → IsDistrust x → IsAbove (last_line m) (distrust_line x)
+      → IsFurther Second m (distrust_line x) (with_entry (Record x) m)
   further_record m x valid is above =
-      let longer : length (with_item distrust_cmp x m.records) ≡ length m.records + 1 = ap length (record_joins m x valid is above).0 ∙ length-append m.records (x ∷ []) in
+      let longer : length (with_item distrust_cmp x m.records) ≡ length m.records + 1 =
+          ap length (record_joins m x valid is above).0 ∙ length-append m.records (x ∷ []) in
       record {
         of_config = refl;
         told = tt;
@@ -148,14 +164,16 @@ module _ (total : IsTotalOrder receipt_cmp) (records_total : IsTotalOrder distru
         number = omega (arith, longer);
       }
 
-  further_entry : (format : Format) (m : Meaning) (entry : Entry) → IsMeaning m → IsTold format m → IsWanted (wanted_of format) entry → IsAbove (last_line m) (entry_line entry)
+  further_entry : (format : Format) (m : Meaning) (entry : Entry) → IsMeaning m → IsTold format m
+      → IsWanted (wanted_of format) entry → IsAbove (last_line m) (entry_line entry)
       → IsFurther format m (entry_line entry) (with_entry entry m)
   further_entry First m (Record x) valid told is above = absurd is
   further_entry First m (AReceipt r) valid told is above = further_receipt First m r valid told is above
   further_entry Second m (Record x) valid told is above = further_record m x valid is above
   further_entry Second m (AReceipt r) valid told is above = further_receipt Second m r valid told is above
 
-  pub further : (format : Format) (m new : Meaning) (text : List ℕ) (count : ℕ) → IsMeaning m → IsTold format m → TakesEntryText (wanted_of format) m (last_line m) text new count → IsFurther format m text new
+  pub further : (format : Format) (m new : Meaning) (text : List ℕ) (count : ℕ) → IsMeaning m → IsTold format m
+      → TakesEntryText (wanted_of format) m (last_line m) text new count → IsFurther format m text new
   further format m new text count valid told taken =
       let spelt = taken.next.is.spelt in
       let same = taken.taken.meaning in

@@ -1,5 +1,7 @@
 -- The ids of a question's line, from its text and back.
-use Rattle.std.proofs.Common.{◌≡◌, ◌≢◌, ℕ, zero, suc, ◌/◌, ◌%◌, ◌<◌, ◌≤◌, ◌&&◌, Bool, true, false, inl, inr, List, [], ◌∷◌, ◌++◌, length, take, drop, get_or, map, codes, slice_index, refl, ap, sym, ◌∙◌, subst, arith, length-append, length-take, append_assoc, append-nil}
+use Rattle.std.proofs.Common.{◌≡◌, ◌≢◌, ℕ, zero, suc, ◌/◌, ◌%◌, ◌<◌, ◌≤◌, ◌&&◌, Bool, true, false, inl, inr, List, []}
+use Rattle.std.proofs.Common.{◌∷◌, ◌++◌, length, take, drop, get_or, map, codes, slice_index, refl, ap, sym, ◌∙◌, subst}
+use Rattle.std.proofs.Common.{arith, length-append, length-take, append_assoc, append-nil}
 use Rattle.std.specs.Prelude.{Option, Some, None}
 use Rattle.std.specs.Borrow.{Bor}
 use Rattle.std.specs.List.{AllPass, AllByRecursion, flat_map, join_by}
@@ -34,7 +36,9 @@ not_behind front rest place first more =
     let text = front ++ 93 ∷ rest in
     let within : place < length text = first.within in
     let size : length (take place text) ≡ place = length-take place text ∙ omega arith in
-    bracket-fails (get_or (take place text) (length front) 0) (get_or-take place text (length front) 0 more ∙ get_or-append_seam front 93 rest 0) (first.before (length front) 0 (omega (arith, size)))
+    bracket-fails (get_or (take place text) (length front) 0)
+        (get_or-take place text (length front) 0 more ∙ get_or-append_seam front 93 rest 0)
+        (first.before (length front) 0 (omega (arith, size)))
 
 seam : (text front rest : List ℕ) (place : ℕ) → AllPass is_inside front → text ≡ front ++ 93 ∷ rest → FirstFails is_inside text place → place ≡ length front
 seam text front rest place plain e first =
@@ -51,9 +55,11 @@ no_bracket text front rest e all =
 -- a text of two parts is parted where the first ends
 parted : (text front back : List ℕ) (place : ℕ) → text ≡ front ++ back → place ≡ length front → (take place text ≡ front) × (drop place text ≡ back)
 parted text front back place e p =
-    (ap (take place) e ∙ ap (λ n. take n (front ++ back)) p ∙ take-append_seam front back, ap (drop place) e ∙ ap (λ n. drop n (front ++ back)) p ∙ drop-append_seam front back)
+    (ap (take place) e ∙ ap (λ n. take n (front ++ back)) p ∙ take-append_seam front back, ap (drop place) e
+        ∙ ap (λ n. drop n (front ++ back)) p ∙ drop-append_seam front back)
 
-pub at_bracket : (text front rest : List ℕ) (place : ℕ) → AllPass is_inside front → text ≡ front ++ 93 ∷ rest → FirstFails is_inside text place → (take place text ≡ front) × (drop place text ≡ 93 ∷ rest)
+pub at_bracket : (text front rest : List ℕ) (place : ℕ) → AllPass is_inside front → text ≡ front ++ 93 ∷ rest
+    → FirstFails is_inside text place → (take place text ≡ front) × (drop place text ≡ 93 ∷ rest)
 at_bracket text front rest place plain e first = parted text front (93 ∷ rest) place e (seam text front rest place plain e first)
 
 -- ---- no id has a bracket
@@ -112,14 +118,16 @@ length-quoted id is =
     omega (arith, size, behind)
 
 -- where there is an id, it is long enough and begins with a quotation mark
-pub none-short : (text : List ℕ) (ids : List (List ℕ)) → AllByRecursion IsDigest ids → text ≡ join_by quoted (codes ",") ids → length text < 66 → TakesId ids None
+pub none-short : (text : List ℕ) (ids : List (List ℕ)) → AllByRecursion IsDigest ids
+    → text ≡ join_by quoted (codes ",") ids → length text < 66 → TakesId ids None
 none-short text [] h e short = refl
 none-short text (id ∷ ids) h e short =
     let size = length-quoted id h.0 in
     let whole = ap length e ∙ length-append (quoted id) (later_text ids) in
     absurd (omega (arith, size, whole, short))
 
-pub none-other : (text : List ℕ) (ids : List (List ℕ)) → AllByRecursion IsDigest ids → text ≡ join_by quoted (codes ",") ids → get_or text 0 0 ≢ 34 → TakesId ids None
+pub none-other : (text : List ℕ) (ids : List (List ℕ)) → AllByRecursion IsDigest ids
+    → text ≡ join_by quoted (codes ",") ids → get_or text 0 0 ≢ 34 → TakesId ids None
 none-other text [] h e other = refl
 none-other text (id ∷ ids) h e other = absurd (other (ap (λ (t : List ℕ). get_or t 0 0) e))
 
@@ -127,8 +135,11 @@ without-comma : (ids : List (List ℕ)) → drop 1 (later_text ids) ≡ join_by 
 without-comma [] = refl
 without-comma (id ∷ ids) = refl
 
-pub some-first : (text first rest digest : List ℕ) (ids : List (List ℕ)) (found : ReceiptId) (back : Bor (List ℕ)) → AllByRecursion IsDigest ids → text ≡ join_by quoted (codes ",") ids → 66 ≤ length text
-    → first ≡ take 66 text → rest ≡ drop 66 text → ((d behind : List ℕ) → IsDigest d → first ≡ codes "\"" ++ (encode_lower d ++ behind) → digest ≡ d) → found.0 ≡ digest → back.now ≡ drop 1 rest
+pub some-first : (text first rest digest : List ℕ) (ids : List (List ℕ)) (found : ReceiptId) (back : Bor (List ℕ))
+    → AllByRecursion IsDigest ids → text ≡ join_by quoted (codes ",") ids → 66 ≤ length text
+    → first ≡ take 66 text → rest ≡ drop 66 text
+        → ((d behind : List ℕ) → IsDigest d
+        → first ≡ codes "\"" ++ (encode_lower d ++ behind) → digest ≡ d) → found.0 ≡ digest → back.now ≡ drop 1 rest
     → TakesId ids (Some (found, back))
 some-first text first rest digest [] found back h e long f r told same b = absurd (omega (arith, long, ap length e))
 some-first text first rest digest (id ∷ ids) found back h e long f r told same b =
@@ -148,7 +159,8 @@ pub record IsRest (wanted taken : List (List ℕ)) (rest : List ℕ) : Type 0 wh
 abbrev pub Lists : List ℕ → List (List ℕ) → List ℕ → Type 0
 Lists text taken rest = (wanted : List (List ℕ)) → AllByRecursion IsDigest wanted → text ≡ join_by quoted (codes ",") wanted → IsRest wanted taken rest
 
-more-of : (wanted taken others : List (List ℕ)) (rest : List ℕ) (found : ReceiptId) (back : Bor (List ℕ)) → AllByRecursion IsDigest others → wanted ≡ taken ++ others → TakesId others (Some (found, back))
+more-of : (wanted taken others : List (List ℕ)) (rest : List ℕ) (found : ReceiptId) (back : Bor (List ℕ))
+    → AllByRecursion IsDigest others → wanted ≡ taken ++ others → TakesId others (Some (found, back))
     → IsRest wanted (taken ++ found.0 ∷ []) back.now
 more-of wanted taken [] rest found back h e takes = absurd (cc)
 more-of wanted taken (id ∷ others) rest found back h e takes = record {
@@ -161,7 +173,8 @@ more-of wanted taken (id ∷ others) rest found back h e takes = record {
 abbrev TakesFirst : List ℕ → Option (ReceiptId × Bor (List ℕ)) → Type 0
 TakesFirst rest found = (ids : List (List ℕ)) → AllByRecursion IsDigest ids → rest ≡ join_by quoted (codes ",") ids → TakesId ids found
 
-pub lists-more : (text rest : List ℕ) (ids more : List ReceiptId) (found : ReceiptId) (back : Bor (List ℕ)) → Lists text (map bytes_of ids) rest → TakesFirst rest (Some (found, back)) → more ≡ ids ++ found ∷ []
+pub lists-more : (text rest : List ℕ) (ids more : List ReceiptId) (found : ReceiptId) (back : Bor (List ℕ))
+    → Lists text (map bytes_of ids) rest → TakesFirst rest (Some (found, back)) → more ≡ ids ++ found ∷ []
     → Lists text (map bytes_of more) back.now
 lists-more text rest ids more found back lists takes e = λ wanted digests spelt.
     let so_far = lists wanted digests spelt in
@@ -176,6 +189,7 @@ all_both : (xs ys : List (List ℕ)) → AllByRecursion IsDigest xs → AllByRec
 all_both [] ys h k = k
 all_both (x ∷ xs) ys h k = (h.0, all_both xs ys h.1 k)
 
-pub digests-more : (ids more : List ReceiptId) (found : ReceiptId) → AllByRecursion IsDigest (map bytes_of ids) → IsDigest found.0 → more ≡ ids ++ found ∷ [] → AllByRecursion IsDigest (map bytes_of more)
+pub digests-more : (ids more : List ReceiptId) (found : ReceiptId) → AllByRecursion IsDigest (map bytes_of ids)
+    → IsDigest found.0 → more ≡ ids ++ found ∷ [] → AllByRecursion IsDigest (map bytes_of more)
 digests-more ids more found h is e =
     subst (AllByRecursion IsDigest) (sym (ap (map bytes_of) e ∙ map-append bytes_of ids (found ∷ []))) (all_both (map bytes_of ids) (found.0 ∷ []) h (is, tt))

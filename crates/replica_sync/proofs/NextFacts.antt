@@ -108,7 +108,8 @@ no_fault_of_good format m text BadCount good ample h = no_count text h.count.res
 no_fault_of_good format m text Truncated good ample h = h
 no_fault_of_good format m text (Refused n why) good ample h =
     let refused = h.cause.2 in
-    good.welcome why h.cause.1 (subst (λ (x : Entry). RefusesEntry m x why) (one_entry format text refused.entry good.entry refused.next.is good.is) refused.cause)
+    good.welcome why h.cause.1 (subst (λ (x : Entry). RefusesEntry m x why)
+        (one_entry format text refused.entry good.entry refused.next.is good.is) refused.cause)
 no_fault_of_good format m text Io good ample h = h
 no_fault_of_good format m text NoMemory good ample h = ample refl
 
@@ -123,15 +124,22 @@ last_above : (before text : List ℕ) (xs later : List (List ℕ)) → text_cmp 
     → text_cmp (fold (λ (l : List ℕ) (line : List ℕ). line) before xs) text ≡ Less
 last_above before text [] later h rising = h
 last_above before text (x ∷ xs) later h rising =
-    last_above x text xs later (all_back (λ y. text_cmp x y ≡ Less) xs (text ∷ later) (rising_head text_cmp x (xs ++ text ∷ later) rising)).0 (rising_tail text_cmp x (xs ++ text ∷ later) rising)
+    last_above x text xs later (all_back (λ y. text_cmp x y ≡ Less) xs (text ∷ later)
+        (rising_head text_cmp x (xs ++ text ∷ later) rising)).0 (rising_tail text_cmp x (xs ++ text ∷ later) rising)
 
-rises : (m k : Meaning) (text : List ℕ) (later : List (List ℕ)) → IsMeaning m → held_lines m ≡ held_lines k ++ text ∷ later → IsAbove [] text → IsAbove (last_line k) text
+rises : (m k : Meaning) (text : List ℕ) (later : List (List ℕ)) → IsMeaning m
+    → held_lines m ≡ held_lines k ++ text ∷ later → IsAbove [] text → IsAbove (last_line k) text
 rises m k text later valid e above =
-    last_above [] text (held_lines k) later above (subst (IsStrictlySortedBy text_cmp) e (lines_rise receipt_total distrust_total distrust_order record_first m valid))
+    last_above [] text (held_lines k) later above
+        (subst (IsStrictlySortedBy text_cmp) e
+        (lines_rise receipt_total distrust_total distrust_order record_first m valid))
 
-welcome_record : (m k : Meaning) (x : Distrust) (later : List Distrust) (why : TakeError) → IsMeaning m → k.config ≡ m.config → m.records ≡ k.records ++ x ∷ later → RefusesEntry k (Record x) why → ⊥
+welcome_record : (m k : Meaning) (x : Distrust) (later : List Distrust) (why : TakeError) → IsMeaning m
+    → k.config ≡ m.config → m.records ≡ k.records ++ x ∷ later → RefusesEntry k (Record x) why → ⊥
 welcome_record m k x later UnknownDomain valid same more h =
-    h (subst (λ c. HasDomain c x.domain) (sym same) (all_back (λ (y : Distrust). HasDomain m.config y.domain) k.records (x ∷ later) (subst (AllByRecursion (λ (y : Distrust). HasDomain m.config y.domain)) more valid.domains)).0)
+    h (subst (λ c. HasDomain c x.domain) (sym same)
+        (all_back (λ (y : Distrust). HasDomain m.config y.domain) k.records (x ∷ later)
+        (subst (AllByRecursion (λ (y : Distrust). HasDomain m.config y.domain)) more valid.domains)).0)
 welcome_record m k x later WrongEndpoint valid same more h = h
 welcome_record m k x later Full valid same more h =
     let longer : length m.records ≡ length k.records + length (x ∷ later) = ap length more ∙ length-append k.records (x ∷ later) in
@@ -145,9 +153,11 @@ fits_next : (m k : Meaning) (r : Receipt) (later : List Receipt) → IsMeaning m
 fits_next m k r later valid same more =
     subst (λ c. IsFitting c r) (sym same) (all_back (IsFitting m.config) k.held (r ∷ later) (subst (AllByRecursion (IsFitting m.config)) more valid.fitting)).0
 
-welcome_receipt : (m k : Meaning) (r : Receipt) (later : List Receipt) (why : TakeError) → IsConfiguration k.config → IsMeaning m → k.config ≡ m.config → m.held ≡ k.held ++ r ∷ later → why ≢ NoTakeMemory
+welcome_receipt : (m k : Meaning) (r : Receipt) (later : List Receipt) (why : TakeError) → IsConfiguration k.config
+    → IsMeaning m → k.config ≡ m.config → m.held ≡ k.held ++ r ∷ later → why ≢ NoTakeMemory
     → RefusesEntry k (AReceipt r) why → ⊥
-welcome_receipt m k r later UnknownDomain is valid same more ample h = let fits = fits_next m k r later valid same more in h fits.relationship fits.has fits.domain
+welcome_receipt m k r later UnknownDomain is valid same more ample h = let fits = fits_next m k r later valid same more
+    in h fits.relationship fits.has fits.domain
 welcome_receipt m k r later WrongEndpoint is valid same more ample h = fits_right k.config r is (fits_next m k r later valid same more) h
 welcome_receipt m k r later Full is valid same more ample h =
     let longer : length m.held ≡ length k.held + length (r ∷ later) = ap length more ∙ length-append k.held (r ∷ later) in
@@ -157,7 +167,8 @@ welcome_receipt m k r later Full is valid same more ample h =
 welcome_receipt m k r later NoTakeMemory is valid same more ample h = ample refl
 welcome_receipt m k r later OtherConfig is valid same more ample h = h
 
-wanted_record : (format : Format) (m : Meaning) (ys later : List Distrust) (x : Distrust) → IsTold format m → m.records ≡ ys ++ x ∷ later → IsDistrust x → IsWanted (wanted_of format) (Record x)
+wanted_record : (format : Format) (m : Meaning) (ys later : List Distrust) (x : Distrust) → IsTold format m
+    → m.records ≡ ys ++ x ∷ later → IsDistrust x → IsWanted (wanted_of format) (Record x)
 wanted_record First m [] later x told more is = absurd (cc)
 wanted_record First m (y ∷ ys) later x told more is = absurd (cc)
 wanted_record Second m ys later x told more is = is
@@ -166,7 +177,8 @@ wanted_receipt : (format : Format) (r : Receipt) → IsReceipt r → IsWanted (w
 wanted_receipt First r is = is
 wanted_receipt Second r is = is
 
-good_record : (format : Format) (m k : Meaning) (text : List ℕ) (later : List (List ℕ)) → IsMeaning m → IsTold format m → k.config ≡ m.config → held_lines m ≡ held_lines k ++ text ∷ later
+good_record : (format : Format) (m k : Meaning) (text : List ℕ) (later : List (List ℕ)) → IsMeaning m → IsTold format m
+    → k.config ≡ m.config → held_lines m ≡ held_lines k ++ text ∷ later
     → IsNextRecord m.records k.records text → IsGood format k text
 good_record format m k text later valid told same e next =
     let is : IsDistrust next.it = (all_back IsDistrust k.records (next.it ∷ next.later) (subst (AllByRecursion IsDistrust) next.more valid.distrusts)).0 in
@@ -182,7 +194,8 @@ good_record format m k text later valid told same e next =
       welcome = λ why ample. welcome_record m k next.it next.later why valid same next.more;
     }
 
-good_receipt : (format : Format) (m k : Meaning) (text : List ℕ) (later : List (List ℕ)) → IsConfiguration k.config → IsMeaning m → k.config ≡ m.config → held_lines m ≡ held_lines k ++ text ∷ later
+good_receipt : (format : Format) (m k : Meaning) (text : List ℕ) (later : List (List ℕ)) → IsConfiguration k.config
+    → IsMeaning m → k.config ≡ m.config → held_lines m ≡ held_lines k ++ text ∷ later
     → IsNextReceipt m.held k.held text → IsGood format k text
 good_receipt format m k text later configured valid same e next =
     let is : IsReceipt next.it = (all_back IsReceipt k.held (next.it ∷ next.later) (subst (AllByRecursion IsReceipt) next.more valid.receipts)).0 in
@@ -196,7 +209,8 @@ good_receipt format m k text later configured valid same e next =
     }
 
 -- a line that is held behind all those of another meaning has no fault there
-pub no_fault_of_held : (format : Format) (m k : Meaning) (text : List ℕ) (later : List (List ℕ)) (e : SyncError) → IsConfiguration k.config → IsMeaning m → IsMeaning k → IsTold format m → k.config ≡ m.config
+pub no_fault_of_held : (format : Format) (m k : Meaning) (text : List ℕ) (later : List (List ℕ)) (e : SyncError)
+    → IsConfiguration k.config → IsMeaning m → IsMeaning k → IsTold format m → k.config ≡ m.config
     → held_lines m ≡ held_lines k ++ text ∷ later → e ≢ NoMemory → RefusesPlace format k text e → ⊥
 no_fault_of_held format m k text later e configured valid other told same lines ample h =
     elim (next_held m.records k.records m.held k.held text later valid.distrusts other.distrusts valid.receipts other.receipts lines) [

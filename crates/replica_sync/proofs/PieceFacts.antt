@@ -19,14 +19,17 @@ flat_map-map f g [] = refl
 flat_map-map f g (x ∷ xs) = ap (λ t. f (g x) ++ t) (flat_map-map f g xs)
 
 -- the ids as they are written, one by one
-pub join-ids : (out new last : List ℕ) (ids others : List ReceiptId) (first : ReceiptId) → ids ≡ first ∷ others → new ≡ out ++ quoted first.0 → last ≡ new ++ flat_map later_id others → last ≡ out ++ join_by quoted (codes ",") (map bytes_of ids)
+pub join-ids : (out new last : List ℕ) (ids others : List ReceiptId) (first : ReceiptId) → ids ≡ first ∷ others
+    → new ≡ out ++ quoted first.0 → last ≡ new ++ flat_map later_id others
+    → last ≡ out ++ join_by quoted (codes ",") (map bytes_of ids)
 join-ids out new last ids others first e n l =
     l ∙ ap (λ t. t ++ flat_map later_id others) n ∙ append_assoc out (quoted first.0) (flat_map later_id others)
     ∙ ap (λ t. out ++ (quoted first.0 ++ t)) (sym (flat_map-map (λ y. codes "," ++ quoted y) bytes_of others))
     ∙ ap (λ xs. out ++ join_by quoted (codes ",") (map bytes_of xs)) (sym e)
 
 -- the question's line, piece by piece
-pub asked-pushed : (a : Asked) (s0 s1 s2 s3 s4 s5 s6 s7 s8 s9 s10 s11 : List ℕ) → s1 ≡ s0 ++ codes "{\"bucket\":" → s2 ≡ s1 ++ decimal a.question.bucket → s3 ≡ s2 ++ codes ",\"config\":\""
+pub asked-pushed : (a : Asked) (s0 s1 s2 s3 s4 s5 s6 s7 s8 s9 s10 s11 : List ℕ) → s1 ≡ s0 ++ codes "{\"bucket\":"
+    → s2 ≡ s1 ++ decimal a.question.bucket → s3 ≡ s2 ++ codes ",\"config\":\""
     → s4 ≡ s3 ++ encode_lower a.question.config → s5 ≡ s4 ++ codes "\",\"format\":" → s6 ≡ s5 ++ decimal a.format → s7 ≡ s6 ++ codes ",\"have\":["
     → s8 ≡ s7 ++ join_by quoted (codes ",") a.question.ids → s9 ≡ s8 ++ codes "],\"of\":" → s10 ≡ s9 ++ decimal a.buckets → s11 ≡ s10 ++ codes "}"
     → s11 ≡ s0 ++ asked_text a
@@ -36,7 +39,8 @@ asked-pushed a s0 s1 s2 s3 s4 s5 s6 s7 s8 s9 s10 s11 e1 e2 e3 e4 e5 e6 e7 e8 e9 
     (glue s6 s7 s11 _ _ e7 (glue s7 s8 s11 _ _ e8 (glue s8 s9 s11 _ _ e9 (glue s9 s10 s11 _ _ e10 e11)))))))))
 
 -- the first line of an answer, piece by piece
-pub told-pushed : (t : GiveHeader) (s0 s1 s2 s3 s4 s5 s6 s7 s8 s9 s10 s11 s12 : List ℕ) → s1 ≡ s0 ++ codes "{\"bucket\":" → s2 ≡ s1 ++ decimal t.bucket → s3 ≡ s2 ++ codes ",\"config\":\""
+pub told-pushed : (t : GiveHeader) (s0 s1 s2 s3 s4 s5 s6 s7 s8 s9 s10 s11 s12 : List ℕ)
+    → s1 ≡ s0 ++ codes "{\"bucket\":" → s2 ≡ s1 ++ decimal t.bucket → s3 ≡ s2 ++ codes ",\"config\":\""
     → s4 ≡ s3 ++ encode_lower t.config → s5 ≡ s4 ++ codes "\",\"count\":" → s6 ≡ s5 ++ decimal t.count → s7 ≡ s6 ++ distrusts_part t.distrusts
     → s8 ≡ s7 ++ codes ",\"format\":" → s9 ≡ s8 ++ decimal t.format → s10 ≡ s9 ++ codes ",\"of\":" → s11 ≡ s10 ++ decimal t.buckets → s12 ≡ s11 ++ codes "}"
     → s12 ≡ s0 ++ told_text t

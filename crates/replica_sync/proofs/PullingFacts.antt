@@ -1,5 +1,6 @@
 -- The answers of a session, one after another.
-use Rattle.std.proofs.Common.{◌≡◌, ◌∙◌, ℕ, ◌+◌, ◌<◌, ◌≤◌, List, [], ◌∷◌, ◌++◌, length, refl, sym, ap, subst, arith, append-nil, length-append, Option, None, Some}
+use Rattle.std.proofs.Common.{◌≡◌, ◌∙◌, ℕ, ◌+◌, ◌<◌, ◌≤◌, List, [], ◌∷◌, ◌++◌, length, refl, sym, ap, subst, arith}
+use Rattle.std.proofs.Common.{append-nil, length-append, Option, None, Some}
 use Rattle.std.specs.Prelude.{IfErr, OnOk, Result, Ok, Err}
 use Rattle.std.specs.List.{flat_map}
 use Rattle.std.specs.Io.KnownBytes.{Appends, Consumes}
@@ -28,18 +29,26 @@ use Rattle.replica_sync.proofs.Written.{begins-second}
 
 -- ---- one answer more
 
-replies_more : (config : Configuration) (start bucket : ℕ) (replies : List Reply) (reply : Reply) → bucket ≡ start + length replies → AreReplies config start replies → IsReply config bucket reply → AreReplies config start (replies ++ reply ∷ [])
+replies_more : (config : Configuration) (start bucket : ℕ) (replies : List Reply) (reply : Reply)
+    → bucket ≡ start + length replies → AreReplies config start replies → IsReply config bucket reply
+    → AreReplies config start (replies ++ reply ∷ [])
 replies_more config start bucket [] reply e h one = let same : bucket ≡ start = omega (arith, e) in (subst (λ (b : ℕ). IsReply config b reply) same one, tt)
-replies_more config start bucket (first ∷ replies) reply e h one = (h.0, replies_more config (start + 1) bucket replies reply (let longer : length (first ∷ replies) ≡ length replies + 1 = omega arith in omega (arith, e, longer)) h.1 one)
+replies_more config start bucket (first ∷ replies) reply e h one =
+    (h.0, replies_more config (start + 1) bucket replies reply
+    (let longer : length (first ∷ replies) ≡ length replies + 1 = omega arith in omega (arith, e, longer)) h.1 one)
 
 questions_more : (config : Configuration) (start bucket : ℕ) (state : State) (replies : List Reply) (reply : Reply) → bucket ≡ start + length replies
-    → questions_of config start state (replies ++ reply ∷ []) ≡ questions_of config start state replies ++ question_in config (after_replies state replies) bucket ∷ []
+    → questions_of config start state (replies ++ reply ∷ [])
+        ≡ questions_of config start state replies ++ question_in config (after_replies state replies) bucket ∷ []
 questions_more config start bucket state [] reply e = let same : start ≡ bucket = omega (arith, e) in ap (λ (b : ℕ). question_in config state b ∷ []) same
 questions_more config start bucket state (first ∷ replies) reply e =
     ap (λ (qs : List Question). question_in config state start ∷ qs)
-    (questions_more config (start + 1) bucket (joined state first.content) replies reply (let longer : length (first ∷ replies) ≡ length replies + 1 = omega arith in omega (arith, e, longer)))
+    (questions_more config (start + 1) bucket (joined state first.content) replies reply
+        (let longer : length (first ∷ replies) ≡ length replies + 1 = omega arith in omega (arith, e, longer)))
 
-lines_more : (replies : List Reply) (reply : Reply) → line_count (replies ++ reply ∷ []) ≡ line_count replies + (1 + length reply.content.records + length reply.content.held)
+lines_more : (replies : List Reply) (reply : Reply)
+    → line_count (replies ++ reply ∷ []) ≡ line_count replies +
+    (1 + length reply.content.records + length reply.content.held)
 lines_more [] reply = omega arith
 lines_more (first ∷ replies) reply = let later = lines_more replies reply in omega (arith, later)
 
@@ -59,7 +68,8 @@ none_consumed : (stream : Option (List ℕ)) → Consumes stream stream []
 none_consumed None = tt
 none_consumed (Some bytes) = refl
 
-more_at : (old : Meaning) (stream before : Option (List ℕ)) (bucket : ℕ) (now : Meaning) (left after : Option (List ℕ)) (read : ℕ) (new : Meaning) (left_then after_then : Option (List ℕ)) (read_then : ℕ)
+more_at : (old : Meaning) (stream before : Option (List ℕ)) (bucket : ℕ) (now : Meaning) (left after : Option (List ℕ))
+    (read : ℕ) (new : Meaning) (left_then after_then : Option (List ℕ)) (read_then : ℕ)
     → (so_far : AskedUpTo old stream before bucket now left after read)
     → TakesReply (meaning_of_state old.config (after_replies (state_of old) so_far.replies)) bucket left read new left_then read_then
     → Appends after after_then (question_text (question_in old.config (after_replies (state_of old) so_far.replies) bucket))
@@ -76,17 +86,25 @@ more_at old stream before bucket now left after read new left_then after_then re
       replies = replies ++ takes.reply ∷ [];
       session = record {
         each = replies_more old.config 0 bucket replies takes.reply place so_far.session.each takes.is;
-        text = subst (Consumes stream left_then) (sym (texts_more reply_text replies takes.reply)) (consumes_both stream left left_then (flat_map reply_text replies) (reply_text takes.reply) so_far.session.text takes.text);
+        text = subst (Consumes stream left_then) (sym (texts_more reply_text replies takes.reply))
+            (consumes_both stream left left_then (flat_map reply_text replies) (reply_text takes.reply)
+            so_far.session.text takes.text);
       };
       number = omega (arith, longer, number);
-      meaning = takes.meaning ∙ ap (meaning_of_state old.config) (sym (fold-append (λ held reply. joined held reply.content) (state_of old) replies (takes.reply ∷ [])));
-      asked = subst (Appends before after_then) (sym (ap (flat_map question_text) (questions_more old.config 0 bucket (state_of old) replies takes.reply place) ∙ texts_more question_text (questions_of old.config 0 (state_of old) replies) _))
+      meaning = takes.meaning ∙ ap (meaning_of_state old.config)
+          (sym (fold-append (λ held reply. joined held reply.content) (state_of old) replies (takes.reply ∷ [])));
+      asked = subst (Appends before after_then)
+          (sym (ap (flat_map question_text)
+          (questions_more old.config 0 bucket (state_of old) replies takes.reply place)
+          ∙ texts_more question_text (questions_of old.config 0 (state_of old) replies) _))
           (Appends-trans before after after_then (flat_map question_text (questions_of old.config 0 (state_of old) replies)) _ so_far.asked asks);
       read_is = omega (arith, read_is, more, lines);
     }
 
-pub asked_more : (old : Meaning) (stream before : Option (List ℕ)) (bucket : ℕ) (now : Meaning) (left after : Option (List ℕ)) (read : ℕ) (new : Meaning) (left_then after_then : Option (List ℕ)) (read_then : ℕ)
-    → AskedUpTo old stream before bucket now left after read → TakesReply now bucket left read new left_then read_then → Appends after after_then (question_text (question_of now bucket))
+pub asked_more : (old : Meaning) (stream before : Option (List ℕ)) (bucket : ℕ) (now : Meaning)
+    (left after : Option (List ℕ)) (read : ℕ) (new : Meaning) (left_then after_then : Option (List ℕ)) (read_then : ℕ)
+    → AskedUpTo old stream before bucket now left after read → TakesReply now bucket left read new left_then read_then
+        → Appends after after_then (question_text (question_of now bucket))
     → AskedUpTo old stream before (bucket + 1) new left_then after_then read_then
 asked_more old stream before bucket now left after read new left_then after_then read_then so_far takes asks =
     more_at old stream before bucket now left after read new left_then after_then read_then so_far
@@ -95,7 +113,8 @@ asked_more old stream before bucket now left after read new left_then after_then
 
 -- ---- why it stops
 
-written_then : (e : SyncError) (a b c : Option (List ℕ)) (first second : List ℕ) → Appends a b first → IsWritten e b c second → IsWritten e a c (first ++ second)
+written_then : (e : SyncError) (a b c : Option (List ℕ)) (first second : List ℕ) → Appends a b first
+    → IsWritten e b c second → IsWritten e a c (first ++ second)
 written_then BadHeader a b c first second p q = Appends-trans a b c first second p q
 written_then ConfigDiffers a b c first second p q = Appends-trans a b c first second p q
 written_then VersionDiffers a b c first second p q = Appends-trans a b c first second p q
@@ -127,7 +146,8 @@ pub asked_whole : (r : Result (Unit {0}) SyncError) (a b : Option (List ℕ)) (t
 asked_whole (Ok done) a b text p = tt
 asked_whole (Err e) a b text p = written_all e a b text p
 
-stops_at : (old : Meaning) (stream before : Option (List ℕ)) (bucket : ℕ) (now : Meaning) (left after : Option (List ℕ)) (read : ℕ) (new : Meaning) (after_then : Option (List ℕ)) (e : SyncError) → bucket < 256
+stops_at : (old : Meaning) (stream before : Option (List ℕ)) (bucket : ℕ) (now : Meaning) (left after : Option (List ℕ))
+    (read : ℕ) (new : Meaning) (after_then : Option (List ℕ)) (e : SyncError) → bucket < 256
     → (so_far : AskedUpTo old stream before bucket now left after read)
     → StopsReply (meaning_of_state old.config (after_replies (state_of old) so_far.replies)) (length so_far.replies) (line_count so_far.replies + 1) left new e
     → IsWritten e after after_then (question_text (question_in old.config (after_replies (state_of old) so_far.replies) (length so_far.replies)))
@@ -147,8 +167,12 @@ stops_at old stream before bucket now left after read new after_then e few so_fa
           (written_then e before after after_then (flat_map question_text (questions_of old.config 0 (state_of old) replies)) _ so_far.asked asks);
     }
 
-pub asked_stops : (old : Meaning) (stream before : Option (List ℕ)) (bucket : ℕ) (now : Meaning) (left after : Option (List ℕ)) (read : ℕ) (new : Meaning) (after_then : Option (List ℕ)) (e : SyncError) → bucket < 256
-    → AskedUpTo old stream before bucket now left after read → StopsReply now bucket (read + 1) left new e → IsWritten e after after_then (question_text (question_of now bucket)) → PullsUpTo old stream before new after_then e
+pub asked_stops : (old : Meaning) (stream before : Option (List ℕ)) (bucket : ℕ) (now : Meaning)
+    (left after : Option (List ℕ)) (read : ℕ) (new : Meaning) (after_then : Option (List ℕ)) (e : SyncError)
+    → bucket < 256
+    → AskedUpTo old stream before bucket now left after read → StopsReply now bucket (read + 1) left new e
+        → IsWritten e after after_then (question_text (question_of now bucket))
+        → PullsUpTo old stream before new after_then e
 asked_stops old stream before bucket now left after read new after_then e few so_far stops asks =
     stops_at old stream before bucket now left after read new after_then e few so_far
     (subst (λ (m : Meaning). StopsReply m (length so_far.replies) (line_count so_far.replies + 1) left new e) so_far.meaning
@@ -182,16 +206,20 @@ longer_after state (reply ∷ replies) =
     let others = longer_after (joined state reply.content) replies in
     omega (arith, first, others)
 
-all_grows : (old : Meaning) (stream before : Option (List ℕ)) (new : Meaning) (after : Option (List ℕ)) → PullsAll old stream before new after → length old.held ≤ length new.held
+all_grows : (old : Meaning) (stream before : Option (List ℕ)) (new : Meaning) (after : Option (List ℕ))
+    → PullsAll old stream before new after → length old.held ≤ length new.held
 all_grows old stream before new after all = subst (λ (m : Meaning). length old.held ≤ length m.held) (sym all.meaning) (longer_after (state_of old) all.replies)
 
-part_grows : (old : Meaning) (stream before : Option (List ℕ)) (new : Meaning) (after : Option (List ℕ)) (e : SyncError) → PullsUpTo old stream before new after e → length old.held ≤ length new.held
+part_grows : (old : Meaning) (stream before : Option (List ℕ)) (new : Meaning) (after : Option (List ℕ)) (e : SyncError)
+    → PullsUpTo old stream before new after e → length old.held ≤ length new.held
 part_grows old stream before new after e part =
     let first = longer_after (state_of old) part.replies in
     let others = longer_with_items receipt_cmp part.content.held (after_replies (state_of old) part.replies).held in
     subst (λ (m : Meaning). length old.held ≤ length m.held) (sym part.meaning) (omega (arith, first, others))
 
-pub grows : (r : Result (Unit {0}) SyncError) (old : Meaning) (stream before : Option (List ℕ)) (new : Meaning) (after : Option (List ℕ)) → OnOk r (PullsAll old stream before new after) → IfErr r (PullsUpTo old stream before new after)
+pub grows : (r : Result (Unit {0}) SyncError) (old : Meaning) (stream before : Option (List ℕ)) (new : Meaning)
+    (after : Option (List ℕ)) → OnOk r (PullsAll old stream before new after)
+    → IfErr r (PullsUpTo old stream before new after)
     → length old.held ≤ length new.held
 grows (Ok done) old stream before new after all part = all_grows old stream before new after all
 grows (Err e) old stream before new after all part = part_grows old stream before new after e part

@@ -1,5 +1,6 @@
 -- The parts of a first line that are guessed are those of any such line that the text is.
-use Rattle.std.proofs.Common.{◌≡◌, ℕ, zero, suc, ◌+◌, ◌<◌, ◌^◌, ◌%◌, Bool, true, false, List, [], ◌∷◌, ◌++◌, length, length-append, take, drop, decimal, refl, ap, sym, ◌∙◌, subst, arith}
+use Rattle.std.proofs.Common.{◌≡◌, ℕ, zero, suc, ◌+◌, ◌<◌, ◌^◌, ◌%◌, Bool, true, false, List, [], ◌∷◌, ◌++◌, length}
+use Rattle.std.proofs.Common.{length-append, take, drop, decimal, refl, ap, sym, ◌∙◌, subst, arith}
 use Rattle.std.proofs.lemmas.Bool.Decides.{nat_tests}
 use Rattle.std.proofs.lemmas.Fmt.{decimal_by_steps}
 use Rattle.std.proofs.lemmas.List.Elements.{All-from_recursion}
@@ -41,7 +42,8 @@ first-pass : (x : ℕ) (xs : List ℕ) → AllPass is_ascii_digit (x ∷ xs) →
 first-pass x xs pass = pass 0 0 (omega arith)
 
 -- the first byte that is no digit stands where the digits end
-pub stop-place : (digits : List ℕ) (stop : ℕ) (more : List ℕ) (place : ℕ) → AllPass is_ascii_digit digits → is_ascii_digit stop ≡ false → FirstFails is_ascii_digit (digits ++ (stop ∷ more)) place → place ≡ length digits
+pub stop-place : (digits : List ℕ) (stop : ℕ) (more : List ℕ) (place : ℕ) → AllPass is_ascii_digit digits
+    → is_ascii_digit stop ≡ false → FirstFails is_ascii_digit (digits ++ (stop ∷ more)) place → place ≡ length digits
 stop-place [] stop more zero pass none first = refl
 stop-place [] stop more (suc place) pass none first = absurd (both-truths (is_ascii_digit stop) (first-pass stop (take place more) first.before) none)
 stop-place (x ∷ digits) stop more zero pass none first = absurd (both-truths (is_ascii_digit x) (first-pass x digits pass) first.fails)
@@ -56,7 +58,8 @@ pub no-stop : (digits : List ℕ) (stop : ℕ) (more : List ℕ) → AllPass is_
 no-stop [] stop more pass none = both-truths (is_ascii_digit stop) (first-pass stop more pass) none
 no-stop (x ∷ digits) stop more pass none = no-stop digits stop more (later-pass x (digits ++ (stop ∷ more)) pass) none
 
-pub split-at-stop : (text digits : List ℕ) (stop : ℕ) (more : List ℕ) (place : ℕ) → AllPass is_ascii_digit digits → is_ascii_digit stop ≡ false → text ≡ digits ++ (stop ∷ more)
+pub split-at-stop : (text digits : List ℕ) (stop : ℕ) (more : List ℕ) (place : ℕ) → AllPass is_ascii_digit digits
+    → is_ascii_digit stop ≡ false → text ≡ digits ++ (stop ∷ more)
     → FirstFails is_ascii_digit text place → (take place text ≡ digits) × (drop place text ≡ stop ∷ more)
 split-at-stop text digits stop more place pass none e first =
     let at = stop-place digits stop more place pass none (subst (λ t. FirstFails is_ascii_digit t place) e first) in (
@@ -73,7 +76,8 @@ long-digest text digest rest is e short =
     let parts = length-append (encode_lower digest) rest in
     omega (arith, size, whole, parts, short)
 
-pub split-digest : (text digest rest : List ℕ) → IsDigest digest → text ≡ encode_lower digest ++ rest → (take 64 text ≡ encode_lower digest) × (drop 64 text ≡ rest)
+pub split-digest : (text digest rest : List ℕ) → IsDigest digest → text ≡ encode_lower digest ++ rest
+    → (take 64 text ≡ encode_lower digest) × (drop 64 text ≡ rest)
 split-digest text digest rest is e =
     let at : 64 ≡ length (encode_lower digest) = sym (length-encode_lower digest is) in (
       (λ i. take (at i) (e i)) ∙ take-append_seam (encode_lower digest) rest,

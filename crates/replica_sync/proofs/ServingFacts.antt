@@ -1,5 +1,6 @@
 -- Questions that are read, and sessions that are served.
-use Rattle.std.proofs.Common.{◌≡◌, ℕ, ◌+◌, ◌⊎◌, inl, inr, List, [], ◌∷◌, ◌++◌, length, Option, None, Some, ap, sym, ◌∙◌, subst, arith, length-append, append-nil}
+use Rattle.std.proofs.Common.{◌≡◌, ℕ, ◌+◌, ◌⊎◌, inl, inr, List, [], ◌∷◌, ◌++◌, length, Option, None, Some, ap, sym, ◌∙◌}
+use Rattle.std.proofs.Common.{subst, arith, length-append, append-nil}
 use Rattle.std.specs.Prelude.{IfSome}
 use Rattle.std.specs.List.{AllByRecursion, flat_map}
 use Rattle.std.specs.Io.KnownBytes.{Appends, Consumes, IsAtEnd}
@@ -55,10 +56,14 @@ refused-further config old new (Refused n why) h = h
 refused-further config old new Io h = tt
 refused-further config old new NoMemory h = tt
 
-pub unspoken-further : (config : Configuration) (old new : Option (List ℕ)) (a : VersionedHave) (e : SyncError) → HasAsked old new a → RefusesSpoken config a e → RefusesFurther config old e
+pub unspoken-further : (config : Configuration) (old new : Option (List ℕ)) (a : VersionedHave) (e : SyncError)
+    → HasAsked old new a → RefusesSpoken config a e → RefusesFurther config old e
 unspoken-further config old new a BadHeader h r = absurd r
-unspoken-further config old new a ConfigDiffers h r = (new, record { text = h.text; is = h.is; cause = inr (record { asked = asking_by a; line = h.line; other = r }) })
-unspoken-further config old new a VersionDiffers h r = (new, record { text = h.text; is = h.is; cause = inr (record { asked = asking_by a; line = h.line; own = r.0; unspoken = r.1 }) })
+unspoken-further config old new a ConfigDiffers h r =
+    (new, record { text = h.text; is = h.is; cause = inr (record { asked = asking_by a; line = h.line; other = r }) })
+unspoken-further config old new a VersionDiffers h r =
+    (new, record { text = h.text; is = h.is; cause =
+    inr (record { asked = asking_by a; line = h.line; own = r.0; unspoken = r.1 }) })
 unspoken-further config old new a (NotCanonical n) h r = r
 unspoken-further config old new a (NotRising n) h r = r
 unspoken-further config old new a BadCount h r = r
@@ -79,18 +84,23 @@ one-more f xs x = ap (λ t. flat_map f xs ++ t) (sym (append-nil (f x))) ∙ sym
 abbrev answered : Meaning → Question → List ℕ
 answered m q = reply_text (reply_of m q)
 
-asks-more : (m : Meaning) (stream left next : Option (List ℕ)) (questions : List Question) (q : Question) → Asks m.config stream questions left → IsQuestionOf m.config q → Consumes left next (question_text q) → Asks m.config stream (questions ++ q ∷ []) next
+asks-more : (m : Meaning) (stream left next : Option (List ℕ)) (questions : List Question) (q : Question)
+    → Asks m.config stream questions left → IsQuestionOf m.config q → Consumes left next (question_text q)
+    → Asks m.config stream (questions ++ q ∷ []) next
 asks-more m stream left next questions q asks own text = record {
   each = all_both (IsQuestionOf m.config) questions (q ∷ []) asks.each (own, tt);
-  text = subst (Consumes stream next) (one-more question_text questions q) (Consumes-trans stream left next (flat_map question_text questions) (question_text q) asks.text text);
+  text = subst (Consumes stream next) (one-more question_text questions q)
+      (Consumes-trans stream left next (flat_map question_text questions) (question_text q) asks.text text);
 }
 
-pub served-more : (m : Meaning) (stream left next old now new : Option (List ℕ)) (count : ℕ) → Served m stream left old now count → ServesOne m left next now new → Served m stream next old new (count + 1)
+pub served-more : (m : Meaning) (stream left next old now new : Option (List ℕ)) (count : ℕ)
+    → Served m stream left old now count → ServesOne m left next now new → Served m stream next old new (count + 1)
 served-more m stream left next old now new count s one = record {
   questions = s.questions ++ one.question ∷ [];
   asks = asks-more m stream left next s.questions one.question s.asks one.own one.text;
   number = let so_far = s.number in let both = length-append s.questions (one.question ∷ []) in omega (arith, so_far, both);
-  written = subst (Appends old new) (one-more (answered m) s.questions one.question) (Appends-trans old now new (replies_text m s.questions) (answered m one.question) s.written one.written);
+  written = subst (Appends old new) (one-more (answered m) s.questions one.question)
+      (Appends-trans old now new (replies_text m s.questions) (answered m one.question) s.written one.written);
 }
 
 no-more : (stream left : Option (List ℕ)) (text : List ℕ) → Consumes stream left text → IsAtEnd left → IfSome stream (λ bytes. bytes ≡ text)
@@ -116,14 +126,18 @@ is-written (Refused n why) old new text all = all
 is-written Io old new text all = begins-whole old new text all
 is-written NoMemory old new text all = begins-whole old new text all
 
-served-fault : (m : Meaning) (stream next old new : Option (List ℕ)) (e : SyncError) (questions : List Question) → Asks m.config stream questions next → AppendsBeginning old new (replies_text m questions) → (e ≡ Io) ⊎ (e ≡ NoMemory)
+served-fault : (m : Meaning) (stream next old new : Option (List ℕ)) (e : SyncError) (questions : List Question)
+    → Asks m.config stream questions next → AppendsBeginning old new (replies_text m questions)
+    → (e ≡ Io) ⊎ (e ≡ NoMemory)
     → ServesUpTo m stream old new e
 served-fault m stream next old new e questions asks begun (inl io) =
     subst (ServesUpTo m stream old new) (sym io) (record { questions = questions; left = next; asks = asks; cause = tt; written = begun })
 served-fault m stream next old new e questions asks begun (inr memory) =
     subst (ServesUpTo m stream old new) (sym memory) (record { questions = questions; left = next; asks = asks; cause = tt; written = begun })
 
-pub served-up-to : (m : Meaning) (stream left next old now new : Option (List ℕ)) (count : ℕ) (e : SyncError) → Served m stream left old now count → FailsReading m left now new e ⊎ FailsWriting m left next now new e → ServesUpTo m stream old new e
+pub served-up-to : (m : Meaning) (stream left next old now new : Option (List ℕ)) (count : ℕ) (e : SyncError)
+    → Served m stream left old now count → FailsReading m left now new e ⊎ FailsWriting m left next now new e
+    → ServesUpTo m stream old new e
 served-up-to m stream left next old now new count e s (inl fails) = record {
   questions = s.questions;
   left = left;
@@ -132,5 +146,8 @@ served-up-to m stream left next old now new count e s (inl fails) = record {
   written = is-written e old new _ (and-nothing old now new _ s.written fails.nothing);
 }
 served-up-to m stream left next old now new count e s (inr fails) =
-    served-fault m stream next old new e (s.questions ++ fails.question ∷ []) (asks-more m stream left next s.questions fails.question s.asks fails.own fails.text)
-    (subst (AppendsBeginning old new) (one-more (answered m) s.questions fails.question) (begins-second old now new (replies_text m s.questions) (answered m fails.question) s.written fails.begun)) fails.cause
+    served-fault m stream next old new e (s.questions ++ fails.question ∷ [])
+        (asks-more m stream left next s.questions fails.question s.asks fails.own fails.text)
+    (subst (AppendsBeginning old new) (one-more (answered m) s.questions fails.question)
+        (begins-second old now new (replies_text m s.questions) (answered m fails.question) s.written fails.begun))
+        fails.cause

@@ -1,5 +1,6 @@
 -- A session's stream is read to its end, or has a fault, and never both.
-use Rattle.std.proofs.Common.{◌≡◌, ◌≢◌, ℕ, ◌+◌, ◌<◌, inl, inr, List, [], ◌∷◌, ◌++◌, length, length-append, Option, None, Some, refl, ap, sym, ◌∙◌, subst, arith, append_assoc}
+use Rattle.std.proofs.Common.{◌≡◌, ◌≢◌, ℕ, ◌+◌, ◌<◌, inl, inr, List, [], ◌∷◌, ◌++◌, length, length-append, Option, None}
+use Rattle.std.proofs.Common.{Some, refl, ap, sym, ◌∙◌, subst, arith, append_assoc}
 use Rattle.std.specs.Io.KnownBytes.{Consumes}
 use Rattle.std.specs.List.{AllByRecursion, flat_map}
 use Rattle.fed_config.specs.Configuration.{Configuration}
@@ -46,7 +47,8 @@ no-fault-at-end config (Refused n why) calm ample h = h
 no-fault-at-end config Io calm ample h = calm refl
 no-fault-at-end config NoMemory calm ample h = ample refl
 
-as-question : (config : Configuration) (left : Option (List ℕ)) (e : SyncError) → RefusesFurther config left e → (new : Option (List ℕ)) × RefusesQuestion (Some config) left new e
+as-question : (config : Configuration) (left : Option (List ℕ)) (e : SyncError) → RefusesFurther config left e
+    → (new : Option (List ℕ)) × RefusesQuestion (Some config) left new e
 as-question config left BadHeader h = h
 as-question config left ConfigDiffers h = h
 as-question config left VersionDiffers h = h
@@ -62,29 +64,37 @@ as-question config left NoMemory h = (None, tt)
 abbrev asked_texts : List Question → List ℕ
 asked_texts questions = flat_map question_text questions
 
-no-fault-of-asked : (config : Configuration) (questions others : List Question) (left : List ℕ) (e : SyncError) → AllByRecursion (IsQuestionOf config) questions → AllByRecursion (IsQuestionOf config) others
+no-fault-of-asked : (config : Configuration) (questions others : List Question) (left : List ℕ) (e : SyncError)
+    → AllByRecursion (IsQuestionOf config) questions → AllByRecursion (IsQuestionOf config) others
     → asked_texts questions ≡ asked_texts others ++ left → e ≢ Io → e ≢ NoMemory → RefusesFurther config (Some left) e → ⊥
-no-fault-of-asked config [] [] left e is valid w calm ample h = no-fault-at-end config e calm ample (subst (λ (t : List ℕ). RefusesFurther config (Some t) e) (sym w) h)
+no-fault-of-asked config [] [] left e is valid w calm ample h =
+    no-fault-at-end config e calm ample (subst (λ (t : List ℕ). RefusesFurther config (Some t) e) (sym w) h)
 no-fault-of-asked config [] (o ∷ others) left e is valid w calm ample h =
     no-line (asked_text (asked_of o)) (asked_texts others ++ left) (w ∙ append_assoc (question_text o) (asked_texts others) left)
 no-fault-of-asked config (q ∷ questions) [] left e is valid w calm ample h =
     let found = as-question config (Some left) e h in
     no-question-fault (Some config) left q (asked_texts questions) is.0.askable is.0.own (sym w) found.0 e calm ample found.1
 no-fault-of-asked config (q ∷ questions) (o ∷ others) left e is valid w calm ample h =
-    let same = same-question (question_text q ++ asked_texts questions) q o (asked_texts questions) (asked_texts others ++ left) is.0.askable valid.0.askable refl
+    let same = same-question (question_text q ++ asked_texts questions) q o (asked_texts questions)
+        (asked_texts others ++ left) is.0.askable valid.0.askable refl
     (w ∙ append_assoc (question_text o) (asked_texts others) left) in
     no-fault-of-asked config questions others left e is.1 valid.1 same.behind calm ample h
 
-unserved : (config : Configuration) (bytes : List ℕ) (questions others : List Question) (left : Option (List ℕ)) (e : SyncError) → AllByRecursion (IsQuestionOf config) questions → AllByRecursion (IsQuestionOf config) others
+unserved : (config : Configuration) (bytes : List ℕ) (questions others : List Question) (left : Option (List ℕ))
+    (e : SyncError) → AllByRecursion (IsQuestionOf config) questions → AllByRecursion (IsQuestionOf config) others
     → bytes ≡ asked_texts questions → Consumes (Some bytes) left (asked_texts others) → e ≢ Io → e ≢ NoMemory → RefusesFurther config left e → ⊥
 unserved config bytes questions others None e is valid whole begins calm ample h = begins
-unserved config bytes questions others (Some left) e is valid whole begins calm ample h = no-fault-of-asked config questions others left e is valid (sym whole ∙ begins) calm ample h
+unserved config bytes questions others (Some left) e is valid whole begins calm ample h =
+    no-fault-of-asked config questions others left e is valid (sym whole ∙ begins) calm ample h
 
-pub served-or-not : (m : Meaning) (bytes : List ℕ) (old new before after : Option (List ℕ)) (count : ℕ) (e : SyncError) → e ≢ Io → e ≢ NoMemory → ServesAll m (Some bytes) old new count → ServesUpTo m (Some bytes) before after e → ⊥
+pub served-or-not : (m : Meaning) (bytes : List ℕ) (old new before after : Option (List ℕ)) (count : ℕ) (e : SyncError)
+    → e ≢ Io → e ≢ NoMemory → ServesAll m (Some bytes) old new count → ServesUpTo m (Some bytes) before after e → ⊥
 served-or-not m bytes old new before after count e calm ample all part =
     unserved m.config bytes all.questions part.questions part.left e all.each part.asks.each all.text part.asks.text calm ample part.cause
 
-same-questions : (config : Configuration) (questions others : List Question) → AllByRecursion (IsQuestionOf config) questions → AllByRecursion (IsQuestionOf config) others → asked_texts questions ≡ asked_texts others
+same-questions : (config : Configuration) (questions others : List Question)
+    → AllByRecursion (IsQuestionOf config) questions → AllByRecursion (IsQuestionOf config) others
+    → asked_texts questions ≡ asked_texts others
     → questions ≡ others
 same-questions config [] [] is valid w = refl
 same-questions config [] (o ∷ others) is valid w = absurd (no-line (asked_text (asked_of o)) (asked_texts others) w)
@@ -94,7 +104,8 @@ same-questions config (q ∷ questions) (o ∷ others) is valid w =
     let later = same-questions config questions others is.1 valid.1 same.behind in
     (λ i. same.question i ∷ later i)
 
-pub served-once : (m : Meaning) (bytes : List ℕ) (old new before after : Option (List ℕ)) (count number : ℕ) → ServesAll m (Some bytes) old new count → ServesAll m (Some bytes) before after number → count ≡ number
+pub served-once : (m : Meaning) (bytes : List ℕ) (old new before after : Option (List ℕ)) (count number : ℕ)
+    → ServesAll m (Some bytes) old new count → ServesAll m (Some bytes) before after number → count ≡ number
 served-once m bytes old new before after count number all other =
     all.number ∙ ap length (same-questions m.config all.questions other.questions all.each other.each (sym all.text ∙ other.text)) ∙ sym other.number
 
@@ -104,7 +115,8 @@ served-once m bytes old new before after count number all other =
 abbrev IsSpelling : SyncError → Type 0
 IsSpelling e = (n : ℕ) (why : TakeError) → e ≢ Refused n why
 
-no-line-fault : (config : Configuration) (state : State) (first : ℕ) (whole content : State) (wanted : Wanted) (text : List ℕ) (e : SyncError) → e ≢ NoMemory → IsSpelling e → IsGood whole content wanted text
+no-line-fault : (config : Configuration) (state : State) (first : ℕ) (whole content : State) (wanted : Wanted)
+    (text : List ℕ) (e : SyncError) → e ≢ NoMemory → IsSpelling e → IsGood whole content wanted text
     → refused_line config state first content wanted (last_of (content_lines content)) text e → ⊥
 no-line-fault config state first whole content wanted text BadHeader ample spelt good h = h
 no-line-fault config state first whole content wanted text ConfigDiffers ample spelt good h = h
@@ -124,30 +136,40 @@ no-line-fault config state first whole content wanted text NoMemory ample spelt 
 abbrev told_texts : List Reply → List ℕ
 told_texts replies = flat_map reply_text replies
 
-no-fault-of-reply : (config : Configuration) (state : State) (bucket first : ℕ) (content : State) (r : Reply) (left rest : List ℕ) (e : SyncError) → IsReply config bucket r → left ≡ reply_text r ++ rest
+no-fault-of-reply : (config : Configuration) (state : State) (bucket first : ℕ) (content : State) (r : Reply)
+    (left rest : List ℕ) (e : SyncError) → IsReply config bucket r → left ≡ reply_text r ++ rest
     → e ≢ Io → e ≢ NoMemory → IsSpelling e → RefusesAnswer config state bucket first content (Some left) e → ⊥
 no-fault-of-reply config state bucket first content r left rest e is begins calm ample spelt (inl head) =
     no-head-fault (Some (record { config = config; bucket = bucket })) left r rest is.answer is.about is.own begins head.after e calm ample head.cause
 no-fault-of-reply config state bucket first content r left rest e is begins calm ample spelt (inr fault) =
-    no-fault-behind (Some (record { config = config; bucket = bucket })) left r rest is.answer is.about is.own begins (refused_line config state first content) fault.count fault.distrusts content fault.further fault.after e
+    no-fault-behind (Some (record { config = config; bucket = bucket })) left r rest is.answer is.about is.own begins
+        (refused_line config state first content) fault.count fault.distrusts content fault.further fault.after e
     (λ wanted text. no-line-fault config state first r.content content wanted text e ample spelt) calm ample fault.begins fault.cause
 
 joined-texts : (r : Reply) (replies : List Reply) (rest : List ℕ) → told_texts (r ∷ replies) ++ rest ≡ reply_text r ++ (told_texts replies ++ rest)
 joined-texts r replies rest = append_assoc (reply_text r) (told_texts replies) rest
 
-no-fault-of-told : (config : Configuration) (state : State) (start bucket first : ℕ) (content : State) (replies others : List Reply) (rest left : List ℕ) (e : SyncError)
+no-fault-of-told : (config : Configuration) (state : State) (start bucket first : ℕ) (content : State)
+    (replies others : List Reply) (rest left : List ℕ) (e : SyncError)
     → AreReplies config start replies → AreReplies config start others → length others < length replies → bucket ≡ start + length others
-    → told_texts replies ++ rest ≡ told_texts others ++ left → e ≢ Io → e ≢ NoMemory → IsSpelling e → RefusesAnswer config state bucket first content (Some left) e → ⊥
+    → told_texts replies ++ rest ≡ told_texts others ++ left → e ≢ Io → e ≢ NoMemory → IsSpelling e
+        → RefusesAnswer config state bucket first content (Some left) e → ⊥
 no-fault-of-told config state start bucket first content [] others rest left e is valid few at w calm ample spelt h = omega (arith, few)
 no-fault-of-told config state start bucket first content (r ∷ replies) [] rest left e is valid few at w calm ample spelt h =
     let same : start ≡ bucket = omega (arith, at) in
-    no-fault-of-reply config state bucket first content r left (told_texts replies ++ rest) e (subst (λ (b : ℕ). IsReply config b r) same is.0) (sym w ∙ joined-texts r replies rest) calm ample spelt h
+    no-fault-of-reply config state bucket first content r left (told_texts replies ++ rest) e
+        (subst (λ (b : ℕ). IsReply config b r) same is.0) (sym w ∙ joined-texts r replies rest) calm ample spelt h
 no-fault-of-told config state start bucket first content (r ∷ replies) (o ∷ others) rest left e is valid few at w calm ample spelt h =
-    let same = same-reply (told_texts (r ∷ replies) ++ rest) r o (told_texts replies ++ rest) (told_texts others ++ left) is.0.answer valid.0.answer (joined-texts r replies rest) (w ∙ joined-texts o others left) in
-    no-fault-of-told config state (start + 1) bucket first content replies others rest left e is.1 valid.1 (omega (arith, few)) (omega (arith, at)) same.behind calm ample spelt h
+    let same = same-reply (told_texts (r ∷ replies) ++ rest) r o (told_texts replies ++ rest)
+        (told_texts others ++ left) is.0.answer valid.0.answer (joined-texts r replies rest)
+        (w ∙ joined-texts o others left) in
+    no-fault-of-told config state (start + 1) bucket first content replies others rest left e is.1 valid.1
+        (omega (arith, few)) (omega (arith, at)) same.behind calm ample spelt h
 
-unpulled : (config : Configuration) (state : State) (bytes : List ℕ) (first : ℕ) (content : State) (replies others : List Reply) (rest left : Option (List ℕ)) (e : SyncError)
-    → AreReplies config 0 replies → AreReplies config 0 others → length others < length replies → Consumes (Some bytes) rest (told_texts replies) → Consumes (Some bytes) left (told_texts others)
+unpulled : (config : Configuration) (state : State) (bytes : List ℕ) (first : ℕ) (content : State)
+    (replies others : List Reply) (rest left : Option (List ℕ)) (e : SyncError)
+    → AreReplies config 0 replies → AreReplies config 0 others → length others < length replies
+        → Consumes (Some bytes) rest (told_texts replies) → Consumes (Some bytes) left (told_texts others)
     → e ≢ Io → e ≢ NoMemory → IsSpelling e → RefusesAnswer config state (length others) first content left e → ⊥
 unpulled config state bytes first content replies others None left e is valid few whole begins calm ample spelt h = whole
 unpulled config state bytes first content replies others (Some rest) None e is valid few whole begins calm ample spelt h = begins
@@ -155,32 +177,41 @@ unpulled config state bytes first content replies others (Some rest) (Some left)
     let at : length others ≡ 0 + length others = omega arith in
     no-fault-of-told config state 0 (length others) first content replies others rest left e is valid few at (sym whole ∙ begins) calm ample spelt h
 
-pub pulled-or-not : (old : Meaning) (bytes : List ℕ) (before after since then : Option (List ℕ)) (new now : Meaning) (e : SyncError) → e ≢ Io → e ≢ NoMemory → ((n : ℕ) (why : TakeError) → e ≢ Refused n why)
+pub pulled-or-not : (old : Meaning) (bytes : List ℕ) (before after since then : Option (List ℕ)) (new now : Meaning)
+    (e : SyncError) → e ≢ Io → e ≢ NoMemory → ((n : ℕ) (why : TakeError) → e ≢ Refused n why)
     → PullsAll old (Some bytes) before new after → PullsUpTo old (Some bytes) since now then e → ⊥
 pulled-or-not old bytes before after since then new now e calm ample spelt all part =
     let many = all.all in
     let few = part.few in
-    unpulled old.config (after_replies (state_of old) part.replies) bytes (line_count part.replies + 1) part.content all.replies part.replies all.left part.left e all.session.each part.session.each (omega (arith, many, few))
+    unpulled old.config (after_replies (state_of old) part.replies) bytes (line_count part.replies + 1) part.content
+        all.replies part.replies all.left part.left e all.session.each part.session.each (omega (arith, many, few))
     all.session.text part.session.text calm ample spelt part.cause
 
-same-replies : (config : Configuration) (start : ℕ) (replies others : List Reply) (rest left : List ℕ) → AreReplies config start replies → AreReplies config start others → length replies ≡ length others
+same-replies : (config : Configuration) (start : ℕ) (replies others : List Reply) (rest left : List ℕ)
+    → AreReplies config start replies → AreReplies config start others → length replies ≡ length others
     → told_texts replies ++ rest ≡ told_texts others ++ left → replies ≡ others
 same-replies config start [] [] rest left is valid many w = refl
 same-replies config start [] (o ∷ others) rest left is valid many w = absurd (omega (arith, many))
 same-replies config start (r ∷ replies) [] rest left is valid many w = absurd (omega (arith, many))
 same-replies config start (r ∷ replies) (o ∷ others) rest left is valid many w =
-    let same = same-reply (told_texts (r ∷ replies) ++ rest) r o (told_texts replies ++ rest) (told_texts others ++ left) is.0.answer valid.0.answer (joined-texts r replies rest) (w ∙ joined-texts o others left) in
+    let same = same-reply (told_texts (r ∷ replies) ++ rest) r o (told_texts replies ++ rest)
+        (told_texts others ++ left) is.0.answer valid.0.answer (joined-texts r replies rest)
+        (w ∙ joined-texts o others left) in
     let later = same-replies config (start + 1) replies others rest left is.1 valid.1 (omega (arith, many)) same.behind in
     (λ i. same.reply i ∷ later i)
 
-both-replies : (config : Configuration) (bytes : List ℕ) (replies others : List Reply) (rest left : Option (List ℕ)) → AreReplies config 0 replies → AreReplies config 0 others → length replies ≡ length others
+both-replies : (config : Configuration) (bytes : List ℕ) (replies others : List Reply) (rest left : Option (List ℕ))
+    → AreReplies config 0 replies → AreReplies config 0 others → length replies ≡ length others
     → Consumes (Some bytes) rest (told_texts replies) → Consumes (Some bytes) left (told_texts others) → replies ≡ others
 both-replies config bytes replies others None left is valid many whole other = absurd whole
 both-replies config bytes replies others (Some rest) None is valid many whole other = absurd other
-both-replies config bytes replies others (Some rest) (Some left) is valid many whole other = same-replies config 0 replies others rest left is valid many (sym whole ∙ other)
+both-replies config bytes replies others (Some rest) (Some left) is valid many whole other =
+    same-replies config 0 replies others rest left is valid many (sym whole ∙ other)
 
-pub pulled-once : (old : Meaning) (bytes : List ℕ) (before after since then : Option (List ℕ)) (new now : Meaning) → PullsAll old (Some bytes) before new after → PullsAll old (Some bytes) since now then → new ≡ now
+pub pulled-once : (old : Meaning) (bytes : List ℕ) (before after since then : Option (List ℕ)) (new now : Meaning)
+    → PullsAll old (Some bytes) before new after → PullsAll old (Some bytes) since now then → new ≡ now
 pulled-once old bytes before after since then new now all other =
     let many : length all.replies ≡ length other.replies = all.all ∙ sym other.all in
-    let same = both-replies old.config bytes all.replies other.replies all.left other.left all.session.each other.session.each many all.session.text other.session.text in
+    let same = both-replies old.config bytes all.replies other.replies all.left other.left all.session.each
+        other.session.each many all.session.text other.session.text in
     all.meaning ∙ ap (λ (rs : List Reply). meaning_of_state old.config (after_replies (state_of old) rs)) same ∙ sym other.meaning

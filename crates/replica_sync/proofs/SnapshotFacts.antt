@@ -45,12 +45,15 @@ split (Some xs) (Some zs) x y p = record { middle = Some (y ++ zs); first = p �
 
 -- ---- behind the first line
 
-begun : (config : Configuration) (format : Format) (m : Meaning) (a b c : Option (List ℕ)) → m.config ≡ config → Consumes a b (ended (header_line format config)) → Consumes b c (text_of_lines (held_lines m))
+begun : (config : Configuration) (format : Format) (m : Meaning) (a b c : Option (List ℕ)) → m.config ≡ config
+    → Consumes a b (ended (header_line format config)) → Consumes b c (text_of_lines (held_lines m))
     → Consumes a c (begun_text format m)
 begun config format m a b c same first lines =
-    consumes_both a b c (ended (header_line format m.config)) (text_of_lines (held_lines m)) (subst (λ k. Consumes a b (ended (header_line format k))) (sym same) first) lines
+    consumes_both a b c (ended (header_line format m.config)) (text_of_lines (held_lines m))
+        (subst (λ k. Consumes a b (ended (header_line format k))) (sym same) first) lines
 
-pub fault_behind : (config : Configuration) (format : Format) (a b : Option (List ℕ)) (e : SyncError) → Consumes a b (ended (header_line format config)) → FailsBehind config b format e → HasFaultBehind config a e
+pub fault_behind : (config : Configuration) (format : Format) (a b : Option (List ℕ)) (e : SyncError)
+    → Consumes a b (ended (header_line format config)) → FailsBehind config b format e → HasFaultBehind config a e
 fault_behind config format a b e first fails = record {
   format = format;
   m = fails.m;
@@ -64,7 +67,8 @@ fault_behind config format a b e first fails = record {
   cause = fails.cause;
 }
 
-behind_all : (config : Configuration) (format : Format) (m : Meaning) (a b c : Option (List ℕ)) (number : ℕ) (e : SyncError) → Consumes a b (ended (header_line format config)) → HoldsAll config b format m c number
+behind_all : (config : Configuration) (format : Format) (m : Meaning) (a b c : Option (List ℕ)) (number : ℕ)
+    (e : SyncError) → Consumes a b (ended (header_line format config)) → HoldsAll config b format m c number
     → ((left : Option (List ℕ)) → Consumes left c (ended (count_line format m)) → RefusesNext format m left e) → HasFaultBehind config a e
 behind_all config format m a b c number e first all cause =
     let parts = split b c (text_of_lines (held_lines m)) (ended (count_line format m)) all.text in
@@ -81,7 +85,8 @@ behind_all config format m a b c number e first all cause =
       cause = cause parts.middle parts.second;
     }
 
-pub fault_at_end : (config : Configuration) (format : Format) (m : Meaning) (a b c : Option (List ℕ)) (number : ℕ) (e : SyncError) → Consumes a b (ended (header_line format config)) → HoldsAll config b format m c number
+pub fault_at_end : (config : Configuration) (format : Format) (m : Meaning) (a b c : Option (List ℕ)) (number : ℕ)
+    (e : SyncError) → Consumes a b (ended (header_line format config)) → HoldsAll config b format m c number
     → RefusesEnd number c e → HasFaultBehind config a e
 fault_at_end config format m a b c number BadHeader first all h = absurd h
 fault_at_end config format m a b c number ConfigDiffers first all h = absurd h
@@ -103,7 +108,8 @@ whole (Some xs) None c x y p q e = absurd p
 whole (Some xs) (Some ys) None x y p q e = absurd q
 whole (Some xs) (Some ys) (Some zs) x y p q e = p ∙ ap (λ t. x ++ t) (q ∙ ap (λ t. y ++ t) e ∙ append-nil y)
 
-pub all_read : (config : Configuration) (format : Format) (m : Meaning) (a b c : Option (List ℕ)) (number : ℕ) → Consumes a b (ended (header_line format config)) → HoldsAll config b format m c number → IsAtEnd c
+pub all_read : (config : Configuration) (format : Format) (m : Meaning) (a b c : Option (List ℕ)) (number : ℕ)
+    → Consumes a b (ended (header_line format config)) → HoldsAll config b format m c number → IsAtEnd c
     → IsSnapshot config a m
 all_read config format m a b c number first all end =
     let parts = split b c (text_of_lines (held_lines m)) (ended (count_line format m)) all.text in
@@ -112,7 +118,8 @@ all_read config format m a b c number first all end =
       valid = all.valid;
       format = format;
       told = all.told;
-      text = whole a parts.middle c (begun_text format m) (ended (count_line format m)) (begun config format m a b parts.middle all.of_config first parts.first) parts.second end;
+      text = whole a parts.middle c (begun_text format m) (ended (count_line format m))
+          (begun config format m a b parts.middle all.of_config first parts.first) parts.second end;
     }
 
 -- ---- what the reader answers
@@ -122,17 +129,22 @@ pub refused_by : {T : Type 0} (r : Result T SyncError) (Q : SyncError → Type 0
 refused_by (Ok value) Q e is q = tt
 refused_by (Err y) Q e is q = subst Q (sym is) q
 
-pub held_refused : (config own : Configuration) (format : Format) (a s b : Option (List ℕ)) (e : SyncError) → s ≡ a → own ≡ config → Consumes s b (ended (header_line format config)) → FailsBehind own b format e
+pub held_refused : (config own : Configuration) (format : Format) (a s b : Option (List ℕ)) (e : SyncError) → s ≡ a
+    → own ≡ config → Consumes s b (ended (header_line format config)) → FailsBehind own b format e
     → RefusesSnapshot config a e
 held_refused config own format a s b e same same_config first fails =
     subst (λ x. RefusesSnapshot config x e) same (inr (fault_behind config format s b e first (subst (λ k. FailsBehind k b format e) same_config fails)))
 
-pub end_refused : (config own : Configuration) (format : Format) (m : Meaning) (a s b c : Option (List ℕ)) (number : ℕ) (e : SyncError) → s ≡ a → own ≡ config → Consumes s b (ended (header_line format config))
+pub end_refused : (config own : Configuration) (format : Format) (m : Meaning) (a s b c : Option (List ℕ)) (number : ℕ)
+    (e : SyncError) → s ≡ a → own ≡ config → Consumes s b (ended (header_line format config))
     → HoldsAll own b format m c number → RefusesEnd number c e → RefusesSnapshot config a e
 end_refused config own format m a s b c number e same same_config first all fault =
-    subst (λ x. RefusesSnapshot config x e) same (inr (fault_at_end config format m s b c number e first (subst (λ k. HoldsAll k b format m c number) same_config all) fault))
+    subst (λ x. RefusesSnapshot config x e) same
+        (inr (fault_at_end config format m s b c number e first
+        (subst (λ k. HoldsAll k b format m c number) same_config all) fault))
 
-pub snapshot_read : (config own : Configuration) (format : Format) (m : Meaning) (a s b c : Option (List ℕ)) (number : ℕ) → s ≡ a → own ≡ config → Consumes s b (ended (header_line format config))
+pub snapshot_read : (config own : Configuration) (format : Format) (m : Meaning) (a s b c : Option (List ℕ))
+    (number : ℕ) → s ≡ a → own ≡ config → Consumes s b (ended (header_line format config))
     → HoldsAll own b format m c number → IsAtEnd c → IsSnapshot config a m
 snapshot_read config own format m a s b c number same same_config first all end =
     subst (λ x. IsSnapshot config x m) same (all_read config format m s b c number first (subst (λ k. HoldsAll k b format m c number) same_config all) end)

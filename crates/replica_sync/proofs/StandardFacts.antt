@@ -43,7 +43,8 @@ unfolding asked_text digits encode_with
 question_with_ids = refl
 
 -- another format and number of buckets is told apart
-pub question_of_one_bucket : asked_text (record { question = asks_nothing; format = 1; buckets = 1 }) ≡ codes "{\"bucket\":0,\"config\":\"12ab\",\"format\":1,\"have\":[],\"of\":1}"
+pub question_of_one_bucket : asked_text (record { question = asks_nothing; format = 1; buckets = 1 })
+    ≡ codes "{\"bucket\":0,\"config\":\"12ab\",\"format\":1,\"have\":[],\"of\":1}"
 unfolding asked_text digits encode_with
 question_of_one_bucket = refl
 

@@ -28,7 +28,8 @@ use Rattle.replica_sync.proofs.ContentFacts.{HasPlace, all_pushed, consumes_one,
 -- ---- so much of an answer
 
 -- So much of the answer is taken, so many lines are still to come, and the last one and the number of lines are known.
-pub record SoFar (old : Meaning) (stream : Option (List ℕ)) (count distrusts first receipts records : ℕ) (now : Meaning) (left : Option (List ℕ)) (last : List ℕ) (read : ℕ) : Type 0 where
+pub record SoFar (old : Meaning) (stream : Option (List ℕ)) (count distrusts first receipts records : ℕ) (now : Meaning)
+    (left : Option (List ℕ)) (last : List ℕ) (read : ℕ) : Type 0 where
   pub content : State
   pub taken : HasTakenPart old stream count distrusts content now left
   pub last_is : last ≡ last_of (content_lines content)
@@ -44,7 +45,8 @@ none_consumed : (stream : Option (List ℕ)) → Consumes stream stream []
 none_consumed None = tt
 none_consumed (Some bytes) = refl
 
-pub so_far_none : (old : Meaning) (stream : Option (List ℕ)) (count distrusts first : ℕ) (last : List ℕ) → last ≡ [] → SoFar old stream count distrusts first count distrusts old stream last first
+pub so_far_none : (old : Meaning) (stream : Option (List ℕ)) (count distrusts first : ℕ) (last : List ℕ) → last ≡ []
+    → SoFar old stream count distrusts first count distrusts old stream last first
 so_far_none old stream count distrusts first last none = record {
   content = no_state;
   taken = record {
@@ -59,14 +61,16 @@ so_far_none old stream count distrusts first last none = record {
 }
 
 -- which line is wanted
-wants : (wanted : Wanted) (count distrusts : ℕ) (content : State) (receipts records receipts_then records_then : ℕ) → IsNextOf receipts records wanted receipts_then records_then
+wants : (wanted : Wanted) (count distrusts : ℕ) (content : State) (receipts records receipts_then records_then : ℕ)
+    → IsNextOf receipts records wanted receipts_then records_then
     → length content.held + receipts ≡ count → length content.records + records ≡ distrusts → Wants count distrusts content wanted
 wants Records count distrusts content receipts records receipts_then records_then h p q = let one = h.0 in omega arith
 wants Receipts count distrusts content receipts records receipts_then records_then h p q = let none = h.0 in let one = h.2 in (omega arith, omega arith)
 wants Either count distrusts content receipts records receipts_then records_then h p q = absurd h
 
 -- a line that is wanted has its place
-has_place : (wanted : Wanted) (entry : Entry) (count distrusts : ℕ) (content : State) → IsWanted wanted entry → IsBegun count distrusts content → Wants count distrusts content wanted → HasPlace entry content
+has_place : (wanted : Wanted) (entry : Entry) (count distrusts : ℕ) (content : State) → IsWanted wanted entry
+    → IsBegun count distrusts content → Wants count distrusts content wanted → HasPlace entry content
 has_place Records (Record x) count distrusts content is begun w = begun.order w
 has_place Records (AReceipt r) count distrusts content is begun w = absurd is
 has_place Receipts (Record x) count distrusts content is begun w = absurd is
@@ -81,7 +85,8 @@ valid_pushed Receipts (AReceipt r) content is valid = record { receipts = all_pu
 valid_pushed Either (Record x) content is valid = record { receipts = valid.receipts; records = all_pushed IsDistrust content.records x valid.records is }
 valid_pushed Either (AReceipt r) content is valid = record { receipts = all_pushed IsReceipt content.held r valid.receipts is; records = valid.records }
 
-begun_pushed : (wanted : Wanted) (entry : Entry) (count distrusts : ℕ) (content : State) → IsWanted wanted entry → IsBegun count distrusts content → Wants count distrusts content wanted
+begun_pushed : (wanted : Wanted) (entry : Entry) (count distrusts : ℕ) (content : State) → IsWanted wanted entry
+    → IsBegun count distrusts content → Wants count distrusts content wanted
     → IsStrictlySortedBy text_cmp (content_lines (pushed entry content)) → IsBegun count distrusts (pushed entry content)
 begun_pushed Records (Record x) count distrusts content is begun w rising =
     let longer = length-append content.records (x ∷ []) in
@@ -113,7 +118,8 @@ pub record Counted (content : State) (entry : Entry) (receipts records receipts_
   pub records_held : length (pushed entry content).records + records_then ≡ length content.records + records
   pub one_more : length (pushed entry content).records + length (pushed entry content).held ≡ length content.records + length content.held + 1
 
-counted : (wanted : Wanted) (entry : Entry) (content : State) (receipts records receipts_then records_then : ℕ) → IsWanted wanted entry → IsNextOf receipts records wanted receipts_then records_then
+counted : (wanted : Wanted) (entry : Entry) (content : State) (receipts records receipts_then records_then : ℕ)
+    → IsWanted wanted entry → IsNextOf receipts records wanted receipts_then records_then
     → Counted content entry receipts records receipts_then records_then
 counted Records (Record x) content receipts records receipts_then records_then is h =
     let longer = length-append content.records (x ∷ []) in
@@ -130,8 +136,11 @@ counted Receipts (AReceipt r) content receipts records receipts_then records_the
     record { held = omega (arith, longer); records_held = omega arith; one_more = omega (arith, longer) }
 counted Either entry content receipts records receipts_then records_then is h = absurd h
 
-taken_pushed : (wanted : Wanted) (old : Meaning) (stream : Option (List ℕ)) (count distrusts : ℕ) (content : State) (now new : Meaning) (left after : Option (List ℕ)) (text : List ℕ) (number : ℕ)
-    → HasTakenPart old stream count distrusts content now left → Wants count distrusts content wanted → HasLine left after text → (taken : TakesEntryText wanted now (last_of (content_lines content)) text new number)
+taken_pushed : (wanted : Wanted) (old : Meaning) (stream : Option (List ℕ)) (count distrusts : ℕ) (content : State)
+    (now new : Meaning) (left after : Option (List ℕ)) (text : List ℕ) (number : ℕ)
+    → HasTakenPart old stream count distrusts content now left → Wants count distrusts content wanted
+        → HasLine left after text
+        → (taken : TakesEntryText wanted now (last_of (content_lines content)) text new number)
     → HasTakenPart old stream count distrusts (pushed taken.entry content) new after
 taken_pushed wanted old stream count distrusts content now new left after text number so_far w is taken =
     let place = has_place wanted taken.entry count distrusts content taken.next.is.is so_far.begun w in
@@ -142,23 +151,31 @@ taken_pushed wanted old stream count distrusts content now new left after text n
     record {
       begun = begun_pushed wanted taken.entry count distrusts content taken.next.is.is so_far.begun w rising;
       meaning = taken.taken.meaning ∙ ap (with_entry taken.entry) so_far.meaning ∙ gained_pushed old content taken.entry;
-      text = subst (λ (ls : List (List ℕ)). Consumes stream after (text_of_lines ls)) (sym lines) (consumes_one stream left after (content_lines content) text so_far.text is);
+      text = subst (λ (ls : List (List ℕ)). Consumes stream after (text_of_lines ls)) (sym lines)
+          (consumes_one stream left after (content_lines content) text so_far.text is);
     }
 
-last_taken : (wanted : Wanted) (count distrusts : ℕ) (content : State) (now new : Meaning) (text : List ℕ) (number : ℕ) → IsBegun count distrusts content → Wants count distrusts content wanted
+last_taken : (wanted : Wanted) (count distrusts : ℕ) (content : State) (now new : Meaning) (text : List ℕ) (number : ℕ)
+    → IsBegun count distrusts content → Wants count distrusts content wanted
     → (taken : TakesEntryText wanted now (last_of (content_lines content)) text new number) → text ≡ last_of (content_lines (pushed taken.entry content))
 last_taken wanted count distrusts content now new text number begun w taken =
     let place = has_place wanted taken.entry count distrusts content taken.next.is.is begun w in
     taken.next.is.spelt ∙ sym (ap last_of (lines_pushed taken.entry content place) ∙ last_pushed (content_lines content) (entry_line taken.entry))
 
-pub so_far_more : (wanted : Wanted) (old : Meaning) (stream : Option (List ℕ)) (count distrusts first receipts records receipts_then records_then : ℕ) (now new : Meaning) (left after : Option (List ℕ)) (last text : List ℕ) (read then : ℕ)
-    → SoFar old stream count distrusts first receipts records now left last read → IsNextOf receipts records wanted receipts_then records_then → TakesNext wanted now last left new text after → then ≡ read + 1
+pub so_far_more : (wanted : Wanted) (old : Meaning) (stream : Option (List ℕ))
+    (count distrusts first receipts records receipts_then records_then : ℕ) (now new : Meaning)
+    (left after : Option (List ℕ)) (last text : List ℕ) (read then : ℕ)
+    → SoFar old stream count distrusts first receipts records now left last read
+        → IsNextOf receipts records wanted receipts_then records_then → TakesNext wanted now last left new text after
+        → then ≡ read + 1
     → SoFar old stream count distrusts first receipts_then records_then new after text then
-so_far_more wanted old stream count distrusts first receipts records receipts_then records_then now new left after last text read then so_far next takes is_then =
+so_far_more wanted old stream count distrusts first receipts records receipts_then records_then now new left after last
+    text read then so_far next takes is_then =
     let content = so_far.content in
     let w = wants wanted count distrusts content receipts records receipts_then records_then next so_far.receipts_due so_far.records_due in
     let number = takes.taken.0 in
-    let taken : TakesEntryText wanted now (last_of (content_lines content)) text new number = subst (λ (l : List ℕ). TakesEntryText wanted now l text new number) so_far.last_is takes.taken.1 in
+    let taken : TakesEntryText wanted now (last_of (content_lines content)) text new number =
+        subst (λ (l : List ℕ). TakesEntryText wanted now l text new number) so_far.last_is takes.taken.1 in
     let c = counted wanted taken.entry content receipts records receipts_then records_then taken.next.is.is next in
     let c_held = c.held in
     let c_records = c.records_held in
@@ -177,30 +194,45 @@ so_far_more wanted old stream count distrusts first receipts records receipts_th
 
 -- ---- why it stops
 
-cause_at : (wanted : Wanted) (m now : Meaning) (before last : List ℕ) (next number : ℕ) (text : List ℕ) (e : SyncError) → now ≡ m → last ≡ before → number ≡ next → RefusesEntryLine wanted now last number text e
+cause_at : (wanted : Wanted) (m now : Meaning) (before last : List ℕ) (next number : ℕ) (text : List ℕ) (e : SyncError)
+    → now ≡ m → last ≡ before → number ≡ next → RefusesEntryLine wanted now last number text e
     → RefusesEntryLine wanted m before next text e
 cause_at wanted m now before last next number text e p q r h =
-    subst (λ (x : Meaning). RefusesEntryLine wanted x before next text e) p (subst (λ (l : List ℕ). RefusesEntryLine wanted now l next text e) q (subst (λ (n : ℕ). RefusesEntryLine wanted now last n text e) r h))
+    subst (λ (x : Meaning). RefusesEntryLine wanted x before next text e) p
+        (subst (λ (l : List ℕ). RefusesEntryLine wanted now l next text e) q
+        (subst (λ (n : ℕ). RefusesEntryLine wanted now last n text e) r h))
 
-bad_next : (wanted : Wanted) (old : Meaning) (first count distrusts : ℕ) (content : State) (now : Meaning) (last : List ℕ) (number : ℕ) (left after : Option (List ℕ)) (e : SyncError) → Wants count distrusts content wanted
-    → now ≡ meaning_gained old content → last ≡ last_of (content_lines content) → number ≡ next_entry_number first content → RefusesTakingLine wanted now last number left after e
+bad_next : (wanted : Wanted) (old : Meaning) (first count distrusts : ℕ) (content : State) (now : Meaning)
+    (last : List ℕ) (number : ℕ) (left after : Option (List ℕ)) (e : SyncError) → Wants count distrusts content wanted
+    → now ≡ meaning_gained old content → last ≡ last_of (content_lines content)
+        → number ≡ next_entry_number first content → RefusesTakingLine wanted now last number left after e
     → RefusesNextEntry (refused_line old.config (state_of old) first content) count distrusts content left after e
 bad_next wanted old first count distrusts content now last number left after BadHeader w m l n h = absurd h
 bad_next wanted old first count distrusts content now last number left after ConfigDiffers w m l n h = absurd h
 bad_next wanted old first count distrusts content now last number left after VersionDiffers w m l n h = absurd h
 bad_next wanted old first count distrusts content now last number left after (NotCanonical k) w m l n h =
-    record { wanted = wanted; wants = w; text = h.text; is = h.is; cause = cause_at wanted (meaning_gained old content) now (last_of (content_lines content)) last (next_entry_number first content) number h.text (NotCanonical k) m l n h.cause }
+    record { wanted = wanted; wants = w; text = h.text; is = h.is; cause =
+        cause_at wanted (meaning_gained old content) now (last_of (content_lines content)) last
+        (next_entry_number first content) number h.text (NotCanonical k) m l n h.cause }
 bad_next wanted old first count distrusts content now last number left after (NotRising k) w m l n h =
-    record { wanted = wanted; wants = w; text = h.text; is = h.is; cause = cause_at wanted (meaning_gained old content) now (last_of (content_lines content)) last (next_entry_number first content) number h.text (NotRising k) m l n h.cause }
+    record { wanted = wanted; wants = w; text = h.text; is = h.is; cause =
+        cause_at wanted (meaning_gained old content) now (last_of (content_lines content)) last
+        (next_entry_number first content) number h.text (NotRising k) m l n h.cause }
 bad_next wanted old first count distrusts content now last number left after BadCount w m l n h = absurd h
 bad_next wanted old first count distrusts content now last number left after Truncated w m l n h = record { wanted = wanted; wants = w; ends = h }
 bad_next wanted old first count distrusts content now last number left after (Refused k why) w m l n h =
-    record { wanted = wanted; wants = w; text = h.text; is = h.is; cause = cause_at wanted (meaning_gained old content) now (last_of (content_lines content)) last (next_entry_number first content) number h.text (Refused k why) m l n h.cause }
+    record { wanted = wanted; wants = w; text = h.text; is = h.is; cause =
+        cause_at wanted (meaning_gained old content) now (last_of (content_lines content)) last
+        (next_entry_number first content) number h.text (Refused k why) m l n h.cause }
 bad_next wanted old first count distrusts content now last number left after Io w m l n h = tt
 bad_next wanted old first count distrusts content now last number left after NoMemory w m l n h = tt
 
-pub so_far_fails : (wanted : Wanted) (old : Meaning) (stream : Option (List ℕ)) (count distrusts first receipts records receipts_then records_then : ℕ) (now new : Meaning) (left after : Option (List ℕ)) (last : List ℕ) (read : ℕ) (e : SyncError)
-    → SoFar old stream count distrusts first receipts records now left last read → IsNextOf receipts records wanted receipts_then records_then → HasNotTaken wanted now last (read + 1) left new after e
+pub so_far_fails : (wanted : Wanted) (old : Meaning) (stream : Option (List ℕ))
+    (count distrusts first receipts records receipts_then records_then : ℕ) (now new : Meaning)
+    (left after : Option (List ℕ)) (last : List ℕ) (read : ℕ) (e : SyncError)
+    → SoFar old stream count distrusts first receipts records now left last read
+        → IsNextOf receipts records wanted receipts_then records_then
+        → HasNotTaken wanted now last (read + 1) left new after e
     → StopsWithin old stream count distrusts first new e
 so_far_fails wanted old stream count distrusts first receipts records receipts_then records_then now new left after last read e so_far next fails =
     let content = so_far.content in

@@ -15,11 +15,14 @@ use Rattle.replica_core.specs.declared.error.SyncError.{SyncError}
 pub started : (none : (old : Option (List ℕ)) → Appends old old []) (old : Option (List ℕ)) (whole : List ℕ) → WrittenSoFar old old whole whole
 started none old whole = record { done = []; appended = none old; parts = refl }
 
-module _ (both : (old between new : Option (List ℕ)) (first second : List ℕ) → Appends old between first → Appends between new second → Appends old new (first ++ second))
+module _ (both : (old between new : Option (List ℕ)) (first second : List ℕ) → Appends old between first
+    → Appends between new second → Appends old new (first ++ second))
     (in_first : (old new : Option (List ℕ)) (first second : List ℕ) → AppendsBeginning old new first → AppendsBeginning old new (first ++ second))
-    (in_second : (old between new : Option (List ℕ)) (first second : List ℕ) → Appends old between first → AppendsBeginning between new second → AppendsBeginning old new (first ++ second)) where
+    (in_second : (old between new : Option (List ℕ)) (first second : List ℕ) → Appends old between first
+        → AppendsBeginning between new second → AppendsBeginning old new (first ++ second)) where
   -- one more piece
-  pub one_more : (old now new : Option (List ℕ)) (piece rest before whole : List ℕ) → before ≡ piece ++ rest → WrittenSoFar old now before whole → Appends now new piece → WrittenSoFar old new rest whole
+  pub one_more : (old now new : Option (List ℕ)) (piece rest before whole : List ℕ) → before ≡ piece ++ rest
+      → WrittenSoFar old now before whole → Appends now new piece → WrittenSoFar old new rest whole
   one_more old now new piece rest before whole e w p = record {
     done = w.done ++ piece;
     appended = both old now new w.done piece w.appended p;
@@ -27,7 +30,8 @@ module _ (both : (old between new : Option (List ℕ)) (first second : List ℕ)
   }
 
   -- a beginning of one more piece
-  pub begun_in : (old now new : Option (List ℕ)) (piece rest before whole : List ℕ) → before ≡ piece ++ rest → WrittenSoFar old now before whole → AppendsBeginning now new piece → AppendsBeginning old new whole
+  pub begun_in : (old now new : Option (List ℕ)) (piece rest before whole : List ℕ) → before ≡ piece ++ rest
+      → WrittenSoFar old now before whole → AppendsBeginning now new piece → AppendsBeginning old new whole
   begun_in old now new piece rest before whole e w p =
       subst (AppendsBeginning old new) (sym (w.parts ∙ ap (λ t. w.done ++ t) e))
       (in_second old now new w.done (piece ++ rest) w.appended (in_first now new piece rest p))
@@ -36,19 +40,26 @@ module _ (both : (old between new : Option (List ℕ)) (first second : List ℕ)
   pub in_records : (a b c : Option (List ℕ)) (h r t k : List ℕ) → Appends a b h → AppendsBeginning b c r → AppendsBeginning a c (h ++ (r ++ (t ++ k)))
   in_records a b c h r t k p q = in_second a b c h (r ++ (t ++ k)) p (in_first b c r (t ++ k) q)
 
-  pub in_receipts : (a b c d : Option (List ℕ)) (h r t k : List ℕ) → Appends a b h → Appends b c r → AppendsBeginning c d t → AppendsBeginning a d (h ++ (r ++ (t ++ k)))
+  pub in_receipts : (a b c d : Option (List ℕ)) (h r t k : List ℕ) → Appends a b h → Appends b c r
+      → AppendsBeginning c d t → AppendsBeginning a d (h ++ (r ++ (t ++ k)))
   in_receipts a b c d h r t k p q s = in_second a b d h (r ++ (t ++ k)) p (in_second b c d r (t ++ k) q (in_first c d t k s))
 
-  pub in_count : (a b c d e : Option (List ℕ)) (h r t k : List ℕ) → Appends a b h → Appends b c r → Appends c d t → AppendsBeginning d e k → AppendsBeginning a e (h ++ (r ++ (t ++ k)))
+  pub in_count : (a b c d e : Option (List ℕ)) (h r t k : List ℕ) → Appends a b h → Appends b c r → Appends c d t
+      → AppendsBeginning d e k → AppendsBeginning a e (h ++ (r ++ (t ++ k)))
   in_count a b c d e h r t k p q s u = in_second a b e h (r ++ (t ++ k)) p (in_second b c e r (t ++ k) q (in_second c d e t k s u))
 
-  pub four : (a b c d e : Option (List ℕ)) (h r t k : List ℕ) → Appends a b h → Appends b c r → Appends c d t → Appends d e k → Appends a e (h ++ (r ++ (t ++ k)))
+  pub four : (a b c d e : Option (List ℕ)) (h r t k : List ℕ) → Appends a b h → Appends b c r → Appends c d t
+      → Appends d e k → Appends a e (h ++ (r ++ (t ++ k)))
   four a b c d e h r t k p q s u = both a b e h (r ++ (t ++ k)) p (both b c e r (t ++ k) q (both c d e t k s u))
 
 -- nothing more
-pub begun_before : (in_second : (old between new : Option (List ℕ)) (first second : List ℕ) → Appends old between first → AppendsBeginning between new second → AppendsBeginning old new (first ++ second))
-    (nothing : (now : Option (List ℕ)) (text : List ℕ) → AppendsBeginning now now text) (old now : Option (List ℕ)) (rest whole : List ℕ) → WrittenSoFar old now rest whole → AppendsBeginning old now whole
-begun_before in_second nothing old now rest whole w = subst (AppendsBeginning old now) (sym w.parts) (in_second old now now w.done rest w.appended (nothing now rest))
+pub begun_before : (in_second : (old between new : Option (List ℕ)) (first second : List ℕ) → Appends old between first
+    → AppendsBeginning between new second → AppendsBeginning old new (first ++ second))
+    (nothing : (now : Option (List ℕ)) (text : List ℕ)
+        → AppendsBeginning now now text) (old now : Option (List ℕ)) (rest whole : List ℕ)
+        → WrittenSoFar old now rest whole → AppendsBeginning old now whole
+begun_before in_second nothing old now rest whole w =
+    subst (AppendsBeginning old now) (sym w.parts) (in_second old now now w.done rest w.appended (nothing now rest))
 
 pub nothing : (none : (old : Option (List ℕ)) → Appends old old []) (now : Option (List ℕ)) (text : List ℕ) → AppendsBeginning now now text
 nothing none now text = (0, none now)
@@ -57,7 +68,8 @@ pub finished : (old now : Option (List ℕ)) (rest whole : List ℕ) → rest �
 finished old now rest whole e w = subst (Appends old now) (sym (w.parts ∙ ap (λ t. w.done ++ t) e ∙ append-nil w.done)) w.appended
 
 -- a refusal
-pub refused_write : {T : Type 0} (r : Result T SyncError) (e : SyncError) (old new : Option (List ℕ)) (text : List ℕ) → IsErrAnd r (λ y. y ≡ e) → IsOfWriting e → AppendsBeginning old new text → Writes old new text r
+pub refused_write : {T : Type 0} (r : Result T SyncError) (e : SyncError) (old new : Option (List ℕ)) (text : List ℕ)
+    → IsErrAnd r (λ y. y ≡ e) → IsOfWriting e → AppendsBeginning old new text → Writes old new text r
 refused_write (Ok value) e old new text is w begun = absurd is
 refused_write (Err y) e old new text is w begun = record { all = tt; begun = begun; cause = subst IsOfWriting (sym is) w }
 
@@ -70,7 +82,9 @@ lines_append (x ∷ xs) ys =
     ∙ ap (λ t. t ++ text_of_lines ys) (sym (flat_map-cons ended x xs))
 
 pub parts_of_text : (m : Meaning)
-    → ended (header_line Second m.config) ++ (text_of_lines (map distrust_line m.records) ++ (text_of_lines (map line m.held) ++ ended (count_line Second m))) ≡ snapshot_text Second m
+    → ended (header_line Second m.config) ++
+        (text_of_lines (map distrust_line m.records) ++
+        (text_of_lines (map line m.held) ++ ended (count_line Second m))) ≡ snapshot_text Second m
 parts_of_text m =
     let header = ended (header_line Second m.config) in
     let records = text_of_lines (map distrust_line m.records) in

@@ -28,23 +28,27 @@ pub record Wrote (old now : Option (List ℕ)) (text rest : List ℕ) : Type 0 w
   pub appended : Appends old now pieces
   pub whole : text ≡ pieces ++ rest
 
-pub wrote-piece : (old now new : Option (List ℕ)) (text rest piece later : List ℕ) → Wrote old now text rest → rest ≡ piece ++ later → Appends now new piece → Wrote old new text later
+pub wrote-piece : (old now new : Option (List ℕ)) (text rest piece later : List ℕ) → Wrote old now text rest
+    → rest ≡ piece ++ later → Appends now new piece → Wrote old new text later
 wrote-piece old now new text rest piece later w e a = record {
   pieces = w.pieces ++ piece;
   appended = Appends-trans old now new w.pieces piece w.appended a;
   whole = w.whole ∙ ap (λ t. w.pieces ++ t) e ∙ sym (append_assoc w.pieces piece later);
 }
 
-pub wrote-begun : (old now new : Option (List ℕ)) (text rest piece later : List ℕ) → Wrote old now text rest → rest ≡ piece ++ later → AppendsBeginning now new piece → AppendsBeginning old new text
+pub wrote-begun : (old now new : Option (List ℕ)) (text rest piece later : List ℕ) → Wrote old now text rest
+    → rest ≡ piece ++ later → AppendsBeginning now new piece → AppendsBeginning old new text
 wrote-begun old now new text rest piece later w e a =
     subst (AppendsBeginning old new) (sym (w.whole ∙ ap (λ t. w.pieces ++ t) e))
     (begins-second old now new w.pieces (piece ++ later) w.appended (begins-first now new piece later a))
 
-pub writes-err : (old new : Option (List ℕ)) (r : Result (Unit {0}) SyncError) (text : List ℕ) → IsErr r → AppendsBeginning old new text → WritesText old new r text
+pub writes-err : (old new : Option (List ℕ)) (r : Result (Unit {0}) SyncError) (text : List ℕ) → IsErr r
+    → AppendsBeginning old new text → WritesText old new r text
 writes-err old new (Ok done) text e begun = absurd (let f : false ≡ true = e in cc)
 writes-err old new (Err why) text e begun = begun
 
 -- the first piece was written, and then the second or a beginning of it
-pub writes-then : (old now new : Option (List ℕ)) (r : Result (Unit {0}) SyncError) (first second : List ℕ) → Appends old now first → WritesText now new r second → WritesText old new r (first ++ second)
+pub writes-then : (old now new : Option (List ℕ)) (r : Result (Unit {0}) SyncError) (first second : List ℕ)
+    → Appends old now first → WritesText now new r second → WritesText old new r (first ++ second)
 writes-then old now new (Ok done) first second before written = Appends-trans old now new first second before written
 writes-then old now new (Err why) first second before begun = begins-second old now new first second before begun

@@ -1,6 +1,9 @@
 -- Blocks of a sequence: what is put in, what is cut, and where a place lies
-use Rattle.std.proofs.Common.{◌≡◌, ℕ, zero, suc, ◌+◌, ◌-◌, ◌*◌, ◌<◌, ◌≤◌, List, [], ◌∷◌, ◌++◌, length, take, drop, slice_index, slice_index_or, slice_set, refl, sym, ◌∙◌, ap, arith, slice_get, Some, Result, IsOk, is_ok, if◌then◌else◌, append_assoc, length-append, length-drop, add-one}
-use Rattle.std.proofs.lemmas.List.{take-append-drop, length-take, length-take-le, take_all, drop-append-le, drop-drop, drop_at, get_or_append_left, get_or-append-add, get_or_read, take_rest}
+use Rattle.std.proofs.Common.{◌≡◌, ℕ, zero, suc, ◌+◌, ◌-◌, ◌*◌, ◌<◌, ◌≤◌, List, [], ◌∷◌, ◌++◌, length, take, drop}
+use Rattle.std.proofs.Common.{slice_index, slice_index_or, slice_set, refl, sym, ◌∙◌, ap, arith, slice_get, Some}
+use Rattle.std.proofs.Common.{Result, IsOk, is_ok, if◌then◌else◌, append_assoc, length-append, length-drop, add-one}
+use Rattle.std.proofs.lemmas.List.{take-append-drop, length-take, length-take-le, take_all, drop-append-le, drop-drop}
+use Rattle.std.proofs.lemmas.List.{drop_at, get_or_append_left, get_or-append-add, get_or_read, take_rest}
 use Rattle.std.proofs.lemmas.Option.{slice_get-get_or}
 use Rattle.std.proofs.lemmas.List.Edits.{insert-append_left, insert-append_right}
 use Rattle.std.specs.List.{concat, insert}

@@ -1,5 +1,7 @@
 -- From the edge in a block to the gap in the sequence
-use Rattle.std.proofs.Common.{◌≡◌, ◌≢◌, inl, inr, ℕ, zero, suc, ◌+◌, ◌-◌, ◌<◌, ◌≤◌, List, [], ◌∷◌, length, take, drop, slice_index, slice_index_or, slice_get, Some, None, refl, sym, ◌∙◌, ap, subst, arith, cond}
+use Rattle.std.proofs.Common.{◌≡◌, ◌≢◌, inl, inr, ℕ, zero, suc, ◌+◌, ◌-◌, ◌<◌, ◌≤◌, List, [], ◌∷◌, length, take, drop}
+use Rattle.std.proofs.Common.{slice_index, slice_index_or, slice_get, Some, None, refl, sym, ◌∙◌, ap, subst, arith}
+use Rattle.std.proofs.Common.{cond}
 use Rattle.std.proofs.lemmas.Bool.{cases_lt}
 use Rattle.std.proofs.lemmas.List.{get_or_default}
 use Rattle.std.proofs.lemmas.Option.{slice_get_within, get_or_from_slice_get, slice_get-get_or}
@@ -27,7 +29,8 @@ edge_before compared bs (suc i) zero filled block edge p =
 edge_before compared bs i (suc w) filled block edge p =
     let last : length_before bs i + w ≡ length_before bs i + suc w - 1 = omega arith in
     let here : suc w - 1 ≡ w = omega arith in
-    let less : compared (slice_index (block_at bs i) w) ≡ Less = subst (λ n. compared (slice_index (block_at bs i) n) ≡ Less) here (edge.before (omega arith)) in
+    let less : compared (slice_index (block_at bs i) w) ≡ Less =
+        subst (λ n. compared (slice_index (block_at bs i) n) ≡ Less) here (edge.before (omega arith)) in
     rw (concat-at bs i w (length_before bs i + suc w - 1) block.within (omega (arith, edge.within)) last) less
 
 edge_after : (compared : ℕ → Ordering) (bs : List (List ℕ)) (i w : ℕ) → AreFilled bs → IsEdgeBlock compared bs i

@@ -29,7 +29,8 @@ pub IsIdText-at : (text domain path : List ℕ) → IsIdText text domain path �
 IsIdText-at text domain path id = subst (IsIdText text domain) (sym (path_is text domain path id)) id
 
 -- also of a copy of the text, and of its domain
-pub IsIdText-copied : (text domain path copy name : List ℕ) → IsIdText text domain path → copy ≡ text → name ≡ domain → IsIdText copy name (drop (length scheme + length name) copy)
+pub IsIdText-copied : (text domain path copy name : List ℕ) → IsIdText text domain path → copy ≡ text → name ≡ domain
+    → IsIdText copy name (drop (length scheme + length name) copy)
 IsIdText-copied text domain path copy name id e f = rw (e, f) (IsIdText-at text domain path id)
 
 parts_of : (text domain path : List ℕ) → IsIdText text domain path → HasParts text domain path

@@ -35,7 +35,8 @@ pub record Reads (path rest : List ℕ) : Type 0 where
 pub Reads-none : (path : List ℕ) → EmptyOrSlash path → Reads path path
 Reads-none path slash = record { front = []; each = tt; whole = refl; slash = slash }
 
-pub Reads-more : (path rest after segment next : List ℕ) → Reads path rest → rest ≡ 47 ∷ after → SplitsAtSlash after segment next → IsSegment segment → Reads path next
+pub Reads-more : (path rest after segment next : List ℕ) → Reads path rest → rest ≡ 47 ∷ after
+    → SplitsAtSlash after segment next → IsSegment segment → Reads path next
 Reads-more path rest after segment next r e split good = record {
   front = r.front ++ segment ∷ [];
   each = recursion_from_All IsSegment (r.front ++ segment ∷ []) (All-push IsSegment r.front segment (All-from_recursion IsSegment r.front r.each) good);
@@ -53,9 +54,12 @@ no_rest (b ∷ rest) slash none = absurd (none rest (ap (λ x. x ∷ rest) slash
 
 -- where no slash follows, all is read
 pub IsPath-read : (path rest : List ℕ) → Reads path rest → ((more : List ℕ) → rest ≢ 47 ∷ more) → IsPath path
-IsPath-read path rest r none = record { segments = r.front; each = r.each; whole = r.whole ∙ ap (λ x. path_of_segments r.front ++ x) (no_rest rest r.slash none) ∙ append-nil (path_of_segments r.front) }
+IsPath-read path rest r none = record { segments = r.front; each = r.each; whole =
+    r.whole ∙ ap (λ x. path_of_segments r.front ++ x) (no_rest rest r.slash none)
+    ∙ append-nil (path_of_segments r.front) }
 
-pub FirstFault-read : (path rest after segment next : List ℕ) (n : ℕ) → Reads path rest → rest ≡ 47 ∷ after → SplitsAtSlash after segment next → FaultInSegment segment n → FirstFault path (length path - length after + n)
+pub FirstFault-read : (path rest after segment next : List ℕ) (n : ℕ) → Reads path rest → rest ≡ 47 ∷ after
+    → SplitsAtSlash after segment next → FaultInSegment segment n → FirstFault path (length path - length after + n)
 FirstFault-read path rest after segment next n r e split fault = record {
   front = r.front;
   each = r.each;
@@ -67,7 +71,10 @@ FirstFault-read path rest after segment next n r e split fault = record {
   offset = n;
   fault = fault;
   counted =
-      let size : length path ≡ length (path_of_segments r.front) + (1 + length after) = ap length (r.whole ∙ ap (λ x. path_of_segments r.front ++ x) e) ∙ length-append (path_of_segments r.front) (47 ∷ after) ∙ ap (λ x. length (path_of_segments r.front) + x) (omega arith) in
+      let size : length path ≡ length (path_of_segments r.front) + (1 + length after) =
+          ap length (r.whole ∙ ap (λ x. path_of_segments r.front ++ x) e)
+          ∙ length-append (path_of_segments r.front) (47 ∷ after)
+          ∙ ap (λ x. length (path_of_segments r.front) + x) (omega arith) in
       omega arith;
 }
 
@@ -76,7 +83,8 @@ EmptyOrSlash-front [] rest h = h
 EmptyOrSlash-front (s ∷ segments) rest h = refl
 
 -- the next segments of two paths are the same
-next_segment : (s : List ℕ) (front : List (List ℕ)) (x segment rest : List ℕ) → AllPass is_not_slash s → EmptyOrSlash x → AllPass is_not_slash segment → EmptyOrSlash rest
+next_segment : (s : List ℕ) (front : List (List ℕ)) (x segment rest : List ℕ) → AllPass is_not_slash s → EmptyOrSlash x
+    → AllPass is_not_slash segment → EmptyOrSlash rest
     → path_of_segments (s ∷ front) ++ x ≡ 47 ∷ (segment ++ rest) → (s ≡ segment) × (path_of_segments front ++ x ≡ rest)
 next_segment s front x segment rest a b c d e =
     let tails : (s ++ path_of_segments front) ++ x ≡ segment ++ rest = cc in
@@ -98,14 +106,17 @@ faults_meet (s ∷ front) [] p q segment rest a b m f apart more c d n g e =
     let same = next_segment s front (47 ∷ (segment ++ rest)) apart more (no_slash_in_segment s p.0) refl c d e in
     absurd (no_segment_fault apart n (subst IsSegment same.0 p.0) g)
 faults_meet (s ∷ front) (t ∷ other) p q segment rest a b m f apart more c d n g e =
-    let same = next_segment s front (47 ∷ (segment ++ rest)) t (path_of_segments other ++ (47 ∷ (apart ++ more))) (no_slash_in_segment s p.0) refl (no_slash_in_segment t q.0) (EmptyOrSlash-front other (47 ∷ (apart ++ more)) refl)
+    let same = next_segment s front (47 ∷ (segment ++ rest)) t (path_of_segments other ++ (47 ∷ (apart ++ more)))
+        (no_slash_in_segment s p.0) refl (no_slash_in_segment t q.0)
+        (EmptyOrSlash-front other (47 ∷ (apart ++ more)) refl)
     (e ∙ append_assoc (47 ∷ t) (path_of_segments other) (47 ∷ (apart ++ more))) in
     let rests = faults_meet front other p.1 q.1 segment rest a b m f apart more c d n g same.1 in
     let fronts = ap length same.0 in
     rw (length-append s (path_of_segments front), length-append t (path_of_segments other)) (omega arith)
 
 pub one_fault : (path : List ℕ) (m n : ℕ) → FirstFault path m → FirstFault path n → m ≡ n
-one_fault path m n f g = f.counted ∙ faults_meet f.front g.front f.each g.each f.segment f.rest f.no_slash f.slash f.offset f.fault g.segment g.rest g.no_slash g.slash g.offset g.fault (sym f.whole ∙ g.whole) ∙ sym g.counted
+one_fault path m n f g = f.counted ∙ faults_meet f.front g.front f.each g.each f.segment f.rest f.no_slash f.slash
+    f.offset f.fault g.segment g.rest g.no_slash g.slash g.offset g.fault (sym f.whole ∙ g.whole) ∙ sym g.counted
 
 fault_within : (front segments : List (List ℕ)) → AllByRecursion IsSegment front → AllByRecursion IsSegment segments
     → (segment rest : List ℕ) → AllPass is_not_slash segment → EmptyOrSlash rest → (m : ℕ) → FaultInSegment segment m
@@ -116,7 +127,8 @@ fault_within [] (t ∷ segments) p q segment rest a b m f e =
     let same = same_split segment rest t (path_of_segments segments) a b (no_slash_in_segment t q.0) (EmptyOrSlash-joined segments) (cc) in
     no_segment_fault segment m (subst IsSegment (sym same.0) q.0) f
 fault_within (s ∷ front) (t ∷ segments) p q segment rest a b m f e =
-    let same = next_segment s front (47 ∷ (segment ++ rest)) t (path_of_segments segments) (no_slash_in_segment s p.0) refl (no_slash_in_segment t q.0) (EmptyOrSlash-joined segments) e in
+    let same = next_segment s front (47 ∷ (segment ++ rest)) t (path_of_segments segments) (no_slash_in_segment s p.0)
+        refl (no_slash_in_segment t q.0) (EmptyOrSlash-joined segments) e in
     fault_within front segments p.1 q.1 segment rest a b m f same.1
 
 pub no_fault : (path : List ℕ) (n : ℕ) → IsPath path → FirstFault path n → ⊥

@@ -18,7 +18,8 @@ pub EmptyOrSlash-drop : (text : List ℕ) (n : ℕ) → n < length text → get_
 EmptyOrSlash-drop text n within here = rw (drop-cons text n 0 within) here
 
 -- at the first slash
-pub splits_here : (text : List ℕ) (n : ℕ) → n < length text → get_or text n 0 ≡ 47 → ((i : ℕ) → i < n → get_or text i 0 ≢ 47) → SplitsAtSlash text (take n text) (drop n text)
+pub splits_here : (text : List ℕ) (n : ℕ) → n < length text → get_or text n 0 ≡ 47
+    → ((i : ℕ) → i < n → get_or text i 0 ≢ 47) → SplitsAtSlash text (take n text) (drop n text)
 splits_here text n within here before = record {
   whole = sym (take-append-drop n text);
   no_slash = All-from_get_or (λ b. is_not_slash b ≡ true) (take n text) 0 (λ i h.
@@ -36,7 +37,8 @@ splits_none text h = record {
 }
 
 -- one text has one such split
-pub same_split : (xs rest ys more : List ℕ) → AllPass is_not_slash xs → EmptyOrSlash rest → AllPass is_not_slash ys → EmptyOrSlash more → xs ++ rest ≡ ys ++ more → (xs ≡ ys) × (rest ≡ more)
+pub same_split : (xs rest ys more : List ℕ) → AllPass is_not_slash xs → EmptyOrSlash rest → AllPass is_not_slash ys
+    → EmptyOrSlash more → xs ++ rest ≡ ys ++ more → (xs ≡ ys) × (rest ≡ more)
 same_split [] rest [] more p s q t e = (refl, e)
 same_split (x ∷ xs) rest [] [] p s q t e = cc
 same_split (x ∷ xs) rest [] (m ∷ more) p s q t e = absurd (fails x (let h : x ≡ m = cc in h ∙ t) (All-head (λ b. is_not_slash b ≡ true) x xs p))
@@ -50,4 +52,5 @@ same_split (x ∷ xs) rest (y ∷ ys) more p s q t e =
 pub IsCharBoundary-at_slash : (text front rest : List ℕ) → text ≡ front ++ rest → EmptyOrSlash rest → IsCharBoundary text (length front)
 IsCharBoundary-at_slash text front [] e s = rw (e ∙ append-nil front) (IsCharBoundary-end front)
 IsCharBoundary-at_slash text front (b ∷ rest) e s =
-    rw e (IsCharBoundary-before_ascii (front ++ b ∷ rest) (length front) (rw length-append (omega arith)) (rw (get_or_at front b rest 0 (length front) refl, s) (lit< tt)))
+    rw e (IsCharBoundary-before_ascii (front ++ b ∷ rest) (length front) (rw length-append (omega arith))
+        (rw (get_or_at front b rest 0 (length front) refl, s) (lit< tt)))

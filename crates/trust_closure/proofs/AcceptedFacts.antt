@@ -1,5 +1,6 @@
 -- The accepted documents of one domain, in order
-use Rattle.std.proofs.Common.{◌≡◌, ℕ, zero, suc, ◌<◌, ◌≤◌, ◌⊎◌, inl, inr, Bool, true, false, cond, List, [], ◌∷◌, length, get_or, Option, Some, None, arith, refl, sym, ap, ◌∙◌, subst}
+use Rattle.std.proofs.Common.{◌≡◌, ℕ, zero, suc, ◌<◌, ◌≤◌, ◌⊎◌, inl, inr, Bool, true, false, cond, List, [], ◌∷◌}
+use Rattle.std.proofs.Common.{length, get_or, Option, Some, None, arith, refl, sym, ap, ◌∙◌, subst}
 use Rattle.std.specs.Prelude.{Contains, slice_get, AllPairs}
 use Rattle.std.specs.Option.{option_map}
 use Rattle.std.specs.declared.cmp.Ordering.{Ordering}
@@ -27,16 +28,20 @@ use Rattle.trust_closure.proofs.HeldFacts.{filter_gets, filter_test}
 
 -- ---- what is shown of each number
 
-shown-cases : (b : Bool) (o : Option Pair) (d : Bundle) → cond b (option_map (λ p. p.document) o) None ≡ Some d → (p : Pair) × (b ≡ true) × (o ≡ Some p) × (p.document ≡ d)
+shown-cases : (b : Bool) (o : Option Pair) (d : Bundle) → cond b (option_map (λ p. p.document) o) None ≡ Some d
+    → (p : Pair) × (b ≡ true) × (o ≡ Some p) × (p.document ≡ d)
 shown-cases true (Some p) d e = (p, refl, refl, same_Some p.document d e)
 shown-cases true None d e = absurd (cc)
 shown-cases false o d e = absurd (cc)
 
-shown : (pairs : List Pair) (flags : List Bool) (n : ℕ) (d : Bundle) → raised_document pairs flags n ≡ Some d → (p : Pair) × (is_raised flags n ≡ true) × (slice_get pairs n ≡ Some p) × (p.document ≡ d)
+shown : (pairs : List Pair) (flags : List Bool) (n : ℕ) (d : Bundle) → raised_document pairs flags n ≡ Some d
+    → (p : Pair) × (is_raised flags n ≡ true) × (slice_get pairs n ≡ Some p) × (p.document ≡ d)
 shown pairs flags n d e = shown-cases (is_raised flags n) (slice_get pairs n) d e
 
-shows : (pairs : List Pair) (flags : List Bool) (n : ℕ) (p : Pair) → is_raised flags n ≡ true → slice_get pairs n ≡ Some p → raised_document pairs flags n ≡ Some p.document
-shows pairs flags n p raised at = ap (λ b. cond b (option_map (λ q. q.document) (slice_get pairs n)) None) raised ∙ ap (λ o. option_map (λ (q : Pair). q.document) o) at
+shows : (pairs : List Pair) (flags : List Bool) (n : ℕ) (p : Pair) → is_raised flags n ≡ true
+    → slice_get pairs n ≡ Some p → raised_document pairs flags n ≡ Some p.document
+shows pairs flags n p raised at = ap (λ b. cond b (option_map (λ q. q.document) (slice_get pairs n)) None) raised
+    ∙ ap (λ o. option_map (λ (q : Pair). q.document) o) at
 
 shown-document : (pairs : List Pair) (flags : List Bool) (n : ℕ) (d : Bundle) → raised_document pairs flags n ≡ Some d → (pair_at pairs n).document ≡ d
 shown-document pairs flags n d e =
@@ -71,29 +76,36 @@ onto-all : {Y : Type 0} (P : Y → Type 0) (o : Option Y) (ys : List Y) → ((y 
 onto-all P None ys head all = all
 onto-all P (Some y) ys head all = (head y refl, all)
 
-onto-sorted : (o : Option Bundle) (ds : List Bundle) → ((d : Bundle) → o ≡ Some d → AllByRecursion (λ e. document_cmp d e ≡ Less) ds) → IsStrictlySortedBy document_cmp ds → IsStrictlySortedBy document_cmp (cons_option o ds)
+onto-sorted : (o : Option Bundle) (ds : List Bundle)
+    → ((d : Bundle) → o ≡ Some d → AllByRecursion (λ e. document_cmp d e ≡ Less) ds)
+    → IsStrictlySortedBy document_cmp ds → IsStrictlySortedBy document_cmp (cons_option o ds)
 unfolding IsStrictlySortedBy
 onto-sorted None ds head rest = rest
 onto-sorted (Some d) ds head rest = (head d refl, rest)
 
 module _ (pairs : List Pair) (flags : List Bool) where
-  below : (d : Bundle) (ns : List ℕ) → All (λ n. document_cmp d (pair_at pairs n).document ≡ Less) ns → AllByRecursion (λ e. document_cmp d e ≡ Less) (raised_documents pairs flags ns)
+  below : (d : Bundle) (ns : List ℕ) → All (λ n. document_cmp d (pair_at pairs n).document ≡ Less) ns
+      → AllByRecursion (λ e. document_cmp d e ≡ Less) (raised_documents pairs flags ns)
   below d [] all = tt
   below d (n ∷ ns) all =
       onto-all (λ e. document_cmp d e ≡ Less) (raised_document pairs flags n) (raised_documents pairs flags ns)
-      (λ e is. subst (λ x. document_cmp d x ≡ Less) (shown-document pairs flags n e is) (All-head (λ k. document_cmp d (pair_at pairs k).document ≡ Less) n ns all))
+      (λ e is. subst (λ x. document_cmp d x ≡ Less) (shown-document pairs flags n e is)
+          (All-head (λ k. document_cmp d (pair_at pairs k).document ≡ Less) n ns all))
       (below d ns (All-tail (λ k. document_cmp d (pair_at pairs k).document ≡ Less) n ns all))
 
   sorted-empty : IsStrictlySortedBy document_cmp []
   unfolding IsStrictlySortedBy
   sorted-empty = tt
 
-  sorted : (ns : List ℕ) → AllPairs (λ i j. document_cmp (pair_at pairs i).document (pair_at pairs j).document ≡ Less) ns → IsStrictlySortedBy document_cmp (raised_documents pairs flags ns)
+  sorted : (ns : List ℕ) → AllPairs (λ i j. document_cmp (pair_at pairs i).document (pair_at pairs j).document ≡ Less)
+      ns → IsStrictlySortedBy document_cmp (raised_documents pairs flags ns)
   sorted [] rise = sorted-empty
   sorted (n ∷ ns) rise =
-      let head : All (λ k. document_cmp (pair_at pairs n).document (pair_at pairs k).document ≡ Less) ns = λ k d l. rise zero (suc k) d (omega arith) (omega (arith, l)) in
+      let head : All (λ k. document_cmp (pair_at pairs n).document (pair_at pairs k).document ≡ Less) ns =
+          λ k d l. rise zero (suc k) d (omega arith) (omega (arith, l)) in
       onto-sorted (raised_document pairs flags n) (raised_documents pairs flags ns)
-      (λ d is. subst (λ x. AllByRecursion (λ e. document_cmp x e ≡ Less) (raised_documents pairs flags ns)) (shown-document pairs flags n d is) (below (pair_at pairs n).document ns head))
+      (λ d is. subst (λ x. AllByRecursion (λ e. document_cmp x e ≡ Less) (raised_documents pairs flags ns))
+          (shown-document pairs flags n d is) (below (pair_at pairs n).document ns head))
       (sorted ns (λ i j d l last. rise (suc i) (suc j) d (omega (arith, l)) (omega (arith, last))))
 
 -- ---- one domain
@@ -121,14 +133,18 @@ domain-rises a b x l Greater e = index-most (domain_cmp a x)
 pair-rises : (p q : Pair) (x : List ℕ) → pair_cmp p q ≡ Less → ordering_index (domain_cmp p.domain x) ≤ ordering_index (domain_cmp q.domain x)
 pair-rises p q x e = elim (then-less (domain_cmp p.domain q.domain) (document_cmp p.document q.document) e) [
   | inl l ↦ domain-rises p.domain q.domain x l (domain_cmp q.domain x) refl
-  | inr s ↦ let f : ordering_index (domain_cmp p.domain x) ≡ ordering_index (domain_cmp q.domain x) = ap (λ a. ordering_index (domain_cmp a x)) (exact_bytes p.domain q.domain s) in omega (arith, f)
+  | inr s ↦ let f : ordering_index (domain_cmp p.domain x) ≡ ordering_index (domain_cmp q.domain x) =
+      ap (λ a. ordering_index (domain_cmp a x)) (exact_bytes p.domain q.domain s) in omega (arith, f)
 ]
 
-pub domain-sought : (pairs : List Pair) (numbers : List ℕ) (x : List ℕ) → AreRising pairs numbers → IsRising (λ n. domain_cmp (pair_at pairs n).domain x) numbers
+pub domain-sought : (pairs : List Pair) (numbers : List ℕ) (x : List ℕ) → AreRising pairs numbers
+    → IsRising (λ n. domain_cmp (pair_at pairs n).domain x) numbers
 domain-sought pairs numbers x h = record {
   rising = λ i j d l within.
       elim (cases_order i j) [
-        | inl e ↦ let f : ordering_index (domain_cmp (pair_at pairs (get_or numbers i d)).domain x) ≡ ordering_index (domain_cmp (pair_at pairs (get_or numbers j d)).domain x) = ap (λ k. ordering_index (domain_cmp (pair_at pairs (get_or numbers k d)).domain x)) e in omega (arith, f)
+        | inl e ↦ let f : ordering_index (domain_cmp (pair_at pairs (get_or numbers i d)).domain x)
+            ≡ ordering_index (domain_cmp (pair_at pairs (get_or numbers j d)).domain x) =
+            ap (λ k. ordering_index (domain_cmp (pair_at pairs (get_or numbers k d)).domain x)) e in omega (arith, f)
         | inr c ↦
             elim c [
               | inl b ↦ pair-rises (pair_at pairs (get_or numbers i d)) (pair_at pairs (get_or numbers j d)) x (h i j d b within)
@@ -137,14 +153,17 @@ domain-sought pairs numbers x h = record {
       ];
 }
 
-pub numbers-within : (pairs : List Pair) (numbers : List ℕ) (x : List ℕ) → All (λ n. n < length pairs) numbers → All (λ n. n < length pairs) (numbers_of pairs numbers x)
+pub numbers-within : (pairs : List Pair) (numbers : List ℕ) (x : List ℕ) → All (λ n. n < length pairs) numbers
+    → All (λ n. n < length pairs) (numbers_of pairs numbers x)
 numbers-within pairs numbers x h = All-filter (λ n. is_equal (domain_cmp (pair_at pairs n).domain x)) (λ n. n < length pairs) numbers h
 
 module _ (pairs : List Pair) (x : List ℕ) where
   domain-is : (n : ℕ) → is_equal (domain_cmp (pair_at pairs n).domain x) ≡ true → (pair_at pairs n).domain ≡ x
   domain-is n e = exact_bytes (pair_at pairs n).domain x (equal-from (domain_cmp (pair_at pairs n).domain x) e)
 
-  documents-rise : (ns : List ℕ) → All (λ n. is_equal (domain_cmp (pair_at pairs n).domain x) ≡ true) ns → AreRising pairs ns → AllPairs (λ i j. document_cmp (pair_at pairs i).document (pair_at pairs j).document ≡ Less) ns
+  documents-rise : (ns : List ℕ) → All (λ n. is_equal (domain_cmp (pair_at pairs n).domain x) ≡ true) ns
+      → AreRising pairs ns → AllPairs (λ i j. document_cmp (pair_at pairs i).document (pair_at pairs j).document ≡ Less)
+      ns
   documents-rise ns all rise i j d l last =
       let one : Pair = pair_at pairs (get_or ns i d) in
       let other : Pair = pair_at pairs (get_or ns j d) in
@@ -160,7 +179,8 @@ accepted-list m pairs p x t rise =
     let test : ℕ → Bool = λ n. is_equal (domain_cmp (pair_at pairs n).domain x) in
     record {
       rising = sorted pairs (flags_of p.counts) (numbers_of pairs p.numbers x)
-          (documents-rise pairs x (numbers_of pairs p.numbers x) (filter_passes test p.numbers) (AllPairs-filter (λ i j. pair_cmp (pair_at pairs i) (pair_at pairs j) ≡ Less) test p.numbers rise));
+          (documents-rise pairs x (numbers_of pairs p.numbers x) (filter_passes test p.numbers)
+              (AllPairs-filter (λ i j. pair_cmp (pair_at pairs i) (pair_at pairs j) ≡ Less) test p.numbers rise));
       sound = λ d c.
           let f = from-filter_map (raised_document pairs (flags_of p.counts))
           (numbers_of pairs p.numbers x) d c in

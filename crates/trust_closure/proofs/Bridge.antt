@@ -11,7 +11,9 @@ use Rattle.receipt_core.specs.declared.triple.Triple.{Triple}
 use Rattle.receipt_core.specs.Receipt.{Receipt, Pair, pair_of, offers_of, need_of}
 use Rattle.receipt_core.specs.Acceptance.{IsFitting, Vouches, Leads, Meaning, IsMember, IsReleased, pair_of_seed}
 use Rattle.label_net.specs.Spots.{Spot}
-use Rattle.label_net.proofs.Edges.{slice_get-left, slice_get-right, slice_get-append_cases, slice_get-map_at, slice_get-map_cases, Contains-slice_get, slice_get-Contains, offer-of_edge, wait-of_edge, root-of_spot, spot-of_root, reached-on}
+use Rattle.label_net.proofs.Edges.{slice_get-left, slice_get-right, slice_get-append_cases, slice_get-map_at}
+use Rattle.label_net.proofs.Edges.{slice_get-map_cases, Contains-slice_get, slice_get-Contains, offer-of_edge}
+use Rattle.label_net.proofs.Edges.{wait-of_edge, root-of_spot, spot-of_root, reached-on}
 use Rattle.closure_core.specs.Inside.Nodes.{pairs_of}
 use Rattle.trust_closure.specs.NetOf.{spot_of_seed, spot_of_receipt, spots_of, IsShutBy, IsNetOf}
 use Rattle.closure_core.proofs.MemberFacts.{leads_more, all_more}
@@ -32,7 +34,8 @@ pub record IsReceiptNode (seeds : List Seed) (arrivals : List Receipt) (node : �
   pub is : spot_of_receipt receipt ≡ spot
 
 module _ (seeds : List Seed) (arrivals : List Receipt) where
-  pub node-cases : (n : ℕ) (spot : Spot Triple) → slice_get (spots_of seeds arrivals) n ≡ Some spot → IsSeedNode seeds n spot ⊎ IsReceiptNode seeds arrivals n spot
+  pub node-cases : (n : ℕ) (spot : Spot Triple) → slice_get (spots_of seeds arrivals) n ≡ Some spot
+      → IsSeedNode seeds n spot ⊎ IsReceiptNode seeds arrivals n spot
   node-cases n spot e =
       elim (slice_get-append_cases (map spot_of_seed seeds) (map spot_of_receipt arrivals) n spot e) [
         | inl a ↦ let f = slice_get-map_cases spot_of_seed seeds n spot a in inl (record { seed = f.0; at = f.1; is = f.2 })
@@ -45,7 +48,9 @@ module _ (seeds : List Seed) (arrivals : List Receipt) where
   pair-of_seed_node n s at = slice_get-left (map pair_of_seed seeds) (map pair_of arrivals) n (pair_of_seed s) (slice_get-map_at pair_of_seed seeds n s at)
 
   pub spot-of_seed_node : (n : ℕ) (s : Seed) → slice_get seeds n ≡ Some s → slice_get (spots_of seeds arrivals) n ≡ Some (spot_of_seed s)
-  spot-of_seed_node n s at = slice_get-left (map spot_of_seed seeds) (map spot_of_receipt arrivals) n (spot_of_seed s) (slice_get-map_at spot_of_seed seeds n s at)
+  spot-of_seed_node n s at =
+      slice_get-left (map spot_of_seed seeds) (map spot_of_receipt arrivals) n (spot_of_seed s)
+      (slice_get-map_at spot_of_seed seeds n s at)
 
   pub pair-of_receipt_node : (k : ℕ) (r : Receipt) → slice_get arrivals k ≡ Some r → slice_get (pairs_of seeds arrivals) (length seeds + k) ≡ Some (pair_of r)
   pair-of_receipt_node k r at =
@@ -53,24 +58,29 @@ module _ (seeds : List Seed) (arrivals : List Receipt) where
       ∙ slice_get-right (map pair_of_seed seeds) (map pair_of arrivals) k
       ∙ slice_get-map_at pair_of arrivals k r at
 
-  pub spot-of_receipt_node : (k : ℕ) (r : Receipt) → slice_get arrivals k ≡ Some r → slice_get (spots_of seeds arrivals) (length seeds + k) ≡ Some (spot_of_receipt r)
+  pub spot-of_receipt_node : (k : ℕ) (r : Receipt) → slice_get arrivals k ≡ Some r
+      → slice_get (spots_of seeds arrivals) (length seeds + k) ≡ Some (spot_of_receipt r)
   spot-of_receipt_node k r at =
       ap (λ n. slice_get (spots_of seeds arrivals) (n + k)) (sym (length-map seeds spot_of_seed))
       ∙ slice_get-right (map spot_of_seed seeds) (map spot_of_receipt arrivals) k
       ∙ slice_get-map_at spot_of_receipt arrivals k r at
 
   -- what a node offers is what its pair offers
-  pub offers-of_node : (n : ℕ) (spot : Spot Triple) (p : Pair) → slice_get (spots_of seeds arrivals) n ≡ Some spot → slice_get (pairs_of seeds arrivals) n ≡ Some p → spot.offers ≡ offers_of p
+  pub offers-of_node : (n : ℕ) (spot : Spot Triple) (p : Pair) → slice_get (spots_of seeds arrivals) n ≡ Some spot
+      → slice_get (pairs_of seeds arrivals) n ≡ Some p → spot.offers ≡ offers_of p
   offers-of_node n spot p e f =
       elim (node-cases n spot e) [
         | inl a ↦ ap (λ (s : Spot Triple). s.offers) (sym a.is) ∙ ap offers_of (same_Some (pair_of_seed a.seed) p (sym (pair-of_seed_node n a.seed a.at) ∙ f))
         | inr a ↦
             ap (λ (s : Spot Triple). s.offers) (sym a.is)
-            ∙ ap offers_of (same_Some (pair_of a.receipt) p (sym (pair-of_receipt_node a.place a.receipt a.at) ∙ ap (λ k. slice_get (pairs_of seeds arrivals) k) (sym a.node_is) ∙ f))
+            ∙ ap offers_of (same_Some (pair_of a.receipt) p
+                (sym (pair-of_receipt_node a.place a.receipt a.at)
+                ∙ ap (λ k. slice_get (pairs_of seeds arrivals) k) (sym a.node_is) ∙ f))
       ]
 
   -- each node has a spot
-  pub spot-of_pair : (n : ℕ) (p : Pair) → slice_get (pairs_of seeds arrivals) n ≡ Some p → (spot : Spot Triple) × (slice_get (spots_of seeds arrivals) n ≡ Some spot)
+  pub spot-of_pair : (n : ℕ) (p : Pair) → slice_get (pairs_of seeds arrivals) n ≡ Some p
+      → (spot : Spot Triple) × (slice_get (spots_of seeds arrivals) n ≡ Some spot)
   spot-of_pair n p e =
       elim (slice_get-append_cases (map pair_of_seed seeds) (map pair_of arrivals) n p e) [
         | inl a ↦ let f = slice_get-map_cases pair_of_seed seeds n p a in (spot_of_seed f.0, spot-of_seed_node n f.0 f.1)
@@ -92,7 +102,10 @@ pub record IsReachedAt (seeds : List Seed) (arrivals : List Receipt) (net : Net)
   pub reached : IsReached net node
   pub at : slice_get (pairs_of seeds arrivals) node ≡ Some p
 
-module _ (m : Meaning) (arrivals : List Receipt) (same : (r : Receipt) → Contains m.held r ↔ Contains arrivals r) (fits : (r : Receipt) → Contains arrivals r → IsFitting m.config r) (labels : List Triple) (net : Net) (h : IsNetOf m.config.seeds arrivals m.records labels net) where
+module _ (m : Meaning) (arrivals : List Receipt) (same : (r : Receipt)
+    → Contains m.held r ↔ Contains arrivals r) (fits : (r : Receipt) → Contains arrivals r
+    → IsFitting m.config r) (labels : List Triple) (net : Net)
+    (h : IsNetOf m.config.seeds arrivals m.records labels net) where
   -- reached is accepted
 
   member-seed : (s : Seed) → Contains m.config.seeds s → IsMember m (pair_of_seed s)
@@ -118,7 +131,9 @@ module _ (m : Meaning) (arrivals : List Receipt) (same : (r : Receipt) → Conta
           released = λ k r is at. absurd (omega (arith, is, slice_get_within m.config.seeds n a.seed a.at));
         }
         | inr a ↦
-            absurd (both_ways (is_root net n) (root-of_spot (spots_of m.config.seeds arrivals) labels (IsShutBy m.records) net h n spot.0 spot.1 ∙ ap (λ (s : Spot Triple). s.rooted) (sym a.is)) e)
+            absurd (both_ways (is_root net n)
+                (root-of_spot (spots_of m.config.seeds arrivals) labels (IsShutBy m.records) net h n spot.0 spot.1
+                ∙ ap (λ (s : Spot Triple). s.rooted) (sym a.is)) e)
       ]
   accepted-from_reached n (step {node = v} {label = l} {i = i} {j = j} r e c w) =
       let before = accepted-from_reached v r in
@@ -127,11 +142,17 @@ module _ (m : Meaning) (arrivals : List Receipt) (same : (r : Receipt) → Conta
       elim (node-cases m.config.seeds arrivals n a.spot a.at) [
         | inl b ↦ absurd (none-some a.label (ap (λ (s : Spot Triple). s.awaits) b.is ∙ a.awaits))
         | inr b ↦
-            let need : need_of b.receipt ≡ o.label = same_Some (need_of b.receipt) o.label (ap (λ (s : Spot Triple). s.awaits) b.is ∙ a.awaits ∙ sym a.named ∙ o.named) in
+            let need : need_of b.receipt ≡ o.label =
+                same_Some (need_of b.receipt) o.label
+                (ap (λ (s : Spot Triple). s.awaits) b.is ∙ a.awaits ∙ sym a.named ∙ o.named) in
             let has : Contains (offers_of before.pair) (need_of b.receipt) =
-            subst (λ offers. Contains offers (need_of b.receipt)) (offers-of_node m.config.seeds arrivals v o.spot before.pair o.at before.at) (subst (Contains o.spot.offers) (sym need) o.has)
+            subst (λ offers. Contains offers (need_of b.receipt))
+                (offers-of_node m.config.seeds arrivals v o.spot before.pair o.at before.at)
+                (subst (Contains o.spot.offers) (sym need) o.has)
             in
-            let open' : IsShutBy m.records (need_of b.receipt) → ⊥ = λ x. both_ways (is_closed net l) c ((h.closed l o.label o.named).1 (subst (IsShutBy m.records) need x)) in
+            let open' : IsShutBy m.records (need_of b.receipt) → ⊥ =
+                λ x. both_ways (is_closed net l) c ((h.closed l o.label o.named).1 (subst (IsShutBy m.records) need x))
+                in
             let vouches = vouches-from_offer m.records before.pair b.receipt has open' in
             let arrived : Contains arrivals b.receipt = slice_get-Contains arrivals b.place b.receipt b.at in
             let held : Contains m.held b.receipt = (same b.receipt).1 arrived in
@@ -149,16 +170,22 @@ module _ (m : Meaning) (arrivals : List Receipt) (same : (r : Receipt) → Conta
 
   -- released is reached
 
-  pub reached-on_receipt : (v : ℕ) (p : Pair) (k : ℕ) (r : Receipt) → IsReached net v → slice_get (pairs_of m.config.seeds arrivals) v ≡ Some p → slice_get arrivals k ≡ Some r → Vouches m.records p r → IsReached net (length m.config.seeds + k)
+  pub reached-on_receipt : (v : ℕ) (p : Pair) (k : ℕ) (r : Receipt) → IsReached net v
+      → slice_get (pairs_of m.config.seeds arrivals) v ≡ Some p → slice_get arrivals k ≡ Some r → Vouches m.records p r
+      → IsReached net (length m.config.seeds + k)
   reached-on_receipt v p k r reached at to vouches =
       let here = spot-of_pair m.config.seeds arrivals v p at in
-      reached-on (spots_of m.config.seeds arrivals) labels (IsShutBy m.records) net h v (length m.config.seeds + k) here.0 (spot_of_receipt r) (need_of r) reached here.1
+      reached-on (spots_of m.config.seeds arrivals) labels (IsShutBy m.records) net h v (length m.config.seeds + k)
+          here.0 (spot_of_receipt r) (need_of r) reached here.1
       (spot-of_receipt_node m.config.seeds arrivals k r to)
-      (subst (λ offers. Contains offers (need_of r)) (sym (offers-of_node m.config.seeds arrivals v here.0 p here.1 at)) (offer-from_vouches m.records p r vouches))
+      (subst (λ offers. Contains offers (need_of r)) (sym (offers-of_node m.config.seeds arrivals v here.0 p here.1 at))
+          (offer-from_vouches m.records p r vouches))
       refl
       (open-from_vouches m.records p r vouches)
 
-  reached-along : (chain : List Receipt) (v : ℕ) (p to : Pair) → IsReached net v → slice_get (pairs_of m.config.seeds arrivals) v ≡ Some p → AllByRecursion (Contains m.held) chain → Leads m.config m.records p chain to → IsReachedAt m.config.seeds arrivals net to
+  reached-along : (chain : List Receipt) (v : ℕ) (p to : Pair) → IsReached net v
+      → slice_get (pairs_of m.config.seeds arrivals) v ≡ Some p → AllByRecursion (Contains m.held) chain
+      → Leads m.config m.records p chain to → IsReachedAt m.config.seeds arrivals net to
   reached-along [] v p to reached at held leads = record { node = v; reached = reached; at = at ∙ ap (λ q. Some q) leads }
   reached-along (r ∷ chain) v p to reached at held leads =
       let place = Contains-slice_get arrivals r ((same r).0 held.0) in
@@ -168,7 +195,9 @@ module _ (m : Meaning) (arrivals : List Receipt) (same : (r : Receipt) → Conta
   pub reached-from_member : (p : Pair) → IsMember m p → IsReachedAt m.config.seeds arrivals net p
   reached-from_member p a =
       let place = Contains-slice_get m.config.seeds a.seed a.configured in
-      let is : is_root net place.0 ≡ true = root-of_spot (spots_of m.config.seeds arrivals) labels (IsShutBy m.records) net h place.0 (spot_of_seed a.seed) (spot-of_seed_node m.config.seeds arrivals place.0 a.seed place.1) in
+      let is : is_root net place.0 ≡ true =
+          root-of_spot (spots_of m.config.seeds arrivals) labels (IsShutBy m.records) net h place.0
+          (spot_of_seed a.seed) (spot-of_seed_node m.config.seeds arrivals place.0 a.seed place.1) in
       reached-along a.chain place.0 (pair_of_seed a.seed) p (root is) (pair-of_seed_node m.config.seeds arrivals place.0 a.seed place.1) a.held a.leads
 
   pub reached-from_released : (k : ℕ) (r : Receipt) → slice_get arrivals k ≡ Some r → IsReleased m r → IsReached net (length m.config.seeds + k)

@@ -1,5 +1,6 @@
 -- What a plain closure keeps, when receipts or records of distrust come
-use Rattle.std.proofs.Common.{◌≡◌, ◌≢◌, ℕ, ◌+◌, ◌<◌, ◌≤◌, inl, inr, Bool, true, false, List, [], ◌∷◌, ◌++◌, length, get_or, map, Some, arith, refl, sym, ap, ◌∙◌, subst}
+use Rattle.std.proofs.Common.{◌≡◌, ◌≢◌, ℕ, ◌+◌, ◌<◌, ◌≤◌, inl, inr, Bool, true, false, List, [], ◌∷◌, ◌++◌, length}
+use Rattle.std.proofs.Common.{get_or, map, Some, arith, refl, sym, ap, ◌∙◌, subst}
 use Rattle.std.specs.Prelude.{Contains, slice_get, ◌↔◌}
 use Rattle.std.specs.List.{All}
 use Rattle.std.proofs.lemmas.Bool.{cases_lt, both_ways}
@@ -31,7 +32,8 @@ use Rattle.trust_closure.proofs.PlainFacts.{item_at, plain-tells}
 raised-within : (flags : List Bool) (k : ℕ) → is_raised flags k ≡ true → k < length flags
 raised-within flags k e = elim (cases_lt k (length flags)) [ inl l ↦ l | inr l ↦ absurd (both_ways (is_raised flags k) (get_or_past flags k false l) e) ]
 
-released-more : (m n : Meaning) → m.config ≡ n.config → ((r : Receipt) → Contains m.held r → Contains n.held r) → ((x : Distrust) → Contains n.records x → Contains m.records x) → (r : Receipt) → IsReleased m r → IsReleased n r
+released-more : (m n : Meaning) → m.config ≡ n.config → ((r : Receipt) → Contains m.held r → Contains n.held r)
+    → ((x : Distrust) → Contains n.records x → Contains m.records x) → (r : Receipt) → IsReleased m r → IsReleased n r
 released-more m n same more fewer r is = record {
   held = more r is.held;
   fits = subst (λ (c : Configuration). IsFitting c r) same is.fits;
@@ -59,7 +61,8 @@ module _ (h new : Hoard) (p q : Paired) (offers : List Triple) (released others 
     | inr f ↦
         let l : f.0 < length h.arrived = omega (arith, raised-within released f.0 f.2, i.set.size) in
         let r = item_at h.arrived f.0 l in
-        inr (f.0, subst (λ (c : Configuration). node ≡ length c.seeds + f.0) config f.1, (j.settled f.0 r.0 (arrivals f.0 r.0 r.1)).1 (release r.0 ((i.settled f.0 r.0 r.1).0 f.2)))
+        inr (f.0, subst (λ (c : Configuration). node ≡ length c.seeds + f.0) config f.1,
+            (j.settled f.0 r.0 (arrivals f.0 r.0 r.1)).1 (release r.0 ((i.settled f.0 r.0 r.1).0 f.2)))
   ]
 
   kept-carry : (k : ℕ) → is_raised (flags_of p.counts) k ≡ true
@@ -71,12 +74,15 @@ module _ (h new : Hoard) (p q : Paired) (offers : List Triple) (released others 
 
   pairs-carry : (n : ℕ) (x : Pair) → slice_get (pairs_of h.config.seeds h.arrived) n ≡ Some x → slice_get (pairs_of new.config.seeds new.arrived) n ≡ Some x
   pairs-carry n x at = elim (slice_get-append_cases (map pair_of_seed h.config.seeds) (map pair_of h.arrived) n x at) [
-    | inl a ↦ subst (λ (c : Configuration). slice_get (pairs_of c.seeds new.arrived) n ≡ Some x) config (slice_get-left (map pair_of_seed h.config.seeds) (map pair_of new.arrived) n x a)
+    | inl a ↦ subst (λ (c : Configuration). slice_get (pairs_of c.seeds new.arrived) n ≡ Some x) config
+        (slice_get-left (map pair_of_seed h.config.seeds) (map pair_of new.arrived) n x a)
     | inr a ↦
         let r = slice_get-map_cases pair_of h.arrived a.place x a.at in
         let e : n ≡ length h.config.seeds + a.place = omega (arith, a.is, length-map h.config.seeds pair_of_seed) in
         subst (λ (c : Configuration). slice_get (pairs_of c.seeds new.arrived) n ≡ Some x) config
-        (ap (λ k. slice_get (pairs_of h.config.seeds new.arrived) k) e ∙ pair-of_receipt_node h.config.seeds new.arrived a.place r.0 (arrivals a.place r.0 r.1) ∙ ap (λ (y : Pair). Some y) r.2)
+        (ap (λ k. slice_get (pairs_of h.config.seeds new.arrived) k) e
+            ∙ pair-of_receipt_node h.config.seeds new.arrived a.place r.0 (arrivals a.place r.0 r.1)
+            ∙ ap (λ (y : Pair). Some y) r.2)
   ]
 
   flag-sizes : length (flags_of p.counts) ≤ length (flags_of q.counts)
@@ -96,7 +102,8 @@ module _ (h new : Hoard) (p q : Paired) (offers : List Triple) (released others 
 
 -- ---- flags raised anew
 
-pub settled-from : (h : Hoard) (p q : Paired) (offers : List Triple) (old released : List Bool) → IsSet h p offers old → length released ≡ length old → AreReleased (meaning_of h) h.arrived released
+pub settled-from : (h : Hoard) (p q : Paired) (offers : List Triple) (old released : List Bool) → IsSet h p offers old
+    → length released ≡ length old → AreReleased (meaning_of h) h.arrived released
     → q.numbers ≡ p.numbers → q.firsts ≡ p.firsts → length q.counts ≡ length p.counts
     → ((number : ℕ) → (is_raised (flags_of q.counts) number ≡ true) ↔ IsFirstHad
     (length h.config.seeds) released p.firsts (length p.firsts) number)
@@ -128,31 +135,44 @@ firsts-within h p offers released s k d l =
 
 -- ---- one more receipt
 
-pub set-more : (h new : Hoard) (p q : Paired) (offers : List Triple) (released : List Bool) (r : Receipt) → IsSet h p offers released → IsReceipt r → (Contains h.held r → ⊥) → new ≡ with_arrival h r → IsMeaning (meaning_of new)
+pub set-more : (h new : Hoard) (p q : Paired) (offers : List Triple) (released : List Bool) (r : Receipt)
+    → IsSet h p offers released → IsReceipt r → (Contains h.held r → ⊥) → new ≡ with_arrival h r
+    → IsMeaning (meaning_of new)
     → IsPairing (pairs_of h.config.seeds h.arrived ++ pair_of r ∷ []) q → IsSet new q offers (released ++ false ∷ [])
 set-more h new p q offers released r s form unheld is valid pairing =
     let valid' : IsMeaning (meaning_of (with_arrival h r)) = subst (λ x. IsMeaning (meaning_of x)) is valid in
     subst (λ x. IsSet x q offers (released ++ false ∷ [])) (sym is) (record {
       valid = valid';
-      once = all_pairs_push ◌≢◌ h.arrived r s.once (λ k d l e. unheld (subst (Contains h.held) e ((s.same (get_or h.arrived k d)).1 (Contains-get_or h.arrived k d l))));
+      once = all_pairs_push ◌≢◌ h.arrived r s.once
+          (λ k d l e. unheld (subst (Contains h.held) e
+          ((s.same (get_or h.arrived k d)).1 (Contains-get_or h.arrived k d l))));
       same = same-more h r s.valid form s.same;
       offers = s.offers;
       pairing = subst (λ ps. IsPairing ps q) (sym (pairs-push h.config.seeds h.arrived r)) pairing;
       size = omega (arith, length_push released false, length_push h.arrived r, s.size);
     })
 
-pub release-more : (h new : Hoard) (r : Receipt) → IsMeaning (meaning_of h) → IsReceipt r → ((s : Receipt) → Contains h.held s ↔ Contains h.arrived s) → new ≡ with_arrival h r → (s : Receipt) → IsReleased (meaning_of h) s → IsReleased (meaning_of new) s
+pub release-more : (h new : Hoard) (r : Receipt) → IsMeaning (meaning_of h) → IsReceipt r
+    → ((s : Receipt) → Contains h.held s ↔ Contains h.arrived s) → new ≡ with_arrival h r → (s : Receipt)
+    → IsReleased (meaning_of h) s → IsReleased (meaning_of new) s
 release-more h new r valid form same is s released =
     subst (λ (x : Hoard). IsReleased (meaning_of x) s) (sym is)
-    (released-more (meaning_of h) (meaning_of (with_arrival h r)) refl (λ t c. (same-more h r valid form same t).1 (Contains-append_left h.arrived (r ∷ []) t ((same t).0 c))) (λ x c. c) s released)
+    (released-more (meaning_of h) (meaning_of (with_arrival h r)) refl
+        (λ t c. (same-more h r valid form same t).1 (Contains-append_left h.arrived (r ∷ []) t ((same t).0 c)))
+        (λ x c. c) s released)
 
-pub arrivals-more : (h new : Hoard) (r : Receipt) → new ≡ with_arrival h r → (place : ℕ) (s : Receipt) → slice_get h.arrived place ≡ Some s → slice_get new.arrived place ≡ Some s
+pub arrivals-more : (h new : Hoard) (r : Receipt) → new ≡ with_arrival h r → (place : ℕ) (s : Receipt)
+    → slice_get h.arrived place ≡ Some s → slice_get new.arrived place ≡ Some s
 arrivals-more h new r is place s at = ap (λ (x : Hoard). slice_get x.arrived place) is ∙ slice_get-more h.arrived (r ∷ []) place s at
 
-pub sound-push : (h new : Hoard) (p : Paired) (offers : List Triple) (released : List Bool) (r : Receipt) → HasPlainFlags h p offers released → IsReceipt r → new ≡ with_arrival h r → AreSound (meaning_of new) new.arrived (released ++ false ∷ [])
+pub sound-push : (h new : Hoard) (p : Paired) (offers : List Triple) (released : List Bool) (r : Receipt)
+    → HasPlainFlags h p offers released → IsReceipt r → new ≡ with_arrival h r
+    → AreSound (meaning_of new) new.arrived (released ++ false ∷ [])
 sound-push h new p offers released r i form is place s at raised =
     elim (slice_get-push_cases h.arrived r place s (ap (λ (x : Hoard). slice_get x.arrived place) (sym is) ∙ at)) [
-      | inl a ↦ release-more h new r i.set.valid form i.set.same is s ((i.settled place s a.1).0 (sym (get_or_append_left released (false ∷ []) false place (omega (arith, a.0, i.set.size))) ∙ raised))
+      | inl a ↦ release-more h new r i.set.valid form i.set.same is s
+          ((i.settled place s a.1).0
+          (sym (get_or_append_left released (false ∷ []) false place (omega (arith, a.0, i.set.size))) ∙ raised))
       | inr a ↦ absurd (both_ways (is_raised (released ++ false ∷ []) place) (get_or_push released false false place (omega (arith, a.0, i.set.size))) raised)
     ]
 
@@ -165,7 +185,9 @@ set-closed old new xs p offers released lowered s before valid size =
     let is = hoard-before old new xs before in
     let valid' : IsMeaning (meaning_of (with_mistrust old xs new.capacity)) = subst
     (λ h. IsMeaning (meaning_of h)) is valid in
-    subst (λ h. IsSet h p offers lowered) (sym is) (record { valid = valid'; once = s.once; same = s.same; offers = s.offers; pairing = s.pairing; size = size ∙ s.size })
+    subst (λ h. IsSet h p offers lowered) (sym is)
+        (record { valid = valid'; once = s.once; same = s.same; offers = s.offers; pairing = s.pairing; size =
+        size ∙ s.size })
 
 pub release-fewer : (old new : Hoard) (xs : List Distrust) → IsBefore old xs new → (s : Receipt)
     → IsReleased (meaning_of new) s → IsReleased (meaning_of old) s
@@ -180,7 +202,9 @@ sound-lowered m arrived flags low place r at raised = absurd (both_ways (is_rais
 
 -- ---- more room
 
-pub settled-roomier : (h new : Hoard) (p q : Paired) (offers : List Triple) (released : List Bool) → HasPlainFlags h p offers released → new ≡ record h { capacity = new.capacity } → IsRoomierPaired p q → HasPlainFlags new q offers released
+pub settled-roomier : (h new : Hoard) (p q : Paired) (offers : List Triple) (released : List Bool)
+    → HasPlainFlags h p offers released → new ≡ record h { capacity = new.capacity } → IsRoomierPaired p q
+    → HasPlainFlags new q offers released
 settled-roomier h new p q offers released i is r =
     subst (λ x. HasPlainFlags x q offers released) (sym is) (record {
       set = record {
@@ -217,7 +241,9 @@ raised-as flags a b rs ss fs gs seeds released firsts raised n =
     (subst (λ (bs : List Bool). (is_raised flags n ≡ true) ↔ IsFirstHad a bs gs (length gs) n) released
     (subst (λ (ns : List ℕ). (is_raised flags n ≡ true) ↔ IsFirstHad a rs ns (length ns) n) firsts (raised n)))
 
-pub gain-added : (h new : Hoard) (p q : Paired) (offers : List Triple) (released others : List Bool) (r : Receipt) (first : ℕ) → HasPlainFlags h p offers released → IsReceipt r → new ≡ with_arrival h r → HasPlainFlags new q offers others
+pub gain-added : (h new : Hoard) (p q : Paired) (offers : List Triple) (released others : List Bool) (r : Receipt)
+    (first : ℕ) → HasPlainFlags h p offers released → IsReceipt r → new ≡ with_arrival h r
+    → HasPlainFlags new q offers others
     → q.firsts ≡ p.firsts ++ first ∷ [] → length q.counts ≡ length p.counts + 1
     → (raised_count (flags_of p.counts) ≤ raised_count (flags_of q.counts))
     × ((n : ℕ) → raised_count (flags_of q.counts) ≡ raised_count (flags_of p.counts) + n

@@ -65,14 +65,18 @@ has_name c d has = elim (Contains-append_cases (map (λ (r : Relationship). r.do
 name_has : (c : Configuration) (d : List ℕ) → HasDomain c d → Contains (names_of c) d
 name_has c d has = elim has [
   | inl own ↦
-      Contains-append_left (map (λ (r : Relationship). r.domain) c.relationships) (map (λ (r : Relationship). r.endpoint.domain) c.relationships ++ map (λ (s : Seed). s.domain) c.seeds) d
-      (subst (Contains (map (λ (r : Relationship). r.domain) c.relationships)) own.2 (contains_map (λ (r : Relationship). r.domain) c.relationships own.0 own.1))
+      Contains-append_left (map (λ (r : Relationship). r.domain) c.relationships)
+          (map (λ (r : Relationship). r.endpoint.domain) c.relationships ++ map (λ (s : Seed). s.domain) c.seeds) d
+      (subst (Contains (map (λ (r : Relationship). r.domain) c.relationships)) own.2
+          (contains_map (λ (r : Relationship). r.domain) c.relationships own.0 own.1))
   | inr more ↦
-      Contains-append_right (map (λ (r : Relationship). r.domain) c.relationships) (map (λ (r : Relationship). r.endpoint.domain) c.relationships ++ map (λ (s : Seed). s.domain) c.seeds) d
+      Contains-append_right (map (λ (r : Relationship). r.domain) c.relationships)
+          (map (λ (r : Relationship). r.endpoint.domain) c.relationships ++ map (λ (s : Seed). s.domain) c.seeds) d
       (elim more [
         | inl endpoint ↦
             Contains-append_left (map (λ (r : Relationship). r.endpoint.domain) c.relationships) (map (λ (s : Seed). s.domain) c.seeds) d
-            (subst (Contains (map (λ (r : Relationship). r.endpoint.domain) c.relationships)) endpoint.2 (contains_map (λ (r : Relationship). r.endpoint.domain) c.relationships endpoint.0 endpoint.1))
+            (subst (Contains (map (λ (r : Relationship). r.endpoint.domain) c.relationships)) endpoint.2
+                (contains_map (λ (r : Relationship). r.endpoint.domain) c.relationships endpoint.0 endpoint.1))
         | inr seed ↦
             Contains-append_right (map (λ (r : Relationship). r.endpoint.domain) c.relationships) (map (λ (s : Seed). s.domain) c.seeds) d
             (subst (Contains (map (λ (s : Seed). s.domain) c.seeds)) seed.2 (contains_map (λ (s : Seed). s.domain) c.seeds seed.0 seed.1))
@@ -90,12 +94,14 @@ are_domains c = record {
   rising = with_items_rising nat_list_cmp_total (names_of c) [] none_rising;
   sound = λ d has. has_name c d (in_names c d has);
   complete = λ d has.
-      with_items_gets nat_list_cmp_total (λ (x : List ℕ). Unit {0}) (λ x y p q e. exact_bytes x y e) (names_of c) [] (λ x h. tt) (λ x h. tt) d (name_has c d has);
+      with_items_gets nat_list_cmp_total (λ (x : List ℕ). Unit {0}) (λ x y p q e. exact_bytes x y e) (names_of c) []
+          (λ x h. tt) (λ x h. tt) d (name_has c d has);
 }
 
 pub one_domains : (c : Configuration) (ds : List (List ℕ)) → AreDomains c ds → ds ≡ domains_of c
 one_domains c ds are =
-    rising_same nat_list_cmp_total ds (domains_of c) are.rising (are_domains c).rising (λ d h. (are_domains c).complete d (are.sound d h)) (λ d h. are.complete d ((are_domains c).sound d h))
+    rising_same nat_list_cmp_total ds (domains_of c) are.rising (are_domains c).rising
+        (λ d h. (are_domains c).complete d (are.sound d h)) (λ d h. are.complete d ((are_domains c).sound d h))
 
 -- ---- the place of a domain
 
@@ -139,16 +145,21 @@ domain_text c is d has = elim has [
 own_domain : (c : Configuration) (r : Record) → r.domain < length (domains_of c) → HasDomain c (get_or (domains_of c) r.domain [])
 own_domain c r below = (are_domains c).sound (get_or (domains_of c) r.domain []) (Contains-get_or (domains_of c) r.domain [] below)
 
-all_domains : (c : Configuration) (records : List Record) → AreWithin (length (domains_of c)) records → AllByRecursion (λ x. HasDomain c x.domain) (distrusts_of (domains_of c) records)
+all_domains : (c : Configuration) (records : List Record) → AreWithin (length (domains_of c)) records
+    → AllByRecursion (λ x. HasDomain c x.domain) (distrusts_of (domains_of c) records)
 all_domains c [] within = tt
 all_domains c (r ∷ rs) within = (own_domain c r within.0, all_domains c rs within.1)
 
-all_distrusts : (c : Configuration) → IsConfiguration c → (records : List Record) → AreWithin (length (domains_of c)) records → AllByRecursion (λ r. IsDigest r.key.0) records → AllByRecursion IsDistrust (distrusts_of (domains_of c) records)
+all_distrusts : (c : Configuration) → IsConfiguration c → (records : List Record)
+    → AreWithin (length (domains_of c)) records → AllByRecursion (λ r. IsDigest r.key.0) records
+    → AllByRecursion IsDistrust (distrusts_of (domains_of c) records)
 all_distrusts c is [] within keys = tt
 all_distrusts c is (r ∷ rs) within keys =
     (record { domain = domain_text c is (get_or (domains_of c) r.domain []) (own_domain c r within.0); key = keys.0 }, all_distrusts c is rs within.1 keys.1)
 
-pub hoard_meaning : (c : Configuration) (stock : Stock Receipt) (buckets : List ℕ) (records : List Record) → IsHoard c stock buckets records → IsMeaning (record { config = c; held = in_order stock; records = distrusts_of (domains_of c) records })
+pub hoard_meaning : (c : Configuration) (stock : Stock Receipt) (buckets : List ℕ) (records : List Record)
+    → IsHoard c stock buckets records
+    → IsMeaning (record { config = c; held = in_order stock; records = distrusts_of (domains_of c) records })
 hoard_meaning c stock buckets records is =
     let size : length (in_order stock) ≡ length stock.items = length_in_order stock is.arranged in
     let few = is.few in
@@ -199,10 +210,13 @@ hoard_none c is = record {
 
 -- ---- one record more
 
-hoard_with : (c : Configuration) (stock : Stock Receipt) (buckets : List ℕ) (old new : List Record) → IsHoard c stock buckets old → new ≡ old → IsHoard c stock buckets new
+hoard_with : (c : Configuration) (stock : Stock Receipt) (buckets : List ℕ) (old new : List Record)
+    → IsHoard c stock buckets old → new ≡ old → IsHoard c stock buckets new
 hoard_with c stock buckets old new hoard e = subst (IsHoard c stock buckets) (sym e) hoard
 
-pub hoard_add : (c : Configuration) (stock : Stock Receipt) (buckets : List ℕ) (old new : List Record) (x : Record) → IsHoard c stock buckets old → x.domain < length (domains_of c) → IsDigest x.key.0 → (a : Addition) → InsertsRecord old x new a → IsHoard c stock buckets new
+pub hoard_add : (c : Configuration) (stock : Stock Receipt) (buckets : List ℕ) (old new : List Record) (x : Record)
+    → IsHoard c stock buckets old → x.domain < length (domains_of c) → IsDigest x.key.0 → (a : Addition)
+    → InsertsRecord old x new a → IsHoard c stock buckets new
 hoard_add c stock buckets old new x hoard below key There h = hoard_with c stock buckets old new hoard h.1
 hoard_add c stock buckets old new x hoard below key NoPlace h = hoard_with c stock buckets old new hoard h.now
 hoard_add c stock buckets old new x hoard below key Added h =
@@ -218,8 +232,10 @@ hoard_add c stock buckets old new x hoard below key Added h =
       arranged = hoard.arranged;
       buckets_arranged = hoard.buckets_arranged;
       buckets_rising = hoard.buckets_rising;
-      within = subst (AreWithin (length (domains_of c))) (sym h.now) (with_item-all (λ (r : Record). r.domain < length (domains_of c)) record_cmp x old below hoard.within);
-      keys = subst (AllByRecursion (λ (r : Record). IsDigest r.key.0)) (sym h.now) (with_item-all (λ (r : Record). IsDigest r.key.0) record_cmp x old key hoard.keys);
+      within = subst (AreWithin (length (domains_of c))) (sym h.now)
+          (with_item-all (λ (r : Record). r.domain < length (domains_of c)) record_cmp x old below hoard.within);
+      keys = subst (AllByRecursion (λ (r : Record). IsDigest r.key.0)) (sym h.now)
+          (with_item-all (λ (r : Record). IsDigest r.key.0) record_cmp x old key hoard.keys);
       records_rising = subst (IsStrictlySortedBy record_cmp) (sym h.now) (with_item_rising record_total x old hoard.records_rising);
       few_records = omega arith;
     }
@@ -227,10 +243,16 @@ hoard_add c stock buckets old new x hoard below key Added h =
 abbrev pub meaning_with : Configuration → List Receipt → List Record → Meaning
 meaning_with c held records = record { config = c; held = held; records = distrusts_of (domains_of c) records }
 
-lacks : (c : Configuration) (old : List Record) (x : Record) → x.domain < length (domains_of c) → AreWithin (length (domains_of c)) old → (Contains old x → ⊥) → Contains (distrusts_of (domains_of c) old) (distrust_by (domains_of c) x) → ⊥
+lacks : (c : Configuration) (old : List Record) (x : Record) → x.domain < length (domains_of c)
+    → AreWithin (length (domains_of c)) old → (Contains old x → ⊥)
+    → Contains (distrusts_of (domains_of c) old) (distrust_by (domains_of c) x) → ⊥
 lacks c old x below within unheld has = unheld (record_of (domains_of c) x old (are_domains c).rising below within has)
 
-pub told_adds : (c : Configuration) (held : List Receipt) (old new : List Record) (x : Record) → x.domain < length (domains_of c) → AreWithin (length (domains_of c)) old → (a : Addition) → InsertsRecord old x new a → AddsOrRefuses (meaning_with c held old) (distrust_by (domains_of c) x) (meaning_with c held new) (addition_result a)
+pub told_adds : (c : Configuration) (held : List Receipt) (old new : List Record) (x : Record)
+    → x.domain < length (domains_of c) → AreWithin (length (domains_of c)) old → (a : Addition)
+    → InsertsRecord old x new a
+    → AddsOrRefuses (meaning_with c held old) (distrust_by (domains_of c) x) (meaning_with c held new)
+    (addition_result a)
 told_adds c held old new x below within There h =
     (contains_map (distrust_by (domains_of c)) old x h.0, ap (λ rs. meaning_with c held rs) h.1)
 told_adds c held old new x below within NoPlace h =
@@ -255,9 +277,16 @@ told_adds c held old new x below within Added h =
 
 -- ---- whether a record is held
 
-pub distrust_held : (c : Configuration) (records : List Record) (x : Record) (b : Bool) → x.domain < length (domains_of c) → AreWithin (length (domains_of c)) records → (IsTrue b ↔ Contains records x) → IsTrue b ↔ Contains (distrusts_of (domains_of c) records) (distrust_by (domains_of c) x)
+pub distrust_held : (c : Configuration) (records : List Record) (x : Record) (b : Bool)
+    → x.domain < length (domains_of c) → AreWithin (length (domains_of c)) records → (IsTrue b ↔ Contains records x)
+    → IsTrue b ↔ Contains (distrusts_of (domains_of c) records) (distrust_by (domains_of c) x)
 distrust_held c records x b below within holds =
-    (λ t. contains_map (distrust_by (domains_of c)) records x (holds.0 t), λ has. holds.1 (record_of (domains_of c) x records (are_domains c).rising below within has))
+    (λ t. contains_map (distrust_by (domains_of c)) records x (holds.0 t),
+        λ has. holds.1 (record_of (domains_of c) x records (are_domains c).rising below within has))
 
-pub distrust_lacks : (c : Configuration) (records : List Record) (d : Distrust) → AreWithin (length (domains_of c)) records → (HasDomain c d.domain → ⊥) → Contains (distrusts_of (domains_of c) records) d → ⊥
-distrust_lacks c records d within unknown has = unknown (each_has (λ (x : Distrust). HasDomain c x.domain) (distrusts_of (domains_of c) records) d (all_domains c records within) has)
+pub distrust_lacks : (c : Configuration) (records : List Record) (d : Distrust)
+    → AreWithin (length (domains_of c)) records → (HasDomain c d.domain → ⊥)
+    → Contains (distrusts_of (domains_of c) records) d → ⊥
+distrust_lacks c records d within unknown has =
+    unknown (each_has (λ (x : Distrust). HasDomain c x.domain) (distrusts_of (domains_of c) records) d
+    (all_domains c records within) has)

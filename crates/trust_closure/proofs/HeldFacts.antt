@@ -1,5 +1,7 @@
 -- What is held
-use Rattle.std.proofs.Common.{◌≡◌, ℕ, zero, suc, ◌+◌, ◌<◌, ◌≤◌, inl, inr, List, [], ◌∷◌, ◌++◌, length, get_or, Option, Some, None, Bool, true, false, cond, ◌==◌, Less, Equal, Greater, refl, sym, ap, ◌∙◌, subst, arith}
+use Rattle.std.proofs.Common.{◌≡◌, ℕ, zero, suc, ◌+◌, ◌<◌, ◌≤◌, inl, inr, List, [], ◌∷◌, ◌++◌, length, get_or, Option}
+use Rattle.std.proofs.Common.{Some, None, Bool, true, false, cond, ◌==◌, Less, Equal, Greater, refl, sym, ap, ◌∙◌}
+use Rattle.std.proofs.Common.{subst, arith}
 use Rattle.std.specs.Prelude.{◌↔◌, Result, Ok, Err}
 use Rattle.std.specs.Bool.{IsTrue}
 use Rattle.std.specs.Result.{is_ok}
@@ -55,7 +57,8 @@ length_in_order stock arranged = length-picked stock.items stock.order arranged.
 
 -- ---- a search among them
 
-pub found_held : (stock : Stock Receipt) (r : Receipt) (number : ℕ) → AllByRecursion IsReceipt stock.items → IsReceipt r → IsNumber (λ s. receipt_cmp s r) stock number → Contains (in_order stock) r
+pub found_held : (stock : Stock Receipt) (r : Receipt) (number : ℕ) → AllByRecursion IsReceipt stock.items → IsReceipt r
+    → IsNumber (λ s. receipt_cmp s r) stock number → Contains (in_order stock) r
 found_held stock r number all is found =
     let held : AllByRecursion IsReceipt (in_order stock) = picked_all IsReceipt stock.items all stock.order in
     let at : IsReceipt (get_or (in_order stock) found.place r) = All-from_recursion IsReceipt (in_order stock) held found.place r found.found.within in
@@ -68,7 +71,8 @@ pub missing_inserts : (xs : List Receipt) (r : Receipt) (place : ℕ) → IsMiss
 missing_inserts xs r place missing = with_item_at receipt_total r xs place missing.within missing.before missing.after
 
 -- what a search answers
-pub finds_held : (stock : Stock Receipt) (r : Receipt) (found : Result ℕ ℕ) → AllByRecursion IsReceipt stock.items → IsReceipt r → FindsNumber (λ s. receipt_cmp s r) stock found → IsTrue (is_ok found) ↔ Contains (in_order stock) r
+pub finds_held : (stock : Stock Receipt) (r : Receipt) (found : Result ℕ ℕ) → AllByRecursion IsReceipt stock.items
+    → IsReceipt r → FindsNumber (λ s. receipt_cmp s r) stock found → IsTrue (is_ok found) ↔ Contains (in_order stock) r
 finds_held stock r (Ok number) all is found = (λ t. found_held stock r number all is found, λ has. refl)
 finds_held stock r (Err place) all is missing = (λ t. absurd (cc), λ has. absurd (missing_lacks (in_order stock) r place missing has))
 
@@ -79,20 +83,23 @@ slice_get_at [] k d below = absurd (omega arith)
 slice_get_at (y ∷ ys) zero d below = refl
 slice_get_at (y ∷ ys) (suc k) d below = slice_get_at ys k d (omega arith)
 
-all_numbers : (P : Receipt → Type 0) (items : List Receipt) (order : List ℕ) → Arranges order (length items) → AllByRecursion P (picked items order) → (n : ℕ) (d : Receipt) → n < length items → P (get_or items n d)
+all_numbers : (P : Receipt → Type 0) (items : List Receipt) (order : List ℕ) → Arranges order (length items)
+    → AllByRecursion P (picked items order) → (n : ℕ) (d : Receipt) → n < length items → P (get_or items n d)
 all_numbers P items order arranged all n d below =
     let place = arranged.each n below in
     let size : length (picked items order) ≡ length order = length-picked items order arranged.within in
     let inside : place.0 < length (picked items order) = omega (arith, place.1) in
     let here : P (get_or (picked items order) place.0 d) = All-from_recursion P (picked items order) all place.0 d inside in
-    let found : slice_get items (slice_index order place.0) ≡ Some (get_or (picked items order) place.0 d) = picked-at items order place.0 d arranged.within place.1 in
+    let found : slice_get items (slice_index order place.0) ≡ Some (get_or (picked items order) place.0 d) =
+        picked-at items order place.0 d arranged.within place.1 in
     let number : slice_index order place.0 ≡ n = get_or_default order place.0 0 n place.1 ∙ place.2 in
     let own : slice_get items n ≡ Some (get_or items n d) = slice_get_at items n d below in
     let same : Some (get_or (picked items order) place.0 d) ≡ Some (get_or items n d) = sym found ∙ ap (slice_get items) number ∙ own in
     let one : get_or (picked items order) place.0 d ≡ get_or items n d = cc in
     subst P one here
 
-pub all_items : (P : Receipt → Type 0) (items : List Receipt) (order : List ℕ) → Arranges order (length items) → AllByRecursion P (picked items order) → AllByRecursion P items
+pub all_items : (P : Receipt → Type 0) (items : List Receipt) (order : List ℕ) → Arranges order (length items)
+    → AllByRecursion P (picked items order) → AllByRecursion P items
 all_items P items order arranged all = recursion_from_All P items (all_numbers P items order arranged all)
 
 -- ---- the order of buckets
@@ -100,7 +107,9 @@ all_items P items order arranged all = recursion_from_All P items (all_numbers P
 pub bucket_total : IsTotalOrder bucket_cmp
 bucket_total = then_total (on_total bucket_of nat_cmp_total) receipt_total
 
-pub bucket_sought : (items lent : List Receipt) (buckets : List ℕ) (r s : Receipt) → Arranges buckets (length items) → IsStrictlySortedBy bucket_cmp (picked items buckets) → lent ≡ items → s ≡ r → IsRising (λ n. compared_at (λ x. bucket_cmp x s) lent n) buckets
+pub bucket_sought : (items lent : List Receipt) (buckets : List ℕ) (r s : Receipt) → Arranges buckets (length items)
+    → IsStrictlySortedBy bucket_cmp (picked items buckets) → lent ≡ items → s ≡ r
+    → IsRising (λ n. compared_at (λ x. bucket_cmp x s) lent n) buckets
 bucket_sought items lent buckets r s arranged rising same e =
     subst (λ xs. IsRising (λ n. compared_at (λ x. bucket_cmp x s) xs n) buckets) (sym same)
     (rising_numbers (λ x. bucket_cmp x s) items buckets arranged.within record { rising = sought bucket_total (picked items buckets) s rising })
@@ -118,16 +127,25 @@ bucket_after x r other behind Less e = absurd (behind e)
 bucket_after x r other behind Equal e = absurd (other (both_equal (nat_cmp (bucket_of x) (bucket_of r)) (receipt_cmp x r) e).1)
 bucket_after x r other behind Greater e = refl
 
-pub bucket_inserts : (items : List Receipt) (buckets : List ℕ) (r : Receipt) (spot : ℕ) → Arranges buckets (length items) → AllByRecursion (IsOther r) items → IsGap (λ n. compared_at (λ x. bucket_cmp x r) items n) buckets spot → with_item bucket_cmp r (picked items buckets) ≡ insert (picked items buckets) spot r
+pub bucket_inserts : (items : List Receipt) (buckets : List ℕ) (r : Receipt) (spot : ℕ)
+    → Arranges buckets (length items) → AllByRecursion (IsOther r) items
+    → IsGap (λ n. compared_at (λ x. bucket_cmp x r) items n) buckets spot
+    → with_item bucket_cmp r (picked items buckets) ≡ insert (picked items buckets) spot r
 bucket_inserts items buckets r spot arranged other gap =
     let here : IsGap (λ x. bucket_cmp x r) (picked items buckets) spot = gap_of_items (λ x. bucket_cmp x r) items buckets spot arranged.within gap in
     let apart : AllByRecursion (IsOther r) (picked items buckets) = picked_all (IsOther r) items other buckets in
     with_item_at bucket_total r (picked items buckets) spot here.within here.before
-    (λ k d low high. bucket_after (get_or (picked items buckets) k d) r (All-from_recursion (IsOther r) (picked items buckets) apart k d high) (here.after k d low high) _ refl)
+    (λ k d low high. bucket_after (get_or (picked items buckets) k d) r
+        (All-from_recursion (IsOther r) (picked items buckets) apart k d high) (here.after k d low high) _ refl)
 
 -- ---- one receipt more
 
-pub hoard_more : (c : Configuration) (stock new : Stock Receipt) (buckets newer : List ℕ) (records : List Record) (r : Receipt) (place spot : ℕ) → IsHoard c stock buckets records → IsReceipt r → IsFitting c r → length stock.items < 65536 → IsMissing (λ s. receipt_cmp s r) (in_order stock) place → IsGap (λ n. compared_at (λ x. bucket_cmp x r) stock.items n) buckets spot → new.items ≡ stock.items ++ r ∷ [] → in_order new ≡ insert (in_order stock) place r → new.order ≡ insert stock.order place (length stock.items) → newer ≡ insert buckets spot (length stock.items) → IsHoard c new newer records
+pub hoard_more : (c : Configuration) (stock new : Stock Receipt) (buckets newer : List ℕ) (records : List Record)
+    (r : Receipt) (place spot : ℕ) → IsHoard c stock buckets records → IsReceipt r → IsFitting c r
+    → length stock.items < 65536 → IsMissing (λ s. receipt_cmp s r) (in_order stock) place
+    → IsGap (λ n. compared_at (λ x. bucket_cmp x r) stock.items n) buckets spot → new.items ≡ stock.items ++ r ∷ []
+    → in_order new ≡ insert (in_order stock) place r → new.order ≡ insert stock.order place (length stock.items)
+    → newer ≡ insert buckets spot (length stock.items) → IsHoard c new newer records
 hoard_more c stock new buckets newer records r place spot hoard is fits few missing gap items ordered order bucketed =
     let size : length new.items ≡ length stock.items + 1 = ap length items ∙ length-append stock.items (r ∷ []) in
     let counted : length (in_order stock) ≡ length stock.items = length_in_order stock hoard.arranged in
@@ -136,10 +154,14 @@ hoard_more c stock new buckets newer records r place spot hoard is fits few miss
     let missing_within = missing.within in
     let gap_within = gap.within in
     let unheld : Contains (in_order stock) r → ⊥ = missing_lacks (in_order stock) r place missing in
-    let other : AllByRecursion (IsOther r) stock.items = all_items (IsOther r) stock.items stock.order hoard.arranged (others (in_order stock) r is (picked_all IsReceipt stock.items hoard.receipts stock.order) unheld) in
+    let other : AllByRecursion (IsOther r) stock.items =
+        all_items (IsOther r) stock.items stock.order hoard.arranged
+        (others (in_order stock) r is (picked_all IsReceipt stock.items hoard.receipts stock.order) unheld) in
     let place_within : place ≤ length stock.order = omega arith in
-    let arranged : Arranges (insert stock.order place (length stock.items)) (length stock.items + 1) = Arranges-insert stock.order (length stock.items) place hoard.arranged place_within in
-    let bucket_arranged : Arranges (insert buckets spot (length stock.items)) (length stock.items + 1) = Arranges-insert buckets (length stock.items) spot hoard.buckets_arranged gap_within in
+    let arranged : Arranges (insert stock.order place (length stock.items)) (length stock.items + 1) =
+        Arranges-insert stock.order (length stock.items) place hoard.arranged place_within in
+    let bucket_arranged : Arranges (insert buckets spot (length stock.items)) (length stock.items + 1) =
+        Arranges-insert buckets (length stock.items) spot hoard.buckets_arranged gap_within in
     let bucket_items : picked new.items newer ≡ with_item bucket_cmp r (picked stock.items buckets) =
     ap (λ xs. picked xs newer) items ∙ ap (picked (stock.items ++ r ∷ [])) bucketed ∙ picked-insert stock.items buckets spot r hoard.buckets_arranged.within
     ∙ sym (bucket_inserts stock.items buckets r spot hoard.buckets_arranged other gap) in
@@ -151,11 +173,13 @@ hoard_more c stock new buckets newer records r place spot hoard is fits few miss
       few_records = hoard.few_records;
       receipts = subst (AllByRecursion IsReceipt) (sym items) (all_more IsReceipt stock.items r hoard.receipts is);
       fitting = subst (AllByRecursion (IsFitting c)) (sym items) (all_more (IsFitting c) stock.items r hoard.fitting fits);
-      rising = subst (IsStrictlySortedBy receipt_cmp) (missing_inserts (in_order stock) r place missing ∙ sym ordered) (with_item_rising receipt_total r (in_order stock) hoard.rising);
+      rising = subst (IsStrictlySortedBy receipt_cmp) (missing_inserts (in_order stock) r place missing ∙ sym ordered)
+          (with_item_rising receipt_total r (in_order stock) hoard.rising);
       few = omega arith;
       arranged = subst (λ n. Arranges new.order n) (sym size) (subst (λ ns. Arranges ns (length stock.items + 1)) (sym order) arranged);
       buckets_arranged = subst (λ n. Arranges newer n) (sym size) (subst (λ ns. Arranges ns (length stock.items + 1)) (sym bucketed) bucket_arranged);
-      buckets_rising = subst (IsStrictlySortedBy bucket_cmp) (sym bucket_items) (with_item_rising bucket_total r (picked stock.items buckets) hoard.buckets_rising);
+      buckets_rising = subst (IsStrictlySortedBy bucket_cmp) (sym bucket_items)
+          (with_item_rising bucket_total r (picked stock.items buckets) hoard.buckets_rising);
     }
 
 -- ---- why a receipt is refused
@@ -174,12 +198,17 @@ then_not_less Less b e = e
 then_not_less Equal b e = refl
 then_not_less Greater b e = refl
 
-pub buckets_rise : (items lent : List Receipt) (buckets : List ℕ) (b c : ℕ) → Arranges buckets (length items) → IsStrictlySortedBy bucket_cmp (picked items buckets) → lent ≡ items → c ≡ b → IsRising (λ n. compared_at (λ r. nat_cmp (bucket_of r) c) lent n) buckets
+pub buckets_rise : (items lent : List Receipt) (buckets : List ℕ) (b c : ℕ) → Arranges buckets (length items)
+    → IsStrictlySortedBy bucket_cmp (picked items buckets) → lent ≡ items → c ≡ b
+    → IsRising (λ n. compared_at (λ r. nat_cmp (bucket_of r) c) lent n) buckets
 buckets_rise items lent buckets b c arranged rising same e =
     subst (λ xs. IsRising (λ n. compared_at (λ r. nat_cmp (bucket_of r) c) xs n) buckets) (sym same)
     (rising_numbers (λ r. nat_cmp (bucket_of r) c) items buckets arranged.within record {
       rising = searchable_from_sorted nat_cmp_total bucket_of (picked items buckets) c
-          (λ k d low high. then_not_less (nat_cmp (bucket_of (get_or (picked items buckets) (k + 1) d)) (bucket_of (get_or (picked items buckets) k d))) (receipt_cmp (get_or (picked items buckets) (k + 1) d) (get_or (picked items buckets) k d))
+          (λ k d low high. then_not_less
+              (nat_cmp (bucket_of (get_or (picked items buckets) (k + 1) d))
+              (bucket_of (get_or (picked items buckets) k d)))
+              (receipt_cmp (get_or (picked items buckets) (k + 1) d) (get_or (picked items buckets) k d))
           (sorted bucket_total (picked items buckets) rising k d low high));
     })
 
@@ -189,10 +218,12 @@ equal_is x y = grind (arith, nat_tests)
 from_equal : (x y : ℕ) → (x == y) ≡ true → x ≡ y
 from_equal x y e = grind (arith, nat_tests)
 
-below_one : (b : ℕ) (x : Receipt) (xs : List Receipt) → bucket_of x ≡ b → AllByRecursion (λ r. bucket_of r ≡ b) xs → AllByRecursion (λ y. bucket_cmp x y ≡ Less) xs → AllByRecursion (λ y. receipt_cmp x y ≡ Less) xs
+below_one : (b : ℕ) (x : Receipt) (xs : List Receipt) → bucket_of x ≡ b → AllByRecursion (λ r. bucket_of r ≡ b) xs
+    → AllByRecursion (λ y. bucket_cmp x y ≡ Less) xs → AllByRecursion (λ y. receipt_cmp x y ≡ Less) xs
 below_one b x [] here all below = tt
 below_one b x (y ∷ ys) here all below =
-    (sym (ap (λ o. ordering_then o (receipt_cmp x y)) (cmp_equal (bucket_of x) (bucket_of y) (here ∙ sym all.0))) ∙ below.0, below_one b x ys here all.1 below.1)
+    (sym (ap (λ o. ordering_then o (receipt_cmp x y)) (cmp_equal (bucket_of x) (bucket_of y) (here ∙ sym all.0)))
+        ∙ below.0, below_one b x ys here all.1 below.1)
 
 one_bucket : (b : ℕ) (xs : List Receipt) → AllByRecursion (λ r. bucket_of r ≡ b) xs → IsStrictlySortedBy bucket_cmp xs → IsStrictlySortedBy receipt_cmp xs
 unfolding IsStrictlySortedBy
@@ -219,24 +250,38 @@ pub filter_test : {X : Type 0} (p : X → Bool) (xs : List X) (y : X) → Contai
 filter_test p xs y has = All-contains (λ x. p x ≡ true) (filter p xs) y (filter_passes p xs) has
 
 picked_in : (items : List Receipt) (numbers : List ℕ) (y : Receipt) → Contains (picked items numbers) y → Contains items y
-picked_in items numbers y has = each_has (Contains items) (picked items numbers) y (picked_all (Contains items) items (recursion_from_All (Contains items) items (All-contains_itself items)) numbers) has
+picked_in items numbers y has =
+    each_has (Contains items) (picked items numbers) y
+    (picked_all (Contains items) items (recursion_from_All (Contains items) items (All-contains_itself items)) numbers)
+    has
 
 in_picked : (items : List Receipt) (order : List ℕ) (y : Receipt) → Arranges order (length items) → Contains items y → Contains (picked items order) y
 in_picked items order y arranged has =
-    each_has (Contains (picked items order)) items y (all_items (Contains (picked items order)) items order arranged (recursion_from_All (Contains (picked items order)) (picked items order) (All-contains_itself (picked items order)))) has
+    each_has (Contains (picked items order)) items y
+        (all_items (Contains (picked items order)) items order arranged
+        (recursion_from_All (Contains (picked items order)) (picked items order)
+        (All-contains_itself (picked items order)))) has
 
-moved : (items : List Receipt) (from to : List ℕ) (b : ℕ) (y : Receipt) → Arranges to (length items) → Contains (filter (is_in_bucket b) (picked items from)) y → Contains (filter (is_in_bucket b) (picked items to)) y
+moved : (items : List Receipt) (from to : List ℕ) (b : ℕ) (y : Receipt) → Arranges to (length items)
+    → Contains (filter (is_in_bucket b) (picked items from)) y → Contains (filter (is_in_bucket b) (picked items to)) y
 moved items from to b y arranged has =
-    filter_gets (is_in_bucket b) (picked items to) y (in_picked items to y arranged (picked_in items from y (filter_in (is_in_bucket b) (picked items from) y has)))
+    filter_gets (is_in_bucket b) (picked items to) y
+        (in_picked items to y arranged (picked_in items from y (filter_in (is_in_bucket b) (picked items from) y has)))
     (filter_test (is_in_bucket b) (picked items from) y has)
 
-pub bucket_list : (stock : Stock Receipt) (buckets : List ℕ) (b : ℕ) → Arranges stock.order (length stock.items) → Arranges buckets (length stock.items) → IsStrictlySortedBy receipt_cmp (in_order stock) → IsStrictlySortedBy bucket_cmp (picked stock.items buckets) → picked stock.items (filter (λ n. is_equal (compared_at (λ r. nat_cmp (bucket_of r) b) stock.items n)) buckets) ≡ receipts_in b (in_order stock)
+pub bucket_list : (stock : Stock Receipt) (buckets : List ℕ) (b : ℕ) → Arranges stock.order (length stock.items)
+    → Arranges buckets (length stock.items) → IsStrictlySortedBy receipt_cmp (in_order stock)
+    → IsStrictlySortedBy bucket_cmp (picked stock.items buckets)
+    → picked stock.items (filter (λ n. is_equal (compared_at (λ r. nat_cmp (bucket_of r) b) stock.items n)) buckets)
+    ≡ receipts_in b (in_order stock)
 bucket_list stock buckets b arranged bucketed rising bucket_rising =
     let all : AllByRecursion (λ r. bucket_of r ≡ b) (filter (is_in_bucket b) (picked stock.items buckets)) =
-    each_from (λ r. bucket_of r ≡ b) (filter (is_in_bucket b) (picked stock.items buckets)) (λ r has. from_equal (bucket_of r) b (filter_test (is_in_bucket b) (picked stock.items buckets) r has)) in
+    each_from (λ r. bucket_of r ≡ b) (filter (is_in_bucket b) (picked stock.items buckets))
+        (λ r has. from_equal (bucket_of r) b (filter_test (is_in_bucket b) (picked stock.items buckets) r has)) in
     filter-picked (λ r. nat_cmp (bucket_of r) b) stock.items buckets bucketed.within
     ∙ filter_agree (λ r. is_equal (nat_cmp (bucket_of r) b)) (is_in_bucket b) (λ r. equal_is (bucket_of r) b) (picked stock.items buckets)
     ∙ rising_same receipt_total (filter (is_in_bucket b) (picked stock.items buckets)) (filter (is_in_bucket b) (in_order stock))
-    (one_bucket b (filter (is_in_bucket b) (picked stock.items buckets)) all (IsStrictlySortedBy-filter bucket_cmp (is_in_bucket b) (picked stock.items buckets) bucket_rising))
+    (one_bucket b (filter (is_in_bucket b) (picked stock.items buckets)) all
+        (IsStrictlySortedBy-filter bucket_cmp (is_in_bucket b) (picked stock.items buckets) bucket_rising))
     (IsStrictlySortedBy-filter receipt_cmp (is_in_bucket b) (in_order stock) rising)
     (λ y has. moved stock.items buckets stock.order b y arranged has) (λ y has. moved stock.items stock.order buckets b y bucketed has)

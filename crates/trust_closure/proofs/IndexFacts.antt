@@ -1,5 +1,6 @@
 -- The flags of an indexed closure tell what is accepted
-use Rattle.std.proofs.Common.{◌≡◌, ℕ, zero, suc, ◌+◌, ◌-◌, ◌*◌, ◌^◌, ◌<◌, ◌≤◌, ◌⊎◌, inl, inr, Bool, true, false, List, [], ◌∷◌, ◌++◌, length, get_or, map, Some, None, arith, refl, sym, ap, ◌∙◌, subst}
+use Rattle.std.proofs.Common.{◌≡◌, ℕ, zero, suc, ◌+◌, ◌-◌, ◌*◌, ◌^◌, ◌<◌, ◌≤◌, ◌⊎◌, inl, inr, Bool, true, false, List}
+use Rattle.std.proofs.Common.{[], ◌∷◌, ◌++◌, length, get_or, map, Some, None, arith, refl, sym, ap, ◌∙◌, subst}
 use Rattle.std.specs.Prelude.{Contains, slice_get, ◌↔◌, ◌≢◌, AllPairs}
 use Rattle.std.proofs.lemmas.List.Quantifiers.{all_pairs_push}
 use Rattle.std.specs.List.{All, AllByRecursion}
@@ -39,7 +40,8 @@ use Rattle.trust_closure.specs.Held.{Hoard, meaning_of, HasAdded}
 use Rattle.trust_closure.specs.NetOf.{spots_of, spot_of_seed, spot_of_receipt, IsShutBy, IsNetOf, IsWiringOf, triple_by}
 use Rattle.trust_closure.specs.Pairs.{Paired, IsPairing, HasRaised, no_pair}
 use Rattle.trust_closure.specs.Work.{ClosesAtOnce, IsWorkOf, AreOld}
-use Rattle.trust_closure.specs.Indexed.{IsBuilt, IsIndexed, WasCounted, IsDistrusted, IsBefore, HasRoom, IsIndexedClosure, Reserves, IsIndexOf, Indexed, indexed_of, IsSeeded}
+use Rattle.trust_closure.specs.Indexed.{IsBuilt, IsIndexed, WasCounted, IsDistrusted, IsBefore, HasRoom}
+use Rattle.trust_closure.specs.Indexed.{IsIndexedClosure, Reserves, IsIndexOf, Indexed, indexed_of, IsSeeded}
 use Rattle.trust_closure.specs.declared.indexed.Spare.{Spare}
 use Rattle.closure_core.specs.Changes.{IsGain}
 use Rattle.std.proofs.Common.{eqb}
@@ -114,7 +116,8 @@ module _ (h : Hoard) (p : Paired) (w : Wired) (b : IsBuilt h p w) where
   tells are = tells-flags (flags-counted p.firsts w.marked p.counts marked-within are)
 
 -- a raised flag is membership
-pub raised-member : (h : Hoard) (p : Paired) (w : Wired) → IsIndexed h p w → (q : Pair) → HasRaised (pairs_of h.config.seeds h.arrived) p q ↔ IsMember (meaning_of h) q
+pub raised-member : (h : Hoard) (p : Paired) (w : Wired) → IsIndexed h p w → (q : Pair)
+    → HasRaised (pairs_of h.config.seeds h.arrived) p q ↔ IsMember (meaning_of h) q
 raised-member h p w i q =
     let t = tells h p w i.built i.counts in (
       λ r. t.sound r.number q r.raised r.at,
@@ -124,10 +127,13 @@ raised-member h p w i q =
 -- ---- one more receipt
 
 pub pairs-push : (seeds : List Seed) (arrived : List Receipt) (r : Receipt) → pairs_of seeds (arrived ++ r ∷ []) ≡ pairs_of seeds arrived ++ pair_of r ∷ []
-pairs-push seeds arrived r = ap (λ ps. map pair_of_seed seeds ++ ps) (map_push pair_of arrived r) ∙ sym (append_assoc (map pair_of_seed seeds) (map pair_of arrived) (pair_of r ∷ []))
+pairs-push seeds arrived r = ap (λ ps. map pair_of_seed seeds ++ ps) (map_push pair_of arrived r)
+    ∙ sym (append_assoc (map pair_of_seed seeds) (map pair_of arrived) (pair_of r ∷ []))
 
-pub spots-push : (seeds : List Seed) (arrived : List Receipt) (r : Receipt) → spots_of seeds (arrived ++ r ∷ []) ≡ spots_of seeds arrived ++ spot_of_receipt r ∷ []
-spots-push seeds arrived r = ap (λ ss. map spot_of_seed seeds ++ ss) (map_push spot_of_receipt arrived r) ∙ sym (append_assoc (map spot_of_seed seeds) (map spot_of_receipt arrived) (spot_of_receipt r ∷ []))
+pub spots-push : (seeds : List Seed) (arrived : List Receipt) (r : Receipt)
+    → spots_of seeds (arrived ++ r ∷ []) ≡ spots_of seeds arrived ++ spot_of_receipt r ∷ []
+spots-push seeds arrived r = ap (λ ss. map spot_of_seed seeds ++ ss) (map_push spot_of_receipt arrived r)
+    ∙ sym (append_assoc (map spot_of_seed seeds) (map spot_of_receipt arrived) (spot_of_receipt r ∷ []))
 
 -- other counts, as many
 pub pairing-counts : (pairs : List Pair) (p q : Paired) → IsPairing pairs p → q.numbers ≡ p.numbers
@@ -177,7 +183,9 @@ always-all (x ∷ xs) = (tt, always-all xs)
 abbrev pub with_arrival : Hoard → Receipt → Hoard
 with_arrival h r = record h { arrived = h.arrived ++ r ∷ []; held = with_receipt r h.held }
 
-pub same-more : (h : Hoard) (r : Receipt) → IsMeaning (meaning_of h) → IsReceipt r → ((s : Receipt) → Contains h.held s ↔ Contains h.arrived s) → (s : Receipt) → Contains (with_receipt r h.held) s ↔ Contains (h.arrived ++ r ∷ []) s
+pub same-more : (h : Hoard) (r : Receipt) → IsMeaning (meaning_of h) → IsReceipt r
+    → ((s : Receipt) → Contains h.held s ↔ Contains h.arrived s) → (s : Receipt)
+    → Contains (with_receipt r h.held) s ↔ Contains (h.arrived ++ r ∷ []) s
 same-more h r valid form same s =
     let m = receipt-sets.members r s h.held form valid.receipts in (
       λ c. elim (m.0 c) [
@@ -187,18 +195,23 @@ same-more h r valid form same s =
       λ c. m.1 (elim (Contains-push_cases h.arrived r s c) [ inl d ↦ inr ((same s).1 d) | inr e ↦ inl e ]),
     )
 
-pub built-more : (h new : Hoard) (p q : Paired) (w v : Wired) (r : Receipt) → IsBuilt h p w → IsReceipt r → (Contains h.held r → ⊥) → new ≡ with_arrival h r → IsMeaning (meaning_of new)
-    → ((domains : List (List ℕ)) (spots : List (Spot Triple)) → AreDomains h.config domains → IsWiringOf domains h.records spots w → IsWiringOf domains h.records (spots ++ spot_of_receipt r ∷ []) v)
+pub built-more : (h new : Hoard) (p q : Paired) (w v : Wired) (r : Receipt) → IsBuilt h p w → IsReceipt r
+    → (Contains h.held r → ⊥) → new ≡ with_arrival h r → IsMeaning (meaning_of new)
+    → ((domains : List (List ℕ)) (spots : List (Spot Triple)) → AreDomains h.config domains
+        → IsWiringOf domains h.records spots w → IsWiringOf domains h.records (spots ++ spot_of_receipt r ∷ []) v)
     → ListsReached v.net v.marked → IsPairing (pairs_of h.config.seeds h.arrived ++ pair_of r ∷ []) q → IsBuilt new q v
 built-more h new p q w v r b form unheld is valid wired reached pairing =
     let valid' : IsMeaning (meaning_of (with_arrival h r)) = subst (λ x. IsMeaning (meaning_of x)) is valid in
     subst (λ x. IsBuilt x q v) (sym is) (record {
       valid = valid';
       same = same-more h r b.valid form b.same;
-      once = all_pairs_push ◌≢◌ h.arrived r b.once (λ k d l e. unheld (subst (Contains h.held) e ((b.same (get_or h.arrived k d)).1 (Contains-get_or h.arrived k d l))));
+      once = all_pairs_push ◌≢◌ h.arrived r b.once
+          (λ k d l e. unheld (subst (Contains h.held) e
+          ((b.same (get_or h.arrived k d)).1 (Contains-get_or h.arrived k d l))));
       domains = b.domains;
       are_domains = b.are_domains;
-      wired = subst (λ ss. IsWiringOf b.domains h.records ss v) (sym (spots-push h.config.seeds h.arrived r)) (wired b.domains (spots_of h.config.seeds h.arrived) b.are_domains b.wired);
+      wired = subst (λ ss. IsWiringOf b.domains h.records ss v) (sym (spots-push h.config.seeds h.arrived r))
+          (wired b.domains (spots_of h.config.seeds h.arrived) b.are_domains b.wired);
       reached = reached;
       pairing = subst (λ ps. IsPairing ps q) (sym (pairs-push h.config.seeds h.arrived r)) pairing;
     })
@@ -220,12 +233,14 @@ pub count-push : (flags : List Bool) → raised_count (flags ++ false ∷ []) �
 count-push flags = sum_by_push (λ b. cond b 1 0) flags false ∙ (let e : sum_by (λ b. cond b 1 0) flags + 0 ≡ sum_by (λ b. cond b 1 0) flags = omega arith in e)
 
 -- what is gained with one more receipt
-pub gain-more : (h new : Hoard) (p q : Paired) (w v : Wired) (r : Receipt) (nodes : List ℕ) (n : ℕ) → IsIndexed h p w → IsIndexed new q v → new ≡ with_arrival h r
+pub gain-more : (h new : Hoard) (p q : Paired) (w v : Wired) (r : Receipt) (nodes : List ℕ) (n : ℕ) → IsIndexed h p w
+    → IsIndexed new q v → new ≡ with_arrival h r
     → AddsNodes q.firsts nodes (p.counts ++ 0 ∷ []) q.counts
     → raised_count (flags_of q.counts) ≡ raised_count (flags_of (p.counts ++ 0 ∷ [])) + n
     → IsGain (meaning_of h) (meaning_of new) n
 gain-more h new p q w v r nodes n i j is adds count =
-    let prefix : pairs_of new.config.seeds new.arrived ≡ pairs_of h.config.seeds h.arrived ++ pair_of r ∷ [] = ap (λ (x : Hoard). pairs_of x.config.seeds x.arrived) is ∙ pairs-push h.config.seeds h.arrived r in
+    let prefix : pairs_of new.config.seeds new.arrived ≡ pairs_of h.config.seeds h.arrived ++ pair_of r ∷ [] =
+        ap (λ (x : Hoard). pairs_of x.config.seeds x.arrived) is ∙ pairs-push h.config.seeds h.arrived r in
     gain-from_flags no_pair (meaning_of h) (meaning_of new) (pairs_of h.config.seeds h.arrived)
     (pairs_of new.config.seeds new.arrived) p.numbers q.numbers (flags_of p.counts)
     (flags_of q.counts)
@@ -252,7 +267,9 @@ wiring-closed domains records more IsMeant spots old new turns h shuts c =
     let mirrors = Mirrors-shut spots (map (triple_by domains) old.labels) (IsShutBy records) old.net
     h.mirrors (IsShutBy more) c.net.flags c.net.sizes (λ i t e.
     let f = slice_get-map_cases (triple_by domains) old.labels i t e in
-    let l : f.0.domain < length domains = All-contains (λ (a : Label). a.domain < length domains) old.labels f.0 h.within (slice_get-Contains old.labels i f.0 f.1) in
+    let l : f.0.domain < length domains =
+        All-contains (λ (a : Label). a.domain < length domains) old.labels f.0 h.within
+        (slice_get-Contains old.labels i f.0 f.1) in
     let before = h.mirrors.closed i t e in
     let is = c.net.closed i f.0 f.1 in
     let both = shuts f.0 l in (
@@ -448,7 +465,9 @@ kept-closed old new xs p q w v i j before numbers k e =
     (get_or (pairs_of new.config.seeds new.arrived) k no_pair) m
     in
     let f = more.all (get_or (pairs_of new.config.seeds new.arrived) k no_pair) less in
-    let here = more.once k f.0 (get_or (pairs_of new.config.seeds new.arrived) k no_pair) (subst (λ ns. Contains ns k) numbers (fewer.listed k e)) (more.listed f.0 f.1) (ap (λ ps. slice_get ps k) (sym same) ∙ at) f.2 in
+    let here = more.once k f.0 (get_or (pairs_of new.config.seeds new.arrived) k no_pair)
+        (subst (λ ns. Contains ns k) numbers (fewer.listed k e)) (more.listed f.0 f.1)
+        (ap (λ ps. slice_get ps k) (sym same) ∙ at) f.2 in
     ap (λ a. is_raised (flags_of p.counts) a) here ∙ f.1
   where
     within : k < length (flags_of q.counts)
@@ -478,7 +497,9 @@ loss-closed old new xs p q w v n i j before size numbers count =
 -- the same hoard, where nothing of the meaning has changed
 pub hoard-same : (old new : Hoard) → meaning_of new ≡ meaning_of old → new.arrived ≡ old.arrived → new.capacity ≡ old.capacity → new ≡ old
 hoard-same old new meaning arrived capacity =
-    ap (λ (m : Meaning). let h : Hoard = record { config = m.config; arrived = new.arrived; held = m.held; records = m.records; capacity = new.capacity } in h) meaning
+    ap (λ (m : Meaning). let h : Hoard =
+        record { config = m.config; arrived = new.arrived; held = m.held; records = m.records; capacity = new.capacity }
+        in h) meaning
     ∙ ap (λ a. let h : Hoard = record { config = old.config; arrived = a; held = old.held; records = old.records; capacity = new.capacity } in h) arrived
     ∙ ap (λ n. let h : Hoard = record { config = old.config; arrived = old.arrived; held = old.held; records = old.records; capacity = n } in h) capacity
 
@@ -541,7 +562,9 @@ indexed-roomier h new p q w v i is numbers firsts counts r =
           (subst (AreCounts p.firsts w.marked) (sym counts) i.counts));
     })
 
-pub room-kept : (h new : Hoard) (p q : Paired) (w v : Wired) (spare : Spare) → HasRoom h p w spare → new ≡ record h { capacity = new.capacity } → h.capacity ≤ new.capacity → q.firsts ≡ p.firsts → p.capacity ≤ q.capacity → IsRoomierWired w v → HasRoom new q v spare
+pub room-kept : (h new : Hoard) (p q : Paired) (w v : Wired) (spare : Spare) → HasRoom h p w spare
+    → new ≡ record h { capacity = new.capacity } → h.capacity ≤ new.capacity → q.firsts ≡ p.firsts
+    → p.capacity ≤ q.capacity → IsRoomierWired w v → HasRoom new q v spare
 room-kept h new p q w v spare r is held firsts pairs wired = record {
   held = omega (arith, r.held, held, ap (λ (x : Hoard). length x.arrived) is);
   pairs = omega (arith, r.pairs, pairs, ap length firsts);
@@ -576,7 +599,8 @@ reserves-kept h new p q w v spare k is held numbers firsts counts pairs r =
     reserves-from h new p q w v spare spare k is numbers firsts counts r
     (room-kept h new p q w v spare k.room is held firsts pairs r) (omega arith) (omega arith)
 
-pub reserves-held : (h new : Hoard) (p : Paired) (w : Wired) (spare : Spare) → IsIndexedClosure h p w spare → new ≡ record h { capacity = new.capacity } → h.capacity ≤ new.capacity → Reserves h new p p w w spare spare
+pub reserves-held : (h new : Hoard) (p : Paired) (w : Wired) (spare : Spare) → IsIndexedClosure h p w spare
+    → new ≡ record h { capacity = new.capacity } → h.capacity ≤ new.capacity → Reserves h new p p w w spare spare
 reserves-held h new p w spare k is held = reserves-kept h new p p w w spare k is held refl refl refl (omega arith) (same-wiring w)
 
 pub reserves-pairs : (h new : Hoard) (p q : Paired) (w : Wired) (spare : Spare) → IsIndexedClosure h p w spare
@@ -589,18 +613,25 @@ reserves-pairs h new p q w spare k is held numbers firsts counts pairs = reserve
 -- ---- what the index is
 
 -- configured documents' nodes are marked, and those of receipts that are released
-pub index-parts : (h : Hoard) (p : Paired) (w : Wired) → IsBuilt h p w → ((n : ℕ) → n < length h.config.seeds → Contains w.marked n) × ((place : ℕ) (r : Receipt) → slice_get h.arrived place ≡ Some r → Contains w.marked (length h.config.seeds + place) ↔ IsReleased (meaning_of h) r)
+pub index-parts : (h : Hoard) (p : Paired) (w : Wired) → IsBuilt h p w
+    → ((n : ℕ) → n < length h.config.seeds → Contains w.marked n)
+    × ((place : ℕ) (r : Receipt) → slice_get h.arrived place ≡ Some r
+    → Contains w.marked (length h.config.seeds + place) ↔ IsReleased (meaning_of h) r)
 index-parts h p w b =
     let labels = map (triple_by b.domains) w.labels in
     let fits : (r : Receipt) → Contains h.arrived r → IsFitting h.config r = λ r c. each_has (IsFitting h.config) h.held r b.valid.fitting ((b.same r).1 c) in (
       (λ n l.
           let s = get_or_seed h.config.seeds n l in
-          b.reached.all n (root (root-of_spot (spots_of h.config.seeds h.arrived) labels (IsShutBy h.records) w.net b.wired.mirrors n (spot_of_seed s.0) (spot-of_seed_node h.config.seeds h.arrived n s.0 s.1)))),
+          b.reached.all n
+              (root (root-of_spot (spots_of h.config.seeds h.arrived) labels (IsShutBy h.records) w.net b.wired.mirrors
+              n (spot_of_seed s.0) (spot-of_seed_node h.config.seeds h.arrived n s.0 s.1)))),
       (λ place r at. (
         λ c.
             let a = node-accepted h p w b (length h.config.seeds + place) (b.reached.reached (length h.config.seeds + place) c) in
             a.released place r refl at,
-        λ released. b.reached.all (length h.config.seeds + place) (reached-from_released (meaning_of h) h.arrived b.same fits labels w.net b.wired.mirrors place r at released),
+        λ released. b.reached.all (length h.config.seeds + place)
+            (reached-from_released (meaning_of h) h.arrived b.same fits labels w.net b.wired.mirrors place r at
+            released),
       )),
     )
   where
@@ -682,7 +713,8 @@ same-work old new meaning arrived net marked records count is =
 
 -- ---- configured documents
 
-wiring-same : (domains : List (List ℕ)) (records : List Distrust) (spots : List (Spot Triple)) (w v : Wired) → IsWiringOf domains records spots w → IsRoomierWired w v → IsWiringOf domains records spots v
+wiring-same : (domains : List (List ℕ)) (records : List Distrust) (spots : List (Spot Triple)) (w v : Wired)
+    → IsWiringOf domains records spots w → IsRoomierWired w v → IsWiringOf domains records spots v
 wiring-same domains records spots w v h r = record {
   within = All-same (λ (a : Label). a.domain < length domains) v.labels w.labels r.labels h.within;
   mirrors = subst (λ ls. Mirrors spots (map (triple_by domains) ls) (IsShutBy records) v.net) (sym r.labels)
@@ -692,7 +724,9 @@ wiring-same domains records spots w v h r = record {
 pub wired-seed : (h : Hoard) (seeds : List Seed) (s : Seed) (w a b c d : Wired) (node : ℕ) (triples : List Triple)
     → ((domains : List (List ℕ)) → AreDomains h.config domains → IsWiringOf domains h.records (map spot_of_seed seeds) w)
     → IsRoomierWired w a → HasNode a b node → IsRooted b node c → triples ≡ offers_of (pair_of_seed s)
-    → ((domains : List (List ℕ)) (spots : List (Spot Triple)) (spot : Spot Triple) → AreDomains h.config domains → node ≡ length spots → IsWiringOf domains h.records (spots ++ spot ∷ []) c → IsWiringOf domains h.records (spots ++ record spot { offers = spot.offers ++ triples } ∷ []) d)
+    → ((domains : List (List ℕ)) (spots : List (Spot Triple)) (spot : Spot Triple) → AreDomains h.config domains
+        → node ≡ length spots → IsWiringOf domains h.records (spots ++ spot ∷ []) c
+        → IsWiringOf domains h.records (spots ++ record spot { offers = spot.offers ++ triples } ∷ []) d)
     → (domains : List (List ℕ)) → AreDomains h.config domains → IsWiringOf domains h.records (map spot_of_seed (seeds ++ s ∷ [])) d
 wired-seed h seeds s w a b c d node triples wired room has rooted is offers domains are =
     let spots = map spot_of_seed seeds in
@@ -708,7 +742,9 @@ pub seeded-more : (h : Hoard) (seeds : List Seed) (s : Seed) (p a q : Paired) (w
     → IsPairing (pairs_of seeds h.arrived ++ pair_of_seed s ∷ []) q → a.counts ≡ p.counts
     → a.firsts ≡ p.firsts → q.counts ≡ a.counts ++ 0 ∷ [] → q.firsts ≡ a.firsts ++ first ∷ []
     → length a.firsts + 1 ≤ a.capacity → q.capacity ≡ a.capacity
-    → ((domains : List (List ℕ)) → AreDomains h.config domains → IsWiringOf domains h.records (map spot_of_seed (seeds ++ s ∷ [])) d) → ListsReached d.net d.marked → IsSeeded h (seeds ++ s ∷ []) q d
+    → ((domains : List (List ℕ)) → AreDomains h.config domains
+        → IsWiringOf domains h.records (map spot_of_seed (seeds ++ s ∷ [])) d) → ListsReached d.net d.marked
+        → IsSeeded h (seeds ++ s ∷ []) q d
 seeded-more h seeds s p a q w d first none g pairing f1 f2 counts firsts room capacity wired
     reached =
     let pairs : pairs_of seeds h.arrived ++ pair_of_seed s ∷ [] ≡ pairs_of (seeds ++ s ∷ []) h.arrived =
@@ -731,11 +767,14 @@ seeded-more h seeds s p a q w d first none g pairing f1 f2 counts firsts room ca
 pub seeds-domains : (c : Configuration) → All (λ (s : Seed). HasDomain c s.domain) c.seeds
 seeds-domains c k d l = inr (inr (get_or c.seeds k d, Contains-get_or c.seeds k d l, refl))
 
-pub built-seeded : (h : Hoard) (domains : List (List ℕ)) (p : Paired) (w : Wired) (seeds : List Seed) → IsMeaning (meaning_of h) → h.held ≡ [] → h.arrived ≡ [] → AreDomains h.config domains → seeds ≡ h.config.seeds → IsSeeded h seeds p w → IsBuilt h p w
+pub built-seeded : (h : Hoard) (domains : List (List ℕ)) (p : Paired) (w : Wired) (seeds : List Seed)
+    → IsMeaning (meaning_of h) → h.held ≡ [] → h.arrived ≡ [] → AreDomains h.config domains → seeds ≡ h.config.seeds
+    → IsSeeded h seeds p w → IsBuilt h p w
 built-seeded h domains p w seeds valid held arrived are is g =
     let both : h.held ≡ h.arrived = held ∙ sym arrived in
     let spots : map spot_of_seed seeds ≡ spots_of h.config.seeds h.arrived =
-    ap (map spot_of_seed) is ∙ sym (append-nil (map spot_of_seed h.config.seeds)) ∙ ap (λ rs. map spot_of_seed h.config.seeds ++ map spot_of_receipt rs) (sym arrived)
+    ap (map spot_of_seed) is ∙ sym (append-nil (map spot_of_seed h.config.seeds))
+        ∙ ap (λ rs. map spot_of_seed h.config.seeds ++ map spot_of_receipt rs) (sym arrived)
     in
     record {
       valid = valid;
@@ -748,7 +787,8 @@ built-seeded h domains p w seeds valid held arrived are is g =
       pairing = subst (λ ss. IsPairing (pairs_of ss h.arrived) p) is g.pairing;
     }
 
-pub kept-seeded : (h : Hoard) (p q : Paired) (w : Wired) (nodes : List ℕ) (seeds : List Seed) → IsBuilt h p w → IsSeeded h seeds p w → h.arrived ≡ [] → length seeds ≤ 4096
+pub kept-seeded : (h : Hoard) (p q : Paired) (w : Wired) (nodes : List ℕ) (seeds : List Seed) → IsBuilt h p w
+    → IsSeeded h seeds p w → h.arrived ≡ [] → length seeds ≤ 4096
     → q.numbers ≡ p.numbers → q.firsts ≡ p.firsts → q.capacity ≡ p.capacity → nodes ≡ w.marked
     → AddsNodes p.firsts nodes p.counts q.counts
     → IsIndexedClosure h q w (record { receipts = 0; offers = 0 })
@@ -791,7 +831,8 @@ pairs-few h p pairing seeds arrived =
 pub different-from_pairs : {A : Type 0} (xs : List A) → AllPairs ◌≢◌ xs → AreDifferent xs
 different-from_pairs [] h = tt
 different-from_pairs (x ∷ xs) h =
-    (λ c. h 0 (suc c.0) x (omega arith) (omega (arith, c.1)) (sym c.2), different-from_pairs xs (λ i j d l b. h (suc i) (suc j) d (omega (arith, l)) (omega (arith, b))))
+    (λ c. h 0 (suc c.0) x (omega arith) (omega (arith, c.1)) (sym c.2),
+        different-from_pairs xs (λ i j d l b. h (suc i) (suc j) d (omega (arith, l)) (omega (arith, b))))
 
 length-passing_all : (n : ℕ) → length (passing (λ k. true) n) ≡ n
 length-passing_all zero = refl
@@ -813,11 +854,16 @@ pub length-unmarked : (marked : List ℕ) (count : ℕ) → AllPairs ◌≢◌ m
     → All (λ n. n < count) marked → length (unmarked marked count) + length marked ≡ count
 length-unmarked marked count once within =
     let among = λ (k : ℕ). is_among marked k in
-    let less : length (passing among count) ≤ length marked = no_longer (passing among count) marked (passing-differ among count) (λ k c. among-to marked k (passing-to among count k c).1) in
-    let more : length marked ≤ length (passing among count) = no_longer marked (passing among count) (different-from_pairs marked once) (λ k c. passing-from among count k (All-contains (λ n. n < count) marked k within c) (among-from marked k c)) in
+    let less : length (passing among count) ≤ length marked =
+        no_longer (passing among count) marked (passing-differ among count)
+        (λ k c. among-to marked k (passing-to among count k c).1) in
+    let more : length marked ≤ length (passing among count) =
+        no_longer marked (passing among count) (different-from_pairs marked once)
+        (λ k c. passing-from among count k (All-contains (λ n. n < count) marked k within c) (among-from marked k c)) in
     omega (arith, length-only_wide among (λ k. true) (λ k e. refl) count, length-passing_all count, less, more)
 
-pub pending-count : (h : Hoard) (p : Paired) (w : Wired) (none : Receipt) (n : ℕ) → IsBuilt h p w → n + length w.marked ≡ length h.config.seeds + length h.arrived → IsPendingCount (meaning_of h) n
+pub pending-count : (h : Hoard) (p : Paired) (w : Wired) (none : Receipt) (n : ℕ) → IsBuilt h p w
+    → n + length w.marked ≡ length h.config.seeds + length h.arrived → IsPendingCount (meaning_of h) n
 pending-count h p w none n b total =
     let seeds = length h.config.seeds in
     let count = seeds + length h.arrived in
@@ -837,7 +883,9 @@ pending-count h p w none n b total =
       different = different-map at list (passing-differ (only_wide (λ j. is_among w.marked j) (λ j. true) (λ j e. refl)) count) (λ x y cx cy s.
           let a = parts x cx in
           let c = parts y cy in
-          let one = one_place h.arrived b.once (x - seeds) (y - seeds) (at y) (slice_get-get_or h.arrived (x - seeds) none a.1 ∙ ap (λ (r : Receipt). Some r) s) (slice_get-get_or h.arrived (y - seeds) none c.1) in
+          let one = one_place h.arrived b.once (x - seeds) (y - seeds) (at y)
+              (slice_get-get_or h.arrived (x - seeds) none a.1 ∙ ap (λ (r : Receipt). Some r) s)
+              (slice_get-get_or h.arrived (y - seeds) none c.1) in
           omega (arith, one, a.0, c.0));
       exactly = λ r. (
         λ c.
@@ -852,9 +900,15 @@ pending-count h p w none n b total =
         λ pending.
             let place = Contains-slice_get h.arrived r ((b.same r).0 pending.held) in
             let l : place.0 < length h.arrived = slice_get_within h.arrived place.0 r place.1 in
-            let off : is_among w.marked (seeds + place.0) ≡ false = false_from_ne_true (is_among w.marked (seeds + place.0)) (λ t. pending.unreleased ((index.1 place.0 r place.1).0 (among-to w.marked (seeds + place.0) t))) in
-            let c : Contains list (seeds + place.0) = passing-from (only_wide (λ j. is_among w.marked j) (λ j. true) (λ j e. refl)) count (seeds + place.0) (omega (arith, l)) (not_from_false (is_among w.marked (seeds + place.0)) off) in
-            let is : at (seeds + place.0) ≡ r = (let e : (seeds + place.0) - seeds ≡ place.0 = omega arith in ap (λ k. get_or h.arrived k none) e) ∙ get_or_from_slice_get h.arrived place.0 r none place.1 in
+            let off : is_among w.marked (seeds + place.0) ≡ false =
+                false_from_ne_true (is_among w.marked (seeds + place.0))
+                (λ t. pending.unreleased ((index.1 place.0 r place.1).0 (among-to w.marked (seeds + place.0) t))) in
+            let c : Contains list (seeds + place.0) =
+                passing-from (only_wide (λ j. is_among w.marked j) (λ j. true) (λ j e. refl)) count (seeds + place.0)
+                (omega (arith, l)) (not_from_false (is_among w.marked (seeds + place.0)) off) in
+            let is : at (seeds + place.0) ≡ r =
+                (let e : (seeds + place.0) - seeds ≡ place.0 = omega arith in ap (λ k. get_or h.arrived k none) e)
+                ∙ get_or_from_slice_get h.arrived place.0 r none place.1 in
             subst (Contains (map at list)) is (Contains-map at list (seeds + place.0) c),
       );
       count = length-map list at ∙ (let e : length list ≡ n = omega (arith, length-unmarked w.marked count b.reached.once within, total) in e);
@@ -863,7 +917,8 @@ pending-count h p w none n b total =
     within : All (λ k. k < length h.config.seeds + length h.arrived) w.marked
     within k d l =
         let small = marked-within h p w b k d l in
-        omega (arith, small, b.pairing.sizes, length-append (map pair_of_seed h.config.seeds) (map pair_of h.arrived), length-map h.config.seeds pair_of_seed, length-map h.arrived pair_of)
+        omega (arith, small, b.pairing.sizes, length-append (map pair_of_seed h.config.seeds) (map pair_of h.arrived),
+            length-map h.config.seeds pair_of_seed, length-map h.arrived pair_of)
 
 pub marked-few : (h : Hoard) (p : Paired) (w : Wired) → IsBuilt h p w → length w.marked ≤ length h.config.seeds + length h.arrived
 marked-few h p w b = omega (arith, length-unmarked w.marked (length h.config.seeds + length h.arrived) b.reached.once within)
@@ -871,4 +926,5 @@ marked-few h p w b = omega (arith, length-unmarked w.marked (length h.config.see
     within : All (λ k. k < length h.config.seeds + length h.arrived) w.marked
     within k d l =
         let small = marked-within h p w b k d l in
-        omega (arith, small, b.pairing.sizes, length-append (map pair_of_seed h.config.seeds) (map pair_of h.arrived), length-map h.config.seeds pair_of_seed, length-map h.arrived pair_of)
+        omega (arith, small, b.pairing.sizes, length-append (map pair_of_seed h.config.seeds) (map pair_of h.arrived),
+            length-map h.config.seeds pair_of_seed, length-map h.arrived pair_of)

@@ -35,21 +35,30 @@ use Rattle.trust_closure.proofs.MergeFacts.{receipt_sets, record_sets, always}
 
 -- ---- a domain has one relationship
 
-same_relationship : (xs : List Relationship) (a b : Relationship) → IsStrictlySortedBy relationship_cmp xs → Contains xs a → Contains xs b → a.domain ≡ b.domain → a ≡ b
+same_relationship : (xs : List Relationship) (a b : Relationship) → IsStrictlySortedBy relationship_cmp xs
+    → Contains xs a → Contains xs b → a.domain ≡ b.domain → a ≡ b
 same_relationship [] a b rising has holds e = absurd (contains_none a has)
 same_relationship (x ∷ xs) a b rising has holds e =
-    let tied : relationship_cmp a b ≡ Equal = ap (λ d. relationship_cmp a (record b { domain = d })) (sym e) ∙ tied_itself (on_texts (λ (r : Relationship). r.domain)) a in
-    let back : relationship_cmp b a ≡ Equal = ap (λ d. relationship_cmp b (record a { domain = d })) e ∙ tied_itself (on_texts (λ (r : Relationship). r.domain)) b in
+    let tied : relationship_cmp a b ≡ Equal =
+        ap (λ d. relationship_cmp a (record b { domain = d })) (sym e)
+        ∙ tied_itself (on_texts (λ (r : Relationship). r.domain)) a in
+    let back : relationship_cmp b a ≡ Equal =
+        ap (λ d. relationship_cmp b (record a { domain = d })) e
+        ∙ tied_itself (on_texts (λ (r : Relationship). r.domain)) b in
     elim (contains_cases x xs a has) [
       | inl first ↦ elim (contains_cases x xs b holds) [
         | inl here ↦ sym first ∙ here
         | inr later ↦
-            let below : relationship_cmp a b ≡ Less = subst (λ (r : Relationship). relationship_cmp r b ≡ Less) first (each_has (λ y. relationship_cmp x y ≡ Less) xs b (sorted_head relationship_cmp x xs rising) later) in
+            let below : relationship_cmp a b ≡ Less =
+                subst (λ (r : Relationship). relationship_cmp r b ≡ Less) first
+                (each_has (λ y. relationship_cmp x y ≡ Less) xs b (sorted_head relationship_cmp x xs rising) later) in
             absurd (cc)
       ]
       | inr after ↦ elim (contains_cases x xs b holds) [
         | inl here ↦
-            let below : relationship_cmp b a ≡ Less = subst (λ (r : Relationship). relationship_cmp r a ≡ Less) here (each_has (λ y. relationship_cmp x y ≡ Less) xs a (sorted_head relationship_cmp x xs rising) after) in
+            let below : relationship_cmp b a ≡ Less =
+                subst (λ (r : Relationship). relationship_cmp r a ≡ Less) here
+                (each_has (λ y. relationship_cmp x y ≡ Less) xs a (sorted_head relationship_cmp x xs rising) after) in
             absurd (cc)
         | inr later ↦ same_relationship xs a b (sorted_tail relationship_cmp x xs rising) after later e
       ]
@@ -57,7 +66,9 @@ same_relationship (x ∷ xs) a b rising has holds e =
 
 fits_right : (c : Configuration) (r : Receipt) → IsConfiguration c → IsFitting c r → IsOfWrongEndpoint c r → ⊥
 fits_right c r is fits wrong =
-    let one : fits.relationship ≡ wrong.relationship = same_relationship c.relationships fits.relationship wrong.relationship is.rising_relationships fits.has wrong.has (fits.domain ∙ sym wrong.domain) in
+    let one : fits.relationship ≡ wrong.relationship =
+        same_relationship c.relationships fits.relationship wrong.relationship is.rising_relationships fits.has
+        wrong.has (fits.domain ∙ sym wrong.domain) in
     wrong.other (sym (ap (λ (x : Relationship). x.endpoint) one) ∙ fits.endpoint)
 
 pub none_left : {X : Type 0} (xs : List X) → length xs ≡ 0 → xs ≡ []
@@ -94,20 +105,24 @@ IsJoining-start start all welcome = record { config = refl; records = refl; held
 offers_first : (r : Receipt) (later : List Receipt) → offers_count (r ∷ later) ≡ length (offers_of (pair_of r)) + offers_count later
 offers_first r later = sum_by-cons (λ s. length (offers_of (pair_of s))) r later
 
-took : (start now new : HeldAndRoom) (all later : List Receipt) (r : Receipt) → IsMeaning now.meaning → IsJoining start now all (r ∷ later) → (taken : Taken) → Took now r new taken → IsJoining start new all later
+took : (start now new : HeldAndRoom) (all later : List Receipt) (r : Receipt) → IsMeaning now.meaning
+    → IsJoining start now all (r ∷ later) → (taken : Taken) → Took now r new taken → IsJoining start new all later
 took start now new all later r is joining (TakenNew accepted) h =
     let few = joining.welcome.few in
     let receipts = joining.welcome.room.receipts in
     let offers = joining.welcome.room.offers in
     let left = h.receipts in
     let left_offers = h.offers in
-    let size : length new.meaning.held ≤ length now.meaning.held + 1 = omega (arith, ap (λ (m : Meaning). length m.held) h.meaning, with_item_longer receipt_total r now.meaning.held) in
+    let size : length new.meaning.held ≤ length now.meaning.held + 1 =
+        omega (arith, ap (λ (m : Meaning). length m.held) h.meaning, with_item_longer receipt_total r now.meaning.held)
+        in
     record {
       config = ap (λ (m : Meaning). m.config) h.meaning ∙ joining.config;
       records = ap (λ (m : Meaning). m.records) h.meaning ∙ joining.records;
       held = ap (λ (m : Meaning). with_items receipt_cmp later m.held) h.meaning ∙ joining.held;
       welcome = record {
-        fitting = λ s has. subst (λ (c : Configuration). IsFitting c s) (sym (ap (λ (m : Meaning). m.config) h.meaning)) (joining.welcome.fitting s (contains_later r later s has));
+        fitting = λ s has. subst (λ (c : Configuration). IsFitting c s) (sym (ap (λ (m : Meaning). m.config) h.meaning))
+            (joining.welcome.fitting s (contains_later r later s has));
         few = omega arith;
         room = record { receipts = omega arith; offers = omega (arith, offers_first r later) };
       };
@@ -128,7 +143,8 @@ took start now new all later r is joining TakenAlready h =
     } in
     subst (λ (s : HeldAndRoom). IsJoining start s all later) (sym h.same) stays
 
-never : (start now : HeldAndRoom) (all later : List Receipt) (r : Receipt) → IsConfiguration now.meaning.config → IsJoining start now all (r ∷ later) → (why : TakeError) → RefusesReceipt now.meaning now.room r why → ⊥
+never : (start now : HeldAndRoom) (all later : List Receipt) (r : Receipt) → IsConfiguration now.meaning.config
+    → IsJoining start now all (r ∷ later) → (why : TakeError) → RefusesReceipt now.meaning now.room r why → ⊥
 never start now all later r is joining UnknownDomain h =
     let fits : IsFitting now.meaning.config r = joining.welcome.fitting r (contains_first r later) in
     h fits.relationship fits.has fits.domain
@@ -143,17 +159,25 @@ never start now all later r is joining NoMemory h =
     h.beyond (omega arith) (omega (arith, offers_first r later))
 never start now all later r is joining ConfigDiffers h = h
 
-takes_next : (start now new : HeldAndRoom) (all later : List Receipt) (r : Receipt) → IsMeaning now.meaning → IsConfiguration now.meaning.config → IsJoining start now all (r ∷ later) → (result : Result Taken Refused) → Takes now r new result → IsJoining start new all later
+takes_next : (start now new : HeldAndRoom) (all later : List Receipt) (r : Receipt) → IsMeaning now.meaning
+    → IsConfiguration now.meaning.config → IsJoining start now all (r ∷ later) → (result : Result Taken Refused)
+    → Takes now r new result → IsJoining start new all later
 takes_next start now new all later r is form joining (Ok taken) h = took start now new all later r is joining taken h
 takes_next start now new all later r is form joining (Err refused) h = absurd (never start now all later r form joining refused.why h.cause)
 
-pub IsJoining-next : (start now new : HeldAndRoom) (m : Meaning) (all rest later : List Receipt) (r : Receipt) (result : Result Taken Refused) → m ≡ now.meaning → IsMeaning m → IsConfiguration m.config → IsJoining start now all rest → rest ≡ r ∷ later → Takes now r new result → IsJoining start new all later
+pub IsJoining-next : (start now new : HeldAndRoom) (m : Meaning) (all rest later : List Receipt) (r : Receipt)
+    (result : Result Taken Refused) → m ≡ now.meaning → IsMeaning m → IsConfiguration m.config
+    → IsJoining start now all rest → rest ≡ r ∷ later → Takes now r new result → IsJoining start new all later
 IsJoining-next start now new m all rest later r result same is form joining e h =
-    takes_next start now new all later r (subst IsMeaning same is) (subst (λ (k : Meaning). IsConfiguration k.config) same form) (subst (IsJoining start now all) e joining) result h
+    takes_next start now new all later r (subst IsMeaning same is)
+        (subst (λ (k : Meaning). IsConfiguration k.config) same form) (subst (IsJoining start now all) e joining) result
+        h
 
-pub IsJoining-end : (start now : HeldAndRoom) (all rest : List Receipt) → IsJoining start now all rest → rest ≡ [] → now.meaning ≡ record start.meaning { held = with_items receipt_cmp all start.meaning.held }
+pub IsJoining-end : (start now : HeldAndRoom) (all rest : List Receipt) → IsJoining start now all rest → rest ≡ []
+    → now.meaning ≡ record start.meaning { held = with_items receipt_cmp all start.meaning.held }
 IsJoining-end start now all rest joining e =
-    let held : now.meaning.held ≡ with_items receipt_cmp all start.meaning.held = sym (ap (λ xs. with_items receipt_cmp xs now.meaning.held) e) ∙ joining.held in
+    let held : now.meaning.held ≡ with_items receipt_cmp all start.meaning.held =
+        sym (ap (λ xs. with_items receipt_cmp xs now.meaning.held) e) ∙ joining.held in
     let config = joining.config in
     let records = joining.records in
     λ i. record { config = config i; held = held i; records = records i }
@@ -178,7 +202,8 @@ distrusted start now new all later x is joining Added h = record {
   config = ap (λ (m : Meaning). m.config) h.meaning ∙ joining.config;
   held = ap (λ (m : Meaning). m.held) h.meaning ∙ joining.held;
   records = ap (λ (m : Meaning). with_items distrust_cmp later m.records) h.meaning ∙ joining.records;
-  known = subst (λ (m : Meaning). AreKnown m later) (sym h.meaning) (record { domains = λ y has. joining.known.domains y (contains_later x later y has); few = joining.known.few });
+  known = subst (λ (m : Meaning). AreKnown m later) (sym h.meaning)
+      (record { domains = λ y has. joining.known.domains y (contains_later x later y has); few = joining.known.few });
 }
 distrusted start now new all later x is joining There h =
     let same : with_item distrust_cmp x now.records ≡ now.records = record_sets.present x
@@ -262,12 +287,18 @@ grown_next start now new x (Err why) h grown = stays_as start now new h.1 grown
 
 -- ---- all in turn
 
-pub share_known : (m now other : Meaning) (share : Share) (records : List Distrust) → IsShare m other share → now ≡ m → records ≡ other.records → AreKnown now records
+pub share_known : (m now other : Meaning) (share : Share) (records : List Distrust) → IsShare m other share → now ≡ m
+    → records ≡ other.records → AreKnown now records
 share_known m now other share records is same e =
     subst (λ (k : Meaning). AreKnown k records) (sym same)
     (subst (AreKnown m) (sym e) (record { domains = is.mergeable.of_config.domains; few = is.mergeable.few_records }))
 
-pub share_welcome : (m other : Meaning) (roomy now : HeldAndRoom) (share : Share) (records : List Distrust) → IsShare m other share → roomy.meaning ≡ m → now.meaning ≡ record roomy.meaning { records = with_items distrust_cmp records roomy.meaning.records } → now.room ≡ roomy.room → IsRoomier (record { receipts = length share.copies.items; offers = share.offers }) roomy.room → FitWithinRoom now share.copies.items
+pub share_welcome : (m other : Meaning) (roomy now : HeldAndRoom) (share : Share) (records : List Distrust)
+    → IsShare m other share → roomy.meaning ≡ m
+    → now.meaning ≡ record roomy.meaning { records = with_items distrust_cmp records roomy.meaning.records }
+    → now.room ≡ roomy.room
+    → IsRoomier (record { receipts = length share.copies.items; offers = share.offers }) roomy.room
+    → FitWithinRoom now share.copies.items
 share_welcome m other roomy now share records is same e room roomier =
     let config : now.meaning.config ≡ m.config = ap (λ (k : Meaning). k.config) e ∙ ap (λ (k : Meaning). k.config) same in
     let held : now.meaning.held ≡ m.held = ap (λ (k : Meaning). k.held) e ∙ ap (λ (k : Meaning). k.held) same in
@@ -280,10 +311,14 @@ share_welcome m other roomy now share records is same e room roomier =
     record {
       fitting = λ r has. subst (λ (c : Configuration). IsFitting c r) (sym config) (is.mergeable.of_config.fitting r (is.copies.each r has));
       few = omega arith;
-      room = subst (λ (k : Room). IsRoomier (record { receipts = length share.copies.items; offers = offers_count share.copies.items }) k) (sym room) (record { receipts = more; offers = omega arith });
+      room = subst (λ (k : Room). IsRoomier (record { receipts = length share.copies.items; offers =
+          offers_count share.copies.items }) k) (sym room) (record { receipts = more; offers = omega arith });
     }
 
-pub share_merged : (m other roomy less new : Meaning) (share : Share) (records : List Distrust) (n : ℕ) → IsShare m other share → n ≡ length share.copies.items → records ≡ other.records → roomy ≡ m → less ≡ record roomy { records = with_items distrust_cmp records roomy.records } → new ≡ record less { held = with_items receipt_cmp share.copies.items less.held } → HasMerged m other new n
+pub share_merged : (m other roomy less new : Meaning) (share : Share) (records : List Distrust) (n : ℕ)
+    → IsShare m other share → n ≡ length share.copies.items → records ≡ other.records → roomy ≡ m
+    → less ≡ record roomy { records = with_items distrust_cmp records roomy.records }
+    → new ≡ record less { held = with_items receipt_cmp share.copies.items less.held } → HasMerged m other new n
 share_merged m other roomy less new share records n is size own e1 e2 e3 =
     let joined = is.copies.all in
     let count = is.copies.count in
@@ -291,7 +326,9 @@ share_merged m other roomy less new share records n is size own e1 e2 e3 =
       of_config = is.mergeable.of_config;
       few = is.mergeable.few;
       few_records = is.mergeable.few_records;
-      meaning = e3 ∙ ap (λ (k : Meaning). record k { held = with_items receipt_cmp share.copies.items k.held }) (e2 ∙ ap (λ xs. record roomy { records = with_items distrust_cmp xs roomy.records }) own ∙ ap (λ (k : Meaning). record k { records = with_items distrust_cmp other.records k.records }) e1)
+      meaning = e3 ∙ ap (λ (k : Meaning). record k { held = with_items receipt_cmp share.copies.items k.held })
+          (e2 ∙ ap (λ xs. record roomy { records = with_items distrust_cmp xs roomy.records }) own
+          ∙ ap (λ (k : Meaning). record k { records = with_items distrust_cmp other.records k.records }) e1)
           ∙ (λ i. record { config = m.config; held = joined i; records = all_records m other });
       count = omega arith;
     }
@@ -300,7 +337,9 @@ no_ok : {T E : Type 0} (r : Result T E) → is_err r ≡ true → IsOk r → ⊥
 no_ok (Ok v) e ok = absurd (cc)
 no_ok (Err v) e ok = absurd (cc)
 
-wants : (m other : Meaning) (share : Share) (room : Room) (xs : List Receipt) → xs ≡ share.copies.items → IsShare m other share → (IsRoomier (record { receipts = length share.copies.items; offers = share.offers }) room → ⊥) → WantsCopies m other
+wants : (m other : Meaning) (share : Share) (room : Room) (xs : List Receipt) → xs ≡ share.copies.items
+    → IsShare m other share → (IsRoomier (record { receipts = length share.copies.items; offers = share.offers }) room
+    → ⊥) → WantsCopies m other
 wants m other share room [] e is beyond =
     let offers = is.offers in
     let none = ap length e in
@@ -317,9 +356,13 @@ wants m other share room (r ∷ rest) e is beyond =
       unheld = is.copies.unheld r has;
     }
 
-pub share_wants : {T E : Type 0} (m other : Meaning) (share : Share) (room : Room) (n : ℕ) (r : Result T E) → IsShare m other share → n ≡ length share.copies.items → is_err r ≡ true → (IsRoomier (record { receipts = n; offers = share.offers }) room → IsOk r) → WantsCopies m other
+pub share_wants : {T E : Type 0} (m other : Meaning) (share : Share) (room : Room) (n : ℕ) (r : Result T E)
+    → IsShare m other share → n ≡ length share.copies.items → is_err r ≡ true
+    → (IsRoomier (record { receipts = n; offers = share.offers }) room → IsOk r) → WantsCopies m other
 share_wants m other share room n r is size err within =
-    wants m other share room share.copies.items refl is (λ roomier. no_ok r err (within (subst (λ k. IsRoomier (record { receipts = k; offers = share.offers }) room) (sym size) roomier)))
+    wants m other share room share.copies.items refl is
+        (λ roomier. no_ok r err
+        (within (subst (λ k. IsRoomier (record { receipts = k; offers = share.offers }) room) (sym size) roomier)))
 
 pub on_ok : {T E : Type 0} (r : Result T E) (P : Type 0) → is_err r ≡ false → OnOk r P → P
 on_ok (Ok v) P e h = h

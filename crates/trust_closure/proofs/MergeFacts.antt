@@ -1,5 +1,6 @@
 -- What a closure takes in from another one
-use Rattle.std.proofs.Common.{◌≡◌, ℕ, ◌+◌, ◌<◌, ◌≤◌, ◌⊎◌, ◌↔◌, inl, inr, Bool, true, false, not, nat_eq, List, [], ◌∷◌, ◌++◌, length, refl, sym, ap, ◌∙◌, subst, arith, append_assoc, append-nil}
+use Rattle.std.proofs.Common.{◌≡◌, ℕ, ◌+◌, ◌<◌, ◌≤◌, ◌⊎◌, ◌↔◌, inl, inr, Bool, true, false, not, nat_eq, List, [], ◌∷◌}
+use Rattle.std.proofs.Common.{◌++◌, length, refl, sym, ap, ◌∙◌, subst, arith, append_assoc, append-nil}
 use Rattle.std.specs.declared.cmp.Ordering.{Ordering}
 use Rattle.std.specs.Bool.{IsTrue, MatchBool}
 use Rattle.std.specs.Cmp.Lexicographic.{same_text}
@@ -80,7 +81,8 @@ abbrev pub IsLacking : {X : Type 0} → List X → List X → ℕ → Type 0
 IsLacking set [] n = n ≡ 0
 IsLacking set (x ∷ xs) n = (Contains set x × IsLacking set xs n) ⊎ ((Contains set x → ⊥) × ((m : ℕ) × (n ≡ m + 1) × IsLacking set xs m))
 
-IsLacking-other : {X : Type 0} (set more xs : List X) (n : ℕ) → ((x : X) → Contains xs x → Contains set x ↔ Contains more x) → IsLacking set xs n → IsLacking more xs n
+IsLacking-other : {X : Type 0} (set more xs : List X) (n : ℕ)
+    → ((x : X) → Contains xs x → Contains set x ↔ Contains more x) → IsLacking set xs n → IsLacking more xs n
 IsLacking-other set more [] n same lacking = lacking
 IsLacking-other set more (x ∷ xs) n same lacking =
     let here = same x (contains_first x xs) in
@@ -89,7 +91,9 @@ IsLacking-other set more (x ∷ xs) n same lacking =
       | inr h ↦ inr (λ has. h.0 (here.1 has), (h.1.0, h.1.1, IsLacking-other set more xs h.1.0 (λ y has. same y (contains_later x xs y has)) h.1.2))
     ]
 
-lacking_count : {X : Type 0} (P : X → Type 0) (cmp : X → X → Ordering) → AreSets P cmp → (xs set : List X) (n : ℕ) → AllByRecursion P xs → AllByRecursion P set → IsStrictlySortedBy cmp xs → IsStrictlySortedBy cmp set → IsLacking set xs n → length (with_items cmp xs set) ≡ length set + n
+lacking_count : {X : Type 0} (P : X → Type 0) (cmp : X → X → Ordering) → AreSets P cmp → (xs set : List X) (n : ℕ)
+    → AllByRecursion P xs → AllByRecursion P set → IsStrictlySortedBy cmp xs → IsStrictlySortedBy cmp set
+    → IsLacking set xs n → length (with_items cmp xs set) ≡ length set + n
 lacking_count P cmp sets [] set n all those rising sorted lacking = omega (arith, lacking)
 lacking_count {X} P cmp sets (x ∷ xs) set n all those rising sorted lacking =
     elim lacking [
@@ -122,7 +126,8 @@ pub record IsCounted {X : Type 0} (set all rest : List X) (count limit : ℕ) : 
 pub IsCounted-start : {X : Type 0} (set all : List X) (limit : ℕ) → length all ≤ limit → IsCounted set all all 0 limit
 IsCounted-start set all limit few = record { lacking = λ m h. subst (IsLacking set all) (omega arith) h; few = omega arith }
 
-pub IsCounted-held : {X : Type 0} (set all rest later : List X) (x : X) (count limit : ℕ) → IsCounted set all rest count limit → rest ≡ x ∷ later → Contains set x → IsCounted set all later count limit
+pub IsCounted-held : {X : Type 0} (set all rest later : List X) (x : X) (count limit : ℕ)
+    → IsCounted set all rest count limit → rest ≡ x ∷ later → Contains set x → IsCounted set all later count limit
 IsCounted-held set all rest later x count limit counted e has =
     let few = counted.few in
     let size = ap length e in
@@ -131,12 +136,15 @@ IsCounted-held set all rest later x count limit counted e has =
       few = omega arith;
     }
 
-pub IsCounted-new : {X : Type 0} (set all rest later : List X) (x : X) (count limit : ℕ) → IsCounted set all rest count limit → rest ≡ x ∷ later → (Contains set x → ⊥) → IsCounted set all later (count + 1) limit
+pub IsCounted-new : {X : Type 0} (set all rest later : List X) (x : X) (count limit : ℕ)
+    → IsCounted set all rest count limit → rest ≡ x ∷ later → (Contains set x → ⊥)
+    → IsCounted set all later (count + 1) limit
 IsCounted-new set all rest later x count limit counted e lacks =
     let few = counted.few in
     let size = ap length e in
     record {
-      lacking = λ m h. subst (IsLacking set all) (omega arith) (counted.lacking (m + 1) (subst (λ xs. IsLacking set xs (m + 1)) (sym e) (inr (lacks, (m, refl, h)))));
+      lacking = λ m h. subst (IsLacking set all) (omega arith)
+          (counted.lacking (m + 1) (subst (λ xs. IsLacking set xs (m + 1)) (sym e) (inr (lacks, (m, refl, h)))));
       few = omega arith;
     }
 
@@ -144,13 +152,19 @@ IsCounted-end : {X : Type 0} (set all rest : List X) (count limit : ℕ) → IsC
 IsCounted-end set all rest count limit counted e =
     subst (IsLacking set all) (omega arith) (counted.lacking 0 (subst (λ xs. IsLacking set xs 0) (sym e) refl))
 
-pub counted_receipts : (m other : Meaning) (rest : List Receipt) (count limit : ℕ) → IsMeaning m → IsMeaning other → IsCounted m.held other.held rest count limit → rest ≡ [] → length (all_receipts m other) ≡ length m.held + count
+pub counted_receipts : (m other : Meaning) (rest : List Receipt) (count limit : ℕ) → IsMeaning m → IsMeaning other
+    → IsCounted m.held other.held rest count limit → rest ≡ [] → length (all_receipts m other) ≡ length m.held + count
 counted_receipts m other rest count limit is was counted e =
-    lacking_count IsReceipt receipt_cmp receipt_sets other.held m.held count was.receipts is.receipts was.rising is.rising (IsCounted-end m.held other.held rest count limit counted e)
+    lacking_count IsReceipt receipt_cmp receipt_sets other.held m.held count was.receipts is.receipts was.rising
+        is.rising (IsCounted-end m.held other.held rest count limit counted e)
 
-pub counted_records : (m other : Meaning) (rest : List Distrust) (count limit : ℕ) → IsMeaning m → IsMeaning other → IsCounted m.records other.records rest count limit → rest ≡ [] → length (all_records m other) ≡ length m.records + count
+pub counted_records : (m other : Meaning) (rest : List Distrust) (count limit : ℕ) → IsMeaning m → IsMeaning other
+    → IsCounted m.records other.records rest count limit → rest ≡ []
+    → length (all_records m other) ≡ length m.records + count
 counted_records m other rest count limit is was counted e =
-    lacking_count Always distrust_cmp record_sets other.records m.records count (always other.records) (always m.records) was.records_rising is.records_rising (IsCounted-end m.records other.records rest count limit counted e)
+    lacking_count Always distrust_cmp record_sets other.records m.records count (always other.records)
+        (always m.records) was.records_rising is.records_rising
+        (IsCounted-end m.records other.records rest count limit counted e)
 
 -- ---- copies of what is not held
 
@@ -175,37 +189,45 @@ IsCopied-start held all copies few e = record {
   counted = subst (λ (xs : List Receipt). IsCounted held all all (length xs) 65536) (sym e) (IsCounted-start held all 65536 few);
 }
 
-pub IsCopied-held : (held all rest later copies : List Receipt) (r : Receipt) → IsStrictlySortedBy receipt_cmp held → IsCopied held all rest copies → rest ≡ r ∷ later → Contains held r → IsCopied held all later copies
+pub IsCopied-held : (held all rest later copies : List Receipt) (r : Receipt) → IsStrictlySortedBy receipt_cmp held
+    → IsCopied held all rest copies → rest ≡ r ∷ later → Contains held r → IsCopied held all later copies
 IsCopied-held held all rest later copies r rising copied e has =
     let kept : Contains (with_items receipt_cmp copies held) r = with_items_keeps receipt_total copies held r has in
     let same : with_item receipt_cmp r (with_items receipt_cmp copies held) ≡ with_items receipt_cmp copies held =
     receipt_sets.present r (with_items receipt_cmp copies held) (receipt_sets.all_rise copies held rising) kept in
     record {
       joined = with_items-append receipt_cmp copies later held ∙ sym (ap (with_items receipt_cmp later) same)
-          ∙ sym (with_items-append receipt_cmp copies (r ∷ later) held) ∙ sym (ap (λ (xs : List Receipt). with_items receipt_cmp (copies ++ xs) held) e) ∙ copied.joined;
+          ∙ sym (with_items-append receipt_cmp copies (r ∷ later) held)
+              ∙ sym (ap (λ (xs : List Receipt). with_items receipt_cmp (copies ++ xs) held) e) ∙ copied.joined;
       within = λ s more. copied.within s (subst (λ (xs : List Receipt). Contains xs s) (sym e) (contains_later r later s more));
       each = copied.each;
       unheld = copied.unheld;
       counted = IsCounted-held held all rest later r (length copies) 65536 copied.counted e has;
     }
 
-pub IsCopied-new : (held all rest later copies new : List Receipt) (r copy : Receipt) → IsCopied held all rest copies → rest ≡ r ∷ later → (Contains held r → ⊥) → new ≡ copies ++ copy ∷ [] → copy ≡ r → IsCopied held all later new
+pub IsCopied-new : (held all rest later copies new : List Receipt) (r copy : Receipt) → IsCopied held all rest copies
+    → rest ≡ r ∷ later → (Contains held r → ⊥) → new ≡ copies ++ copy ∷ [] → copy ≡ r → IsCopied held all later new
 IsCopied-new held all rest later copies new r copy copied e lacks push same =
     let pushed : new ≡ copies ++ r ∷ [] = push ∙ ap (λ (s : Receipt). copies ++ s ∷ []) same in
     let here : Contains all r = copied.within r (subst (λ (xs : List Receipt). Contains xs r) (sym e) (contains_first r later)) in
     let size : length new ≡ length copies + 1 = ap length pushed ∙ length-append copies (r ∷ []) in
     record {
-      joined = ap (λ (xs : List Receipt). with_items receipt_cmp (xs ++ later) held) pushed ∙ ap (λ (xs : List Receipt). with_items receipt_cmp xs held) (append_assoc copies (r ∷ []) later)
+      joined = ap (λ (xs : List Receipt). with_items receipt_cmp (xs ++ later) held) pushed
+          ∙ ap (λ (xs : List Receipt). with_items receipt_cmp xs held) (append_assoc copies (r ∷ []) later)
           ∙ sym (ap (λ (xs : List Receipt). with_items receipt_cmp (copies ++ xs) held) e) ∙ copied.joined;
       within = λ s more. copied.within s (subst (λ (xs : List Receipt). Contains xs s) (sym e) (contains_later r later s more));
-      each = λ s has. elim (Contains-push_cases copies r s (subst (λ (xs : List Receipt). Contains xs s) pushed has)) [ inl old ↦ copied.each s old | inr same ↦ subst (Contains all) same here ];
-      unheld = λ s has. elim (Contains-push_cases copies r s (subst (λ (xs : List Receipt). Contains xs s) pushed has)) [ inl old ↦ copied.unheld s old | inr same ↦ λ holds. lacks (subst (Contains held) (sym same) holds) ];
+      each = λ s has. elim (Contains-push_cases copies r s (subst (λ (xs : List Receipt). Contains xs s) pushed has))
+          [ inl old ↦ copied.each s old | inr same ↦ subst (Contains all) same here ];
+      unheld = λ s has. elim (Contains-push_cases copies r s (subst (λ (xs : List Receipt). Contains xs s) pushed has))
+          [ inl old ↦ copied.unheld s old | inr same ↦ λ holds. lacks (subst (Contains held) (sym same) holds) ];
       counted = subst (λ n. IsCounted held all later n 65536) (sym size) (IsCounted-new held all rest later r (length copies) 65536 copied.counted e lacks);
     }
 
-pub IsCopied-end : (m other : Meaning) (rest copies : List Receipt) → IsMeaning m → IsMeaning other → IsCopied m.held other.held rest copies → rest ≡ [] → AreCopies m other copies
+pub IsCopied-end : (m other : Meaning) (rest copies : List Receipt) → IsMeaning m → IsMeaning other
+    → IsCopied m.held other.held rest copies → rest ≡ [] → AreCopies m other copies
 IsCopied-end m other rest copies is was copied e = record {
-  all = ap (λ (xs : List Receipt). with_items receipt_cmp xs m.held) (sym (append-nil copies)) ∙ sym (ap (λ (xs : List Receipt). with_items receipt_cmp (copies ++ xs) m.held) e) ∙ copied.joined;
+  all = ap (λ (xs : List Receipt). with_items receipt_cmp xs m.held) (sym (append-nil copies))
+      ∙ sym (ap (λ (xs : List Receipt). with_items receipt_cmp (copies ++ xs) m.held) e) ∙ copied.joined;
   each = copied.each;
   unheld = copied.unheld;
   count = counted_receipts m other rest (length copies) 65536 is was copied.counted e;
@@ -232,7 +254,8 @@ pub known_of : (c : Configuration) (domain : List ℕ) (place : Option ℕ) → 
 known_of c domain None at e = absurd (cc)
 known_of c domain (Some n) at e = place_has c domain n at
 
-pub fitting_next : {X : Type 0} (P : X → Type 0) (W : Type 0) (b : Bool) (all rest later : List X) (x : X) → MatchBool b (IsPassed P all rest) W → rest ≡ x ∷ later → P x → MatchBool b (IsPassed P all later) W
+pub fitting_next : {X : Type 0} (P : X → Type 0) (W : Type 0) (b : Bool) (all rest later : List X) (x : X)
+    → MatchBool b (IsPassed P all rest) W → rest ≡ x ∷ later → P x → MatchBool b (IsPassed P all later) W
 fitting_next P W true all rest later x passed e holds = IsPassed-next P all rest later x passed e holds
 fitting_next P W false all rest later x wrong e holds = wrong
 
@@ -251,19 +274,27 @@ wrong_known c r wrong unknown = unknown wrong.relationship wrong.has wrong.domai
 
 -- ---- why a merge is refused
 
-pub refuses_record : (m other : Meaning) (c : Configuration) (xs : List Distrust) → c ≡ m.config → xs ≡ other.records → IsAlike m other → ((x : Distrust) × Contains xs x × (HasDomain c x.domain → ⊥)) → RefusesMerge m other UnknownDomain
+pub refuses_record : (m other : Meaning) (c : Configuration) (xs : List Distrust) → c ≡ m.config → xs ≡ other.records
+    → IsAlike m other → ((x : Distrust) × Contains xs x × (HasDomain c x.domain → ⊥))
+    → RefusesMerge m other UnknownDomain
 refuses_record m other c xs own its alike found =
-    (alike, inr (found.0, subst (λ (ys : List Distrust). Contains ys found.0) its found.1, λ has. found.2 (subst (λ (k : Configuration). HasDomain k found.0.domain) (sym own) has)))
+    (alike, inr (found.0, subst (λ (ys : List Distrust). Contains ys found.0) its found.1,
+        λ has. found.2 (subst (λ (k : Configuration). HasDomain k found.0.domain) (sym own) has)))
 
-pub knows_records : (m other : Meaning) (c : Configuration) (xs : List Distrust) → c ≡ m.config → xs ≡ other.records → ((x : Distrust) → Contains xs x → HasDomain c x.domain) → (x : Distrust) → Contains other.records x → HasDomain m.config x.domain
+pub knows_records : (m other : Meaning) (c : Configuration) (xs : List Distrust) → c ≡ m.config → xs ≡ other.records
+    → ((x : Distrust) → Contains xs x → HasDomain c x.domain) → (x : Distrust) → Contains other.records x
+    → HasDomain m.config x.domain
 knows_records m other c xs own its all x has =
     subst (λ (k : Configuration). HasDomain k x.domain) own (all x (subst (λ (ys : List Distrust). Contains ys x) (sym its) has))
 
-pub fits_receipts : (m other : Meaning) (c : Configuration) (rs : List Receipt) → c ≡ m.config → rs ≡ other.held → ((r : Receipt) → Contains rs r → IsFitting c r) → (r : Receipt) → Contains other.held r → IsFitting m.config r
+pub fits_receipts : (m other : Meaning) (c : Configuration) (rs : List Receipt) → c ≡ m.config → rs ≡ other.held
+    → ((r : Receipt) → Contains rs r → IsFitting c r) → (r : Receipt) → Contains other.held r → IsFitting m.config r
 fits_receipts m other c rs own its all r has =
     subst (λ (k : Configuration). IsFitting k r) own (all r (subst (λ (ys : List Receipt). Contains ys r) (sym its) has))
 
-refuses_at : (m other : Meaning) → IsAlike m other → ((x : Distrust) → Contains other.records x → HasDomain m.config x.domain) → (why : TakeError) → MisfitsOne m.config other.held why → RefusesMerge m other why
+refuses_at : (m other : Meaning) → IsAlike m other
+    → ((x : Distrust) → Contains other.records x → HasDomain m.config x.domain) → (why : TakeError)
+    → MisfitsOne m.config other.held why → RefusesMerge m other why
 refuses_at m other alike known UnknownDomain h = (alike, inl h)
 refuses_at m other alike known WrongEndpoint h =
     (alike, λ unknown. elim unknown [ inl r ↦ h.0 r.0 r.1 r.2 | inr x ↦ x.2 (known x.0 x.1) ], h.1)
@@ -271,14 +302,19 @@ refuses_at m other alike known Full h = absurd h
 refuses_at m other alike known NoMemory h = absurd h
 refuses_at m other alike known ConfigDiffers h = absurd h
 
-pub refuses_receipt : (m other : Meaning) (c : Configuration) (rs : List Receipt) → c ≡ m.config → rs ≡ other.held → IsAlike m other → ((x : Distrust) → Contains other.records x → HasDomain m.config x.domain) → (why : TakeError) → MisfitsOne c rs why → RefusesMerge m other why
+pub refuses_receipt : (m other : Meaning) (c : Configuration) (rs : List Receipt) → c ≡ m.config → rs ≡ other.held
+    → IsAlike m other → ((x : Distrust) → Contains other.records x → HasDomain m.config x.domain) → (why : TakeError)
+    → MisfitsOne c rs why → RefusesMerge m other why
 refuses_receipt m other c rs own its alike known why h =
-    refuses_at m other alike known why (subst (λ (k : Configuration). MisfitsOne k other.held why) own (subst (λ (ys : List Receipt). MisfitsOne c ys why) its h))
+    refuses_at m other alike known why
+        (subst (λ (k : Configuration). MisfitsOne k other.held why) own
+        (subst (λ (ys : List Receipt). MisfitsOne c ys why) its h))
 
 turned_not : (b : Bool) → false ≡ not b → true ≡ b
 turned_not true e = refl
 turned_not false e = absurd (cc)
 
-pub alike_of : (m other : Meaning) (c d : Configuration) (a b : List ℕ) → c ≡ m.config → d ≡ other.config → a ≡ config_id_of c → b ≡ config_id_of d → false ≡ not (pointwise nat_eq a b) → IsAlike m other
+pub alike_of : (m other : Meaning) (c d : Configuration) (a b : List ℕ) → c ≡ m.config → d ≡ other.config
+    → a ≡ config_id_of c → b ≡ config_id_of d → false ≡ not (pointwise nat_eq a b) → IsAlike m other
 alike_of m other c d a b own its first second same =
     sym (ap config_id_of own) ∙ sym first ∙ same_text a b (turned_not (pointwise nat_eq a b) same) ∙ second ∙ ap config_id_of its

@@ -1,5 +1,6 @@
 -- Different documents in order
-use Rattle.std.proofs.Common.{◌≡◌, ℕ, suc, ◌+◌, ◌-◌, ◌<◌, ◌≤◌, inl, inr, Bool, true, List, [], ◌∷◌, ◌++◌, length, get_or, take, drop, Option, Some, None, arith, refl, sym, ap, ◌∙◌, subst}
+use Rattle.std.proofs.Common.{◌≡◌, ℕ, suc, ◌+◌, ◌-◌, ◌<◌, ◌≤◌, inl, inr, Bool, true, List, [], ◌∷◌, ◌++◌, length}
+use Rattle.std.proofs.Common.{get_or, take, drop, Option, Some, None, arith, refl, sym, ap, ◌∙◌, subst}
 use Rattle.std.specs.Prelude.{Contains, slice_get, AllPairs, ◌↔◌}
 use Rattle.std.specs.declared.cmp.Ordering.{Ordering}
 use Rattle.std.specs.declared.cmp.Ordering.TheVariants.{Less, Equal, Greater}
@@ -12,7 +13,9 @@ use Rattle.std.proofs.lemmas.Bool.{cases_lt, cases_order}
 use Rattle.std.proofs.lemmas.Cmp.{nat_list_cmp_total, on_total, then_total, tied_itself, alike_right}
 use Rattle.std.proofs.lemmas.List.{get_or_append_left, get_or_push, get_or_default, length_push, take-append-drop}
 use Rattle.std.proofs.lemmas.List.Edits.{length-insert, get_or-insert_below, get_or-insert_at, get_or-insert_above}
-use Rattle.std.proofs.lemmas.List.Elements.{All-contains, All-push, All-append, All-cons, All-take, All-drop, All-weaker, Contains-append_left, Contains-append_right, Contains-append_cases}
+use Rattle.std.proofs.lemmas.List.Elements.{All-contains, All-push, All-append, All-cons, All-take, All-drop}
+use Rattle.std.proofs.lemmas.List.Elements.{All-weaker, Contains-append_left, Contains-append_right}
+use Rattle.std.proofs.lemmas.List.Elements.{Contains-append_cases}
 use Rattle.std.proofs.lemmas.Map.Lookups.{exact_bytes, exact_unsigned}
 use Rattle.std.proofs.lemmas.Option.{slice_get-get_or, slice_get_within, get_or_from_slice_get}
 use Rattle.bundle_doc.specs.Bundle.{Bundle, IsBundle, canonical_text}
@@ -44,9 +47,12 @@ rank-exact (Some x) (Some y) e = ap (λ (n : ℕ). Some n) (exact_unsigned x y e
 pub pair-exact : (p q : Pair) → IsBundle p.document → IsBundle q.document → pair_cmp p q ≡ Equal → p ≡ q
 pair-exact p q f g e =
     let first = then-first (domain_cmp p.domain q.domain) (document_cmp p.document q.document) e in
-    let second = then-first (option_cmp nat_cmp p.document.rank q.document.rank) (slice_cmp nat_cmp (canonical_text p.document) (canonical_text q.document)) first.1 in
+    let second = then-first (option_cmp nat_cmp p.document.rank q.document.rank)
+        (slice_cmp nat_cmp (canonical_text p.document) (canonical_text q.document)) first.1 in
     let domain : p.domain ≡ q.domain = exact_bytes p.domain q.domain first.0 in
-    let document : p.document ≡ q.document = one_text p.document q.document f g (exact_bytes (canonical_text p.document) (canonical_text q.document) second.1) in
+    let document : p.document ≡ q.document =
+        one_text p.document q.document f g
+        (exact_bytes (canonical_text p.document) (canonical_text q.document) second.1) in
     ap (λ (d : List ℕ). let x : Pair = record { domain = d; document = p.document } in x) domain
     ∙ ap (λ (b : Bundle). let x : Pair = record { domain = q.domain; document = b } in x) document
 
@@ -65,10 +71,13 @@ pub rising-sought : (pairs : List Pair) (numbers : List ℕ) (x : Pair) → AreR
 rising-sought pairs numbers x h = record {
   rising = λ i j d l within.
       elim (cases_order i j) [
-        | inl e ↦ let f : ordering_index (pair_cmp (pair_at pairs (get_or numbers i d)) x) ≡ ordering_index (pair_cmp (pair_at pairs (get_or numbers j d)) x) = ap (λ k. ordering_index (pair_cmp (pair_at pairs (get_or numbers k d)) x)) e in omega (arith, f)
+        | inl e ↦ let f : ordering_index (pair_cmp (pair_at pairs (get_or numbers i d)) x)
+            ≡ ordering_index (pair_cmp (pair_at pairs (get_or numbers j d)) x) =
+            ap (λ k. ordering_index (pair_cmp (pair_at pairs (get_or numbers k d)) x)) e in omega (arith, f)
         | inr c ↦
             elim c [
-              | inl b ↦ index-rises (pair_at pairs (get_or numbers i d)) (pair_at pairs (get_or numbers j d)) x (h i j d b within) (pair_cmp (pair_at pairs (get_or numbers j d)) x) refl
+              | inl b ↦ index-rises (pair_at pairs (get_or numbers i d)) (pair_at pairs (get_or numbers j d)) x
+                  (h i j d b within) (pair_cmp (pair_at pairs (get_or numbers j d)) x) refl
               | inr b ↦ absurd (omega (arith, b, l))
             ]
       ];
@@ -78,7 +87,8 @@ rising-sought pairs numbers x h = record {
 
 -- a place among numbers that rise under a test takes what fits there
 module _ (R : ℕ → ℕ → Type 0) (numbers : List ℕ) (place x : ℕ) (within : place ≤ length numbers)
-    (before : (k : ℕ) → k < place → R (get_or numbers k 0) x) (after : (k : ℕ) → place ≤ k → k < length numbers → R x (get_or numbers k 0)) (h : AllPairs R numbers) where
+    (before : (k : ℕ) → k < place → R (get_or numbers k 0) x) (after : (k : ℕ) → place ≤ k → k < length numbers
+        → R x (get_or numbers k 0)) (h : AllPairs R numbers) where
   at_zero : (k : ℕ) (d : ℕ) → k < length (insert numbers place x) → get_or (insert numbers place x) k d ≡ get_or (insert numbers place x) k 0
   at_zero k d l = get_or_default (insert numbers place x) k d 0 l
 
@@ -88,7 +98,9 @@ module _ (R : ℕ → ℕ → Type 0) (numbers : List ℕ) (place x : ℕ) (with
       elim (cases_order j place) [
         | inl e ↦
             subst (λ a. R a (get_or (insert numbers place x) j 0)) (sym (get_or-insert_below numbers place x 0 i (omega (arith, l, e)) within))
-            (subst (R (get_or numbers i 0)) (sym (ap (λ k. get_or (insert numbers place x) k 0) e ∙ get_or-insert_at numbers place x 0 within)) (before i (omega (arith, l, e))))
+            (subst (R (get_or numbers i 0))
+                (sym (ap (λ k. get_or (insert numbers place x) k 0) e ∙ get_or-insert_at numbers place x 0 within))
+                (before i (omega (arith, l, e))))
         | inr c ↦
             elim c [
               | inl b ↦
@@ -96,18 +108,26 @@ module _ (R : ℕ → ℕ → Type 0) (numbers : List ℕ) (place x : ℕ) (with
                   (subst (R (get_or numbers i 0)) (sym (get_or-insert_below numbers place x 0 j b within)) (h i j 0 l (omega (arith, b, within))))
               | inr b ↦
                   let j_is : j ≡ (j - 1) + 1 = omega (arith, b) in
-                  let second : get_or (insert numbers place x) j 0 ≡ get_or numbers (j - 1) 0 = ap (λ k. get_or (insert numbers place x) k 0) j_is ∙ get_or-insert_above numbers place x 0 (j - 1) (omega (arith, b)) within in
+                  let second : get_or (insert numbers place x) j 0 ≡ get_or numbers (j - 1) 0 =
+                      ap (λ k. get_or (insert numbers place x) k 0) j_is
+                      ∙ get_or-insert_above numbers place x 0 (j - 1) (omega (arith, b)) within in
                   let end : j - 1 < length numbers = omega (arith, last, size, b) in
                   subst (R (get_or (insert numbers place x) i 0)) (sym second)
                   (elim (cases_order i place) [
                     | inl e ↦
-                        subst (λ a. R a (get_or numbers (j - 1) 0)) (sym (ap (λ k. get_or (insert numbers place x) k 0) e ∙ get_or-insert_at numbers place x 0 within)) (after (j - 1) (omega (arith, b)) end)
+                        subst (λ a. R a (get_or numbers (j - 1) 0))
+                            (sym (ap (λ k. get_or (insert numbers place x) k 0) e
+                            ∙ get_or-insert_at numbers place x 0 within)) (after (j - 1) (omega (arith, b)) end)
                     | inr f ↦
                         elim f [
-                          | inl g ↦ subst (λ a. R a (get_or numbers (j - 1) 0)) (sym (get_or-insert_below numbers place x 0 i g within)) (h i (j - 1) 0 (omega (arith, g, b)) end)
+                          | inl g ↦ subst (λ a. R a (get_or numbers (j - 1) 0))
+                              (sym (get_or-insert_below numbers place x 0 i g within))
+                              (h i (j - 1) 0 (omega (arith, g, b)) end)
                           | inr g ↦
                               let i_is : i ≡ (i - 1) + 1 = omega (arith, g) in
-                              subst (λ a. R a (get_or numbers (j - 1) 0)) (sym (ap (λ k. get_or (insert numbers place x) k 0) i_is ∙ get_or-insert_above numbers place x 0 (i - 1) (omega (arith, g)) within))
+                              subst (λ a. R a (get_or numbers (j - 1) 0))
+                                  (sym (ap (λ k. get_or (insert numbers place x) k 0) i_is
+                                  ∙ get_or-insert_above numbers place x 0 (i - 1) (omega (arith, g)) within))
                               (h (i - 1) (j - 1) 0 (omega (arith, l, g)) end)
                         ]
                   ])
@@ -138,12 +158,16 @@ module _ (pairs : List Pair) (p : Paired) (h : IsPairing pairs p) where
             elim c [
               | inl l ↦
                   let less : pair_cmp q q ≡ Less =
-                  subst (λ x. pair_cmp x q ≡ Less) (ap (pair_at pairs) na ∙ fa) (subst (λ x. pair_cmp (pair_at pairs (get_or p.numbers ca.0 0)) x ≡ Less) (ap (pair_at pairs) nb ∙ fb) (h.rising ca.0 cb.0 0 l cb.1))
+                  subst (λ x. pair_cmp x q ≡ Less) (ap (pair_at pairs) na ∙ fa)
+                      (subst (λ x. pair_cmp (pair_at pairs (get_or p.numbers ca.0 0)) x ≡ Less)
+                      (ap (pair_at pairs) nb ∙ fb) (h.rising ca.0 cb.0 0 l cb.1))
                   in
                   let both : Less ≡ Equal = sym less ∙ tied in absurd (cc)
               | inr l ↦
                   let less : pair_cmp q q ≡ Less =
-                  subst (λ x. pair_cmp x q ≡ Less) (ap (pair_at pairs) nb ∙ fb) (subst (λ x. pair_cmp (pair_at pairs (get_or p.numbers cb.0 0)) x ≡ Less) (ap (pair_at pairs) na ∙ fa) (h.rising cb.0 ca.0 0 l ca.1))
+                  subst (λ x. pair_cmp x q ≡ Less) (ap (pair_at pairs) nb ∙ fb)
+                      (subst (λ x. pair_cmp (pair_at pairs (get_or p.numbers cb.0 0)) x ≡ Less)
+                      (ap (pair_at pairs) na ∙ fa) (h.rising cb.0 ca.0 0 l ca.1))
                   in
                   let both : Less ≡ Equal = sym less ∙ tied in absurd (cc)
             ]
@@ -171,7 +195,9 @@ module _ (pairs : List Pair) (p : Paired) (h : IsPairing pairs p) where
   pub raised-missing : (place : ℕ) (q : Pair) → IsMissing (λ n. pair_cmp (pair_at pairs n) q) p.numbers place → HasRaised pairs p q → ⊥
   raised-missing place q m r =
       let tied : pair_cmp (pair_at pairs (get_or p.numbers r.has.0 r.number)) q ≡ Equal =
-      subst (λ n. pair_cmp (pair_at pairs n) q ≡ Equal) (sym r.has.2) (subst (λ x. pair_cmp x q ≡ Equal) (sym (get_or_from_slice_get pairs r.number q no_pair r.at)) (tied_itself pair-total q))
+      subst (λ n. pair_cmp (pair_at pairs n) q ≡ Equal) (sym r.has.2)
+          (subst (λ x. pair_cmp x q ≡ Equal) (sym (get_or_from_slice_get pairs r.number q no_pair r.at))
+          (tied_itself pair-total q))
       in
       elim (cases_lt r.has.0 place) [
         | inl l ↦ let f : Less ≡ Equal = sym (m.before r.has.0 r.number (omega arith) l) ∙ tied in absurd (cc)
@@ -199,7 +225,8 @@ module _ (pairs : List Pair) (q : Pair) where
 
   get-left : (n : ℕ) → n < length pairs → slice_get (pairs ++ q ∷ []) n ≡ slice_get pairs n
   get-left n l =
-      slice_get-get_or (pairs ++ q ∷ []) n no_pair (omega (arith, l, length_push pairs q)) ∙ ap (λ (p : Pair). Some p) (at-left n l) ∙ sym (slice_get-get_or pairs n no_pair l)
+      slice_get-get_or (pairs ++ q ∷ []) n no_pair (omega (arith, l, length_push pairs q))
+          ∙ ap (λ (p : Pair). Some p) (at-left n l) ∙ sym (slice_get-get_or pairs n no_pair l)
 
   at-last : (n : ℕ) → n ≡ length pairs → pair_at (pairs ++ q ∷ []) n ≡ q
   at-last n e = get_or_push pairs q no_pair n (sym e)
@@ -207,7 +234,8 @@ module _ (pairs : List Pair) (q : Pair) where
   get-last : (n : ℕ) → n ≡ length pairs → slice_get (pairs ++ q ∷ []) n ≡ Some q
   get-last n e = slice_get-get_or (pairs ++ q ∷ []) n no_pair (omega (arith, e, length_push pairs q)) ∙ ap (λ (p : Pair). Some p) (at-last n e)
 
-  rises-still : (i j : ℕ) → i < length pairs → j < length pairs → pair_cmp (pair_at pairs i) (pair_at pairs j) ≡ Less → pair_cmp (pair_at (pairs ++ q ∷ []) i) (pair_at (pairs ++ q ∷ []) j) ≡ Less
+  rises-still : (i j : ℕ) → i < length pairs → j < length pairs → pair_cmp (pair_at pairs i) (pair_at pairs j) ≡ Less
+      → pair_cmp (pair_at (pairs ++ q ∷ []) i) (pair_at (pairs ++ q ∷ []) j) ≡ Less
   rises-still i j k l e =
       subst (λ x. pair_cmp x (pair_at (pairs ++ q ∷ []) j) ≡ Less) (sym (at-left i k)) (subst (λ x. pair_cmp (pair_at pairs i) x ≡ Less) (sym (at-left j l)) e)
 
@@ -225,7 +253,9 @@ module _ (pairs : List Pair) (q : Pair) where
     more-within = All-weaker (λ n. n < length pairs) (λ n. n < length (pairs ++ q ∷ [])) (λ n l. omega (arith, l, length_push pairs q)) p.numbers h.within
 
     more-rising : AreRising (pairs ++ q ∷ []) p.numbers
-    more-rising i j d l last = rises-still (get_or p.numbers i d) (get_or p.numbers j d) (h.within i d (omega (arith, l, last))) (h.within j d last) (h.rising i j d l last)
+    more-rising i j d l last =
+        rises-still (get_or p.numbers i d) (get_or p.numbers j d) (h.within i d (omega (arith, l, last)))
+        (h.within j d last) (h.rising i j d l last)
 
     has-more : (number first : ℕ) (new : List ℕ) → number ≡ length pairs → PutsFirst pairs q number p.numbers new first → HasMore p.numbers new first
     has-more number first new e puts =
@@ -246,7 +276,9 @@ module _ (pairs : List Pair) (q : Pair) where
               let missing = put.1.2 in
               let is : first ≡ length pairs = put.0 ∙ e in
               record {
-                within = subst (All (λ n. n < length (pairs ++ q ∷ []))) (sym list) (All-insert (λ n. n < length (pairs ++ q ∷ [])) p.numbers place number more-within (omega (arith, e, length_push pairs q)));
+                within = subst (All (λ n. n < length (pairs ++ q ∷ []))) (sym list)
+                    (All-insert (λ n. n < length (pairs ++ q ∷ [])) p.numbers place number more-within
+                    (omega (arith, e, length_push pairs q)));
                 few = omega (arith, h.few, length_push pairs q, ap length list, length-insert p.numbers place number missing.within);
                 rising = subst (AreRising (pairs ++ q ∷ [])) (sym list)
                     (AllPairs-insert (λ i j. pair_cmp (pair_at (pairs ++ q ∷ []) i) (pair_at (pairs ++ q ∷ []) j) ≡ Less) p.numbers place number missing.within
@@ -261,7 +293,9 @@ module _ (pairs : List Pair) (q : Pair) where
                     (pair-total.antisymm q (pair_at pairs (get_or p.numbers k 0)) ∙ ap ordering_reverse (missing.after k 0 l last))))
                     more-rising);
                 kept = λ n c. subst (λ ns. Contains ns n) (sym list) (Contains-insert_old p.numbers place number n c);
-                has = subst (λ ns. Contains ns first) (sym list) (subst (λ k. Contains (insert p.numbers place number) k) (sym put.0) (Contains-insert p.numbers place number));
+                has = subst (λ ns. Contains ns first) (sym list)
+                    (subst (λ k. Contains (insert p.numbers place number) k) (sym put.0)
+                    (Contains-insert p.numbers place number));
                 at = get-last first is;
               }
         ]

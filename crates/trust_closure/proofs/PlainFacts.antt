@@ -1,5 +1,6 @@
 -- Rounds lead to what is accepted
-use Rattle.std.proofs.Common.{◌≡◌, ℕ, zero, suc, ◌+◌, ◌<◌, ◌⊎◌, inl, inr, Bool, true, false, ◌||◌, List, [], ◌∷◌, length, get_or, set, map, Some, arith, refl, sym, ap, ◌∙◌, subst}
+use Rattle.std.proofs.Common.{◌≡◌, ℕ, zero, suc, ◌+◌, ◌<◌, ◌⊎◌, inl, inr, Bool, true, false, ◌||◌, List, [], ◌∷◌}
+use Rattle.std.proofs.Common.{length, get_or, set, map, Some, arith, refl, sym, ap, ◌∙◌, subst}
 use Rattle.std.specs.Prelude.{Contains, slice_get, ◌↔◌}
 use Rattle.std.specs.List.{list_any}
 use Rattle.std.proofs.lemmas.Bool.{cases_lt, cases_eq, cases_Bool, both_ways}
@@ -14,7 +15,8 @@ use Rattle.closure_core.specs.Inside.Nodes.{pairs_of, is_raised, flags_of}
 use Rattle.closure_core.specs.Inside.Flags.{TellsMembers}
 use Rattle.trust_closure.specs.Held.{Hoard, meaning_of}
 use Rattle.trust_closure.specs.Pairs.{Paired, HasRaised}
-use Rattle.trust_closure.specs.Plain.{AreSeedOffers, IsOfferedBelow, IsOffered, IsVouched, AreSound, AreQuietBelow, AreReleased, IsHadNode, IsFirstHad, HasPlainFlags}
+use Rattle.trust_closure.specs.Plain.{AreSeedOffers, IsOfferedBelow, IsOffered, IsVouched, AreSound, AreQuietBelow}
+use Rattle.trust_closure.specs.Plain.{AreReleased, IsHadNode, IsFirstHad, HasPlainFlags}
 use Rattle.trust_closure.proofs.Bridge.{pair-of_seed_node, pair-of_receipt_node}
 use Rattle.closure_core.proofs.ContainsFacts.{contains_first, contains_later, contains_none, contains_cases}
 use Rattle.closure_core.proofs.FlagFacts.{Raises}
@@ -64,7 +66,9 @@ module _ (arrived : List Receipt) (released : List Bool) (t : Triple) where
   pub offered-none : IsOfferedBelow arrived released t 0 → ⊥
   offered-none o = omega (arith, o.below)
 
-  pub offered-step : (k : ℕ) (r : Receipt) → slice_get arrived k ≡ Some r → (is_raised released k ≡ true → Contains (offers_of (pair_of r)) t → ⊥) → (IsOfferedBelow arrived released t k → ⊥) → IsOfferedBelow arrived released t (k + 1) → ⊥
+  pub offered-step : (k : ℕ) (r : Receipt) → slice_get arrived k ≡ Some r
+      → (is_raised released k ≡ true → Contains (offers_of (pair_of r)) t → ⊥)
+      → (IsOfferedBelow arrived released t k → ⊥) → IsOfferedBelow arrived released t (k + 1) → ⊥
   offered-step k r at not before o = elim (cases_lt o.place k) [
     | inl l ↦ before record { place = o.place; below = l; receipt = o.receipt; at = o.at; raised = o.raised; offers = o.offers }
     | inr l ↦
@@ -77,14 +81,16 @@ module _ (arrived : List Receipt) (released : List Bool) (t : Triple) where
 
 module _ (m : Meaning) (arrived : List Receipt) (seed_offers : List Triple) (offers : AreSeedOffers m.config.seeds seed_offers)
     (same : (r : Receipt) → Contains m.held r ↔ Contains arrived r) (valid : IsMeaning m) where
-  pub vouched-released : (released : List Bool) → AreSound m arrived released → (r : Receipt) → Contains arrived r → IsVouched m.records seed_offers arrived released r → IsReleased m r
+  pub vouched-released : (released : List Bool) → AreSound m arrived released → (r : Receipt) → Contains arrived r
+      → IsVouched m.records seed_offers arrived released r → IsReleased m r
   vouched-released released sound r has v =
       let held : Contains m.held r = (same r).1 has in
       let fits : IsFitting m.config r = each_has (IsFitting m.config) m.held r valid.fitting held in
       elim v.1 [
         | inl seeded ↦
             let s = (offers (need_of r)).0 seeded in
-            record { held = held; fits = fits; voucher = pair_of_seed s.0; accepted = member_seed m s.0 s.1; vouches = vouches-from_offer m.records (pair_of_seed s.0) r s.2 v.0 }
+            record { held = held; fits = fits; voucher = pair_of_seed s.0; accepted = member_seed m s.0 s.1; vouches =
+                vouches-from_offer m.records (pair_of_seed s.0) r s.2 v.0 }
         | inr o ↦
             record {
               held = held;
@@ -95,17 +101,22 @@ module _ (m : Meaning) (arrived : List Receipt) (seed_offers : List Triple) (off
             }
       ]
 
-  pub quiet-released : (released : List Bool) → AreSound m arrived released → AreQuietBelow m.records seed_offers arrived released (length arrived) → AreReleased m arrived released
+  pub quiet-released : (released : List Bool) → AreSound m arrived released
+      → AreQuietBelow m.records seed_offers arrived released (length arrived) → AreReleased m arrived released
   quiet-released released sound quiet place r at = (
     sound place r at,
     λ is. elim (cases_Bool (is_raised released place)) [
       | inl on ↦ on
       | inr off ↦ absurd (quiet place r (slice_get_within arrived place r at) at off
-          (open-from_vouches m.records is.voucher r is.vouches, all_offered is.voucher is.accepted (need_of r) (offer-from_vouches m.records is.voucher r is.vouches)))
+          (open-from_vouches m.records is.voucher r is.vouches,
+              all_offered is.voucher is.accepted (need_of r) (offer-from_vouches m.records is.voucher r is.vouches)))
     ],
   )
     where
-      step : (p : Pair) (s : Receipt) → ((t : Triple) → Contains (offers_of p) t → IsOffered seed_offers arrived released t) → Contains m.held s → IsFitting m.config s → Vouches m.records p s → (t : Triple) → Contains (offers_of (pair_of s)) t → IsOffered seed_offers arrived released t
+      step : (p : Pair) (s : Receipt)
+          → ((t : Triple) → Contains (offers_of p) t → IsOffered seed_offers arrived released t) → Contains m.held s
+          → IsFitting m.config s → Vouches m.records p s → (t : Triple) → Contains (offers_of (pair_of s)) t
+          → IsOffered seed_offers arrived released t
       step p s h held fits vouches t c =
           let k = Contains-slice_get arrived s ((same s).0 held) in
           elim (cases_Bool (is_raised released k.0)) [
@@ -119,14 +130,19 @@ module _ (m : Meaning) (arrived : List Receipt) (seed_offers : List Triple) (off
           record { seeds = λ s has t c. inl ((offers t).1 (s, has, c)); steps = step } p is
 
 -- one more flag is raised
-pub sound-more : (m : Meaning) (arrived : List Receipt) (released : List Bool) (place : ℕ) (r : Receipt) → place < length released → slice_get arrived place ≡ Some r → IsReleased m r → AreSound m arrived released → AreSound m arrived (set released place true)
+pub sound-more : (m : Meaning) (arrived : List Receipt) (released : List Bool) (place : ℕ) (r : Receipt)
+    → place < length released → slice_get arrived place ≡ Some r → IsReleased m r → AreSound m arrived released
+    → AreSound m arrived (set released place true)
 sound-more m arrived released place r below at is sound k s there raised = elim (cases_eq k place) [
   | inl e ↦ subst (IsReleased m) (same_Some r s (sym at ∙ ap (λ n. slice_get arrived n) (sym e) ∙ there)) is
   | inr other ↦ sound k s there (sym (get_or-set_other released place k true false other) ∙ raised)
 ]
 
 -- the next receipt is vouched for by none
-pub quiet-more : (records : List Distrust) (seed_offers : List Triple) (arrived : List Receipt) (released : List Bool) (k : ℕ) (r : Receipt) → slice_get arrived k ≡ Some r → (is_raised released k ≡ false → IsVouched records seed_offers arrived released r → ⊥) → AreQuietBelow records seed_offers arrived released k → AreQuietBelow records seed_offers arrived released (k + 1)
+pub quiet-more : (records : List Distrust) (seed_offers : List Triple) (arrived : List Receipt) (released : List Bool)
+    (k : ℕ) (r : Receipt) → slice_get arrived k ≡ Some r
+    → (is_raised released k ≡ false → IsVouched records seed_offers arrived released r → ⊥)
+    → AreQuietBelow records seed_offers arrived released k → AreQuietBelow records seed_offers arrived released (k + 1)
 quiet-more records seed_offers arrived released k r at not quiet place s below there off v = elim (cases_lt place k) [
   | inl l ↦ quiet place s l there off v
   | inr l ↦
@@ -172,7 +188,8 @@ module _ (seeds : ℕ) (released : List Bool) (firsts : List ℕ) (k : ℕ) wher
       only n c = elim (contains_cases k [] n c) [ inl e ↦ sym e | inr none ↦ absurd (contains_none n none) ]
 
 module _ (h : Hoard) (p : Paired) (seed_offers : List Triple) (released : List Bool) (i : HasPlainFlags h p seed_offers released) where
-  had-member : (node : ℕ) (q : Pair) → IsHadNode (length h.config.seeds) released node → slice_get (pairs_of h.config.seeds h.arrived) node ≡ Some q → IsMember (meaning_of h) q
+  had-member : (node : ℕ) (q : Pair) → IsHadNode (length h.config.seeds) released node
+      → slice_get (pairs_of h.config.seeds h.arrived) node ≡ Some q → IsMember (meaning_of h) q
   had-member node q had at = elim (slice_get-append_cases (map pair_of_seed h.config.seeds) (map pair_of h.arrived) node q at) [
     | inl a ↦
         let s = slice_get-map_cases pair_of_seed h.config.seeds node q a in

@@ -41,7 +41,8 @@ one_record a b h =
 
 module _ {X : Type 0} {R : X → X → Ordering} (o : IsTotalOrder R) where
   -- what lies between those before it and those after it is not there
-  pub split_lacks : (xs : List X) (x : X) (place : ℕ) → AllWithin (λ y. R y x ≡ Less) xs 0 place → AllWithin (λ y. R y x ≡ Greater) xs place (length xs) → Contains xs x → ⊥
+  pub split_lacks : (xs : List X) (x : X) (place : ℕ) → AllWithin (λ y. R y x ≡ Less) xs 0 place
+      → AllWithin (λ y. R y x ≡ Greater) xs place (length xs) → Contains xs x → ⊥
   split_lacks xs x place before after has =
       let itself : R x x ≡ Equal = tied_itself o x in
       ⊎_elim
@@ -52,7 +53,10 @@ module _ {X : Type 0} {R : X → X → Ordering} (o : IsTotalOrder R) where
       (cases_lt has.0 place)
 
   -- a binary search's refusal
-  pub searched : (xs : List X) (x : X) (place : ℕ) → IsStrictlySortedBy R xs → (IsNonDecreasingBy (λ y. ordering_index (R y x)) xs → IsPartitionPoint (λ y. R y x ≡ Less) (λ y. R y x ≡ Greater) xs place) → IsPartitionPoint (λ y. R y x ≡ Less) (λ y. R y x ≡ Greater) xs place
+  pub searched : (xs : List X) (x : X) (place : ℕ) → IsStrictlySortedBy R xs
+      → (IsNonDecreasingBy (λ y. ordering_index (R y x)) xs
+      → IsPartitionPoint (λ y. R y x ≡ Less) (λ y. R y x ≡ Greater) xs place)
+      → IsPartitionPoint (λ y. R y x ≡ Less) (λ y. R y x ≡ Greater) xs place
   searched xs x place rising splits = splits (sought o xs x rising)
 
 pub held_at : (xs : List Record) (x : Record) (k : ℕ) → k < length xs → HoldsAt (λ y. record_cmp y x ≡ Equal) xs k → Contains xs x
@@ -63,7 +67,8 @@ held_at xs x k below at = (k, below, one_record (get_or xs k x) x (at x))
 turned_greater : (d e : List ℕ) → domain_cmp e d ≡ Less → domain_cmp d e ≡ Greater
 turned_greater d e h = turned_less (on_texts (λ (x : List ℕ). x)) e d h
 
-pub cmp_numbers : (domains : List (List ℕ)) (i j : ℕ) → IsStrictlySortedBy domain_cmp domains → i < length domains → j < length domains → domain_cmp (get_or domains i []) (get_or domains j []) ≡ nat_cmp i j
+pub cmp_numbers : (domains : List (List ℕ)) (i j : ℕ) → IsStrictlySortedBy domain_cmp domains → i < length domains
+    → j < length domains → domain_cmp (get_or domains i []) (get_or domains j []) ≡ nat_cmp i j
 cmp_numbers domains i j rising p q =
     ⊎_elim
     (λ (below : i < j). Less-from_sorted domain_cmp domains i j [] rising below q ∙ sym (cmp_less i j below))
@@ -77,33 +82,55 @@ cmp_numbers domains i j rising p q =
     (cases_lt j i))
     (cases_lt i j)
 
-pub cmp_records : (domains : List (List ℕ)) (a b : Record) → IsStrictlySortedBy domain_cmp domains → a.domain < length domains → b.domain < length domains → distrust_cmp (distrust_by domains a) (distrust_by domains b) ≡ record_cmp a b
+pub cmp_records : (domains : List (List ℕ)) (a b : Record) → IsStrictlySortedBy domain_cmp domains
+    → a.domain < length domains → b.domain < length domains
+    → distrust_cmp (distrust_by domains a) (distrust_by domains b) ≡ record_cmp a b
 cmp_records domains a b rising p q = ap (λ o. ordering_then (key_cmp a.key b.key) o) (cmp_numbers domains a.domain b.domain rising p q)
 
-placed_map : (domains : List (List ℕ)) (r s : Ordering) (x h : Record) (t longer : List Record) → r ≡ s → map (distrust_by domains) (placed s x h t longer) ≡ placed r (distrust_by domains x) (distrust_by domains h) (distrusts_of domains t) (distrusts_of domains longer)
-placed_map domains r Less x h t longer e = ap (λ o. placed o (distrust_by domains x) (distrust_by domains h) (distrusts_of domains t) (distrusts_of domains longer)) (sym e)
-placed_map domains r Equal x h t longer e = ap (λ o. placed o (distrust_by domains x) (distrust_by domains h) (distrusts_of domains t) (distrusts_of domains longer)) (sym e)
-placed_map domains r Greater x h t longer e = ap (λ o. placed o (distrust_by domains x) (distrust_by domains h) (distrusts_of domains t) (distrusts_of domains longer)) (sym e)
+placed_map : (domains : List (List ℕ)) (r s : Ordering) (x h : Record) (t longer : List Record) → r ≡ s
+    → map (distrust_by domains) (placed s x h t longer)
+    ≡ placed r (distrust_by domains x) (distrust_by domains h) (distrusts_of domains t) (distrusts_of domains longer)
+placed_map domains r Less x h t longer e =
+    ap (λ o. placed o (distrust_by domains x) (distrust_by domains h) (distrusts_of domains t)
+    (distrusts_of domains longer)) (sym e)
+placed_map domains r Equal x h t longer e =
+    ap (λ o. placed o (distrust_by domains x) (distrust_by domains h) (distrusts_of domains t)
+    (distrusts_of domains longer)) (sym e)
+placed_map domains r Greater x h t longer e =
+    ap (λ o. placed o (distrust_by domains x) (distrust_by domains h) (distrusts_of domains t)
+    (distrusts_of domains longer)) (sym e)
 
-pub distrusts_with : (domains : List (List ℕ)) (x : Record) (records : List Record) → IsStrictlySortedBy domain_cmp domains → x.domain < length domains → AreWithin (length domains) records → distrusts_of domains (with_item record_cmp x records) ≡ with_item distrust_cmp (distrust_by domains x) (distrusts_of domains records)
+pub distrusts_with : (domains : List (List ℕ)) (x : Record) (records : List Record)
+    → IsStrictlySortedBy domain_cmp domains → x.domain < length domains → AreWithin (length domains) records
+    → distrusts_of domains (with_item record_cmp x records)
+    ≡ with_item distrust_cmp (distrust_by domains x) (distrusts_of domains records)
 distrusts_with domains x [] rising within all = refl
 distrusts_with domains x (h ∷ t) rising within all =
-    placed_map domains (distrust_cmp (distrust_by domains x) (distrust_by domains h)) (record_cmp x h) x h t (with_item record_cmp x t) (cmp_records domains x h rising within all.0)
-    ∙ ap (λ longer. placed (distrust_cmp (distrust_by domains x) (distrust_by domains h)) (distrust_by domains x) (distrust_by domains h) (distrusts_of domains t) longer) (distrusts_with domains x t rising within all.1)
+    placed_map domains (distrust_cmp (distrust_by domains x) (distrust_by domains h)) (record_cmp x h) x h t
+        (with_item record_cmp x t) (cmp_records domains x h rising within all.0)
+    ∙ ap (λ longer. placed (distrust_cmp (distrust_by domains x) (distrust_by domains h)) (distrust_by domains x)
+        (distrust_by domains h) (distrusts_of domains t) longer) (distrusts_with domains x t rising within all.1)
 
-below_map : (domains : List (List ℕ)) (x : Record) (records : List Record) → IsStrictlySortedBy domain_cmp domains → x.domain < length domains → AreWithin (length domains) records → AllByRecursion (λ y. record_cmp x y ≡ Less) records → AllByRecursion (λ y. distrust_cmp (distrust_by domains x) y ≡ Less) (distrusts_of domains records)
+below_map : (domains : List (List ℕ)) (x : Record) (records : List Record) → IsStrictlySortedBy domain_cmp domains
+    → x.domain < length domains → AreWithin (length domains) records
+    → AllByRecursion (λ y. record_cmp x y ≡ Less) records
+    → AllByRecursion (λ y. distrust_cmp (distrust_by domains x) y ≡ Less) (distrusts_of domains records)
 below_map domains x [] rising within all below = tt
 below_map domains x (h ∷ t) rising within all below =
     (cmp_records domains x h rising within all.0 ∙ below.0, below_map domains x t rising within all.1 below.1)
 
-pub distrusts_rising : (domains : List (List ℕ)) (records : List Record) → IsStrictlySortedBy domain_cmp domains → AreWithin (length domains) records → IsStrictlySortedBy record_cmp records → IsStrictlySortedBy distrust_cmp (distrusts_of domains records)
+pub distrusts_rising : (domains : List (List ℕ)) (records : List Record) → IsStrictlySortedBy domain_cmp domains
+    → AreWithin (length domains) records → IsStrictlySortedBy record_cmp records
+    → IsStrictlySortedBy distrust_cmp (distrusts_of domains records)
 unfolding IsStrictlySortedBy
 distrusts_rising domains [] rising all sorted = tt
 distrusts_rising domains (h ∷ t) rising all sorted = (below_map domains h t rising all.0 all.1 sorted.0, distrusts_rising domains t rising all.1 sorted.1)
 
 -- ---- a record is held exactly if its distrust is
 
-pub record_of : (domains : List (List ℕ)) (x : Record) (records : List Record) → IsStrictlySortedBy domain_cmp domains → x.domain < length domains → AreWithin (length domains) records → Contains (distrusts_of domains records) (distrust_by domains x) → Contains records x
+pub record_of : (domains : List (List ℕ)) (x : Record) (records : List Record) → IsStrictlySortedBy domain_cmp domains
+    → x.domain < length domains → AreWithin (length domains) records
+    → Contains (distrusts_of domains records) (distrust_by domains x) → Contains records x
 record_of domains x records rising within all has =
     let found : IsMapped (distrust_by domains) records (distrust_by domains x) = mapped (distrust_by domains) records (distrust_by domains x) has in
     let inside : found.item.domain < length domains = each_has (λ (r : Record). r.domain < length domains) records found.item all found.has in
@@ -118,10 +145,14 @@ no_records capacity room = record { rising = tt; few = omega arith; room = room 
 
 -- ---- one record more
 
-pub with_record : (xs new : List Record) (x : Record) (place : ℕ) → IsStrictlySortedBy record_cmp xs → IsPartitionPoint (λ y. record_cmp y x ≡ Less) (λ y. record_cmp y x ≡ Greater) xs place → place ≤ length xs → new ≡ insert xs place x → new ≡ with_item record_cmp x xs
+pub with_record : (xs new : List Record) (x : Record) (place : ℕ) → IsStrictlySortedBy record_cmp xs
+    → IsPartitionPoint (λ y. record_cmp y x ≡ Less) (λ y. record_cmp y x ≡ Greater) xs place → place ≤ length xs
+    → new ≡ insert xs place x → new ≡ with_item record_cmp x xs
 with_record xs new x place rising split within e = e ∙ sym (with_item_at record_total x xs place within split.0 split.1)
 
-pub more_records : (xs new : List Record) (x : Record) (place capacity room : ℕ) → AreRecords xs capacity → length xs < 4096 → place ≤ length xs → new ≡ insert xs place x → new ≡ with_item record_cmp x xs → capacity ≤ room → AreRecords new room
+pub more_records : (xs new : List Record) (x : Record) (place capacity room : ℕ) → AreRecords xs capacity
+    → length xs < 4096 → place ≤ length xs → new ≡ insert xs place x → new ≡ with_item record_cmp x xs → capacity ≤ room
+    → AreRecords new room
 more_records xs new x place capacity room are few within inserted e wider =
     let size : length new ≡ length xs + 1 = ap length inserted ∙ length-insert xs place x within in
     let old = are.room in
@@ -132,7 +163,8 @@ more_records xs new x place capacity room are few within inserted e wider =
     }
 
 -- what a binary search answers
-pub holds_found : (xs : List Record) (x : Record) (r : Result ℕ ℕ) → IsStrictlySortedBy record_cmp xs → IsSearchInRange r (length xs) → IsBinarySearchResult (λ y. record_cmp y x) xs r → IsTrue (is_ok r) ↔ Contains xs x
+pub holds_found : (xs : List Record) (x : Record) (r : Result ℕ ℕ) → IsStrictlySortedBy record_cmp xs
+    → IsSearchInRange r (length xs) → IsBinarySearchResult (λ y. record_cmp y x) xs r → IsTrue (is_ok r) ↔ Contains xs x
 holds_found xs x (Ok k) rising range found = (λ t. held_at xs x k range found, λ h. refl)
 holds_found xs x (Err place) rising range found =
     let split : IsPartitionPoint (λ y. record_cmp y x ≡ Less) (λ y. record_cmp y x ≡ Greater) xs place = searched record_total xs x place rising found in

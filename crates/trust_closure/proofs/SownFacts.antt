@@ -1,5 +1,6 @@
 -- The documents of a configuration in a plain closure, and what is pending there
-use Rattle.std.proofs.Common.{◌≡◌, ℕ, zero, suc, ◌+◌, ◌<◌, ◌≤◌, inl, inr, Bool, true, false, List, [], ◌∷◌, ◌++◌, length, get_or, map, Some, append-nil, arith, refl, sym, ap, ◌∙◌, subst}
+use Rattle.std.proofs.Common.{◌≡◌, ℕ, zero, suc, ◌+◌, ◌<◌, ◌≤◌, inl, inr, Bool, true, false, List, [], ◌∷◌, ◌++◌}
+use Rattle.std.proofs.Common.{length, get_or, map, Some, append-nil, arith, refl, sym, ap, ◌∙◌, subst}
 use Rattle.std.specs.Prelude.{Contains, slice_get}
 use Rattle.std.proofs.lemmas.Bool.{both_ways, not-true, not_from_false, false_from_ne_true}
 use Rattle.std.proofs.lemmas.List.{length-map, length_push, map_push}
@@ -21,7 +22,8 @@ use Rattle.closure_core.proofs.ContainsFacts.{contains_none}
 use Rattle.trust_closure.proofs.NodeCountFacts.{count_at-push}
 use Rattle.closure_core.proofs.FlagFacts.{passing, passing-to, passing-from, passing-differ, only_wide, length-only_wide, count-passing, different-map}
 
-offers-more : (seeds : List Seed) (s : Seed) (offers more : List Triple) → AreSeedOffers seeds offers → more ≡ offers_of (pair_of_seed s) → AreSeedOffers (seeds ++ s ∷ []) (offers ++ more)
+offers-more : (seeds : List Seed) (s : Seed) (offers more : List Triple) → AreSeedOffers seeds offers
+    → more ≡ offers_of (pair_of_seed s) → AreSeedOffers (seeds ++ s ∷ []) (offers ++ more)
 offers-more seeds s offers more are is t = (
   λ c. elim (Contains-append_cases offers more t c) [
     | inl a ↦ let f = (are t).0 a in (f.0, Contains-append_left seeds (s ∷ []) f.0 f.1, f.2)
@@ -29,11 +31,14 @@ offers-more seeds s offers more are is t = (
   ],
   λ f. elim (Contains-push_cases seeds s f.0 f.1) [
     | inl a ↦ Contains-append_left offers more t ((are t).1 (f.0, a, f.2))
-    | inr e ↦ Contains-append_right offers more t (subst (λ ts. Contains ts t) (sym is) (subst (λ (x : Seed). Contains (offers_of (pair_of_seed x)) t) (sym e) f.2))
+    | inr e ↦ Contains-append_right offers more t
+        (subst (λ ts. Contains ts t) (sym is)
+        (subst (λ (x : Seed). Contains (offers_of (pair_of_seed x)) t) (sym e) f.2))
   ],
 )
 
-pub sown-more : (h : Hoard) (seeds : List Seed) (s : Seed) (p a q : Paired) (offers more all : List Triple) (first : ℕ) → h.arrived ≡ [] → IsSown h seeds p offers
+pub sown-more : (h : Hoard) (seeds : List Seed) (s : Seed) (p a q : Paired) (offers more all : List Triple) (first : ℕ)
+    → h.arrived ≡ [] → IsSown h seeds p offers
     → IsPairing (pairs_of seeds h.arrived ++ pair_of_seed s ∷ []) q → a.counts ≡ p.counts
     → a.firsts ≡ p.firsts → q.counts ≡ a.counts ++ 0 ∷ [] → q.firsts ≡ a.firsts ++ first ∷ []
     → length a.firsts + 1 ≤ a.capacity → q.capacity ≡ a.capacity
@@ -56,7 +61,8 @@ sown-more h seeds s p a q offers more all first none g pairing f1 f2 counts firs
       offers = subst (AreSeedOffers (seeds ++ s ∷ [])) (sym whole) (offers-more seeds s offers more g.offers is);
     }
 
-pub sown-set : (h : Hoard) (p : Paired) (offers : List Triple) (seeds : List Seed) → seeds ≡ h.config.seeds → IsMeaning (meaning_of h) → h.held ≡ [] → h.arrived ≡ [] → IsSown h seeds p offers → IsSet h p offers []
+pub sown-set : (h : Hoard) (p : Paired) (offers : List Triple) (seeds : List Seed) → seeds ≡ h.config.seeds
+    → IsMeaning (meaning_of h) → h.held ≡ [] → h.arrived ≡ [] → IsSown h seeds p offers → IsSet h p offers []
 sown-set h p offers seeds are valid held arrived g = record {
   valid = valid;
   once = λ i j d l b. absurd (omega (arith, b, ap length arrived));
@@ -75,7 +81,8 @@ length-passing_every : (n : ℕ) → length (passing (λ k. true) n) ≡ n
 length-passing_every zero = refl
 length-passing_every (suc n) = ap suc (length-passing_every n)
 
-pub pending-plain : (h : Hoard) (p : Paired) (offers : List Triple) (released : List Bool) (none : Receipt) (n : ℕ) → HasPlainFlags h p offers released → n + raised_count released ≡ length released → IsPendingCount (meaning_of h) n
+pub pending-plain : (h : Hoard) (p : Paired) (offers : List Triple) (released : List Bool) (none : Receipt) (n : ℕ)
+    → HasPlainFlags h p offers released → n + raised_count released ≡ length released → IsPendingCount (meaning_of h) n
 pending-plain h p offers released none n i total =
     let count = length h.arrived in
     let raised : ℕ → Bool = λ k. is_raised released k in
@@ -90,7 +97,8 @@ pending-plain h p offers released none n i total =
       different = different-map at list (passing-differ (only_wide raised (λ j. true) (λ j e. refl)) count) (λ x y cx cy s.
           let a = parts x cx in
           let c = parts y cy in
-          one_place h.arrived i.set.once x y (at y) (slice_get-get_or h.arrived x none a.0 ∙ ap (λ (r : Receipt). Some r) s) (slice_get-get_or h.arrived y none c.0));
+          one_place h.arrived i.set.once x y (at y) (slice_get-get_or h.arrived x none a.0
+              ∙ ap (λ (r : Receipt). Some r) s) (slice_get-get_or h.arrived y none c.0));
       exactly = λ r. (
         λ c.
             let f = Contains-from_map at list r c in
@@ -107,5 +115,7 @@ pending-plain h p offers released none n i total =
             let c : Contains list place.0 = passing-from (only_wide raised (λ j. true) (λ j e. refl)) count place.0 l (not_from_false (raised place.0) off) in
             subst (Contains (map at list)) (get_or_from_slice_get h.arrived place.0 r none place.1) (Contains-map at list place.0 c),
       );
-      count = length-map list at ∙ (let e : length list ≡ n = omega (arith, length-only_wide raised (λ k. true) (λ k e. refl) count, length-passing_every count, count-passing released count (omega (arith, i.set.size)), total, i.set.size) in e);
+      count = length-map list at ∙ (let e : length list ≡ n =
+          omega (arith, length-only_wide raised (λ k. true) (λ k e. refl) count, length-passing_every count,
+          count-passing released count (omega (arith, i.set.size)), total, i.set.size) in e);
     }

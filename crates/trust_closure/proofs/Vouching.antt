@@ -20,7 +20,8 @@ use Rattle.label_net.proofs.Arrows.{Contains-head, Contains-later, Contains-cons
 -- ---- a set with one more item
 
 module _ {A : Type 0} (cmp : A → A → Ordering) (item : A) where
-  placed-cases : (o : Ordering) (head : A) (rest longer : List A) (x : A) → Contains (placed o item head rest longer) x → ((y : A) → Contains longer y → (y ≡ item) ⊎ Contains rest y) → (x ≡ item) ⊎ Contains (head ∷ rest) x
+  placed-cases : (o : Ordering) (head : A) (rest longer : List A) (x : A) → Contains (placed o item head rest longer) x
+      → ((y : A) → Contains longer y → (y ≡ item) ⊎ Contains rest y) → (x ≡ item) ⊎ Contains (head ∷ rest) x
   placed-cases Less head rest longer x c more = elim (Contains-cons_cases item (head ∷ rest) x c) [ inl e ↦ inl (sym e) | inr d ↦ inr d ]
   placed-cases Equal head rest longer x c more = inr c
   placed-cases Greater head rest longer x c more =
@@ -33,7 +34,9 @@ module _ {A : Type 0} (cmp : A → A → Ordering) (item : A) where
   with_item-cases [] x c = elim (Contains-cons_cases item [] x c) [ inl e ↦ inl (sym e) | inr d ↦ inr d ]
   with_item-cases (head ∷ rest) x c = placed-cases (cmp item head) head rest (with_item cmp item rest) x c (with_item-cases rest)
 
-  placed-old : (o : Ordering) (head : A) (rest longer : List A) (x : A) → ((y : A) → Contains rest y → Contains longer y) → Contains (head ∷ rest) x → Contains (placed o item head rest longer) x
+  placed-old : (o : Ordering) (head : A) (rest longer : List A) (x : A)
+      → ((y : A) → Contains rest y → Contains longer y) → Contains (head ∷ rest) x
+      → Contains (placed o item head rest longer) x
   placed-old Less head rest longer x more c = Contains-later item (head ∷ rest) x c
   placed-old Equal head rest longer x more c = c
   placed-old Greater head rest longer x more c =
@@ -46,7 +49,8 @@ module _ {A : Type 0} (cmp : A → A → Ordering) (item : A) where
   with_item-old [] x c = absurd (omega (arith, c.1))
   with_item-old (head ∷ rest) x c = placed-old (cmp item head) head rest (with_item cmp item rest) x (with_item-old rest) c
 
-  placed-new : (o : Ordering) (head : A) (rest longer : List A) → (o ≡ Equal → item ≡ head) → Contains longer item → Contains (placed o item head rest longer) item
+  placed-new : (o : Ordering) (head : A) (rest longer : List A) → (o ≡ Equal → item ≡ head) → Contains longer item
+      → Contains (placed o item head rest longer) item
   placed-new Less head rest longer exact c = Contains-head item (head ∷ rest)
   placed-new Equal head rest longer exact c = subst (Contains (head ∷ rest)) (sym (exact refl)) (Contains-head head rest)
   placed-new Greater head rest longer exact c = Contains-later head longer item c
@@ -89,7 +93,8 @@ Any-cons_cases {X = X} P x xs a =
       | inr c ↦ inr (c.0, a.1, c.1, c.2, a.4)
     ]
 
-keys-cases : (authorities : List Authority) (keys : List KeyId) (key : KeyId) → Contains (keys_with keys authorities) key → Contains keys key ⊎ HasKeyId authorities key
+keys-cases : (authorities : List Authority) (keys : List KeyId) (key : KeyId)
+    → Contains (keys_with keys authorities) key → Contains keys key ⊎ HasKeyId authorities key
 keys-cases [] keys key c = inl c
 keys-cases (a ∷ as') keys key c =
     elim (keys-cases as' (with_key_id (key_id_of a) keys) key c) [
@@ -121,7 +126,8 @@ key_ids-from_has_key authorities key h = keys-new authorities [] key h
 
 -- ---- vouching
 
-pub vouches-from_offer : (records : List Distrust) (p : Pair) (r : Receipt) → Contains (offers_of p) (need_of r) → (IsShutBy records (need_of r) → ⊥) → Vouches records p r
+pub vouches-from_offer : (records : List Distrust) (p : Pair) (r : Receipt) → Contains (offers_of p) (need_of r)
+    → (IsShutBy records (need_of r) → ⊥) → Vouches records p r
 vouches-from_offer records p r c open' =
     let found = Contains-from_map (offer_of p) (key_ids p.document.authorities) (need_of r) c in
     let domain : p.domain ≡ r.endpoint.domain = ap (λ (t : Triple). t.domain) found.2 in

@@ -1,5 +1,6 @@
 -- A wiring goes on mirroring spots
-use Rattle.std.proofs.Common.{◌≡◌, ℕ, zero, suc, ◌+◌, ◌<◌, ◌≤◌, inl, inr, Bool, true, List, [], ◌∷◌, ◌++◌, length, get_or, take, map, Some, None, arith, refl, sym, ap, ◌∙◌, subst}
+use Rattle.std.proofs.Common.{◌≡◌, ℕ, zero, suc, ◌+◌, ◌<◌, ◌≤◌, inl, inr, Bool, true, List, [], ◌∷◌, ◌++◌, length}
+use Rattle.std.proofs.Common.{get_or, take, map, Some, None, arith, refl, sym, ap, ◌∙◌, subst}
 use Rattle.std.specs.Prelude.{Contains, slice_get, ◌↔◌}
 use Rattle.std.specs.List.{All}
 use Rattle.std.specs.List.Sorted.{IsStrictlySortedBy}
@@ -20,14 +21,16 @@ use Rattle.label_net.specs.Labels.{Wired, HasNumber, HasNode, Offers, Awaits, Is
 use Rattle.label_net.specs.Spots.{Spot, Mirrors, bare_spot}
 use Rattle.label_net.proofs.Arrows.{Contains-from_map}
 use Rattle.label_net.proofs.Edges.{slice_get-map_at, slice_get-Contains}
-use Rattle.label_net.proofs.Mirroring.{rooted_spot, offering_spot, awaiting_spot, length-roots, MirrorsBut, Mirrors-but, Mirrors-node, Mirrors-label, Mirrors-root, Mirrors-offer, Mirrors-wait}
+use Rattle.label_net.proofs.Mirroring.{rooted_spot, offering_spot, awaiting_spot, length-roots, MirrorsBut, Mirrors-but}
+use Rattle.label_net.proofs.Mirroring.{Mirrors-node, Mirrors-label, Mirrors-root, Mirrors-offer, Mirrors-wait}
 use Rattle.trust_closure.specs.NetOf.{IsShutBy, triple_by, IsLabelOf, IsWiringOf, Widens}
 use Rattle.closure_core.proofs.RisingFacts.{each_has}
 
 -- ---- domains are different
 
 -- what stands twice in a rising list stands at one place
-pub rising-one_place : (xs : List (List ℕ)) → IsStrictlySortedBy domain_cmp xs → (i j : ℕ) (x : List ℕ) → i < j → slice_get xs i ≡ Some x → slice_get xs j ≡ Some x → ⊥
+pub rising-one_place : (xs : List (List ℕ)) → IsStrictlySortedBy domain_cmp xs → (i j : ℕ) (x : List ℕ) → i < j
+    → slice_get xs i ≡ Some x → slice_get xs j ≡ Some x → ⊥
 unfolding IsStrictlySortedBy
 rising-one_place [] s i j x l a b = omega (arith, slice_get_within [] i x a)
 rising-one_place (y ∷ xs) s zero zero x l a b = omega arith
@@ -40,7 +43,8 @@ rising-one_place (y ∷ xs) s zero (suc j) x l a b =
 rising-one_place (y ∷ xs) s (suc i) zero x l a b = omega arith
 rising-one_place (y ∷ xs) s (suc i) (suc j) x l a b = rising-one_place xs s.1 i j x (omega (arith, l)) a b
 
-pub domain-one_number : (domains : List (List ℕ)) → IsStrictlySortedBy domain_cmp domains → (i j : ℕ) → i < length domains → j < length domains → get_or domains i [] ≡ get_or domains j [] → i ≡ j
+pub domain-one_number : (domains : List (List ℕ)) → IsStrictlySortedBy domain_cmp domains → (i j : ℕ)
+    → i < length domains → j < length domains → get_or domains i [] ≡ get_or domains j [] → i ≡ j
 domain-one_number domains rising i j k l e =
     let at : slice_get domains i ≡ Some (get_or domains i []) = slice_get-get_or domains i [] k in
     let there : slice_get domains j ≡ Some (get_or domains i []) = slice_get-get_or domains j [] l ∙ ap (λ (x : List ℕ). Some x) (sym e) in
@@ -72,12 +76,15 @@ module _ (domains : List (List ℕ)) (rising : IsStrictlySortedBy domain_cmp dom
         (IsShutBy records) wider
     pub named : slice_get (map (triple_by domains) more) number ≡ Some t
 
-  numbered : (records : List Distrust) (spots : List (Spot Triple)) (labels : List Label) (net : Net) (label : Label) (closed : Bool) (more : List Label) (wider : Net) (number : ℕ) (t : Triple)
+  numbered : (records : List Distrust) (spots : List (Spot Triple)) (labels : List Label) (net : Net) (label : Label)
+      (closed : Bool) (more : List Label) (wider : Net) (number : ℕ) (t : Triple)
       → All (λ (l : Label). l.domain < length domains) labels → Mirrors spots (map (triple_by domains) labels) (IsShutBy records) net
-      → label.domain < length domains → triple_by domains label ≡ t → ((closed ≡ true) ↔ IsShutBy records t) → HasNumber labels net label closed more wider number
+      → label.domain < length domains → triple_by domains label ≡ t → ((closed ≡ true) ↔ IsShutBy records t)
+          → HasNumber labels net label closed more wider number
       → IsNumbered records spots more wider number t
   numbered records spots labels net label closed more wider number t within mirrors l is when h =
-      let named : slice_get (map (triple_by domains) more) number ≡ Some t = slice_get-map_at (triple_by domains) more number label h.named ∙ ap (λ (x : Triple). Some x) is in
+      let named : slice_get (map (triple_by domains) more) number ≡ Some t =
+          slice_get-map_at (triple_by domains) more number label h.named ∙ ap (λ (x : Triple). Some x) is in
       elim h.grown [
         | inl same ↦ record {
           within = All-same (λ (x : Label). x.domain < length domains) more labels same.0 within;
@@ -92,14 +99,19 @@ module _ (domains : List (List ℕ)) (rising : IsStrictlySortedBy domain_cmp dom
         | inr new ↦
             let fresh : Contains (map (triple_by domains) labels) (triple_by domains label) → ⊥ = λ c.
             let f = Contains-from_map (triple_by domains) labels (triple_by domains label) c in
-            new.0 (subst (Contains labels) (triple-one_label f.0 label (All-contains (λ (x : Label). x.domain < length domains) labels f.0 within f.1) l f.2) f.1)
+            new.0 (subst (Contains labels)
+                (triple-one_label f.0 label
+                (All-contains (λ (x : Label). x.domain < length domains) labels f.0 within f.1) l f.2) f.1)
             in
-            let on = Mirrors-label spots (map (triple_by domains) labels) (IsShutBy records) net mirrors (λ other. t ≡ other) (triple_by domains label) closed (sym is) fresh
+            let on = Mirrors-label spots (map (triple_by domains) labels) (IsShutBy records) net mirrors
+                (λ other. t ≡ other) (triple_by domains label) closed (sym is) fresh
             (λ e. subst (IsShutBy records) (sym is) (when.0 e), λ s. when.1 (subst (IsShutBy records) is s))
             in
-            let lists : map (triple_by domains) more ≡ map (triple_by domains) labels ++ triple_by domains label ∷ [] = ap (map (triple_by domains)) new.1 ∙ map_push (triple_by domains) labels label in
+            let lists : map (triple_by domains) more ≡ map (triple_by domains) labels ++ triple_by domains label ∷ [] =
+                ap (map (triple_by domains)) new.1 ∙ map_push (triple_by domains) labels label in
             record {
-              within = All-same (λ (x : Label). x.domain < length domains) more (labels ++ label ∷ []) new.1 (All-push (λ (x : Label). x.domain < length domains) labels label within l);
+              within = All-same (λ (x : Label). x.domain < length domains) more (labels ++ label ∷ []) new.1
+                  (All-push (λ (x : Label). x.domain < length domains) labels label within l);
               mirrors = subst (λ ts. MirrorsBut (λ other. t ≡ other) spots ts (IsShutBy records) wider)
                   (sym lists)
                   (subst (MirrorsBut (λ other. t ≡ other) spots
@@ -116,10 +128,13 @@ module _ (domains : List (List ℕ)) (rising : IsStrictlySortedBy domain_cmp dom
     wiring-node node h n = record {
       within = All-same (λ (x : Label). x.domain < length domains) new.labels old.labels n.labels h.within;
       mirrors = subst (λ ls. Mirrors (spots ++ bare_spot ∷ []) (map (triple_by domains) ls) (IsShutBy records) new.net) (sym n.labels)
-          (subst (Mirrors (spots ++ bare_spot ∷ []) (map (triple_by domains) old.labels) (IsShutBy records)) (sym n.net) (Mirrors-node spots (map (triple_by domains) old.labels) (IsShutBy records) old.net h.mirrors));
+          (subst (Mirrors (spots ++ bare_spot ∷ []) (map (triple_by domains) old.labels) (IsShutBy records)) (sym n.net)
+              (Mirrors-node spots (map (triple_by domains) old.labels) (IsShutBy records) old.net h.mirrors));
     }
 
-    pub wiring-root : (spot : Spot Triple) (node : ℕ) → node ≡ length spots → IsWiringOf domains records (spots ++ spot ∷ []) old → IsRooted old node new → IsWiringOf domains records (spots ++ rooted_spot spot ∷ []) new
+    pub wiring-root : (spot : Spot Triple) (node : ℕ) → node ≡ length spots
+        → IsWiringOf domains records (spots ++ spot ∷ []) old → IsRooted old node new
+        → IsWiringOf domains records (spots ++ rooted_spot spot ∷ []) new
     wiring-root spot node at h r = record {
       within = All-same (λ (x : Label). x.domain < length domains) new.labels old.labels r.labels h.within;
       mirrors = subst (λ ls. Mirrors (spots ++ rooted_spot spot ∷ []) (map (triple_by domains) ls) (IsShutBy records) new.net) (sym r.labels)
@@ -127,32 +142,43 @@ module _ (domains : List (List ℕ)) (rising : IsStrictlySortedBy domain_cmp dom
           (Mirrors-root spots spot (map (triple_by domains) old.labels) (IsShutBy records) old.net h.mirrors));
     }
 
-    pub wiring-offer : (spot : Spot Triple) (node : ℕ) (label : Label) (closed : Bool) (t : Triple) → node ≡ length spots → label.domain < length domains → triple_by domains label ≡ t → ((closed ≡ true) ↔ IsShutBy records t) → IsWiringOf domains records (spots ++ spot ∷ []) old → Offers old node label closed new → IsWiringOf domains records (spots ++ offering_spot spot t ∷ []) new
+    pub wiring-offer : (spot : Spot Triple) (node : ℕ) (label : Label) (closed : Bool) (t : Triple)
+        → node ≡ length spots → label.domain < length domains → triple_by domains label ≡ t
+        → ((closed ≡ true) ↔ IsShutBy records t) → IsWiringOf domains records (spots ++ spot ∷ []) old
+        → Offers old node label closed new → IsWiringOf domains records (spots ++ offering_spot spot t ∷ []) new
     wiring-offer spot node label closed t at l is when h o =
         let n = numbered records (spots ++ spot ∷ []) old.labels old.net label closed new.labels o.wider o.number t h.within h.mirrors l is when o.numbered in
         record {
           within = n.within;
-          mirrors = subst (Mirrors (spots ++ offering_spot spot t ∷ []) (map (triple_by domains) new.labels) (IsShutBy records)) (sym (o.net ∙ ap (λ k. with_offer o.wider k o.number) at))
+          mirrors = subst (Mirrors (spots ++ offering_spot spot t ∷ []) (map (triple_by domains) new.labels)
+              (IsShutBy records)) (sym (o.net ∙ ap (λ k. with_offer o.wider k o.number) at))
               (Mirrors-offer spots spot (map (triple_by domains) new.labels) (IsShutBy records) o.wider t n.mirrors o.number n.named);
         }
 
-    pub wiring-wait : (spot : Spot Triple) (node : ℕ) (label : Label) (closed : Bool) (t : Triple) → node ≡ length spots → spot.awaits ≡ None → label.domain < length domains → triple_by domains label ≡ t → ((closed ≡ true) ↔ IsShutBy records t) → IsWiringOf domains records (spots ++ spot ∷ []) old → Awaits old node label closed new → IsWiringOf domains records (spots ++ awaiting_spot spot t ∷ []) new
+    pub wiring-wait : (spot : Spot Triple) (node : ℕ) (label : Label) (closed : Bool) (t : Triple) → node ≡ length spots
+        → spot.awaits ≡ None → label.domain < length domains → triple_by domains label ≡ t
+        → ((closed ≡ true) ↔ IsShutBy records t) → IsWiringOf domains records (spots ++ spot ∷ []) old
+        → Awaits old node label closed new → IsWiringOf domains records (spots ++ awaiting_spot spot t ∷ []) new
     wiring-wait spot node label closed t at none l is when h o =
         let n = numbered records (spots ++ spot ∷ []) old.labels old.net label closed new.labels o.wider o.number t h.within h.mirrors l is when o.numbered in
         record {
           within = n.within;
-          mirrors = subst (Mirrors (spots ++ awaiting_spot spot t ∷ []) (map (triple_by domains) new.labels) (IsShutBy records)) (sym (o.net ∙ ap (λ k. with_wait o.wider o.number k) at))
+          mirrors = subst (Mirrors (spots ++ awaiting_spot spot t ∷ []) (map (triple_by domains) new.labels)
+              (IsShutBy records)) (sym (o.net ∙ ap (λ k. with_wait o.wider o.number k) at))
               (Mirrors-wait spots spot (map (triple_by domains) new.labels) (IsShutBy records) o.wider t n.mirrors o.number none n.named);
         }
 
 -- ---- labels of triples
 
-pub label-within : (c : Configuration) (domains : List (List ℕ)) (t : Triple) (label : Label) → AreDomains c domains → IsLabelOf c t label → label.domain < length domains
+pub label-within : (c : Configuration) (domains : List (List ℕ)) (t : Triple) (label : Label) → AreDomains c domains
+    → IsLabelOf c t label → label.domain < length domains
 label-within c domains t label d h = slice_get_within domains label.domain t.domain (h.domain domains d)
 
-pub label-triple : (c : Configuration) (domains : List (List ℕ)) (t : Triple) (label : Label) → AreDomains c domains → IsLabelOf c t label → triple_by domains label ≡ t
+pub label-triple : (c : Configuration) (domains : List (List ℕ)) (t : Triple) (label : Label) → AreDomains c domains
+    → IsLabelOf c t label → triple_by domains label ≡ t
 label-triple c domains t label d h =
-    ap (λ (n : List ℕ). let x : Triple = record { domain = n; document = label.document; key = label.key } in x) (get_or_from_slice_get domains label.domain t.domain [] (h.domain domains d))
+    ap (λ (n : List ℕ). let x : Triple = record { domain = n; document = label.document; key = label.key } in
+        x) (get_or_from_slice_get domains label.domain t.domain [] (h.domain domains d))
     ∙ ap (λ i. let x : Triple = record { domain = t.domain; document = i; key = label.key } in x) h.document
     ∙ ap (λ k. let x : Triple = record { domain = t.domain; document = t.document; key = k } in x) h.key
 
@@ -171,32 +197,48 @@ offers-domain P p h k d l =
 
 -- ---- what the calls promise
 
-module _ (c : Configuration) (records : List Distrust) (old new : Wired) (node : ℕ) (label : Label) (closed : Bool) (t : Triple) (is : IsLabelOf c t label) (when : (closed ≡ true) ↔ IsShutBy records t) where
-  pub offer-mirrors : Offers old node label closed new → (domains : List (List ℕ)) (spots : List (Spot Triple)) (spot : Spot Triple) → AreDomains c domains → node ≡ length spots → IsWiringOf domains records (spots ++ spot ∷ []) old → IsWiringOf domains records (spots ++ offering_spot spot t ∷ []) new
+module _ (c : Configuration) (records : List Distrust) (old new : Wired) (node : ℕ) (label : Label) (closed : Bool)
+    (t : Triple) (is : IsLabelOf c t label) (when : (closed ≡ true) ↔ IsShutBy records t) where
+  pub offer-mirrors : Offers old node label closed new
+      → (domains : List (List ℕ)) (spots : List (Spot Triple)) (spot : Spot Triple) → AreDomains c domains
+      → node ≡ length spots → IsWiringOf domains records (spots ++ spot ∷ []) old
+      → IsWiringOf domains records (spots ++ offering_spot spot t ∷ []) new
   offer-mirrors o domains spots spot d at h =
-      wiring-offer domains d.rising records spots old new spot node label closed t at (label-within c domains t label d is) (label-triple c domains t label d is) when h o
+      wiring-offer domains d.rising records spots old new spot node label closed t at
+          (label-within c domains t label d is) (label-triple c domains t label d is) when h o
 
-  pub wait-mirrors : Awaits old node label closed new → (domains : List (List ℕ)) (spots : List (Spot Triple)) (spot : Spot Triple) → AreDomains c domains → node ≡ length spots → spot.awaits ≡ None → IsWiringOf domains records (spots ++ spot ∷ []) old → IsWiringOf domains records (spots ++ awaiting_spot spot t ∷ []) new
+  pub wait-mirrors : Awaits old node label closed new
+      → (domains : List (List ℕ)) (spots : List (Spot Triple)) (spot : Spot Triple) → AreDomains c domains
+      → node ≡ length spots → spot.awaits ≡ None → IsWiringOf domains records (spots ++ spot ∷ []) old
+      → IsWiringOf domains records (spots ++ awaiting_spot spot t ∷ []) new
   wait-mirrors o domains spots spot d at none h =
-      wiring-wait domains d.rising records spots old new spot node label closed t at none (label-within c domains t label d is) (label-triple c domains t label d is) when h o
+      wiring-wait domains d.rising records spots old new spot node label closed t at none
+          (label-within c domains t label d is) (label-triple c domains t label d is) when h o
 
 -- offers come one after another
 
 module _ (domains : List (List ℕ)) (records : List Distrust) (spots : List (Spot Triple)) (spot : Spot Triple) (triples : List Triple) (w : Wired) where
-  other-offers : (before after : List Triple) → before ≡ after → IsWiringOf domains records (spots ++ record spot { offers = before } ∷ []) w → IsWiringOf domains records (spots ++ record spot { offers = after } ∷ []) w
+  other-offers : (before after : List Triple) → before ≡ after
+      → IsWiringOf domains records (spots ++ record spot { offers = before } ∷ []) w
+      → IsWiringOf domains records (spots ++ record spot { offers = after } ∷ []) w
   other-offers before after e h = subst (λ (os : List Triple). IsWiringOf domains records (spots ++ record spot { offers = os } ∷ []) w) e h
 
-  pub offers-none : IsWiringOf domains records (spots ++ spot ∷ []) w → IsWiringOf domains records (spots ++ record spot { offers = spot.offers ++ take 0 triples } ∷ []) w
+  pub offers-none : IsWiringOf domains records (spots ++ spot ∷ []) w
+      → IsWiringOf domains records (spots ++ record spot { offers = spot.offers ++ take 0 triples } ∷ []) w
   offers-none h = other-offers spot.offers (spot.offers ++ []) (sym (append-nil spot.offers)) h
 
-  pub offers-more : (k : ℕ) (t : Triple) → k < length triples → t ≡ get_or triples k t → IsWiringOf domains records (spots ++ record spot { offers = (spot.offers ++ take k triples) ++ t ∷ [] } ∷ []) w → IsWiringOf domains records (spots ++ record spot { offers = spot.offers ++ take (k + 1) triples } ∷ []) w
+  pub offers-more : (k : ℕ) (t : Triple) → k < length triples → t ≡ get_or triples k t
+      → IsWiringOf domains records (spots ++ record spot { offers = (spot.offers ++ take k triples) ++ t ∷ [] } ∷ []) w
+      → IsWiringOf domains records (spots ++ record spot { offers = spot.offers ++ take (k + 1) triples } ∷ []) w
   offers-more k t l e h =
       other-offers ((spot.offers ++ take k triples) ++ t ∷ []) (spot.offers ++ take (k + 1) triples)
       (append_assoc spot.offers (take k triples) (t ∷ [])
       ∙ ap (λ ts. spot.offers ++ ts) (ap (λ x. take k triples ++ x ∷ []) e ∙ sym (take_more triples k t l)))
       h
 
-  pub offers-all : (k : ℕ) → length triples ≤ k → IsWiringOf domains records (spots ++ record spot { offers = spot.offers ++ take k triples } ∷ []) w → IsWiringOf domains records (spots ++ record spot { offers = spot.offers ++ triples } ∷ []) w
+  pub offers-all : (k : ℕ) → length triples ≤ k
+      → IsWiringOf domains records (spots ++ record spot { offers = spot.offers ++ take k triples } ∷ []) w
+      → IsWiringOf domains records (spots ++ record spot { offers = spot.offers ++ triples } ∷ []) w
   offers-all k l h = other-offers (spot.offers ++ take k triples) (spot.offers ++ triples) (ap (λ ts. spot.offers ++ ts) (take_all k triples l)) h
 
 -- ---- marked nodes stay in their places
@@ -219,5 +261,6 @@ Widens-more k n a b d f g = record {
 
 -- ---- a receipt's node
 
-pub node-number : (domains : List (List ℕ)) (records : List Distrust) (spots : List (Spot Triple)) (w : Wired) → IsWiringOf domains records spots w → length w.net.roots ≡ length spots
+pub node-number : (domains : List (List ℕ)) (records : List Distrust) (spots : List (Spot Triple)) (w : Wired)
+    → IsWiringOf domains records spots w → length w.net.roots ≡ length spots
 node-number domains records spots w h = length-roots spots (map (triple_by domains) w.labels) (IsShutBy records) w.net h.mirrors

@@ -1,5 +1,6 @@
 -- How labels are closed
-use Rattle.std.proofs.Common.{◌≡◌, ℕ, ◌+◌, ◌-◌, ◌*◌, ◌<◌, ◌≤◌, ◌⊎◌, inl, inr, Bool, true, false, ◌&&◌, List, length, get_or, eqb, ltb, leb, arith, refl, sym, ap, ◌∙◌, subst}
+use Rattle.std.proofs.Common.{◌≡◌, ℕ, ◌+◌, ◌-◌, ◌*◌, ◌<◌, ◌≤◌, ◌⊎◌, inl, inr, Bool, true, false, ◌&&◌, List, length}
+use Rattle.std.proofs.Common.{get_or, eqb, ltb, leb, arith, refl, sym, ap, ◌∙◌, subst}
 use Rattle.std.specs.Prelude.{not, Contains, ◌↔◌}
 use Rattle.std.specs.List.{list_any}
 use Rattle.std.proofs.lemmas.Bool.{cases_Bool, cases_lt, eq-eqb, eqb-true, and_parts, and_from, and_left, le-leb, both_ways, false_from_ne_true, not-true}
@@ -9,11 +10,15 @@ use Rattle.wait_index.specs.declared.edges.Edge.{Edge}
 use Rattle.wait_index.specs.Inside.Count.{bit, count_below}
 use Rattle.wait_index.specs.Edge.{edge_at, from_at, to_at, IsEdge}
 use Rattle.wait_index.specs.Inside.Listing.{holds, IsListing}
-use Rattle.wait_index.specs.Net.{Net, is_root, is_closed, IsReached, root, step, IsOpen, IsTakenBack, itself, beyond, AreTakenBack, ClosesIn, falls_with, edges_taken_back, HasReachOf, edges_at, with_all_closed}
+use Rattle.wait_index.specs.Net.{Net, is_root, is_closed, IsReached, root, step, IsOpen, IsTakenBack, itself, beyond}
+use Rattle.wait_index.specs.Net.{AreTakenBack, ClosesIn, falls_with, edges_taken_back, HasReachOf, edges_at}
+use Rattle.wait_index.specs.Net.{with_all_closed}
 use Rattle.wait_index.specs.Inside.Tally.{Tally, is_marked_in, is_touched_in, is_open_in, support_in, TouchesAll}
 use Rattle.wait_index.specs.Inside.Step.{is_before, Follows}
 use Rattle.wait_index.specs.Inside.Fall.{StillFollowed, IsFalling, HasFallen, IsSettled}
-use Rattle.wait_index.proofs.Counts.{bit-le, bit-true, bit-false, count_by-count_below, count_below-at, count_below-some, count_below-add, count_below-gap, count_below-mono, count_below-same}
+use Rattle.wait_index.proofs.Counts.{bit-le, bit-true, bit-false, count_by-count_below, count_below-at}
+use Rattle.wait_index.proofs.Counts.{count_below-some, count_below-add, count_below-gap, count_below-mono}
+use Rattle.wait_index.proofs.Counts.{count_below-same}
 use Rattle.wait_index.proofs.Listings.{placed-from_holds, holds-from_placed, within-from_holds, contains-from_holds, holds-from_contains}
 use Rattle.wait_index.proofs.Following.{Follows-offered}
 use Rattle.wait_index.proofs.Falling.{WaitsOnce}
@@ -26,12 +31,16 @@ before_all t h n =
       | inl e ↦
           let place = placed-from_holds t.places n e in
           let last = h.placed_within n (get_or t.places n 0 - 1) (omega (arith, place)) in
-          and_from (ltb 0 (get_or t.places n 0)) (leb (get_or t.places n 0) (length t.marked)) e (le-leb (get_or t.places n 0) (length t.marked) (omega (arith, last))) ∙ sym e
+          and_from (ltb 0 (get_or t.places n 0)) (leb (get_or t.places n 0) (length t.marked)) e
+              (le-leb (get_or t.places n 0) (length t.marked) (omega (arith, last))) ∙ sym e
       | inr e ↦ and_left (ltb 0 (get_or t.places n 0)) (leb (get_or t.places n 0) (length t.marked)) e ∙ sym e
     ]
 
-count_marked : (net : Net) (t : Tally) → IsListing t.marked t.places → count_below (λ i. is_before t (length t.marked) (from_at net.offers i)) (length net.offers) ≡ count_below (λ i. is_marked_in t (from_at net.offers i)) (length net.offers)
-count_marked net t h = count_below-same (λ i. is_before t (length t.marked) (from_at net.offers i)) (λ i. is_marked_in t (from_at net.offers i)) (length net.offers) (λ i a. before_all t h (from_at net.offers i))
+count_marked : (net : Net) (t : Tally) → IsListing t.marked t.places
+    → count_below (λ i. is_before t (length t.marked) (from_at net.offers i)) (length net.offers)
+    ≡ count_below (λ i. is_marked_in t (from_at net.offers i)) (length net.offers)
+count_marked net t h = count_below-same (λ i. is_before t (length t.marked) (from_at net.offers i))
+    (λ i. is_marked_in t (from_at net.offers i)) (length net.offers) (λ i a. before_all t h (from_at net.offers i))
 
 -- what is taken back was open
 pub taken-open : (net : Net) (closing : List ℕ) (l : ℕ) → IsTakenBack net closing l → IsOpen net l
@@ -43,15 +52,18 @@ taken-open net closing l (beyond {here = here} {node = node} {i = i} {j = j} b w
 -- what is taken back is in the reach of the labels
 pub taken-near : (net : Net) (closing : List ℕ) (labels : ℕ → Bool) → HasReachOf net closing labels → (l : ℕ) → IsTakenBack net closing l → labels l ≡ true
 taken-near net closing labels h l (itself c o) = h.has l c o
-taken-near net closing labels h l (beyond {here = here} {node = node} {i = i} {j = j} b w r e c) = h.goes_on here node l i j (taken-near net closing labels h here b) w e
+taken-near net closing labels h l (beyond {here = here} {node = node} {i = i} {j = j} b w r e c) =
+    h.goes_on here node l i j (taken-near net closing labels h here b) w e
 
 -- with more labels no less is taken back
-pub taken-more : (net : Net) (closing more : List ℕ) → ((l : ℕ) → Contains closing l → IsOpen net l → Contains more l) → (l : ℕ) → IsTakenBack net closing l → IsTakenBack net more l
+pub taken-more : (net : Net) (closing more : List ℕ) → ((l : ℕ) → Contains closing l → IsOpen net l → Contains more l)
+    → (l : ℕ) → IsTakenBack net closing l → IsTakenBack net more l
 taken-more net closing more h l (itself c o) = itself (h l c o) o
 taken-more net closing more h l (beyond {here = here} b w r e c) = beyond (taken-more net closing more h here b) w r e c
 
 -- what is taken back is at labels of the reach
-pub taken-few : (net : Net) (closing : List ℕ) (taken labels : ℕ → Bool) → AreTakenBack net closing taken → HasReachOf net closing labels → edges_taken_back net taken ≤ edges_at net labels
+pub taken-few : (net : Net) (closing : List ℕ) (taken labels : ℕ → Bool) → AreTakenBack net closing taken
+    → HasReachOf net closing labels → edges_taken_back net taken ≤ edges_at net labels
 taken-few net closing taken labels a h =
     omega (
       arith,
@@ -61,14 +73,16 @@ taken-few net closing taken labels a h =
       count_by-count_below (λ (e : Edge). labels e.from) net.waits (record { from = 0; to = 0 }),
       count_below-mono (λ i. falls_with net taken (from_at net.offers i)) (λ i. labels (to_at net.offers i)) (length net.offers)
           (λ i b e.
-          let parts = and_parts (not (is_root net (from_at net.offers i))) (list_any (λ (w : Edge). eqb w.to (from_at net.offers i) && taken w.from) net.waits) e in
+          let parts = and_parts (not (is_root net (from_at net.offers i)))
+              (list_any (λ (w : Edge). eqb w.to (from_at net.offers i) && taken w.from) net.waits) e in
           let c = Any-from_list_any (λ (w : Edge). eqb w.to (from_at net.offers i) && taken w.from) net.waits parts.1 in
           let tests = and_parts (eqb c.1.to (from_at net.offers i)) (taken c.1.from) c.4 in
           let item : edge_at net.waits c.0 ≡ c.1 = get_or_default net.waits c.0 (record { from = 0; to = 0 }) c.1 c.2 ∙ c.3 in
           h.goes_on c.1.from (from_at net.offers i) (to_at net.offers i) c.0 i (taken-near net closing labels h c.1.from (a.only c.1.from tests.1))
           (record { within = c.2; from = ap (λ (x : Edge). x.from) item; to = ap (λ (x : Edge). x.to) item ∙ eqb-true c.1.to (from_at net.offers i) tests.0 })
           (record { within = b; from = refl; to = refl })),
-      count_below-mono (λ i. taken (from_at net.waits i)) (λ i. labels (from_at net.waits i)) (length net.waits) (λ i b e. taken-near net closing labels h (from_at net.waits i) (a.only (from_at net.waits i) e)),
+      count_below-mono (λ i. taken (from_at net.waits i)) (λ i. labels (from_at net.waits i)) (length net.waits)
+          (λ i b e. taken-near net closing labels h (from_at net.waits i) (a.only (from_at net.waits i) e)),
     )
 
 -- where none of the labels is open nothing is taken back
@@ -109,7 +123,8 @@ module _ (net : Net) (closing : List ℕ) (now : Tally) (f : HasFallen net closi
       let place = placed-from_holds now.touched_places l a in
       let at : get_or now.touched_places l 0 ≡ (get_or now.touched_places l 0 - 1) + 1 = omega (arith, place) in
       let within = f.queue.placed_within l (get_or now.touched_places l 0 - 1) at in
-      both_ways (is_open_in now l) (ap (is_open_in now) (sym (f.queue.placed l (get_or now.touched_places l 0 - 1) at)) ∙ f.done (get_or now.touched_places l 0 - 1) within) o
+      both_ways (is_open_in now l) (ap (is_open_in now) (sym (f.queue.placed l (get_or now.touched_places l 0 - 1) at))
+          ∙ f.done (get_or now.touched_places l 0 - 1) within) o
 
   supported-from_open : (l : ℕ) → is_open_in now l ≡ true → 0 < support_in now l
   supported-from_open l o = elim (f.open_supported l o) [ inl a ↦ a | inr a ↦ absurd (untouched-from_open l o a) ]
@@ -123,7 +138,8 @@ module _ (net : Net) (closing : List ℕ) (now : Tally) (f : HasFallen net closi
 
   offered_now : (l : ℕ) → is_open_in now l ≡ true → (i : ℕ) × (m : ℕ) × IsEdge net.offers i m l × (is_marked_in now m ≡ true)
   offered_now l o =
-      let i = count_below-some (λ i. is_marked_in now (from_at net.offers i) && eqb (to_at net.offers i) l) (length net.offers) (omega (arith, supported-from_open l o, f.counted.support l (open_within l o))) in
+      let i = count_below-some (λ i. is_marked_in now (from_at net.offers i) && eqb (to_at net.offers i) l)
+          (length net.offers) (omega (arith, supported-from_open l o, f.counted.support l (open_within l o))) in
       let parts = and_parts (is_marked_in now (from_at net.offers i.0)) (eqb (to_at net.offers i.0) l) i.2 in
       (i.0, from_at net.offers i.0, record { within = i.1; from = refl; to = eqb-true (to_at net.offers i.0) l parts.1 }, parts.0)
 
@@ -133,7 +149,10 @@ module _ (net : Net) (closing : List ℕ) (now : Tally) (f : HasFallen net closi
       record { not_closed = f.open_not_closed l o; offered = (b.0, b.1, b.2, f.sound b.1 b.3) }
 
 -- The same fall, of a list with the same open labels
-pub HasFallen-alike : (net : Net) (closing others : List ℕ) (now : Tally) → ((l : ℕ) → Contains closing l → IsOpen net l → Contains others l) → ((l : ℕ) → Contains others l → IsOpen net l → Contains closing l) → HasFallen net closing now → HasFallen net others now
+pub HasFallen-alike : (net : Net) (closing others : List ℕ) (now : Tally)
+    → ((l : ℕ) → Contains closing l → IsOpen net l → Contains others l)
+    → ((l : ℕ) → Contains others l → IsOpen net l → Contains closing l) → HasFallen net closing now
+    → HasFallen net others now
 HasFallen-alike net closing others now more less f = record {
   sizes = f.sizes;
   listing = f.listing;
@@ -164,18 +183,24 @@ module _ (net : Net) (t : Tally) (h : IsSettled net t) (queue : IsListing t.touc
       omega (arith, place, ap length h.untouched, queue.placed_within l (get_or t.touched_places l 0 - 1) (omega (arith, place)))
 
   -- a marked node opens each label that it offers
-  pub open-from_offer : (i m l : ℕ) → IsEdge net.offers i m l → is_marked_in t m ≡ true → l < length net.closed → is_closed net l ≡ false → is_open_in t l ≡ true
+  pub open-from_offer : (i m l : ℕ) → IsEdge net.offers i m l → is_marked_in t m ≡ true → l < length net.closed
+      → is_closed net l ≡ false → is_open_in t l ≡ true
   open-from_offer i m l e a b c =
       let marked : is_marked_in t (from_at net.offers i) ≡ true = ap (is_marked_in t) e.from ∙ a in
       let here : (is_before t (length t.marked) (from_at net.offers i) && eqb (to_at net.offers i) l) ≡ true =
-      and_from (is_before t (length t.marked) (from_at net.offers i)) (eqb (to_at net.offers i) l) (before_all t h.follows.steady.listing (from_at net.offers i) ∙ marked) (eq-eqb (to_at net.offers i) l e.to)
+      and_from (is_before t (length t.marked) (from_at net.offers i)) (eqb (to_at net.offers i) l)
+          (before_all t h.follows.steady.listing (from_at net.offers i) ∙ marked) (eq-eqb (to_at net.offers i) l e.to)
       in
-      let some : 0 < support_in t l = omega (arith, h.follows.counted.support l b, count_below-at (λ k. is_before t (length t.marked) (from_at net.offers k) && eqb (to_at net.offers k) l) i (length net.offers) e.within here) in
+      let some : 0 < support_in t l =
+          omega (arith, h.follows.counted.support l b,
+          count_below-at (λ k. is_before t (length t.marked) (from_at net.offers k) && eqb (to_at net.offers k) l) i
+          (length net.offers) e.within here) in
       elim (h.follows.opened.at l b some c) [ inl o ↦ o | inr o ↦ absurd (none_touched l o) ]
 
 -- ... whose edges lead to labels that are there
 
-module _ (net : Net) (t : Tally) (h : IsSettled net t) (queue : IsListing t.touched t.touched_places) (labels : (i : ℕ) → i < length net.offers → to_at net.offers i < length net.closed) where
+module _ (net : Net) (t : Tally) (h : IsSettled net t) (queue : IsListing t.touched t.touched_places) (labels : (i : ℕ)
+    → i < length net.offers → to_at net.offers i < length net.closed) where
   label_in : (i m l : ℕ) → IsEdge net.offers i m l → l < length net.closed
   label_in i m l e = omega (arith, labels i e.within, e.to)
 
@@ -200,14 +225,17 @@ module _ (net : Net) (t : Tally) (h : IsSettled net t) (queue : IsListing t.touc
 
   pub open-from_shown : (l : ℕ) → IsOpen net l → is_open_in t l ≡ true
   open-from_shown l o =
-      open-from_offer net t h queue o.offered.0 o.offered.1 l o.offered.2 (marked-from_reached o.offered.1 o.offered.3) (label_in o.offered.0 o.offered.1 l o.offered.2) o.not_closed
+      open-from_offer net t h queue o.offered.0 o.offered.1 l o.offered.2 (marked-from_reached o.offered.1 o.offered.3)
+          (label_in o.offered.0 o.offered.1 l o.offered.2) o.not_closed
 
   -- open labels are touched: the fall begins
-  pub IsFalling-touched : (closing : List ℕ) (new : Tally) → TouchesAll closing t new → IsListing new.touched new.touched_places → IsFalling net new.touched new 0 0 0
+  pub IsFalling-touched : (closing : List ℕ) (new : Tally) → TouchesAll closing t new
+      → IsListing new.touched new.touched_places → IsFalling net new.touched new 0 0 0
   IsFalling-touched closing new touches listing_new =
       let steady = h.follows.steady in
       subst (λ x. TouchesAll closing t x → IsListing x.touched x.touched_places → IsFalling net x.touched x 0 0 0) (sym touches.same) (λ s queue_new.
-      let opened : (k : ℕ) → holds new.touched_places k ≡ true → is_open_in t k ≡ true = λ k a. elim (s.only k a) [ inl b ↦ absurd (none_touched net t h queue k b) | inr b ↦ b.1 ] in
+      let opened : (k : ℕ) → holds new.touched_places k ≡ true → is_open_in t k ≡ true =
+          λ k a. elim (s.only k a) [ inl b ↦ absurd (none_touched net t h queue k b) | inr b ↦ b.1 ] in
       record {
         sizes = record { places = steady.sizes.places; support = steady.sizes.support; opened = steady.sizes.opened; touched = s.size ∙ steady.sizes.touched };
         listing = steady.listing;
@@ -217,7 +245,8 @@ module _ (net : Net) (t : Tally) (h : IsSettled net t) (queue : IsListing t.touc
               omega (
                 arith,
                 h.follows.counted.support k a,
-                count_below-same (λ i. is_before t (length t.marked) (from_at net.offers i) && eqb (to_at net.offers i) k) (λ i. is_marked_in t (from_at net.offers i) && eqb (to_at net.offers i) k) (length net.offers)
+                count_below-same (λ i. is_before t (length t.marked) (from_at net.offers i) && eqb (to_at net.offers i)
+                    k) (λ i. is_marked_in t (from_at net.offers i) && eqb (to_at net.offers i) k) (length net.offers)
                     (λ i b. ap (λ x. x && eqb (to_at net.offers i) k) (before_all t steady.listing (from_at net.offers i))),
               );
           visits = omega (arith, h.follows.counted.visits, count_marked net t h.follows.steady.listing);
@@ -248,23 +277,31 @@ module _ (net : Net) (t : Tally) (h : IsSettled net t) (queue : IsListing t.touc
       }) touches listing_new
 
   -- The touched labels are the open ones of the list, so what fell with those fell with these.
-  pub HasFallen-listed : (closing : List ℕ) (new now : Tally) → TouchesAll closing t new → IsListing new.touched new.touched_places → HasFallen net new.touched now → HasFallen net closing now
+  pub HasFallen-listed : (closing : List ℕ) (new now : Tally) → TouchesAll closing t new
+      → IsListing new.touched new.touched_places → HasFallen net new.touched now → HasFallen net closing now
   HasFallen-listed closing new now touches queue_new =
       HasFallen-alike net new.touched closing now
-      (λ l c o. elim (touches.only l (holds-from_contains new.touched new.touched_places queue_new l c)) [ inl a ↦ absurd (none_touched net t h queue l a) | inr a ↦ a.0 ])
+      (λ l c o. elim (touches.only l (holds-from_contains new.touched new.touched_places queue_new l c))
+          [ inl a ↦ absurd (none_touched net t h queue l a) | inr a ↦ a.0 ])
       (λ l c o. contains-from_holds new.touched new.touched_places queue_new l (touches.all l c (open-from_shown l o)))
 
   -- Counts of nodes that are reached and labels that they open are not above those here.
-  visits_within : (now : Tally) → ((n : ℕ) → is_marked_in now n ≡ true → IsReached net n) → ((l : ℕ) → is_open_in now l ≡ true → (i : ℕ) × (m : ℕ) × IsEdge net.offers i m l × IsReached net m × (is_closed net l ≡ false))
-      → count_below (λ i. is_marked_in now (from_at net.offers i)) (length net.offers) + count_below (λ i. is_open_in now (from_at net.waits i)) (length net.waits) ≤ t.visits
+  visits_within : (now : Tally) → ((n : ℕ) → is_marked_in now n ≡ true → IsReached net n)
+      → ((l : ℕ) → is_open_in now l ≡ true → (i : ℕ) × (m : ℕ) × IsEdge net.offers i m l × IsReached net m
+      × (is_closed net l ≡ false))
+      → count_below (λ i. is_marked_in now (from_at net.offers i)) (length net.offers) + count_below
+          (λ i. is_open_in now (from_at net.waits i)) (length net.waits) ≤ t.visits
   visits_within now sound offered =
       omega (
         arith,
         h.follows.counted.visits,
         count_marked net t h.follows.steady.listing,
-        count_below-mono (λ i. is_marked_in now (from_at net.offers i)) (λ i. is_marked_in t (from_at net.offers i)) (length net.offers) (λ i a b. marked-from_reached (from_at net.offers i) (sound (from_at net.offers i) b)),
+        count_below-mono (λ i. is_marked_in now (from_at net.offers i)) (λ i. is_marked_in t (from_at net.offers i))
+            (length net.offers) (λ i a b. marked-from_reached (from_at net.offers i) (sound (from_at net.offers i) b)),
         count_below-mono (λ i. is_open_in now (from_at net.waits i)) (λ i. is_open_in t (from_at net.waits i)) (length net.waits)
-            (λ i a b. let o = offered (from_at net.waits i) b in open-from_offer net t h queue o.0 o.1 (from_at net.waits i) o.2 (marked-from_reached o.1 o.3) (label_in o.0 o.1 (from_at net.waits i) o.2) o.4),
+            (λ i a b. let o = offered (from_at net.waits i) b in
+                open-from_offer net t h queue o.0 o.1 (from_at net.waits i) o.2 (marked-from_reached o.1 o.3)
+                (label_in o.0 o.1 (from_at net.waits i) o.2) o.4),
       )
 
   -- The fall is over.
@@ -284,7 +321,8 @@ module _ (net : Net) (t : Tally) (h : IsSettled net t) (queue : IsListing t.touc
         elim (cases_Bool (is_touched_in now l)) [
           | inl a ↦
               let shut : is_open_in now l ≡ false = false_from_ne_true (is_open_in now l) (λ o. untouched-from_open net closing now f l o a) in
-              omega (arith, bit-true (is_touched_in now l) a, bit-false (is_open_in now l) shut, bit-true (is_open_in t l) (open-from_shown l (taken-open net closing l (touched-taken l a))))
+              omega (arith, bit-true (is_touched_in now l) a, bit-false (is_open_in now l) shut,
+                  bit-true (is_open_in t l) (open-from_shown l (taken-open net closing l (touched-taken l a))))
           | inr a ↦
               elim (cases_Bool (is_open_in t l)) [
                 | inl o ↦
@@ -293,7 +331,8 @@ module _ (net : Net) (t : Tally) (h : IsSettled net t) (queue : IsListing t.touc
                     f.shut b.1 b.0 (h.follows.steady.sound b.1 b.3) b.2.within b.2.from (ap (is_closed net) b.2.to ∙ h.follows.steady.open_not_closed l o)
                     in
                     elim still [
-                      | inl d ↦ omega (arith, bit-false (is_touched_in now l) a, bit-true (is_open_in t l) o, bit-true (is_open_in now l) (ap (is_open_in now) (sym b.2.to) ∙ d))
+                      | inl d ↦ omega (arith, bit-false (is_touched_in now l) a, bit-true (is_open_in t l) o,
+                          bit-true (is_open_in now l) (ap (is_open_in now) (sym b.2.to) ∙ d))
                       | inr d ↦ absurd (both_ways (is_touched_in now l) a (ap (is_touched_in now) (sym b.2.to) ∙ d))
                     ]
                 | inr o ↦
@@ -305,13 +344,20 @@ module _ (net : Net) (t : Tally) (h : IsSettled net t) (queue : IsListing t.touc
     -- the wait edge of a node that falls
 
     module _ (once : WaitsOnce net) where
-      falls-from : (i : ℕ) → i < length net.waits → is_root net (to_at net.waits i) ≡ false → is_touched_in now (from_at net.waits i) ≡ true → falls_with net (is_touched_in now) (to_at net.waits i) ≡ true
+      falls-from : (i : ℕ) → i < length net.waits → is_root net (to_at net.waits i) ≡ false
+          → is_touched_in now (from_at net.waits i) ≡ true
+          → falls_with net (is_touched_in now) (to_at net.waits i) ≡ true
       falls-from i within r a =
           and_from (not (is_root net (to_at net.waits i))) (list_any (λ (e : Edge). eqb e.to (to_at net.waits i) && is_touched_in now e.from) net.waits)
           (ap not r)
-          (list_any_at (λ (e : Edge). eqb e.to (to_at net.waits i) && is_touched_in now e.from) net.waits i (record { from = 0; to = 0 }) within (and_from (eqb (to_at net.waits i) (to_at net.waits i)) (is_touched_in now (from_at net.waits i)) (eq-eqb (to_at net.waits i) (to_at net.waits i) refl) a))
+          (list_any_at (λ (e : Edge). eqb e.to (to_at net.waits i) && is_touched_in now e.from) net.waits i
+              (record { from = 0; to = 0 }) within
+              (and_from (eqb (to_at net.waits i) (to_at net.waits i)) (is_touched_in now (from_at net.waits i))
+              (eq-eqb (to_at net.waits i) (to_at net.waits i) refl) a))
 
-      falls-wait : (n : ℕ) → falls_with net (is_touched_in now) n ≡ true → (is_root net n ≡ false) × ((i : ℕ) × (i < length net.waits) × (to_at net.waits i ≡ n) × (is_touched_in now (from_at net.waits i) ≡ true))
+      falls-wait : (n : ℕ) → falls_with net (is_touched_in now) n ≡ true
+          → (is_root net n ≡ false) × ((i : ℕ) × (i < length net.waits) × (to_at net.waits i ≡ n)
+          × (is_touched_in now (from_at net.waits i) ≡ true))
       falls-wait n e =
           let parts = and_parts (not (is_root net n)) (list_any (λ (e : Edge). eqb e.to n && is_touched_in now e.from) net.waits) e in
           let a = Any-from_list_any (λ (e : Edge). eqb e.to n && is_touched_in now e.from) net.waits parts.1 in
@@ -335,38 +381,49 @@ module _ (net : Net) (t : Tally) (h : IsSettled net t) (queue : IsListing t.touc
                   | inr g ↦
                       let same : g.0 ≡ w.0 = once g.0 w.0 g.1.within w.1 (g.2 ∙ sym w.2) in
                       elim g.1.by [
-                        | inl o ↦ untouched-from_open net closing now f (from_at net.waits w.0) (ap (λ k. is_open_in now (from_at net.waits k)) (sym same) ∙ o) w.3
+                        | inl o ↦ untouched-from_open net closing now f (from_at net.waits w.0)
+                            (ap (λ k. is_open_in now (from_at net.waits k)) (sym same) ∙ o) w.3
                         | inr o ↦ omega (arith, o.1)
                       ]
                 ])
                 in
                 let o = taken-open net closing (from_at net.waits w.0) (touched-taken (from_at net.waits w.0) w.3) in
                 let r : IsReached net n = step o.offered.3 o.offered.2 o.not_closed (record { within = w.1; from = refl; to = w.2 }) in
-                omega (arith, bit-true (falls_with net (is_touched_in now) n) e, bit-false (is_marked_in now n) out, bit-true (is_marked_in t n) (marked-from_reached n r))
+                omega (arith, bit-true (falls_with net (is_touched_in now) n) e, bit-false (is_marked_in now n) out,
+                    bit-true (is_marked_in t n) (marked-from_reached n r))
             | inr e ↦
                 elim (cases_Bool (is_marked_in now n)) [
-                  | inl m ↦ omega (arith, bit-false (falls_with net (is_touched_in now) n) e, bit-true (is_marked_in now n) m, bit-true (is_marked_in t n) (marked-from_reached n (f.sound n m)))
+                  | inl m ↦ omega (arith, bit-false (falls_with net (is_touched_in now) n) e,
+                      bit-true (is_marked_in now n) m,
+                      bit-true (is_marked_in t n) (marked-from_reached n (f.sound n m)))
                   | inr m ↦
                       let out : is_marked_in t n ≡ false =
                       false_from_ne_true (is_marked_in t n) (λ a.
                       let w = f.lost n (h.follows.steady.sound n a) m in
                       let not_root : is_root net n ≡ false = false_from_ne_true (is_root net n) (λ r. both_ways (is_marked_in now n) m (f.roots n r)) in
-                      both_ways (falls_with net (is_touched_in now) n) e (ap (falls_with net (is_touched_in now)) (sym w.2) ∙ falls-from w.0 w.1 (ap (is_root net) w.2 ∙ not_root) w.3))
+                      both_ways (falls_with net (is_touched_in now) n) e
+                          (ap (falls_with net (is_touched_in now)) (sym w.2)
+                          ∙ falls-from w.0 w.1 (ap (is_root net) w.2 ∙ not_root) w.3))
                       in
                       omega (arith, bit-false (falls_with net (is_touched_in now) n) e, bit-false (is_marked_in now n) m, bit-false (is_marked_in t n) out)
                 ]
           ]
 
       -- the visits fall by the edges that are taken back
-      pub visits_taken : (waits : (i : ℕ) → i < length net.waits → from_at net.waits i < length net.closed) → t.visits ≡ now.visits + edges_taken_back net (is_touched_in now)
+      pub visits_taken : (waits : (i : ℕ) → i < length net.waits → from_at net.waits i < length net.closed)
+          → t.visits ≡ now.visits + edges_taken_back net (is_touched_in now)
       visits_taken waits =
           omega (
             arith,
             count_marked net t h.follows.steady.listing,
             h.follows.counted.visits,
             f.counted.visits,
-            count_below-add (λ i. is_marked_in t (from_at net.offers i)) (λ i. is_marked_in now (from_at net.offers i)) (λ i. falls_with net (is_touched_in now) (from_at net.offers i)) (length net.offers) (λ i a. marked_bit (from_at net.offers i)),
-            count_below-add (λ i. is_open_in t (from_at net.waits i)) (λ i. is_open_in now (from_at net.waits i)) (λ i. is_touched_in now (from_at net.waits i)) (length net.waits) (λ i a. open_bit (from_at net.waits i) (waits i a)),
+            count_below-add (λ i. is_marked_in t (from_at net.offers i)) (λ i. is_marked_in now (from_at net.offers i))
+                (λ i. falls_with net (is_touched_in now) (from_at net.offers i)) (length net.offers)
+                (λ i a. marked_bit (from_at net.offers i)),
+            count_below-add (λ i. is_open_in t (from_at net.waits i)) (λ i. is_open_in now (from_at net.waits i))
+                (λ i. is_touched_in now (from_at net.waits i)) (length net.waits)
+                (λ i a. open_bit (from_at net.waits i) (waits i a)),
             count_by-count_below (λ (e : Edge). falls_with net (is_touched_in now) e.from) net.offers (record { from = 0; to = 0 }),
             count_by-count_below (λ (e : Edge). is_touched_in now e.from) net.waits (record { from = 0; to = 0 }),
           )
@@ -381,7 +438,10 @@ module _ (net : Net) (t : Tally) (h : IsSettled net t) (queue : IsListing t.touc
           let falls : falls_with net (is_touched_in now) node ≡ true =
           ap (falls_with net (is_touched_in now)) (sym w.to) ∙ falls-from i w.within (ap (is_root net) w.to ∙ r) (ap (is_touched_in now) w.from ∙ a)
           in
-          let out : is_marked_in now node ≡ false = false_from_ne_true (is_marked_in now node) (λ m. omega (arith, marked_bit node, bit-le (is_marked_in t node), bit-true (is_marked_in now node) m, bit-true (falls_with net (is_touched_in now) node) falls)) in
+          let out : is_marked_in now node ≡ false =
+              false_from_ne_true (is_marked_in now node)
+              (λ m. omega (arith, marked_bit node, bit-le (is_marked_in t node), bit-true (is_marked_in now node) m,
+              bit-true (falls_with net (is_touched_in now) node) falls)) in
           elim (f.shut node j reached e.within e.from (ap (is_closed net) e.to ∙ c)) [
             | inl d ↦ ap (is_touched_in now) (sym e.to) ∙ f.fallen node j reached out e.within e.from d
             | inr d ↦ ap (is_touched_in now) (sym e.to) ∙ d
@@ -400,7 +460,8 @@ module _ (net : Net) (closing : List ℕ) where
 
   -- what is not closed now was not
   pub not_closed_before : (k : ℕ) → is_closed (with_all_closed net closing) k ≡ false → is_closed net k ≡ false
-  not_closed_before k e = false_from_ne_true (is_closed net k) (λ c. both_ways (is_closed (with_all_closed net closing) k) e (all_set-kept closing net.closed k c))
+  not_closed_before k e = false_from_ne_true (is_closed net k)
+      (λ c. both_ways (is_closed (with_all_closed net closing) k) e (all_set-kept closing net.closed k c))
 
   pub reached-before : (n : ℕ) → IsReached (with_all_closed net closing) n → IsReached net n
   reached-before n (root e) = root e
@@ -408,7 +469,9 @@ module _ (net : Net) (closing : List ℕ) where
 
 -- Labels that are not open are closed, and nothing changes.
 
-module _ (net : Net) (t : Tally) (h : IsSettled net t) (queue : IsListing t.touched t.touched_places) (labels : (i : ℕ) → i < length net.offers → to_at net.offers i < length net.closed) (closing : List ℕ) (shut : (l : ℕ) → Contains closing l → is_open_in t l ≡ false) where
+module _ (net : Net) (t : Tally) (h : IsSettled net t) (queue : IsListing t.touched t.touched_places) (labels : (i : ℕ)
+    → i < length net.offers → to_at net.offers i < length net.closed) (closing : List ℕ) (shut : (l : ℕ)
+    → Contains closing l → is_open_in t l ≡ false) where
   reached-without : (n : ℕ) → IsReached net n → IsReached (with_all_closed net closing) n
   reached-without n (root e) = root e
   reached-without n (step {node = node} {label = k} {i = i} {j = j} r e c w) =
@@ -422,7 +485,8 @@ module _ (net : Net) (t : Tally) (h : IsSettled net t) (queue : IsListing t.touc
       record {
         follows = record {
           steady = record {
-            sizes = record { places = steady.sizes.places; support = steady.sizes.support ∙ sym size; opened = steady.sizes.opened ∙ sym size; touched = steady.sizes.touched ∙ sym size };
+            sizes = record { places = steady.sizes.places; support = steady.sizes.support ∙ sym size; opened =
+                steady.sizes.opened ∙ sym size; touched = steady.sizes.touched ∙ sym size };
             listing = steady.listing;
             sound = λ n a. reached-without n (steady.sound n a);
             roots = steady.roots;
@@ -465,7 +529,8 @@ module _ (net : Net) (once : WaitsOnce net) (closing : List ℕ) (now : Tally) (
       let size = length-all_set closing net.closed in
       record {
         steady = record {
-          sizes = record { places = f.sizes.places; support = f.sizes.support ∙ sym size; opened = f.sizes.opened ∙ sym size; touched = f.sizes.touched ∙ sym size };
+          sizes = record { places = f.sizes.places; support = f.sizes.support ∙ sym size; opened =
+              f.sizes.opened ∙ sym size; touched = f.sizes.touched ∙ sym size };
           listing = f.listing;
           sound = λ n a. reached-after n (f.sound n a) a;
           roots = f.roots;
@@ -478,21 +543,27 @@ module _ (net : Net) (once : WaitsOnce net) (closing : List ℕ) (now : Tally) (
               omega (
                 arith,
                 f.counted.support k (omega (arith, a, size)),
-                count_below-same (λ i. is_before now (length now.marked) (from_at net.offers i) && eqb (to_at net.offers i) k) (λ i. is_marked_in now (from_at net.offers i) && eqb (to_at net.offers i) k) (length net.offers)
+                count_below-same (λ i. is_before now (length now.marked) (from_at net.offers i) && eqb
+                    (to_at net.offers i) k) (λ i. is_marked_in now (from_at net.offers i) && eqb (to_at net.offers i) k)
+                    (length net.offers)
                     (λ i b. ap (λ x. x && eqb (to_at net.offers i) k) (before_all now f.listing (from_at net.offers i))),
               );
           visits =
               omega (
                 arith,
                 f.counted.visits,
-                count_below-same (λ i. is_before now (length now.marked) (from_at net.offers i)) (λ i. is_marked_in now (from_at net.offers i)) (length net.offers) (λ i a. before_all now f.listing (from_at net.offers i)),
+                count_below-same (λ i. is_before now (length now.marked) (from_at net.offers i))
+                    (λ i. is_marked_in now (from_at net.offers i)) (length net.offers)
+                    (λ i a. before_all now f.listing (from_at net.offers i)),
               );
         };
         opened = record { at = λ k a s c. f.opened.at k (omega (arith, a, size)) s (not_closed_before net closing k c) };
       }
 
 -- Closing labels never leaves more followed edges.
-pub visits_after : (net : Net) (t : Tally) (h : IsSettled net t) (queue : IsListing t.touched t.touched_places) (labels : (i : ℕ) → i < length net.offers → to_at net.offers i < length net.closed) (closing : List ℕ) (new : Tally) → IsSettled (with_all_closed net closing) new → new.visits ≤ t.visits
+pub visits_after : (net : Net) (t : Tally) (h : IsSettled net t) (queue : IsListing t.touched t.touched_places)
+    (labels : (i : ℕ) → i < length net.offers → to_at net.offers i < length net.closed) (closing : List ℕ) (new : Tally)
+    → IsSettled (with_all_closed net closing) new → new.visits ≤ t.visits
 visits_after net t h queue labels closing new k =
     omega (
       arith,
@@ -507,7 +578,8 @@ visits_after net t h queue labels closing new k =
           ]
           in
           let b = Follows-offered (with_all_closed net closing) (length new.marked) new k.follows m within (k.follows.steady.open_supported m o) in
-          (b.0, b.1, b.2, reached-before net closing b.1 (k.follows.steady.sound b.1 b.3), not_closed_before net closing m (k.follows.steady.open_not_closed m o))),
+          (b.0, b.1, b.2, reached-before net closing b.1 (k.follows.steady.sound b.1 b.3),
+              not_closed_before net closing m (k.follows.steady.open_not_closed m o))),
     )
 
 -- How many turns a close takes
@@ -521,7 +593,10 @@ ClosesIn-shut net closing visits shut = record {
   turns = omega (arith, none-edges net);
 }
 
-module _ (net : Net) (t : Tally) (h : IsSettled net t) (queue : IsListing t.touched t.touched_places) (labels : (i : ℕ) → i < length net.offers → to_at net.offers i < length net.closed) (waits : (i : ℕ) → i < length net.waits → from_at net.waits i < length net.closed) (once : WaitsOnce net) (closing : List ℕ) (now : Tally) (f : HasFallen net closing now) where
+module _ (net : Net) (t : Tally) (h : IsSettled net t) (queue : IsListing t.touched t.touched_places) (labels : (i : ℕ)
+    → i < length net.offers → to_at net.offers i < length net.closed) (waits : (i : ℕ) → i < length net.waits
+    → from_at net.waits i < length net.closed) (once : WaitsOnce net) (closing : List ℕ) (now : Tally)
+    (f : HasFallen net closing now) where
   pub visits_fall : now.visits ≤ t.visits
   visits_fall = omega (arith, visits_taken net t h queue labels closing now f once waits)
 
@@ -535,11 +610,15 @@ module _ (net : Net) (t : Tally) (h : IsSettled net t) (queue : IsListing t.touc
   }
 
 -- no more than two turns for each edge at labels of the reach, where the visits do not grow
-pub ClosesIn-near : (net : Net) (closing : List ℕ) (before after turns : ℕ) (labels : ℕ → Bool) → ClosesIn net closing before after turns → after ≤ before → HasReachOf net closing labels → turns ≤ 2 * edges_at net labels
+pub ClosesIn-near : (net : Net) (closing : List ℕ) (before after turns : ℕ) (labels : ℕ → Bool)
+    → ClosesIn net closing before after turns → after ≤ before → HasReachOf net closing labels
+    → turns ≤ 2 * edges_at net labels
 ClosesIn-near net closing before after turns labels c l h = omega (arith, c.visits, c.turns, l, taken-few net closing c.labels labels c.taken_back h)
 
 -- no other number of turns
-pub ClosesIn-one : (net : Net) (closing others : List ℕ) (before after turns other : ℕ) → ((l : ℕ) → (Contains closing l ↔ Contains others l)) → ClosesIn net closing before after turns → ClosesIn net others before after other → turns ≡ other
+pub ClosesIn-one : (net : Net) (closing others : List ℕ) (before after turns other : ℕ)
+    → ((l : ℕ) → (Contains closing l ↔ Contains others l)) → ClosesIn net closing before after turns
+    → ClosesIn net others before after other → turns ≡ other
 ClosesIn-one net closing others before after turns other same a b =
     omega (
       arith,
@@ -563,7 +642,8 @@ ClosesIn-one net closing others before after turns other same a b =
         and_from (not (is_root net n)) (list_any (λ (w : Edge). eqb w.to n && q w.from) net.waits) parts.0
         (list_any_at (λ (w : Edge). eqb w.to n && q w.from) net.waits c.0 (record { from = 0; to = 0 }) c.2 test)
 
-    taken-same : (xs ys : List ℕ) → ((l : ℕ) → Contains xs l → Contains ys l) → (p q : ℕ → Bool) → AreTakenBack net xs p → AreTakenBack net ys q → edges_taken_back net p ≤ edges_taken_back net q
+    taken-same : (xs ys : List ℕ) → ((l : ℕ) → Contains xs l → Contains ys l) → (p q : ℕ → Bool) → AreTakenBack net xs p
+        → AreTakenBack net ys q → edges_taken_back net p ≤ edges_taken_back net q
     taken-same xs ys more p q x y =
         let fewer : (l : ℕ) → p l ≡ true → q l ≡ true = λ l e. y.all l (taken-more net xs ys (λ k c o. more k c) l (x.only l e)) in
         omega (
@@ -572,6 +652,7 @@ ClosesIn-one net closing others before after turns other same a b =
           count_by-count_below (λ (e : Edge). p e.from) net.waits (record { from = 0; to = 0 }),
           count_by-count_below (λ (e : Edge). falls_with net q e.from) net.offers (record { from = 0; to = 0 }),
           count_by-count_below (λ (e : Edge). q e.from) net.waits (record { from = 0; to = 0 }),
-          count_below-mono (λ i. falls_with net p (from_at net.offers i)) (λ i. falls_with net q (from_at net.offers i)) (length net.offers) (λ i a e. fewer_fall p q fewer (from_at net.offers i) e),
+          count_below-mono (λ i. falls_with net p (from_at net.offers i)) (λ i. falls_with net q (from_at net.offers i))
+              (length net.offers) (λ i a e. fewer_fall p q fewer (from_at net.offers i) e),
           count_below-mono (λ i. p (from_at net.waits i)) (λ i. q (from_at net.waits i)) (length net.waits) (λ i a e. fewer (from_at net.waits i) e),
         )

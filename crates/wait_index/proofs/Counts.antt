@@ -1,5 +1,6 @@
 -- Counts over the numbers below a bound
-use Rattle.std.proofs.Common.{◌≡◌, ◌≢◌, ℕ, zero, suc, ◌+◌, ◌-◌, ◌<◌, ◌≤◌, inl, inr, Bool, true, false, List, length, get_or, take, count_by, arith, refl, sym, ap, ◌∙◌, add-one, add-zero, add-suc}
+use Rattle.std.proofs.Common.{◌≡◌, ◌≢◌, ℕ, zero, suc, ◌+◌, ◌-◌, ◌<◌, ◌≤◌, inl, inr, Bool, true, false, List, length}
+use Rattle.std.proofs.Common.{get_or, take, count_by, arith, refl, sym, ap, ◌∙◌, add-one, add-zero, add-suc}
 use Rattle.std.proofs.lemmas.Bool.{cases_Bool, cases_eq}
 use Rattle.std.proofs.lemmas.List.{take_all}
 use Rattle.std.proofs.lemmas.List.Sums.{count_by_more_yes, count_by_more_no}
@@ -67,7 +68,8 @@ count_below-gap p m n l h =
     ap (count_below p) e ∙ gap_add p m (n - m) (λ k a b. h k a (omega arith))
 
 -- one number passes that failed
-pub count_below-change : (p q : ℕ → Bool) (i n : ℕ) → i < n → p i ≡ false → q i ≡ true → ((k : ℕ) → k < n → k ≢ i → p k ≡ q k) → count_below q n ≡ count_below p n + 1
+pub count_below-change : (p q : ℕ → Bool) (i n : ℕ) → i < n → p i ≡ false → q i ≡ true
+    → ((k : ℕ) → k < n → k ≢ i → p k ≡ q k) → count_below q n ≡ count_below p n + 1
 count_below-change p q i zero l a b h = absurd (omega arith)
 count_below-change p q i (suc n) l a b h =
     elim (cases_eq i n) [

@@ -1,5 +1,6 @@
 -- Which nodes fell
-use Rattle.std.proofs.Common.{◌≡◌, ◌≢◌, ℕ, ◌+◌, ◌-◌, ◌<◌, inl, inr, Bool, true, false, ◌&&◌, List, [], ◌∷◌, ◌++◌, cond, length, get_or, take, drop, eqb, arith, refl, sym, ap, ◌∙◌, subst}
+use Rattle.std.proofs.Common.{◌≡◌, ◌≢◌, ℕ, ◌+◌, ◌-◌, ◌<◌, inl, inr, Bool, true, false, ◌&&◌, List, [], ◌∷◌, ◌++◌, cond}
+use Rattle.std.proofs.Common.{length, get_or, take, drop, eqb, arith, refl, sym, ap, ◌∙◌, subst}
 use Rattle.std.specs.Prelude.{not, Contains, AllPairs}
 use Rattle.std.proofs.lemmas.Bool.{cases_Bool, cases_lt, ne_eqb, eq-eqb, eqb-true, and_parts, and_cases, both_ways, false_from_ne_true, not-true, not-false}
 use Rattle.std.proofs.lemmas.List.{length_push, length-take, length-drop, get_or-take, get_or-drop}
@@ -18,7 +19,9 @@ use Rattle.wait_index.proofs.Closing.{taken-open, untouched-from_open, taken-tou
 
 -- A node is unmarked, and its offer edges are taken back.
 
-module _ (net : Net) (node : ℕ) (now : Tally) (visits : ℕ) (between new : Tally) (u : UnmarksNode node (record now { visits = visits }) between) (w : WithdrawsAll net node between new) (m : is_marked_in now node ≡ true) where
+module _ (net : Net) (node : ℕ) (now : Tally) (visits : ℕ) (between new : Tally)
+    (u : UnmarksNode node (record now { visits = visits }) between) (w : WithdrawsAll net node between new)
+    (m : is_marked_in now node ≡ true) where
   held : (n : ℕ) → is_marked_in new n ≡ (is_marked_in now n && not (eqb n node))
   held n = ap (λ ps. holds ps n) w.places ∙ u.held n
 
@@ -65,24 +68,31 @@ module _ (net : Net) (node : ℕ) (now : Tally) (visits : ℕ) (between new : Ta
       and_yes true = refl
       and_yes false = refl
 
-pub ListsFallen-step : (net : Net) (node : ℕ) (now : Tally) (visits : ℕ) (new : Tally) (fallen : List ℕ) → Falls net node (record now { visits = visits }) new → is_marked_in now node ≡ true → IsReached net node → ListsFallen net now fallen → ListsFallen net new (with_fallen net node fallen)
+pub ListsFallen-step : (net : Net) (node : ℕ) (now : Tally) (visits : ℕ) (new : Tally) (fallen : List ℕ)
+    → Falls net node (record now { visits = visits }) new → is_marked_in now node ≡ true → IsReached net node
+    → ListsFallen net now fallen → ListsFallen net new (with_fallen net node fallen)
 ListsFallen-step net node now visits new fallen falls m r h =
     elim falls [
       | inl a ↦
           subst (λ t. ListsFallen net t (with_fallen net node fallen)) (sym a.1)
           (subst (λ b. ListsFallen net (record now { visits = visits }) (cond b fallen (fallen ++ node ∷ []))) (sym a.0)
           (record { reached = h.reached; unmarked = h.unmarked; all = h.all; once = h.once }))
-      | inr a ↦ subst (λ b. ListsFallen net new (cond b fallen (fallen ++ node ∷ []))) (sym a.0) (fallen_node net node now visits a.1.0 new a.1.1 a.1.2 m fallen r h)
+      | inr a ↦ subst (λ b. ListsFallen net new (cond b fallen (fallen ++ node ∷ []))) (sym a.0)
+          (fallen_node net node now visits a.1.0 new a.1.1 a.1.2 m fallen r h)
     ]
 
 -- as many more fell as fewer are marked
-pub fallen-many : (net : Net) (node : ℕ) (now : Tally) (visits : ℕ) (new : Tally) (fallen : List ℕ) → Falls net node (record now { visits = visits }) new → is_marked_in now node ≡ true → IsListing now.marked now.places → IsListing new.marked new.places → length (with_fallen net node fallen) + length new.marked ≡ length fallen + length now.marked
+pub fallen-many : (net : Net) (node : ℕ) (now : Tally) (visits : ℕ) (new : Tally) (fallen : List ℕ)
+    → Falls net node (record now { visits = visits }) new → is_marked_in now node ≡ true
+    → IsListing now.marked now.places → IsListing new.marked new.places
+    → length (with_fallen net node fallen) + length new.marked ≡ length fallen + length now.marked
 fallen-many net node now visits new fallen falls m listing listing_new =
     elim falls [
       | inl a ↦
           omega (arith, ap (λ (t : Tally). length t.marked) a.1, ap (λ b. length (cond b fallen (fallen ++ node ∷ []))) a.0)
       | inr a ↦
-          omega (arith, one_less net node now visits a.1.0 new a.1.1 a.1.2 m listing listing_new, ap (λ b. length (cond b fallen (fallen ++ node ∷ []))) a.0, length_push fallen node)
+          omega (arith, one_less net node now visits a.1.0 new a.1.1 a.1.2 m listing listing_new,
+              ap (λ b. length (cond b fallen (fallen ++ node ∷ []))) a.0, length_push fallen node)
     ]
 
 pub ListsFallen-none : (net : Net) (t : Tally) → ((n : ℕ) → IsReached net n → is_marked_in t n ≡ true) → ListsFallen net t []
@@ -95,7 +105,9 @@ ListsFallen-none net t marked = record {
 
 -- When the fall is over, the list has what falls with the labels.
 
-module _ (net : Net) (t : Tally) (h : IsSettled net t) (queue : IsListing t.touched t.touched_places) (labels : (i : ℕ) → i < length net.offers → to_at net.offers i < length net.closed) (once : WaitsOnce net) (closing : List ℕ) (now : Tally) (f : HasFallen net closing now) (fallen : List ℕ) (listed : ListsFallen net now fallen) where
+module _ (net : Net) (t : Tally) (h : IsSettled net t) (queue : IsListing t.touched t.touched_places) (labels : (i : ℕ)
+    → i < length net.offers → to_at net.offers i < length net.closed) (once : WaitsOnce net) (closing : List ℕ)
+    (now : Tally) (f : HasFallen net closing now) (fallen : List ℕ) (listed : ListsFallen net now fallen) where
   falls-from_listed : (n : ℕ) → Contains fallen n → IsFallen net closing n
   falls-from_listed n c =
       let out = listed.unmarked n c in
@@ -129,7 +141,8 @@ module _ (net : Net) (t : Tally) (h : IsSettled net t) (queue : IsListing t.touc
 
   -- Those that are marked now are the first ones of those that are marked in the end.
 
-  module _ (kept : ℕ) (marked : List ℕ) (same : take kept marked ≡ now.marked) (apart : AllPairs ◌≢◌ marked) (before : (n : ℕ) → Contains marked n → IsReached net n) where
+  module _ (kept : ℕ) (marked : List ℕ) (same : take kept marked ≡ now.marked) (apart : AllPairs ◌≢◌ marked)
+      (before : (n : ℕ) → Contains marked n → IsReached net n) where
     marked-from_front : (n : ℕ) → Contains (take kept marked) n → is_marked_in now n ≡ true
     marked-from_front n c = holds-from_contains now.marked now.places f.listing n (subst (λ xs. Contains xs n) same c)
 

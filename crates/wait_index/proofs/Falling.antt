@@ -1,5 +1,6 @@
 -- How what a label alone reaches is taken back
-use Rattle.std.proofs.Common.{◌≡◌, ◌≢◌, ℕ, ◌+◌, ◌-◌, ◌<◌, ◌≤◌, ◌⊎◌, inl, inr, Bool, true, false, ◌&&◌, List, length, get_or, set, take, eqb, arith, refl, sym, ap, ◌∙◌, subst}
+use Rattle.std.proofs.Common.{◌≡◌, ◌≢◌, ℕ, ◌+◌, ◌-◌, ◌<◌, ◌≤◌, ◌⊎◌, inl, inr, Bool, true, false, ◌&&◌, List, length}
+use Rattle.std.proofs.Common.{get_or, set, take, eqb, arith, refl, sym, ap, ◌∙◌, subst}
 use Rattle.std.specs.Prelude.{not}
 use Rattle.std.proofs.lemmas.Bool.{cases_eq, cases_lt, ne_eqb, eq-eqb, eqb-true, and_parts, and_from, and_cases, both_ways, not-true, not-false}
 use Rattle.std.proofs.lemmas.List.{length-set, length-take, get_or-take, get_or_past}
@@ -21,9 +22,12 @@ abbrev pub WaitsOnce : Net → Type 0
 WaitsOnce net = (i j : ℕ) → i < length net.waits → j < length net.waits → to_at net.waits i ≡ to_at net.waits j → i ≡ j
 
 -- a marked node can fall
-pub CanFall-marked : (net : Net) (closing : List ℕ) (t : Tally) (index label link node : ℕ) → IsFalling net closing t index label link → is_marked_in t node ≡ true → (visits : ℕ) → t.visits ≡ visits + 1 → 0 < count_below (λ i. eqb (from_at net.waits i) label) link → CanFall net (record t { visits = visits }) node
+pub CanFall-marked : (net : Net) (closing : List ℕ) (t : Tally) (index label link node : ℕ)
+    → IsFalling net closing t index label link → is_marked_in t node ≡ true → (visits : ℕ) → t.visits ≡ visits + 1
+    → 0 < count_below (λ i. eqb (from_at net.waits i) label) link → CanFall net (record t { visits = visits }) node
 CanFall-marked net closing t index label link node h m visits e some =
-    let same : (i : ℕ) → eqb (from_at net.offers i) node ≡ true → is_marked_in t (from_at net.offers i) ≡ true = λ i a. ap (is_marked_in t) (eqb-true (from_at net.offers i) node a) ∙ m in
+    let same : (i : ℕ) → eqb (from_at net.offers i) node ≡ true → is_marked_in t (from_at net.offers i) ≡ true =
+        λ i a. ap (is_marked_in t) (eqb-true (from_at net.offers i) node a) ∙ m in
     record {
       sizes = record { places = h.sizes.places; support = h.sizes.support; opened = h.sizes.opened; touched = h.sizes.touched };
       visits = omega (
@@ -36,7 +40,8 @@ CanFall-marked net closing t index label link node h m visits e some =
       support = λ l a. omega (
         arith,
         h.counted.support l a,
-        count_below-mono (λ i. eqb (from_at net.offers i) node && eqb (to_at net.offers i) l) (λ i. is_marked_in t (from_at net.offers i) && eqb (to_at net.offers i) l) (length net.offers)
+        count_below-mono (λ i. eqb (from_at net.offers i) node && eqb (to_at net.offers i) l)
+            (λ i. is_marked_in t (from_at net.offers i) && eqb (to_at net.offers i) l) (length net.offers)
             (λ i b c.
             let parts = and_parts (eqb (from_at net.offers i) node) (eqb (to_at net.offers i) l) c in
             and_from (is_marked_in t (from_at net.offers i)) (eqb (to_at net.offers i) l) (same i parts.0) parts.1),
@@ -45,7 +50,9 @@ CanFall-marked net closing t index label link node h m visits e some =
 
 -- The next touched label is taken up: from now on it is not open.
 
-module _ (net : Net) (closing : List ℕ) (t : Tally) (index label link : ℕ) (h : IsFalling net closing t index 0 0) (l : index < length t.touched) (at : label ≡ get_or t.touched index 0) (within : label < length net.closed) (last : IsLast net.waits label (length net.waits) link) where
+module _ (net : Net) (closing : List ℕ) (t : Tally) (index label link : ℕ) (h : IsFalling net closing t index 0 0)
+    (l : index < length t.touched) (at : label ≡ get_or t.touched index 0) (within : label < length net.closed)
+    (last : IsLast net.waits label (length net.waits) link) where
   shut_label : Tally
   shut_label = record t { opened = set t.opened label false }
 
@@ -69,11 +76,18 @@ module _ (net : Net) (closing : List ℕ) (t : Tally) (index label link : ℕ) (
         | inr s ↦ (sym (shut_other k s) ∙ e, s)
       ]
 
-  fewer_open : count_below (λ i. is_open_in t (from_at net.waits i)) (length net.waits) ≡ count_below (λ i. get_or (set t.opened label false) (from_at net.waits i) false) (length net.waits) + count_below (λ i. eqb (from_at net.waits i) label) (length net.waits)
+  fewer_open : count_below (λ i. is_open_in t (from_at net.waits i)) (length net.waits)
+      ≡ count_below (λ i. get_or (set t.opened label false) (from_at net.waits i) false) (length net.waits) +
+      count_below (λ i. eqb (from_at net.waits i) label) (length net.waits)
   fewer_open =
-      count_below-add (λ i. is_open_in t (from_at net.waits i)) (λ i. get_or (set t.opened label false) (from_at net.waits i) false) (λ i. eqb (from_at net.waits i) label) (length net.waits)
+      count_below-add (λ i. is_open_in t (from_at net.waits i))
+          (λ i. get_or (set t.opened label false) (from_at net.waits i) false) (λ i. eqb (from_at net.waits i) label)
+          (length net.waits)
       (λ i a. elim (cases_eq (from_at net.waits i) label) [
-        | inl s ↦ omega (arith, bit-true (is_open_in t (from_at net.waits i)) (ap (is_open_in t) s ∙ was_open), bit-false (get_or (set t.opened label false) (from_at net.waits i) false) (ap (λ x. get_or (set t.opened label false) x false) s ∙ shut_here), bit-true (eqb (from_at net.waits i) label) (eq-eqb (from_at net.waits i) label s))
+        | inl s ↦ omega (arith, bit-true (is_open_in t (from_at net.waits i)) (ap (is_open_in t) s ∙ was_open),
+            bit-false (get_or (set t.opened label false) (from_at net.waits i) false)
+            (ap (λ x. get_or (set t.opened label false) x false) s ∙ shut_here),
+            bit-true (eqb (from_at net.waits i) label) (eq-eqb (from_at net.waits i) label s))
         | inr s ↦ omega (arith, ap bit (shut_other (from_at net.waits i) s), bit-false (eqb (from_at net.waits i) label) (ne_eqb (from_at net.waits i) label s))
       ])
 
@@ -142,7 +156,9 @@ module _ (net : Net) (closing : List ℕ) (t : Tally) (index label link : ℕ) (
               ]
         ];
     todo = λ k a b.
-        let apart : get_or t.touched k 0 ≢ label = λ e. omega (arith, a, ap (λ x. get_or t.touched_places x 0) (e ∙ at), h.queue.listed k b, h.queue.listed index l) in
+        let apart : get_or t.touched k 0 ≢ label =
+            λ e. omega (arith, a, ap (λ x. get_or t.touched_places x 0) (e ∙ at), h.queue.listed k b,
+            h.queue.listed index l) in
         shut_other (get_or t.touched k 0) apart ∙ h.todo k (omega (arith, a)) b;
   }
 
@@ -184,7 +200,9 @@ pub record TakesBackFrom (net : Net) (closing : List ℕ) (index label link : �
 
 -- One wait edge is taken back.
 
-module _ (net : Net) (once : WaitsOnce net) (closing : List ℕ) (index label edge link next : ℕ) (old now : Tally) (h : TakesBackFrom net closing index label link old now) (e : link ≡ edge + 1) (last : IsLast net.waits label edge next) where
+module _ (net : Net) (once : WaitsOnce net) (closing : List ℕ) (index label edge link next : ℕ) (old now : Tally)
+    (h : TakesBackFrom net closing index label link old now) (e : link ≡ edge + 1)
+    (last : IsLast net.waits label edge next) where
   edge_within : edge < length net.waits
   edge_within = omega (arith, h.at.within, e)
 
@@ -223,7 +241,8 @@ module _ (net : Net) (once : WaitsOnce net) (closing : List ℕ) (index label ed
   visits_some = omega (arith, h.falling.counted.visits, one_less)
 
   pub node_can : CanFall net (record now { visits = now.visits - 1 }) (to_at net.waits edge)
-  node_can = CanFall-marked net closing now (index + 1) label link (to_at net.waits edge) h.falling node_marked (now.visits - 1) visits_some (omega (arith, one_less))
+  node_can = CanFall-marked net closing now (index + 1) label link (to_at net.waits edge) h.falling node_marked
+      (now.visits - 1) visits_some (omega (arith, one_less))
 
   -- a root stays
   falling_root : is_root net (to_at net.waits edge) ≡ true → IsFalling net closing (record now { visits = now.visits - 1 }) (index + 1) label next
@@ -260,7 +279,10 @@ module _ (net : Net) (once : WaitsOnce net) (closing : List ℕ) (index label ed
 
   -- another node is no longer marked, and its offer edges are taken back
 
-  module _ (not_root : is_root net (to_at net.waits edge) ≡ false) (between new : Tally) (u : UnmarksNode (to_at net.waits edge) (record now { visits = now.visits - 1 }) between) (w : WithdrawsAll net (to_at net.waits edge) between new) (listing : IsListing new.marked new.places) (queue : IsListing new.touched new.touched_places) where
+  module _ (not_root : is_root net (to_at net.waits edge) ≡ false) (between new : Tally)
+      (u : UnmarksNode (to_at net.waits edge) (record now { visits = now.visits - 1 }) between)
+      (w : WithdrawsAll net (to_at net.waits edge) between new) (listing : IsListing new.marked new.places)
+      (queue : IsListing new.touched new.touched_places) where
     held : (n : ℕ) → is_marked_in new n ≡ (is_marked_in now n && not (eqb n (to_at net.waits edge)))
     held n = ap (λ ps. holds ps n) w.places ∙ u.held n
 
@@ -286,7 +308,8 @@ module _ (net : Net) (once : WaitsOnce net) (closing : List ℕ) (index label ed
           | inl s ↦
               let test : eqb n (to_at net.waits edge) ≡ true = eq-eqb n (to_at net.waits edge) s in
               let out : is_marked_in new n ≡ false = held n ∙ ap (λ b. is_marked_in now n && not b) test ∙ and_no (is_marked_in now n) in
-              omega (arith, bit-true (is_marked_in now n) (ap (is_marked_in now) s ∙ node_marked), bit-false (is_marked_in new n) out, bit-true (eqb n (to_at net.waits edge)) test)
+              omega (arith, bit-true (is_marked_in now n) (ap (is_marked_in now) s ∙ node_marked),
+                  bit-false (is_marked_in new n) out, bit-true (eqb n (to_at net.waits edge)) test)
           | inr s ↦
               let test : eqb n (to_at net.waits edge) ≡ false = ne_eqb n (to_at net.waits edge) s in
               let same : is_marked_in new n ≡ is_marked_in now n = held n ∙ ap (λ b. is_marked_in now n && not b) test ∙ and_yes (is_marked_in now n) in
@@ -307,10 +330,13 @@ module _ (net : Net) (once : WaitsOnce net) (closing : List ℕ) (index label ed
     touched_kept : (l : ℕ) → is_touched_in now l ≡ true → is_touched_in new l ≡ true
     touched_kept l a = w.kept l (ap (λ ps. holds ps l) u.touched_places ∙ a)
 
-    touched_all : (i : ℕ) → i < length net.offers → from_at net.offers i ≡ to_at net.waits edge → is_open_in now (to_at net.offers i) ≡ true → is_touched_in new (to_at net.offers i) ≡ true
+    touched_all : (i : ℕ) → i < length net.offers → from_at net.offers i ≡ to_at net.waits edge
+        → is_open_in now (to_at net.offers i) ≡ true → is_touched_in new (to_at net.offers i) ≡ true
     touched_all i a b o = w.all i a b (ap (λ flags. get_or flags (to_at net.offers i) false) u.opened ∙ o)
 
-    touched_only : (l : ℕ) → is_touched_in new l ≡ true → (is_touched_in now l ≡ true) ⊎ ((is_open_in now l ≡ true) × ((i : ℕ) × IsEdge net.offers i (to_at net.waits edge) l))
+    touched_only : (l : ℕ) → is_touched_in new l ≡ true
+        → (is_touched_in now l ≡ true)
+        ⊎ ((is_open_in now l ≡ true) × ((i : ℕ) × IsEdge net.offers i (to_at net.waits edge) l))
     touched_only l a =
         elim (w.only l a) [
           | inl b ↦ inl (ap (λ ps. holds ps l) (sym u.touched_places) ∙ b)
@@ -336,7 +362,9 @@ module _ (net : Net) (once : WaitsOnce net) (closing : List ℕ) (index label ed
     new_near l a =
         elim (touched_only l a) [
           | inl b ↦ h.falling.near l b
-          | inr b ↦ beyond (h.falling.near label h.touched_label) (record { within = edge_within; from = owner; to = refl }) not_root b.1.1 (h.falling.open_not_closed l b.0)
+          | inr b ↦ beyond (h.falling.near label h.touched_label)
+              (record { within = edge_within; from = owner; to = refl }) not_root b.1.1
+              (h.falling.open_not_closed l b.0)
         ]
 
     new_todo : (k : ℕ) → index + 1 ≤ k → k < length new.touched → is_open_in new (get_or new.touched k 0) ≡ true
@@ -348,8 +376,11 @@ module _ (net : Net) (once : WaitsOnce net) (closing : List ℕ) (index label ed
               elim (touched_only (get_or new.touched k 0) (holds-from_placed new.touched_places (get_or new.touched k 0) (omega (arith, place)))) [
                 | inl d ↦
                     let was = placed-from_holds now.touched_places (get_or new.touched k 0) d in
-                    let kept = place_kept now.touched now.touched_places new.touched new.touched_places h.falling.queue queue touched_front (get_or new.touched k 0) was in
-                    let before = h.falling.queue.placed_within (get_or new.touched k 0) (get_or now.touched_places (get_or new.touched k 0) 0 - 1) (omega (arith, was)) in
+                    let kept = place_kept now.touched now.touched_places new.touched new.touched_places h.falling.queue
+                        queue touched_front (get_or new.touched k 0) was in
+                    let before =
+                        h.falling.queue.placed_within (get_or new.touched k 0)
+                        (get_or now.touched_places (get_or new.touched k 0) 0 - 1) (omega (arith, was)) in
                     absurd (omega (arith, place, kept, before, c))
                 | inr d ↦ open_same (get_or new.touched k 0) ∙ d.0
               ]
@@ -373,8 +404,13 @@ module _ (net : Net) (once : WaitsOnce net) (closing : List ℕ) (index label ed
                   arith,
                   support_is l a,
                   f.counted.support l a,
-                  count_below-add (λ i. is_marked_in now (from_at net.offers i) && eqb (to_at net.offers i) l) (λ i. is_marked_in new (from_at net.offers i) && eqb (to_at net.offers i) l) (λ i. eqb (from_at net.offers i) (to_at net.waits edge) && eqb (to_at net.offers i) l) (length net.offers)
-                      (λ i b. bit-and-add (is_marked_in now (from_at net.offers i)) (is_marked_in new (from_at net.offers i)) (eqb (from_at net.offers i) (to_at net.waits edge)) (eqb (to_at net.offers i) l) (held_bit (from_at net.offers i))),
+                  count_below-add (λ i. is_marked_in now (from_at net.offers i) && eqb (to_at net.offers i) l)
+                      (λ i. is_marked_in new (from_at net.offers i) && eqb (to_at net.offers i) l)
+                      (λ i. eqb (from_at net.offers i) (to_at net.waits edge) && eqb (to_at net.offers i) l)
+                      (length net.offers)
+                      (λ i b. bit-and-add (is_marked_in now (from_at net.offers i))
+                          (is_marked_in new (from_at net.offers i)) (eqb (from_at net.offers i) (to_at net.waits edge))
+                          (eqb (to_at net.offers i) l) (held_bit (from_at net.offers i))),
                 );
             visits =
                 omega (
@@ -383,8 +419,13 @@ module _ (net : Net) (once : WaitsOnce net) (closing : List ℕ) (index label ed
                   u.visits,
                   f.counted.visits,
                   one_less,
-                  count_below-add (λ i. is_marked_in now (from_at net.offers i)) (λ i. is_marked_in new (from_at net.offers i)) (λ i. eqb (from_at net.offers i) (to_at net.waits edge)) (length net.offers) (λ i b. held_bit (from_at net.offers i)),
-                  count_below-same (λ i. is_open_in new (from_at net.waits i)) (λ i. is_open_in now (from_at net.waits i)) (length net.waits) (λ i b. open_same (from_at net.waits i)),
+                  count_below-add (λ i. is_marked_in now (from_at net.offers i))
+                      (λ i. is_marked_in new (from_at net.offers i))
+                      (λ i. eqb (from_at net.offers i) (to_at net.waits edge)) (length net.offers)
+                      (λ i b. held_bit (from_at net.offers i)),
+                  count_below-same (λ i. is_open_in new (from_at net.waits i))
+                      (λ i. is_open_in now (from_at net.waits i)) (length net.waits)
+                      (λ i b. open_same (from_at net.waits i)),
                 );
           };
           sound = λ n a. f.sound n (held_parts n a).0;
@@ -399,8 +440,12 @@ module _ (net : Net) (once : WaitsOnce net) (closing : List ℕ) (index label ed
                     inr (a.0, record { within = s.within; by = elim s.by [ inl o ↦ inl (open_same (from_at net.waits a.0) ∙ o) | inr o ↦ inr o ] }, a.2)
               ];
           released = λ i a.
-              let was : StillFollowed net now label next i = record { within = a.within; by = elim a.by [ inl o ↦ inl (sym (open_same (from_at net.waits i)) ∙ o) | inr o ↦ inr o ] } in
-              held_from (to_at net.waits i) (f.released i (wider i was)) (λ s. no_longer (subst (λ k. StillFollowed net now label next k) (once i edge a.within edge_within s) was));
+              let was : StillFollowed net now label next i =
+                  record { within = a.within; by =
+                  elim a.by [ inl o ↦ inl (sym (open_same (from_at net.waits i)) ∙ o) | inr o ↦ inr o ] } in
+              held_from (to_at net.waits i) (f.released i (wider i was))
+                  (λ s. no_longer (subst (λ k. StillFollowed net now label next k) (once i edge a.within edge_within s)
+                  was));
           fallen = λ n i r m a b o.
               let was_open = sym (open_same (to_at net.offers i)) ∙ o in
               elim (fell_cases n m) [
@@ -414,10 +459,14 @@ module _ (net : Net) (once : WaitsOnce net) (closing : List ℕ) (index label ed
                 | inl a ↦
                     elim (cases_lt 0 (offers_between net (to_at net.waits edge) l)) [
                       | inl b ↦
-                          let i = count_below-some (λ k. eqb (from_at net.offers k) (to_at net.waits edge) && eqb (to_at net.offers k) l) (length net.offers) b in
+                          let i = count_below-some
+                              (λ k. eqb (from_at net.offers k) (to_at net.waits edge) && eqb (to_at net.offers k) l)
+                              (length net.offers) b in
                           let parts = and_parts (eqb (from_at net.offers i.0) (to_at net.waits edge)) (eqb (to_at net.offers i.0) l) i.2 in
                           let there : to_at net.offers i.0 ≡ l = eqb-true (to_at net.offers i.0) l parts.1 in
-                          inr (ap (is_touched_in new) (sym there) ∙ touched_all i.0 i.1 (eqb-true (from_at net.offers i.0) (to_at net.waits edge) parts.0) (ap (is_open_in now) there ∙ was_open))
+                          inr (ap (is_touched_in new) (sym there)
+                              ∙ touched_all i.0 i.1 (eqb-true (from_at net.offers i.0) (to_at net.waits edge) parts.0)
+                              (ap (is_open_in now) there ∙ was_open))
                       | inr b ↦ inl (omega (arith, a, b, support_is l (open_within l was_open)))
                     ]
                 | inr a ↦ inr (touched_kept l a)
@@ -454,7 +503,9 @@ module _ (net : Net) (once : WaitsOnce net) (closing : List ℕ) (index label ed
               | inr a ↦ absurd (both_ways (is_open_in now l) (get_or_past now.opened l false a) o)
             ]
 
-  pub TakesBackFrom-step : (new : Tally) → Falls net (to_at net.waits edge) (record now { visits = now.visits - 1 }) new → IsListing new.marked new.places → IsListing new.touched new.touched_places → TakesBackFrom net closing index label next old new
+  pub TakesBackFrom-step : (new : Tally) → Falls net (to_at net.waits edge) (record now { visits = now.visits - 1 }) new
+      → IsListing new.marked new.places → IsListing new.touched new.touched_places
+      → TakesBackFrom net closing index label next old new
   TakesBackFrom-step new f listing queue =
       let at = IsLink-last net.waits label edge next (omega (arith, edge_within)) last in
       elim f [

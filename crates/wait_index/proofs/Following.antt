@@ -1,5 +1,6 @@
 -- How edges are followed, one after another
-use Rattle.std.proofs.Common.{◌≡◌, ◌≢◌, ℕ, ◌+◌, ◌-◌, ◌<◌, ◌≤◌, ◌⊎◌, inl, inr, Bool, true, false, ◌&&◌, List, length, get_or, set, take, eqb, ltb, leb, arith, refl, sym, ap, ◌∙◌, subst}
+use Rattle.std.proofs.Common.{◌≡◌, ◌≢◌, ℕ, ◌+◌, ◌-◌, ◌<◌, ◌≤◌, ◌⊎◌, inl, inr, Bool, true, false, ◌&&◌, List, length}
+use Rattle.std.proofs.Common.{get_or, set, take, eqb, ltb, leb, arith, refl, sym, ap, ◌∙◌, subst}
 use Rattle.std.proofs.lemmas.Bool.{cases_eq, cases_lt, ne_eqb, eq-eqb, eqb-true, and_left, and_from, and_parts, lt-ltb, le-ltb, le-leb, lt-leb, both_ways}
 use Rattle.std.proofs.lemmas.List.{length-take, take_all, length-set, get_or-set_same, get_or-set_other, get_or-take}
 use Rattle.wait_index.specs.Inside.Count.{bit, count_below}
@@ -16,7 +17,8 @@ use Rattle.wait_index.proofs.Spread.{front-trans}
 
 -- Where marks stay at the front, nodes keep their places.
 
-module _ (items places newer_items newer_places : List ℕ) (a : IsListing items places) (b : IsListing newer_items newer_places) (front : take (length items) newer_items ≡ items) where
+module _ (items places newer_items newer_places : List ℕ) (a : IsListing items places)
+    (b : IsListing newer_items newer_places) (front : take (length items) newer_items ≡ items) where
   longer : length items ≤ length newer_items
   longer = omega (arith, length-take (length items) newer_items, ap length front)
 
@@ -40,21 +42,28 @@ module _ (items places newer_items newer_places : List ℕ) (a : IsListing items
             let at : get_or newer_places n 0 ≡ (get_or newer_places n 0 - 1) + 1 = omega (arith, z) in
             elim (cases_lt (get_or newer_places n 0 - 1) (length items)) [
               | inl l ↦
-                  let item : get_or items (get_or newer_places n 0 - 1) 0 ≡ n = sym (item_kept (get_or newer_places n 0 - 1) l) ∙ b.placed n (get_or newer_places n 0 - 1) at in
+                  let item : get_or items (get_or newer_places n 0 - 1) 0 ≡ n =
+                      sym (item_kept (get_or newer_places n 0 - 1) l) ∙ b.placed n (get_or newer_places n 0 - 1) at in
                   absurd (omega (arith, e, ap (λ k. get_or places k 0) item, a.listed (get_or newer_places n 0 - 1) l))
               | inr l ↦ inr (omega (arith, at, l))
             ]
       ]
 
 -- the first marked nodes stay the first
-pub before_kept : (old new : Tally) (cursor : ℕ) → IsListing old.marked old.places → IsListing new.marked new.places → take (length old.marked) new.marked ≡ old.marked → cursor ≤ length old.marked → (n : ℕ) → is_before new cursor n ≡ is_before old cursor n
+pub before_kept : (old new : Tally) (cursor : ℕ) → IsListing old.marked old.places → IsListing new.marked new.places
+    → take (length old.marked) new.marked ≡ old.marked → cursor ≤ length old.marked → (n : ℕ)
+    → is_before new cursor n ≡ is_before old cursor n
 before_kept old new cursor a b front l n =
     elim (cases_eq (get_or old.places n 0) 0) [
       | inl z ↦
-          let was : is_before old cursor n ≡ false = and_left (ltb 0 (get_or old.places n 0)) (leb (get_or old.places n 0) cursor) (le-ltb 0 (get_or old.places n 0) (omega (arith, z))) in
+          let was : is_before old cursor n ≡ false =
+              and_left (ltb 0 (get_or old.places n 0)) (leb (get_or old.places n 0) cursor)
+              (le-ltb 0 (get_or old.places n 0) (omega (arith, z))) in
           elim (place_later old.marked old.places new.marked new.places a b front n z) [
-            | inl w ↦ and_left (ltb 0 (get_or new.places n 0)) (leb (get_or new.places n 0) cursor) (le-ltb 0 (get_or new.places n 0) (omega (arith, w))) ∙ sym was
-            | inr w ↦ and_no (ltb 0 (get_or new.places n 0)) (leb (get_or new.places n 0) cursor) (lt-leb (get_or new.places n 0) cursor (omega (arith, w, l))) ∙ sym was
+            | inl w ↦ and_left (ltb 0 (get_or new.places n 0)) (leb (get_or new.places n 0) cursor)
+                (le-ltb 0 (get_or new.places n 0) (omega (arith, w))) ∙ sym was
+            | inr w ↦ and_no (ltb 0 (get_or new.places n 0)) (leb (get_or new.places n 0) cursor)
+                (lt-leb (get_or new.places n 0) cursor (omega (arith, w, l))) ∙ sym was
           ]
       | inr z ↦ ap (λ p. ltb 0 p && leb p cursor) (place_kept old.marked old.places new.marked new.places a b front n (omega (arith, z)))
     ]
@@ -72,7 +81,8 @@ flag-other flags l k v h = get_or-set_other flags l k v false h
 
 -- A label is opened.
 
-module _ (net : Net) (label : ℕ) (t new : Tally) (within : label < length net.closed) (h : IsSteady net t) (listing : IsListing new.marked new.places) (o : Opens net label t new) where
+module _ (net : Net) (label : ℕ) (t new : Tally) (within : label < length net.closed) (h : IsSteady net t)
+    (listing : IsListing new.marked new.places) (o : Opens net label t new) where
   opened_is : new.opened ≡ set t.opened label true
   opened_is = o.releases.opened
 
@@ -121,11 +131,15 @@ module _ (net : Net) (label : ℕ) (t new : Tally) (within : label < length net.
         ];
   }
 
-  more_open : count_below (λ i. is_open_in new (from_at net.waits i)) (length net.waits) ≡ count_below (λ i. is_open_in t (from_at net.waits i)) (length net.waits) + waits_of net label
+  more_open : count_below (λ i. is_open_in new (from_at net.waits i)) (length net.waits)
+      ≡ count_below (λ i. is_open_in t (from_at net.waits i)) (length net.waits) + waits_of net label
   more_open =
-      count_below-add (λ i. is_open_in new (from_at net.waits i)) (λ i. is_open_in t (from_at net.waits i)) (λ i. eqb (from_at net.waits i) label) (length net.waits)
+      count_below-add (λ i. is_open_in new (from_at net.waits i)) (λ i. is_open_in t (from_at net.waits i))
+          (λ i. eqb (from_at net.waits i) label) (length net.waits)
       (λ i l. elim (cases_eq (from_at net.waits i) label) [
-        | inl s ↦ omega (arith, bit-true (is_open_in new (from_at net.waits i)) (ap (is_open_in new) s ∙ open_here), bit-false (is_open_in t (from_at net.waits i)) (ap (is_open_in t) s ∙ o.shut), bit-true (eqb (from_at net.waits i) label) (eq-eqb (from_at net.waits i) label s))
+        | inl s ↦ omega (arith, bit-true (is_open_in new (from_at net.waits i)) (ap (is_open_in new) s ∙ open_here),
+            bit-false (is_open_in t (from_at net.waits i)) (ap (is_open_in t) s ∙ o.shut),
+            bit-true (eqb (from_at net.waits i) label) (eq-eqb (from_at net.waits i) label s))
         | inr s ↦ omega (arith, ap bit (open_other (from_at net.waits i) s), bit-false (eqb (from_at net.waits i) label) (ne_eqb (from_at net.waits i) label s))
       ])
 
@@ -138,7 +152,8 @@ module _ (net : Net) (label : ℕ) (t new : Tally) (within : label < length net.
               arith,
               support_is k,
               c.support k a,
-              count_below-same (λ i. is_before new cursor (from_at net.offers i) && eqb (to_at net.offers i) k) (λ i. is_before t cursor (from_at net.offers i) && eqb (to_at net.offers i) k) (length net.offers)
+              count_below-same (λ i. is_before new cursor (from_at net.offers i) && eqb (to_at net.offers i) k)
+                  (λ i. is_before t cursor (from_at net.offers i) && eqb (to_at net.offers i) k) (length net.offers)
                   (λ i b. ap (λ x. x && eqb (to_at net.offers i) k) (before (from_at net.offers i))),
             );
         visits =
@@ -153,7 +168,8 @@ module _ (net : Net) (label : ℕ) (t new : Tally) (within : label < length net.
       }
 
   -- no label but this one is less open than it was
-  pub Opens-opened : ((k : ℕ) → k < length net.closed → k ≢ label → 0 < support_in t k → is_closed net k ≡ false → (is_open_in t k ≡ true) ⊎ (is_touched_in t k ≡ true)) → IsOpened net new
+  pub Opens-opened : ((k : ℕ) → k < length net.closed → k ≢ label → 0 < support_in t k → is_closed net k ≡ false
+      → (is_open_in t k ≡ true) ⊎ (is_touched_in t k ≡ true)) → IsOpened net new
   Opens-opened others = record {
     at = λ k l s a.
         elim (cases_eq k label) [
@@ -167,7 +183,9 @@ module _ (net : Net) (label : ℕ) (t new : Tally) (within : label < length net.
   }
 
 -- a label that is left as it is needs no opening
-pub Leaves-opened : (net : Net) (label : ℕ) (t new : Tally) → Leaves net label t new → ((k : ℕ) → k < length net.closed → k ≢ label → 0 < support_in t k → is_closed net k ≡ false → (is_open_in t k ≡ true) ⊎ (is_touched_in t k ≡ true)) → IsOpened net t
+pub Leaves-opened : (net : Net) (label : ℕ) (t new : Tally) → Leaves net label t new
+    → ((k : ℕ) → k < length net.closed → k ≢ label → 0 < support_in t k → is_closed net k ≡ false
+    → (is_open_in t k ≡ true) ⊎ (is_touched_in t k ≡ true)) → IsOpened net t
 Leaves-opened net label t new o others = record {
   at = λ k l s a.
       elim (cases_eq k label) [
@@ -184,7 +202,8 @@ Leaves-opened net label t new o others = record {
 }
 
 -- a label is settled, and all holds that held
-pub Settles-follows : (net : Net) (label cursor node link : ℕ) (t new : Tally) → label < length net.closed → cursor ≤ length t.marked → IsSteady net t → IsCounted net t cursor node link → IsListing new.marked new.places
+pub Settles-follows : (net : Net) (label cursor node link : ℕ) (t new : Tally) → label < length net.closed
+    → cursor ≤ length t.marked → IsSteady net t → IsCounted net t cursor node link → IsListing new.marked new.places
     → (0 < support_in t label → (i : ℕ) × (m : ℕ) × IsEdge net.offers i m label × (is_marked_in t m ≡ true))
     → ((k : ℕ) → k < length net.closed → k ≢ label → 0 < support_in t k → is_closed net k ≡ false → (is_open_in t k ≡ true) ⊎ (is_touched_in t k ≡ true))
     → SettlesLabel net label t new → Follows net new cursor node link
@@ -216,13 +235,15 @@ pub Settles-spreads : (net : Net) (label : ℕ) (t new : Tally) → SettlesLabel
 Settles-spreads net label t new s =
     elim s [
       | inl o ↦ subst (λ x. Spreads t x) (sym o.same) (Spreads-refl t)
-      | inr o ↦ record { front = o.releases.front; touched = o.releases.touched; touched_places = o.releases.touched_places; visits = omega (arith, o.releases.visits) }
+      | inr o ↦ record { front = o.releases.front; touched = o.releases.touched; touched_places =
+          o.releases.touched_places; visits = omega (arith, o.releases.visits) }
     ]
 
 pub Spreads-longer : (a b : Tally) → Spreads a b → length a.marked ≤ length b.marked
 Spreads-longer a b h = omega (arith, length-take (length a.marked) b.marked, ap length h.front)
 
-pub Spreads-held : (a b : Tally) → IsListing a.marked a.places → IsListing b.marked b.places → Spreads a b → (n : ℕ) → is_marked_in a n ≡ true → is_marked_in b n ≡ true
+pub Spreads-held : (a b : Tally) → IsListing a.marked a.places → IsListing b.marked b.places → Spreads a b → (n : ℕ)
+    → is_marked_in a n ≡ true → is_marked_in b n ≡ true
 Spreads-held a b h k s n e =
     let place = placed-from_holds a.places n e in
     holds-from_placed b.places n (omega (arith, place, place_kept a.marked a.places b.marked b.places h k s.front n place))
@@ -241,7 +262,9 @@ bit-and-add a b c false e = omega (arith, ap bit (and_false a), ap bit (and_fals
     and_false false = refl
 
 -- the node at the cursor, and no other, comes to those before it
-pub before_more : (t : Tally) (cursor node : ℕ) → IsListing t.marked t.places → cursor < length t.marked → node ≡ get_or t.marked cursor 0 → (n : ℕ) → bit (is_before t (cursor + 1) n) ≡ bit (is_before t cursor n) + bit (eqb n node)
+pub before_more : (t : Tally) (cursor node : ℕ) → IsListing t.marked t.places → cursor < length t.marked
+    → node ≡ get_or t.marked cursor 0 → (n : ℕ)
+    → bit (is_before t (cursor + 1) n) ≡ bit (is_before t cursor n) + bit (eqb n node)
 before_more t cursor node h l e n =
     let place : get_or t.places node 0 ≡ cursor + 1 = ap (λ k. get_or t.places k 0) e ∙ h.listed cursor l in
     elim (cases_eq n node) [
@@ -249,8 +272,13 @@ before_more t cursor node h l e n =
           let here : get_or t.places n 0 ≡ cursor + 1 = ap (λ k. get_or t.places k 0) s ∙ place in
           omega (
             arith,
-            bit-true (is_before t (cursor + 1) n) (and_from (ltb 0 (get_or t.places n 0)) (leb (get_or t.places n 0) (cursor + 1)) (lt-ltb 0 (get_or t.places n 0) (omega (arith, here))) (le-leb (get_or t.places n 0) (cursor + 1) (omega (arith, here)))),
-            bit-false (is_before t cursor n) (and_no (ltb 0 (get_or t.places n 0)) (leb (get_or t.places n 0) cursor) (lt-leb (get_or t.places n 0) cursor (omega (arith, here)))),
+            bit-true (is_before t (cursor + 1) n)
+                (and_from (ltb 0 (get_or t.places n 0)) (leb (get_or t.places n 0) (cursor + 1))
+                (lt-ltb 0 (get_or t.places n 0) (omega (arith, here)))
+                (le-leb (get_or t.places n 0) (cursor + 1) (omega (arith, here)))),
+            bit-false (is_before t cursor n)
+                (and_no (ltb 0 (get_or t.places n 0)) (leb (get_or t.places n 0) cursor)
+                (lt-leb (get_or t.places n 0) cursor (omega (arith, here)))),
             bit-true (eqb n node) (eq-eqb n node s),
           )
       | inr s ↦
@@ -276,7 +304,9 @@ pub record OffersFrom (net : Net) (cursor node link : ℕ) (old now : Tally) : T
   pub held : is_marked_in now node ≡ true
   pub spreads : Spreads old now
 
-pub OffersFrom-start : (net : Net) (cursor node link : ℕ) (t : Tally) → Follows net t cursor 0 0 → cursor < length t.marked → node ≡ get_or t.marked cursor 0 → IsLast net.offers node (length net.offers) link → OffersFrom net cursor node link t t
+pub OffersFrom-start : (net : Net) (cursor node link : ℕ) (t : Tally) → Follows net t cursor 0 0
+    → cursor < length t.marked → node ≡ get_or t.marked cursor 0 → IsLast net.offers node (length net.offers) link
+    → OffersFrom net cursor node link t t
 OffersFrom-start net cursor node link t h l e last =
     let more = before_more t cursor node h.steady.listing l e in
     record {
@@ -288,15 +318,21 @@ OffersFrom-start net cursor node link t h l e last =
                 arith,
                 h.counted.support k a,
                 count_owned_and net.offers node (λ i. eqb (to_at net.offers i) k) (length net.offers) link last,
-                count_below-add (λ i. is_before t (cursor + 1) (from_at net.offers i) && eqb (to_at net.offers i) k) (λ i. is_before t cursor (from_at net.offers i) && eqb (to_at net.offers i) k) (λ i. eqb (from_at net.offers i) node && eqb (to_at net.offers i) k) (length net.offers)
-                    (λ i b. bit-and-add (is_before t (cursor + 1) (from_at net.offers i)) (is_before t cursor (from_at net.offers i)) (eqb (from_at net.offers i) node) (eqb (to_at net.offers i) k) (more (from_at net.offers i))),
+                count_below-add (λ i. is_before t (cursor + 1) (from_at net.offers i) && eqb (to_at net.offers i) k)
+                    (λ i. is_before t cursor (from_at net.offers i) && eqb (to_at net.offers i) k)
+                    (λ i. eqb (from_at net.offers i) node && eqb (to_at net.offers i) k) (length net.offers)
+                    (λ i b. bit-and-add (is_before t (cursor + 1) (from_at net.offers i))
+                        (is_before t cursor (from_at net.offers i)) (eqb (from_at net.offers i) node)
+                        (eqb (to_at net.offers i) k) (more (from_at net.offers i))),
               );
           visits =
               omega (
                 arith,
                 h.counted.visits,
                 count_owned net.offers node (length net.offers) link last,
-                count_below-add (λ i. is_before t (cursor + 1) (from_at net.offers i)) (λ i. is_before t cursor (from_at net.offers i)) (λ i. eqb (from_at net.offers i) node) (length net.offers)
+                count_below-add (λ i. is_before t (cursor + 1) (from_at net.offers i))
+                    (λ i. is_before t cursor (from_at net.offers i)) (λ i. eqb (from_at net.offers i) node)
+                    (length net.offers)
                     (λ i b. more (from_at net.offers i)),
               );
         };
@@ -321,7 +357,9 @@ module _ (net : Net) (t : Tally) (label : ℕ) (within : label < length net.clos
 
   pub with_support-steady : IsSteady net (with_support t label)
   with_support-steady = record {
-    sizes = record { places = h.sizes.places; support = length-set t.support label (support_in t label + 1) ∙ h.sizes.support; opened = h.sizes.opened; touched = h.sizes.touched };
+    sizes = record { places = h.sizes.places; support =
+        length-set t.support label (support_in t label + 1) ∙ h.sizes.support; opened = h.sizes.opened; touched =
+        h.sizes.touched };
     listing = h.listing;
     sound = h.sound;
     roots = h.roots;
@@ -334,7 +372,10 @@ module _ (net : Net) (t : Tally) (label : ℕ) (within : label < length net.clos
         ];
   }
 
-pub OffersFrom-step : (net : Net) (cursor node edge link next : ℕ) (old now new : Tally) → OffersFrom net cursor node link old now → link ≡ edge + 1 → to_at net.offers edge < length net.closed → IsLast net.offers node edge next → IsListing new.marked new.places → Supports net (to_at net.offers edge) now new → OffersFrom net cursor node next old new
+pub OffersFrom-step : (net : Net) (cursor node edge link next : ℕ) (old now new : Tally)
+    → OffersFrom net cursor node link old now → link ≡ edge + 1 → to_at net.offers edge < length net.closed
+    → IsLast net.offers node edge next → IsListing new.marked new.places → Supports net (to_at net.offers edge) now new
+    → OffersFrom net cursor node next old new
 OffersFrom-step net cursor node edge link next old now new h e within last listing s =
     let label = to_at net.offers edge in
     let there : edge < length net.offers = omega (arith, h.at.within) in
@@ -346,12 +387,18 @@ OffersFrom-step net cursor node edge link next old now new h e within last listi
           let step = count_owned_and-step net.offers node (λ i. eqb (to_at net.offers i) k) edge next owner last in
           let here = ap (count_below (λ i. eqb (from_at net.offers i) node && eqb (to_at net.offers i) k)) e in
           elim (cases_eq k (to_at net.offers edge)) [
-            | inl q ↦ omega (arith, c.support k a, step, here, bit-true (eqb (to_at net.offers edge) k) (eq-eqb (to_at net.offers edge) k (sym q)), ap (support_in (with_support now (to_at net.offers edge))) q, ap (support_in now) q, with_support-here net now (to_at net.offers edge) within h.follows.steady)
-            | inr q ↦ omega (arith, c.support k a, step, here, bit-false (eqb (to_at net.offers edge) k) (ne_eqb (to_at net.offers edge) k (λ r. q (sym r))), with_support-other net now (to_at net.offers edge) within h.follows.steady k q)
+            | inl q ↦ omega (arith, c.support k a, step, here,
+                bit-true (eqb (to_at net.offers edge) k) (eq-eqb (to_at net.offers edge) k (sym q)),
+                ap (support_in (with_support now (to_at net.offers edge))) q, ap (support_in now) q,
+                with_support-here net now (to_at net.offers edge) within h.follows.steady)
+            | inr q ↦ omega (arith, c.support k a, step, here,
+                bit-false (eqb (to_at net.offers edge) k) (ne_eqb (to_at net.offers edge) k (λ r. q (sym r))),
+                with_support-other net now (to_at net.offers edge) within h.follows.steady k q)
           ];
       visits = omega (arith, c.visits, count_owned-step net.offers node edge next owner last, ap (count_below (λ i. eqb (from_at net.offers i) node)) e);
     } in
-    let follows = Settles-follows net (to_at net.offers edge) (cursor + 1) node next (with_support now (to_at net.offers edge)) new within (omega (arith, h.within)) steady counted listing
+    let follows = Settles-follows net (to_at net.offers edge) (cursor + 1) node next
+        (with_support now (to_at net.offers edge)) new within (omega (arith, h.within)) steady counted listing
     (λ a. (edge, node, record { within = there; from = owner; to = refl }, h.held))
     (λ k a q b d. h.follows.opened.at k a (omega (arith, b, with_support-other net now (to_at net.offers edge) within h.follows.steady k q)) d)
     s
@@ -370,14 +417,18 @@ OffersFrom-step net cursor node edge link next old now new h e within last listi
 
 -- no edges of one node are left
 pub Follows-between : (net : Net) (cursor node : ℕ) (t : Tally) → Follows net t cursor node 0 → Follows net t cursor 0 0
-Follows-between net cursor node t h = record { steady = h.steady; counted = record { support = h.counted.support; visits = h.counted.visits }; opened = h.opened }
+Follows-between net cursor node t h =
+    record { steady = h.steady; counted = record { support = h.counted.support; visits = h.counted.visits }; opened =
+    h.opened }
 
 -- the counts do not pass the numbers of edges
 pub Follows-visits : (net : Net) (cursor node link : ℕ) (t : Tally) → Follows net t cursor node link → t.visits ≤ length net.offers + length net.waits
 Follows-visits net cursor node link t h =
-    omega (arith, h.counted.visits, count_below-le (λ i. is_before t cursor (from_at net.offers i)) (length net.offers), count_below-le (λ i. is_open_in t (from_at net.waits i)) (length net.waits))
+    omega (arith, h.counted.visits, count_below-le (λ i. is_before t cursor (from_at net.offers i)) (length net.offers),
+        count_below-le (λ i. is_open_in t (from_at net.waits i)) (length net.waits))
 
-pub Follows-support : (net : Net) (cursor node link : ℕ) (t : Tally) → Follows net t cursor node link → (l : ℕ) → l < length net.closed → support_in t l ≤ length net.offers
+pub Follows-support : (net : Net) (cursor node link : ℕ) (t : Tally) → Follows net t cursor node link → (l : ℕ)
+    → l < length net.closed → support_in t l ≤ length net.offers
 Follows-support net cursor node link t h l a =
     omega (arith, h.counted.support l a, count_below-le (λ i. is_before t cursor (from_at net.offers i) && eqb (to_at net.offers i) l) (length net.offers))
 
@@ -386,9 +437,11 @@ Follows-nodes net cursor node link t h =
     omega (arith, h.steady.listing.many, h.steady.sizes.places, count_below-le (λ n. holds t.places n) (length t.places))
 
 -- a label to which a followed edge leads is offered by a marked node
-pub Follows-offered : (net : Net) (cursor : ℕ) (t : Tally) → Follows net t cursor 0 0 → (l : ℕ) → l < length net.closed → 0 < support_in t l → (i : ℕ) × (m : ℕ) × IsEdge net.offers i m l × (is_marked_in t m ≡ true)
+pub Follows-offered : (net : Net) (cursor : ℕ) (t : Tally) → Follows net t cursor 0 0 → (l : ℕ) → l < length net.closed
+    → 0 < support_in t l → (i : ℕ) × (m : ℕ) × IsEdge net.offers i m l × (is_marked_in t m ≡ true)
 Follows-offered net cursor t h l a s =
-    let i = count_below-some (λ i. is_before t cursor (from_at net.offers i) && eqb (to_at net.offers i) l) (length net.offers) (omega (arith, s, h.counted.support l a)) in
+    let i = count_below-some (λ i. is_before t cursor (from_at net.offers i) && eqb (to_at net.offers i) l)
+        (length net.offers) (omega (arith, s, h.counted.support l a)) in
     let parts = and_parts (is_before t cursor (from_at net.offers i.0)) (eqb (to_at net.offers i.0) l) i.2 in
     let marked = and_parts (ltb 0 (get_or t.places (from_at net.offers i.0) 0)) (leb (get_or t.places (from_at net.offers i.0) 0) cursor) parts.0 in
     (i.0, from_at net.offers i.0, record { within = i.1; from = refl; to = eqb-true (to_at net.offers i.0) l parts.1 }, marked.0)
@@ -397,11 +450,14 @@ Follows-offered net cursor t h l a s =
 abbrev pub with_untouched : Tally → List ℕ → ℕ → Tally
 with_untouched t touched label = record t { touched = touched; touched_places = set t.touched_places label 0 }
 
-pub Restore-step : (net : Net) (cursor label : ℕ) (touched : List ℕ) (t new : Tally) → Follows net t cursor 0 0 → label < length net.closed → cursor ≤ length t.marked → IsListing new.marked new.places → SettlesLabel net label (with_untouched t touched label) new → Follows net new cursor 0 0
+pub Restore-step : (net : Net) (cursor label : ℕ) (touched : List ℕ) (t new : Tally) → Follows net t cursor 0 0
+    → label < length net.closed → cursor ≤ length t.marked → IsListing new.marked new.places
+    → SettlesLabel net label (with_untouched t touched label) new → Follows net new cursor 0 0
 Restore-step net cursor label touched t new h within l listing s =
     Settles-follows net label cursor 0 0 (with_untouched t touched label) new within l
     (record {
-      sizes = record { places = h.steady.sizes.places; support = h.steady.sizes.support; opened = h.steady.sizes.opened; touched = length-set t.touched_places label 0 ∙ h.steady.sizes.touched };
+      sizes = record { places = h.steady.sizes.places; support = h.steady.sizes.support; opened = h.steady.sizes.opened;
+          touched = length-set t.touched_places label 0 ∙ h.steady.sizes.touched };
       listing = h.steady.listing;
       sound = h.steady.sound;
       roots = h.steady.roots;

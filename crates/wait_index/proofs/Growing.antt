@@ -1,5 +1,6 @@
 -- How an index grows
-use Rattle.std.proofs.Common.{◌≡◌, ℕ, ◌+◌, ◌<◌, ◌⊎◌, inl, inr, Bool, true, false, ◌&&◌, List, [], ◌∷◌, ◌++◌, length, get_or, take, eqb, ltb, leb, arith, refl, sym, ap, ◌∙◌, subst}
+use Rattle.std.proofs.Common.{◌≡◌, ℕ, ◌+◌, ◌<◌, ◌⊎◌, inl, inr, Bool, true, false, ◌&&◌, List, [], ◌∷◌, ◌++◌, length}
+use Rattle.std.proofs.Common.{get_or, take, eqb, ltb, leb, arith, refl, sym, ap, ◌∙◌, subst}
 use Rattle.std.proofs.lemmas.Bool.{cases_Bool, cases_eq, cases_lt, ne_eqb, eq-eqb, eqb-true, or_cases, or_left, or_right, and_from, and_left, both_ways}
 use Rattle.std.proofs.lemmas.List.{length-set, length_push, get_or_append_left, get_or_push, get_or_past}
 use Rattle.wait_index.specs.Inside.Count.{bit, count_below}
@@ -12,7 +13,8 @@ use Rattle.wait_index.specs.Inside.Fall.{IsSettled}
 use Rattle.wait_index.proofs.Counts.{bit-true, bit-false, count_below-more, count_below-same, count_below-gap}
 use Rattle.wait_index.proofs.Links.{from_at-old, to_at-old, from_at-new, to_at-new, IsEdge-old, IsEdge-new}
 use Rattle.wait_index.proofs.Listings.{IsListing-grow}
-use Rattle.wait_index.proofs.Following.{flag-here, flag-other, before_kept, Follows-offered, Settles-follows, with_support, with_support-here, with_support-other, with_support-steady}
+use Rattle.wait_index.proofs.Following.{flag-here, flag-other, before_kept, Follows-offered, Settles-follows}
+use Rattle.wait_index.proofs.Following.{with_support, with_support-here, with_support-other, with_support-steady}
 use Rattle.wait_index.proofs.Closing.{before_all}
 
 -- a net with more reaches no less
@@ -43,7 +45,8 @@ module _ (net : Net) (node : ℕ) (l : node < length net.roots) where
     waits = λ i k n e. (i, record { within = e.within; from = e.from; to = e.to });
   }
 
-  pub Follows-root : (t new : Tally) → IsSettled net t → MarksNode node t new → IsListing new.marked new.places → Follows (with_root net node) new (length t.marked) 0 0
+  pub Follows-root : (t new : Tally) → IsSettled net t → MarksNode node t new → IsListing new.marked new.places
+      → Follows (with_root net node) new (length t.marked) 0 0
   Follows-root t new h m listing =
       let steady = h.follows.steady in
       let before = before_kept t new (length t.marked) steady.listing listing m.front (omega arith) in
@@ -79,7 +82,10 @@ module _ (net : Net) (node : ℕ) (l : node < length net.roots) where
                 arith,
                 support k,
                 h.follows.counted.support k a,
-                count_below-same (λ i. is_before new (length t.marked) (from_at net.offers i) && eqb (to_at net.offers i) k) (λ i. is_before t (length t.marked) (from_at net.offers i) && eqb (to_at net.offers i) k) (length net.offers)
+                count_below-same (λ i. is_before new (length t.marked) (from_at net.offers i) && eqb
+                    (to_at net.offers i) k)
+                    (λ i. is_before t (length t.marked) (from_at net.offers i) && eqb (to_at net.offers i) k)
+                    (length net.offers)
                     (λ i b. ap (λ x. x && eqb (to_at net.offers i) k) (before (from_at net.offers i))),
               );
           visits =
@@ -87,8 +93,11 @@ module _ (net : Net) (node : ℕ) (l : node < length net.roots) where
                 arith,
                 m.visits,
                 h.follows.counted.visits,
-                count_below-same (λ i. is_before new (length t.marked) (from_at net.offers i)) (λ i. is_before t (length t.marked) (from_at net.offers i)) (length net.offers) (λ i b. before (from_at net.offers i)),
-                count_below-same (λ i. is_open_in new (from_at net.waits i)) (λ i. is_open_in t (from_at net.waits i)) (length net.waits) (λ i b. opened (from_at net.waits i)),
+                count_below-same (λ i. is_before new (length t.marked) (from_at net.offers i))
+                    (λ i. is_before t (length t.marked) (from_at net.offers i)) (length net.offers)
+                    (λ i b. before (from_at net.offers i)),
+                count_below-same (λ i. is_open_in new (from_at net.waits i)) (λ i. is_open_in t (from_at net.waits i))
+                    (length net.waits) (λ i b. opened (from_at net.waits i)),
               );
         };
         opened = record {
@@ -112,18 +121,25 @@ module _ (net : Net) (label node : ℕ) where
   }
 
   -- one more wait edge is counted where its label is open
-  wait_counted : (flags : List Bool) → count_below (λ i. get_or flags (from_at (net.waits ++ record { from = label; to = node } ∷ []) i) false) (length (net.waits ++ record { from = label; to = node } ∷ []))
+  wait_counted : (flags : List Bool)
+      → count_below (λ i. get_or flags (from_at (net.waits ++ record { from = label; to = node } ∷ []) i) false)
+      (length (net.waits ++ record { from = label; to = node } ∷ []))
       ≡ count_below (λ i. get_or flags (from_at net.waits i) false) (length net.waits) + bit (get_or flags label false)
   wait_counted flags =
       let test = count_below-more (λ i. get_or flags (from_at (net.waits ++ record { from = label; to = node } ∷ []) i) false) (length net.waits) in
-      let last : get_or flags (from_at (net.waits ++ record { from = label; to = node } ∷ []) (length net.waits)) false ≡ get_or flags label false = ap (λ k. get_or flags k false) (from_at-new net.waits (record { from = label; to = node })) in
-      let same = count_below-same (λ i. get_or flags (from_at (net.waits ++ record { from = label; to = node } ∷ []) i) false) (λ i. get_or flags (from_at net.waits i) false) (length net.waits)
+      let last : get_or flags (from_at (net.waits ++ record { from = label; to = node } ∷ []) (length net.waits)) false
+          ≡ get_or flags label false =
+          ap (λ k. get_or flags k false) (from_at-new net.waits (record { from = label; to = node })) in
+      let same = count_below-same (λ i. get_or flags (from_at (net.waits ++ record { from = label; to = node } ∷ []) i)
+          false) (λ i. get_or flags (from_at net.waits i) false) (length net.waits)
       (λ i a. ap (λ k. get_or flags k false) (from_at-old net.waits (record { from = label; to = node }) i a))
       in
-      ap (count_below (λ i. get_or flags (from_at (net.waits ++ record { from = label; to = node } ∷ []) i) false)) (length_push net.waits (record { from = label; to = node }))
+      ap (count_below (λ i. get_or flags (from_at (net.waits ++ record { from = label; to = node } ∷ []) i) false))
+          (length_push net.waits (record { from = label; to = node }))
       ∙ omega (arith, test, same, ap bit last)
 
-  pub Follows-wait : (t new : Tally) → label < length net.closed → IsSettled net t → FollowsWait label node t new → IsListing new.marked new.places → Follows (with_wait net label node) new (length t.marked) 0 0
+  pub Follows-wait : (t new : Tally) → label < length net.closed → IsSettled net t → FollowsWait label node t new
+      → IsListing new.marked new.places → Follows (with_wait net label node) new (length t.marked) 0 0
   Follows-wait t new l h f listing =
       let steady = h.follows.steady in
       elim f [
@@ -142,13 +158,16 @@ module _ (net : Net) (label node : ℕ) where
                           ∙ steady.released i b (ap (is_open_in t) (sym (from_at-old net.waits (record { from = label; to = node }) i b)) ∙ o)
                       | inr b ↦
                           let at : i ≡ length net.waits = omega (arith, a, b, length_push net.waits (record { from = label; to = node })) in
-                          let from : from_at (net.waits ++ record { from = label; to = node } ∷ []) i ≡ label = ap (from_at (net.waits ++ record { from = label; to = node } ∷ [])) at ∙ from_at-new net.waits (record { from = label; to = node }) in
+                          let from : from_at (net.waits ++ record { from = label; to = node } ∷ []) i ≡ label =
+                              ap (from_at (net.waits ++ record { from = label; to = node } ∷ [])) at
+                              ∙ from_at-new net.waits (record { from = label; to = node }) in
                           absurd (both_ways (is_open_in t label) s.0 (ap (is_open_in t) (sym from) ∙ o))
                     ];
                 open_not_closed = steady.open_not_closed;
                 open_supported = steady.open_supported;
               };
-              counted = record { support = h.follows.counted.support; visits = omega (arith, h.follows.counted.visits, wait_counted t.opened, bit-false (is_open_in t label) s.0) };
+              counted = record { support = h.follows.counted.support; visits =
+                  omega (arith, h.follows.counted.visits, wait_counted t.opened, bit-false (is_open_in t label) s.0) };
               opened = record { at = h.follows.opened.at };
             })
         | inl s ↦
@@ -176,17 +195,24 @@ module _ (net : Net) (label node : ℕ) where
                           let e = o.2 in
                           let w = IsEdge-new net.waits (record { from = label; to = node }) in
                           subst (IsReached (with_wait net label node)) (sym (eqb-true n node b))
-                          (step (reached-more net (with_wait net label node) IsMore-wait o.1 (steady.sound o.1 o.3)) (record { within = e.within; from = e.from; to = e.to }) (steady.open_not_closed label s.0) (record { within = w.within; from = w.from; to = w.to }))
+                          (step (reached-more net (with_wait net label node) IsMore-wait o.1 (steady.sound o.1 o.3))
+                              (record { within = e.within; from = e.from; to = e.to })
+                              (steady.open_not_closed label s.0)
+                              (record { within = w.within; from = w.from; to = w.to }))
                     ];
                 roots = λ n a. kept n (steady.roots n a);
                 released = λ i a o.
                     elim (cases_lt i (length net.waits)) [
                       | inl b ↦
                           ap (is_marked_in new) (to_at-old net.waits (record { from = label; to = node }) i b)
-                          ∙ kept (to_at net.waits i) (steady.released i b (sym (opened (from_at net.waits i)) ∙ ap (is_open_in new) (sym (from_at-old net.waits (record { from = label; to = node }) i b)) ∙ o))
+                          ∙ kept (to_at net.waits i)
+                              (steady.released i b (sym (opened (from_at net.waits i))
+                              ∙ ap (is_open_in new)
+                              (sym (from_at-old net.waits (record { from = label; to = node }) i b)) ∙ o))
                       | inr b ↦
                           let at : i ≡ length net.waits = omega (arith, a, b, length_push net.waits (record { from = label; to = node })) in
-                          ap (is_marked_in new) (ap (to_at (net.waits ++ record { from = label; to = node } ∷ [])) at ∙ to_at-new net.waits (record { from = label; to = node })) ∙ here
+                          ap (is_marked_in new) (ap (to_at (net.waits ++ record { from = label; to = node } ∷ [])) at
+                              ∙ to_at-new net.waits (record { from = label; to = node })) ∙ here
                     ];
                 open_not_closed = λ k o. steady.open_not_closed k (sym (opened k) ∙ o);
                 open_supported = λ k o. omega (arith, support k, steady.open_supported k (sym (opened k) ∙ o));
@@ -197,7 +223,10 @@ module _ (net : Net) (label node : ℕ) where
                       arith,
                       support k,
                       h.follows.counted.support k a,
-                      count_below-same (λ i. is_before new (length t.marked) (from_at net.offers i) && eqb (to_at net.offers i) k) (λ i. is_before t (length t.marked) (from_at net.offers i) && eqb (to_at net.offers i) k) (length net.offers)
+                      count_below-same
+                          (λ i. is_before new (length t.marked) (from_at net.offers i) && eqb (to_at net.offers i) k)
+                          (λ i. is_before t (length t.marked) (from_at net.offers i) && eqb (to_at net.offers i) k)
+                          (length net.offers)
                           (λ i b. ap (λ x. x && eqb (to_at net.offers i) k) (before (from_at net.offers i))),
                     );
                 visits =
@@ -208,8 +237,12 @@ module _ (net : Net) (label node : ℕ) where
                       wait_counted new.opened,
                       ap bit (opened label),
                       bit-true (is_open_in t label) s.0,
-                      count_below-same (λ i. is_before new (length t.marked) (from_at net.offers i)) (λ i. is_before t (length t.marked) (from_at net.offers i)) (length net.offers) (λ i b. before (from_at net.offers i)),
-                      count_below-same (λ i. is_open_in new (from_at net.waits i)) (λ i. is_open_in t (from_at net.waits i)) (length net.waits) (λ i b. opened (from_at net.waits i)),
+                      count_below-same (λ i. is_before new (length t.marked) (from_at net.offers i))
+                          (λ i. is_before t (length t.marked) (from_at net.offers i)) (length net.offers)
+                          (λ i b. before (from_at net.offers i)),
+                      count_below-same (λ i. is_open_in new (from_at net.waits i))
+                          (λ i. is_open_in t (from_at net.waits i)) (length net.waits)
+                          (λ i b. opened (from_at net.waits i)),
                     );
               };
               opened = record {
@@ -229,15 +262,19 @@ module _ (net : Net) (node label : ℕ) where
   IsMore-offer = record {
     roots = λ n a. a;
     closed = λ k a. a;
-    offers = λ i m k e. let o = IsEdge-old net.offers (record { from = node; to = label }) i m k e in (i, record { within = o.within; from = o.from; to = o.to });
+    offers = λ i m k e. let o = IsEdge-old net.offers (record { from = node; to = label }) i m k e in
+        (i, record { within = o.within; from = o.from; to = o.to });
     waits = λ i k n e. (i, record { within = e.within; from = e.from; to = e.to });
   }
 
   -- one more offer edge is counted where its node passes
-  offer_counted : (test : ℕ → Bool) → count_below (λ i. test (from_at (net.offers ++ record { from = node; to = label } ∷ []) i)) (length (net.offers ++ record { from = node; to = label } ∷ []))
+  offer_counted : (test : ℕ → Bool)
+      → count_below (λ i. test (from_at (net.offers ++ record { from = node; to = label } ∷ []) i))
+      (length (net.offers ++ record { from = node; to = label } ∷ []))
       ≡ count_below (λ i. test (from_at net.offers i)) (length net.offers) + bit (test node)
   offer_counted test =
-      ap (count_below (λ i. test (from_at (net.offers ++ record { from = node; to = label } ∷ []) i))) (length_push net.offers (record { from = node; to = label }))
+      ap (count_below (λ i. test (from_at (net.offers ++ record { from = node; to = label } ∷ []) i)))
+          (length_push net.offers (record { from = node; to = label }))
       ∙ omega (
         arith,
         count_below-more (λ i. test (from_at (net.offers ++ record { from = node; to = label } ∷ []) i)) (length net.offers),
@@ -246,17 +283,27 @@ module _ (net : Net) (node label : ℕ) where
             (λ i a. ap test (from_at-old net.offers (record { from = node; to = label }) i a)),
       )
 
-  offer_counted_to : (test : ℕ → Bool) (k : ℕ) → count_below (λ i. test (from_at (net.offers ++ record { from = node; to = label } ∷ []) i) && eqb (to_at (net.offers ++ record { from = node; to = label } ∷ []) i) k) (length (net.offers ++ record { from = node; to = label } ∷ []))
+  offer_counted_to : (test : ℕ → Bool) (k : ℕ)
+      → count_below (λ i. test (from_at (net.offers ++ record { from = node; to = label } ∷ []) i) && eqb
+      (to_at (net.offers ++ record { from = node; to = label } ∷ []) i) k)
+      (length (net.offers ++ record { from = node; to = label } ∷ []))
       ≡ count_below (λ i. test (from_at net.offers i) && eqb (to_at net.offers i) k) (length net.offers) + bit (test node && eqb label k)
   offer_counted_to test k =
-      ap (count_below (λ i. test (from_at (net.offers ++ record { from = node; to = label } ∷ []) i) && eqb (to_at (net.offers ++ record { from = node; to = label } ∷ []) i) k)) (length_push net.offers (record { from = node; to = label }))
+      ap (count_below (λ i. test (from_at (net.offers ++ record { from = node; to = label } ∷ []) i) && eqb
+          (to_at (net.offers ++ record { from = node; to = label } ∷ []) i) k))
+          (length_push net.offers (record { from = node; to = label }))
       ∙ omega (
         arith,
-        count_below-more (λ i. test (from_at (net.offers ++ record { from = node; to = label } ∷ []) i) && eqb (to_at (net.offers ++ record { from = node; to = label } ∷ []) i) k) (length net.offers),
-        ap (λ m. bit (test m && eqb (to_at (net.offers ++ record { from = node; to = label } ∷ []) (length net.offers)) k)) (from_at-new net.offers (record { from = node; to = label })),
+        count_below-more (λ i. test (from_at (net.offers ++ record { from = node; to = label } ∷ []) i) && eqb
+            (to_at (net.offers ++ record { from = node; to = label } ∷ []) i) k) (length net.offers),
+        ap (λ m. bit (test m && eqb (to_at (net.offers ++ record { from = node; to = label } ∷ []) (length net.offers))
+            k)) (from_at-new net.offers (record { from = node; to = label })),
         ap (λ m. bit (test node && eqb m k)) (to_at-new net.offers (record { from = node; to = label })),
-        count_below-same (λ i. test (from_at (net.offers ++ record { from = node; to = label } ∷ []) i) && eqb (to_at (net.offers ++ record { from = node; to = label } ∷ []) i) k) (λ i. test (from_at net.offers i) && eqb (to_at net.offers i) k) (length net.offers)
-            (λ i a. ap (λ m. test m && eqb (to_at (net.offers ++ record { from = node; to = label } ∷ []) i) k) (from_at-old net.offers (record { from = node; to = label }) i a)
+        count_below-same (λ i. test (from_at (net.offers ++ record { from = node; to = label } ∷ []) i) && eqb
+            (to_at (net.offers ++ record { from = node; to = label } ∷ []) i) k)
+            (λ i. test (from_at net.offers i) && eqb (to_at net.offers i) k) (length net.offers)
+            (λ i a. ap (λ m. test m && eqb (to_at (net.offers ++ record { from = node; to = label } ∷ []) i) k)
+                (from_at-old net.offers (record { from = node; to = label }) i a)
             ∙ ap (λ m. test (from_at net.offers i) && eqb m k) (to_at-old net.offers (record { from = node; to = label }) i a)),
       )
 
@@ -271,7 +318,10 @@ module _ (net : Net) (node label : ℕ) where
     open_supported = steady.open_supported;
   }
 
-  pub Follows-offer : (t new : Tally) → label < length net.closed → IsSettled net t → ((is_marked_in t node ≡ true) × Supports (with_offer net node label) label t new) ⊎ ((is_marked_in t node ≡ false) × (new ≡ t)) → IsListing new.marked new.places → Follows (with_offer net node label) new (length t.marked) 0 0
+  pub Follows-offer : (t new : Tally) → label < length net.closed → IsSettled net t
+      → ((is_marked_in t node ≡ true) × Supports (with_offer net node label) label t new)
+      ⊎ ((is_marked_in t node ≡ false) × (new ≡ t)) → IsListing new.marked new.places
+      → Follows (with_offer net node label) new (length t.marked) 0 0
   Follows-offer t new l h f listing =
       let c = h.follows.counted in
       let before = before_all t h.follows.steady.listing node in
@@ -282,7 +332,9 @@ module _ (net : Net) (node label : ℕ) where
             (record {
               steady = steady_offer t h.follows.steady;
               counted = record {
-                support = λ k a. omega (arith, c.support k a, offer_counted_to (is_before t (length t.marked)) k, bit-false (is_before t (length t.marked) node && eqb label k) (and_left (is_before t (length t.marked) node) (eqb label k) out));
+                support = λ k a. omega (arith, c.support k a, offer_counted_to (is_before t (length t.marked)) k,
+                    bit-false (is_before t (length t.marked) node && eqb label k)
+                    (and_left (is_before t (length t.marked) node) (eqb label k) out));
                 visits = omega (arith, c.visits, offer_counted (is_before t (length t.marked)), bit-false (is_before t (length t.marked) node) out);
               };
               opened = record { at = h.follows.opened.at };
@@ -301,7 +353,9 @@ module _ (net : Net) (node label : ℕ) where
                           arith,
                           c.support k a,
                           offer_counted_to (is_before t (length t.marked)) k,
-                          bit-true (is_before t (length t.marked) node && eqb label k) (and_from (is_before t (length t.marked) node) (eqb label k) there (eq-eqb label k (sym q))),
+                          bit-true (is_before t (length t.marked) node && eqb label k)
+                              (and_from (is_before t (length t.marked) node) (eqb label k) there
+                              (eq-eqb label k (sym q))),
                           ap (support_in (with_support t label)) q,
                           ap (support_in t) q,
                           with_support-here (with_offer net node label) t label l steady,
@@ -311,7 +365,9 @@ module _ (net : Net) (node label : ℕ) where
                           arith,
                           c.support k a,
                           offer_counted_to (is_before t (length t.marked)) k,
-                          bit-false (is_before t (length t.marked) node && eqb label k) (and_no (is_before t (length t.marked) node) (eqb label k) (ne_eqb label k (λ r. q (sym r)))),
+                          bit-false (is_before t (length t.marked) node && eqb label k)
+                              (and_no (is_before t (length t.marked) node) (eqb label k)
+                              (ne_eqb label k (λ r. q (sym r)))),
                           with_support-other (with_offer net node label) t label l steady k q,
                         )
                   ];
@@ -381,14 +437,21 @@ IsSettled-node net t h =
               omega (
                 arith,
                 c.support k a,
-                count_below-same (λ i. (ltb 0 (get_or (t.places ++ 0 ∷ []) (from_at net.offers i) 0) && leb (get_or (t.places ++ 0 ∷ []) (from_at net.offers i) 0) (length t.marked)) && eqb (to_at net.offers i) k) (λ i. is_before t (length t.marked) (from_at net.offers i) && eqb (to_at net.offers i) k) (length net.offers)
+                count_below-same
+                    (λ i. (ltb 0 (get_or (t.places ++ 0 ∷ []) (from_at net.offers i) 0) && leb
+                    (get_or (t.places ++ 0 ∷ []) (from_at net.offers i) 0) (length t.marked)) && eqb
+                    (to_at net.offers i) k)
+                    (λ i. is_before t (length t.marked) (from_at net.offers i) && eqb (to_at net.offers i) k)
+                    (length net.offers)
                     (λ i b. ap (λ p. (ltb 0 p && leb p (length t.marked)) && eqb (to_at net.offers i) k) (place (from_at net.offers i))),
               );
           visits =
               omega (
                 arith,
                 c.visits,
-                count_below-same (λ i. ltb 0 (get_or (t.places ++ 0 ∷ []) (from_at net.offers i) 0) && leb (get_or (t.places ++ 0 ∷ []) (from_at net.offers i) 0) (length t.marked)) (λ i. is_before t (length t.marked) (from_at net.offers i)) (length net.offers)
+                count_below-same (λ i. ltb 0 (get_or (t.places ++ 0 ∷ []) (from_at net.offers i) 0) && leb
+                    (get_or (t.places ++ 0 ∷ []) (from_at net.offers i) 0) (length t.marked))
+                    (λ i. is_before t (length t.marked) (from_at net.offers i)) (length net.offers)
                     (λ i b. ap (λ p. ltb 0 p && leb p (length t.marked)) (place (from_at net.offers i))),
               );
         };
@@ -407,9 +470,12 @@ module _ (net : Net) (closed : Bool) (labels : (i : ℕ) → i < length net.offe
   reached-label n (root e) = root e
   reached-label n (step {node = m} {label = l} {i = i} {j = j} r e c w) =
       let within : l < length net.closed = omega (arith, labels i e.within, e.to) in
-      step (reached-label m r) (record { within = e.within; from = e.from; to = e.to }) (closed-old l within ∙ c) (record { within = w.within; from = w.from; to = w.to })
+      step (reached-label m r) (record { within = e.within; from = e.from; to = e.to }) (closed-old l within ∙ c)
+          (record { within = w.within; from = w.from; to = w.to })
 
-  pub IsSettled-label : (t : Tally) → IsSettled net t → IsSettled (with_label net closed) (record t { support = t.support ++ 0 ∷ []; opened = t.opened ++ false ∷ []; touched_places = t.touched_places ++ 0 ∷ [] })
+  pub IsSettled-label : (t : Tally) → IsSettled net t
+      → IsSettled (with_label net closed) (record t { support = t.support ++ 0 ∷ []; opened = t.opened ++ false ∷ [];
+      touched_places = t.touched_places ++ 0 ∷ [] })
   IsSettled-label t h =
       let steady = h.follows.steady in
       let c = h.follows.counted in
@@ -443,14 +509,19 @@ module _ (net : Net) (closed : Bool) (labels : (i : ℕ) → i < length net.offe
                         arith,
                         support k,
                         get_or_past t.support k 0 (omega (arith, b, steady.sizes.support)),
-                        count_below-gap (λ i. is_before t (length t.marked) (from_at net.offers i) && eqb (to_at net.offers i) k) 0 (length net.offers) (omega arith)
-                            (λ i d g. and_no (is_before t (length t.marked) (from_at net.offers i)) (eqb (to_at net.offers i) k) (ne_eqb (to_at net.offers i) k (λ s. omega (arith, s, b, labels i g)))),
+                        count_below-gap
+                            (λ i. is_before t (length t.marked) (from_at net.offers i) && eqb (to_at net.offers i) k) 0
+                            (length net.offers) (omega arith)
+                            (λ i d g. and_no (is_before t (length t.marked) (from_at net.offers i))
+                                (eqb (to_at net.offers i) k)
+                                (ne_eqb (to_at net.offers i) k (λ s. omega (arith, s, b, labels i g)))),
                       )
                 ];
             visits = omega (
               arith,
               c.visits,
-              count_below-same (λ i. get_or (t.opened ++ false ∷ []) (from_at net.waits i) false) (λ i. is_open_in t (from_at net.waits i)) (length net.waits) (λ i b. opened (from_at net.waits i)),
+              count_below-same (λ i. get_or (t.opened ++ false ∷ []) (from_at net.waits i) false)
+                  (λ i. is_open_in t (from_at net.waits i)) (length net.waits) (λ i b. opened (from_at net.waits i)),
             );
           };
           opened = record {

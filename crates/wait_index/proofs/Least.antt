@@ -44,7 +44,8 @@ pub all_set-kept : (labels : List ℕ) (flags : List Bool) (k : ℕ) → get_or 
 all_set-kept [] flags k e = e
 all_set-kept (m ∷ ms) flags k e = all_set-kept ms (set flags m true) k (set-kept flags m k e)
 
-pub all_set-from : (labels : List ℕ) (flags : List Bool) (k : ℕ) → k < length flags → (get_or flags k false ≡ true) ⊎ Contains labels k → get_or (all_set flags labels) k false ≡ true
+pub all_set-from : (labels : List ℕ) (flags : List Bool) (k : ℕ) → k < length flags
+    → (get_or flags k false ≡ true) ⊎ Contains labels k → get_or (all_set flags labels) k false ≡ true
 all_set-from [] flags k l h = elim h [ inl e ↦ e | inr c ↦ absurd (omega (arith, c.1)) ]
 all_set-from (m ∷ ms) flags k l h =
     all_set-from ms (set flags m true) k (omega (arith, l, length-set flags m true))
@@ -57,7 +58,8 @@ all_set-from (m ∷ ms) flags k l h =
           ]
     ])
 
-pub all_set-to : (labels : List ℕ) (flags : List Bool) (k : ℕ) → get_or (all_set flags labels) k false ≡ true → (get_or flags k false ≡ true) ⊎ Contains labels k
+pub all_set-to : (labels : List ℕ) (flags : List Bool) (k : ℕ) → get_or (all_set flags labels) k false ≡ true
+    → (get_or flags k false ≡ true) ⊎ Contains labels k
 all_set-to [] flags k e = inl e
 all_set-to (m ∷ ms) flags k e =
     elim (all_set-to ms (set flags m true) k e) [
@@ -69,10 +71,13 @@ all_set-to (m ∷ ms) flags k e =
       | inr a ↦ inr (suc a.0, omega (arith, a.1), a.2)
     ]
 
-pub closed-all : (net : Net) (labels : List ℕ) (label : ℕ) → label < length net.closed → ((is_closed (with_all_closed net labels) label ≡ true) ↔ ((is_closed net label ≡ true) ⊎ Contains labels label))
+pub closed-all : (net : Net) (labels : List ℕ) (label : ℕ) → label < length net.closed
+    → ((is_closed (with_all_closed net labels) label ≡ true) ↔ ((is_closed net label ≡ true) ⊎ Contains labels label))
 closed-all net labels label l = (all_set-to labels net.closed label, all_set-from labels net.closed label l)
 
-pub closed-order : (net : Net) (labels others : List ℕ) → ((label : ℕ) → (Contains labels label ↔ Contains others label)) → with_all_closed net labels ≡ with_all_closed net others
+pub closed-order : (net : Net) (labels others : List ℕ)
+    → ((label : ℕ) → (Contains labels label ↔ Contains others label))
+    → with_all_closed net labels ≡ with_all_closed net others
 closed-order net labels others h =
     let size : length (all_set net.closed labels) ≡ length net.closed = length-all_set labels net.closed in
     let same : all_set net.closed labels ≡ all_set net.closed others =
@@ -91,4 +96,5 @@ closed-order net labels others h =
 
 pub visits-few : (net : Net) (nodes : List ℕ) → visits_of net nodes ≤ length net.offers + length net.waits
 visits-few net nodes =
-    omega (arith, count_by-le-length (λ (e : Edge). is_among nodes e.from) net.offers, count_by-le-length (λ (e : Edge). is_open_among net nodes e.from) net.waits)
+    omega (arith, count_by-le-length (λ (e : Edge). is_among nodes e.from) net.offers,
+        count_by-le-length (λ (e : Edge). is_open_among net nodes e.from) net.waits)

@@ -1,5 +1,6 @@
 -- Lists of edges by links
-use Rattle.std.proofs.Common.{◌≡◌, ◌≢◌, ℕ, ◌+◌, ◌<◌, ◌≤◌, ◌⊎◌, inl, inr, Bool, ◌&&◌, List, [], ◌∷◌, ◌++◌, length, get_or, set, eqb, arith, refl, sym, ap, ◌∙◌, subst}
+use Rattle.std.proofs.Common.{◌≡◌, ◌≢◌, ℕ, ◌+◌, ◌<◌, ◌≤◌, ◌⊎◌, inl, inr, Bool, ◌&&◌, List, [], ◌∷◌, ◌++◌, length}
+use Rattle.std.proofs.Common.{get_or, set, eqb, arith, refl, sym, ap, ◌∙◌, subst}
 use Rattle.std.proofs.lemmas.Bool.{cases_eq, cases_lt, ne_eqb, eq-eqb, and_left}
 use Rattle.std.proofs.lemmas.List.{get_or_append_left, get_or_push, length_push, length-set, get_or-set_same, get_or-set_other, get_or_read}
 use Rattle.wait_index.specs.declared.edges.Edge.{Edge}
@@ -16,20 +17,28 @@ pub IsLink-last : (es : List Edge) (owner n link : ℕ) → n ≤ length es → 
 IsLink-last es owner n link l h = record { within = omega (arith, h.below); owned = h.owned }
 
 -- an owner's edges below a bound are those below the link
-pub count_owned : (es : List Edge) (owner n link : ℕ) → IsLast es owner n link → count_below (λ i. eqb (from_at es i) owner) n ≡ count_below (λ i. eqb (from_at es i) owner) link
+pub count_owned : (es : List Edge) (owner n link : ℕ) → IsLast es owner n link
+    → count_below (λ i. eqb (from_at es i) owner) n ≡ count_below (λ i. eqb (from_at es i) owner) link
 count_owned es owner n link h =
     count_below-gap (λ i. eqb (from_at es i) owner) link n h.below (λ k a b. ne_eqb (from_at es k) owner (h.none_later k a b))
 
-pub count_owned_and : (es : List Edge) (owner : ℕ) (test : ℕ → Bool) (n link : ℕ) → IsLast es owner n link → count_below (λ i. eqb (from_at es i) owner && test i) n ≡ count_below (λ i. eqb (from_at es i) owner && test i) link
+pub count_owned_and : (es : List Edge) (owner : ℕ) (test : ℕ → Bool) (n link : ℕ) → IsLast es owner n link
+    → count_below (λ i. eqb (from_at es i) owner && test i) n
+    ≡ count_below (λ i. eqb (from_at es i) owner && test i) link
 count_owned_and es owner test n link h =
-    count_below-gap (λ i. eqb (from_at es i) owner && test i) link n h.below (λ k a b. and_left (eqb (from_at es k) owner) (test k) (ne_eqb (from_at es k) owner (h.none_later k a b)))
+    count_below-gap (λ i. eqb (from_at es i) owner && test i) link n h.below
+        (λ k a b. and_left (eqb (from_at es k) owner) (test k) (ne_eqb (from_at es k) owner (h.none_later k a b)))
 
 -- one edge of the owner is taken from those that are left
-pub count_owned-step : (es : List Edge) (owner i next : ℕ) → from_at es i ≡ owner → IsLast es owner i next → count_below (λ k. eqb (from_at es k) owner) (i + 1) ≡ count_below (λ k. eqb (from_at es k) owner) next + 1
+pub count_owned-step : (es : List Edge) (owner i next : ℕ) → from_at es i ≡ owner → IsLast es owner i next
+    → count_below (λ k. eqb (from_at es k) owner) (i + 1) ≡ count_below (λ k. eqb (from_at es k) owner) next + 1
 count_owned-step es owner i next e h =
-    omega (arith, count_below-more (λ k. eqb (from_at es k) owner) i, bit-true (eqb (from_at es i) owner) (eq-eqb (from_at es i) owner e), count_owned es owner i next h)
+    omega (arith, count_below-more (λ k. eqb (from_at es k) owner) i,
+        bit-true (eqb (from_at es i) owner) (eq-eqb (from_at es i) owner e), count_owned es owner i next h)
 
-pub count_owned_and-step : (es : List Edge) (owner : ℕ) (test : ℕ → Bool) (i next : ℕ) → from_at es i ≡ owner → IsLast es owner i next → count_below (λ k. eqb (from_at es k) owner && test k) (i + 1) ≡ count_below (λ k. eqb (from_at es k) owner && test k) next + bit (test i)
+pub count_owned_and-step : (es : List Edge) (owner : ℕ) (test : ℕ → Bool) (i next : ℕ) → from_at es i ≡ owner
+    → IsLast es owner i next → count_below (λ k. eqb (from_at es k) owner && test k) (i + 1)
+    ≡ count_below (λ k. eqb (from_at es k) owner && test k) next + bit (test i)
 count_owned_and-step es owner test i next e h =
     let same : (eqb (from_at es i) owner && test i) ≡ test i = ap (λ b. b && test i) (eq-eqb (from_at es i) owner e) in
     omega (arith, count_below-more (λ k. eqb (from_at es k) owner && test k) i, ap bit same, count_owned_and es owner test i next h)
@@ -106,7 +115,8 @@ module _ (es : List Edge) (e : Edge) where
       }
 
   -- the edge is added before those of its owner
-  pub AreLinked-push : (newest earlier : List ℕ) → e.from < length newest → AreLinked es newest earlier → AreLinked (es ++ e ∷ []) (set newest e.from (length es + 1)) (earlier ++ get_or newest e.from 0 ∷ [])
+  pub AreLinked-push : (newest earlier : List ℕ) → e.from < length newest → AreLinked es newest earlier
+      → AreLinked (es ++ e ∷ []) (set newest e.from (length es + 1)) (earlier ++ get_or newest e.from 0 ∷ [])
   AreLinked-push newest earlier l h =
       let many = length_push es e in
       let sizes = length-set newest e.from (length es + 1) in
@@ -125,8 +135,11 @@ module _ (es : List Edge) (e : Edge) where
             subst (λ n. IsLast (es ++ e ∷ []) owner n (get_or (set newest e.from (length es + 1)) owner 0)) (sym bound)
             (elim (cases_eq owner e.from) [
               | inl s ↦
-                  let set_here : get_or (set newest e.from (length es + 1)) owner 0 ≡ length es + 1 = ap (λ o. get_or (set newest e.from (length es + 1)) o 0) s ∙ get_or-set_same newest e.from (length es + 1) 0 l in
-                  subst (λ k. IsLast (es ++ e ∷ []) owner (length es + 1) k) (sym set_here) (subst (λ o. IsLast (es ++ e ∷ []) o (length es + 1) (length es + 1)) (sym s) IsLast-owner)
+                  let set_here : get_or (set newest e.from (length es + 1)) owner 0 ≡ length es + 1 =
+                      ap (λ o. get_or (set newest e.from (length es + 1)) o 0) s
+                      ∙ get_or-set_same newest e.from (length es + 1) 0 l in
+                  subst (λ k. IsLast (es ++ e ∷ []) owner (length es + 1) k) (sym set_here)
+                      (subst (λ o. IsLast (es ++ e ∷ []) o (length es + 1) (length es + 1)) (sym s) IsLast-owner)
               | inr s ↦
                   subst (λ k. IsLast (es ++ e ∷ []) owner (length es + 1) k) (sym (get_or-set_other newest e.from owner (length es + 1) 0 s))
                   (IsLast-other owner (get_or newest owner 0) s (h.last owner within))
@@ -136,11 +149,13 @@ module _ (es : List Edge) (e : Edge) where
               | inl b ↦
                   let old = IsLast-old (from_at es i) i (get_or earlier i 0) (omega arith) (h.before i b) in
                   subst (λ o. IsLast (es ++ e ∷ []) o i (get_or (earlier ++ get_or newest e.from 0 ∷ []) i 0)) (sym (from_at-old i b))
-                  (subst (λ k. IsLast (es ++ e ∷ []) (from_at es i) i k) (sym (get_or_append_left earlier (get_or newest e.from 0 ∷ []) 0 i (omega (arith, h.links)))) old)
+                  (subst (λ k. IsLast (es ++ e ∷ []) (from_at es i) i k)
+                      (sym (get_or_append_left earlier (get_or newest e.from 0 ∷ []) 0 i (omega (arith, h.links)))) old)
               | inr b ↦
                   let at : length es ≡ i = omega (arith, many) in
                   let old = IsLast-old e.from (length es) (get_or newest e.from 0) (omega arith) (h.last e.from l) in
-                  let link : get_or (earlier ++ get_or newest e.from 0 ∷ []) (length es) 0 ≡ get_or newest e.from 0 = get_or_push earlier (get_or newest e.from 0) 0 (length es) h.links in
+                  let link : get_or (earlier ++ get_or newest e.from 0 ∷ []) (length es) 0 ≡ get_or newest e.from 0 =
+                      get_or_push earlier (get_or newest e.from 0) 0 (length es) h.links in
                   subst (λ k. IsLast (es ++ e ∷ []) (from_at (es ++ e ∷ []) k) k (get_or (earlier ++ get_or newest e.from 0 ∷ []) k 0)) at
                   (subst (λ o. IsLast (es ++ e ∷ []) o (length es) (get_or (earlier ++ get_or newest e.from 0 ∷ []) (length es) 0)) (sym from_at-new)
                   (subst (λ k. IsLast (es ++ e ∷ []) e.from (length es) k) (sym link) old))
@@ -174,11 +189,13 @@ AreLinked-owner es newest earlier h =
 pub read_to : (es : List Edge) (i : ℕ) (e : Edge) → i < length es → e ≡ get_or es i e → e.to ≡ to_at es i
 read_to es i e l r = ap (λ (x : Edge). x.to) (get_or_read es i e l r (record { from = 0; to = 0 }))
 
-pub first_link : (es : List Edge) (newest earlier : List ℕ) (owner link : ℕ) → AreLinked es newest earlier → owner < length newest → link ≡ get_or newest owner link → IsLast es owner (length es) link
+pub first_link : (es : List Edge) (newest earlier : List ℕ) (owner link : ℕ) → AreLinked es newest earlier
+    → owner < length newest → link ≡ get_or newest owner link → IsLast es owner (length es) link
 first_link es newest earlier owner link h l r =
     subst (λ k. IsLast es owner (length es) k) (sym (get_or_read newest owner link l r 0)) (h.last owner l)
 
-pub next_link : (es : List Edge) (newest earlier : List ℕ) (owner edge link next : ℕ) → AreLinked es newest earlier → IsLink es owner link → link ≡ edge + 1 → next ≡ get_or earlier edge next → IsLast es owner edge next
+pub next_link : (es : List Edge) (newest earlier : List ℕ) (owner edge link next : ℕ) → AreLinked es newest earlier
+    → IsLink es owner link → link ≡ edge + 1 → next ≡ get_or earlier edge next → IsLast es owner edge next
 next_link es newest earlier owner edge link next h k e r =
     let within : edge < length es = omega (arith, k.within) in
     let link : next ≡ get_or earlier edge 0 = get_or_read earlier edge next (omega (arith, h.links)) r 0 in

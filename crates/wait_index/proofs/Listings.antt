@@ -1,9 +1,11 @@
 -- A set that is kept as a list and places
-use Rattle.std.proofs.Common.{◌≡◌, ◌≢◌, ℕ, ◌+◌, ◌-◌, ◌<◌, ◌⊎◌, inl, inr, Bool, true, false, ◌&&◌, List, [], ◌∷◌, ◌++◌, length, get_or, set, eqb, ltb, arith, refl, sym, ap, ◌∙◌}
+use Rattle.std.proofs.Common.{◌≡◌, ◌≢◌, ℕ, ◌+◌, ◌-◌, ◌<◌, ◌⊎◌, inl, inr, Bool, true, false, ◌&&◌, List, [], ◌∷◌, ◌++◌}
+use Rattle.std.proofs.Common.{length, get_or, set, eqb, ltb, arith, refl, sym, ap, ◌∙◌}
 use Rattle.std.specs.Prelude.{not, Contains, AllPairs}
 use Rattle.std.specs.List.{swap_remove}
 use Rattle.std.proofs.lemmas.Bool.{cases_eq, cases_lt, ne_eqb, eq-eqb, ltb-true, ltb-false, lt-ltb, le-ltb}
-use Rattle.std.proofs.lemmas.List.{get_or_append_left, get_or_push, length_push, length-set, get_or-set_same, get_or-set_other, get_or-take, length-take-le, get_or_past, get_or_default}
+use Rattle.std.proofs.lemmas.List.{get_or_append_left, get_or_push, length_push, length-set, get_or-set_same}
+use Rattle.std.proofs.lemmas.List.{get_or-set_other, get_or-take, length-take-le, get_or_past, get_or_default}
 use Rattle.wait_index.specs.Inside.Count.{bit, count_below}
 use Rattle.wait_index.specs.Inside.Listing.{holds, IsListing}
 use Rattle.wait_index.proofs.Counts.{count_below-change, count_below-less, count_below-same, count_below-more, bit-false}
@@ -92,7 +94,8 @@ IsListing-none = record {
 pub fewer : (items places : List ℕ) (n : ℕ) → IsListing items places → n < length places → holds places n ≡ false → length items < length places
 fewer items places n h l e = omega (arith, h.many, count_below-less (λ m. holds places m) n (length places) l e)
 
-pub IsListing-insert : (items places : List ℕ) (n : ℕ) → IsListing items places → n < length places → holds places n ≡ false → IsListing (items ++ n ∷ []) (set places n (length items + 1))
+pub IsListing-insert : (items places : List ℕ) (n : ℕ) → IsListing items places → n < length places
+    → holds places n ≡ false → IsListing (items ++ n ∷ []) (set places n (length items + 1))
 IsListing-insert items places n h l e =
     let v = length items + 1 in
     let unplaced : get_or places n 0 ≡ 0 = unplaced-from_holds places n e in
@@ -133,7 +136,8 @@ IsListing-insert items places n h l e =
           ];
       many =
           let change : count_below (λ m. holds (set places n v) m) (length places) ≡ count_below (λ m. holds places m) (length places) + 1 =
-          count_below-change (λ m. holds places m) (λ m. holds (set places n v) m) n (length places) l e (holds-from_placed (set places n v) n (omega (arith, here)))
+          count_below-change (λ m. holds places m) (λ m. holds (set places n v) m) n (length places) l e
+              (holds-from_placed (set places n v) n (omega (arith, here)))
           (λ m a ne. ap (ltb 0) (sym (get-other places n v l m ne)))
           in
           ap (count_below (λ m. holds (set places n v) m)) size ∙ omega (arith, change, h.many, more);
@@ -161,8 +165,11 @@ IsListing-grow items places h =
           let same : count_below (λ m. holds (places ++ 0 ∷ []) m) (length places) ≡ count_below (λ m. holds places m) (length places) =
           count_below-same (λ m. holds (places ++ 0 ∷ []) m) (λ m. holds places m) (length places) (λ m a. ap (ltb 0) (old m))
           in
-          let last : bit (holds (places ++ 0 ∷ []) (length places)) ≡ 0 = bit-false (holds (places ++ 0 ∷ []) (length places)) (holds-from_unplaced (places ++ 0 ∷ []) (length places) (get_or_push places 0 0 (length places) refl)) in
-          let step : count_below (λ m. holds (places ++ 0 ∷ []) m) (length places + 1) ≡ length items = omega (arith, count_below-more (λ m. holds (places ++ 0 ∷ []) m) (length places), same, last, h.many) in
+          let last : bit (holds (places ++ 0 ∷ []) (length places)) ≡ 0 =
+              bit-false (holds (places ++ 0 ∷ []) (length places))
+              (holds-from_unplaced (places ++ 0 ∷ []) (length places) (get_or_push places 0 0 (length places) refl)) in
+          let step : count_below (λ m. holds (places ++ 0 ∷ []) m) (length places + 1) ≡ length items =
+              omega (arith, count_below-more (λ m. holds (places ++ 0 ∷ []) m) (length places), same, last, h.many) in
           ap (count_below (λ m. holds (places ++ 0 ∷ []) m)) more ∙ step;
     }
 
@@ -176,7 +183,8 @@ IsListing-pop items places n h =
     let place : get_or places n 0 ≡ length items + 1 = ap (λ k. get_or places k 0) (sym last) ∙ h.listed (length items) (omega (arith, more)) in
     let here : get_or (set places n 0) n 0 ≡ 0 = get-here places n 0 l in
     let size : length (set places n 0) ≡ length places = length-set places n 0 in
-    let at_old : (i : ℕ) → i < length items → get_or places (get_or items i 0) 0 ≡ i + 1 = λ i a. ap (λ k. get_or places k 0) (sym (item i a)) ∙ h.listed i (omega (arith, more)) in
+    let at_old : (i : ℕ) → i < length items → get_or places (get_or items i 0) 0 ≡ i + 1 =
+        λ i a. ap (λ k. get_or places k 0) (sym (item i a)) ∙ h.listed i (omega (arith, more)) in
     let ne : (i : ℕ) → i < length items → get_or items i 0 ≢ n = λ i a s. omega (arith, place, ap (λ k. get_or places k 0) s, at_old i a) in
     let kept : (m i : ℕ) → get_or (set places n 0) m 0 ≡ i + 1 → m ≢ n = λ m i s q. omega (arith, here, s, ap (λ k. get_or (set places n 0) k 0) q) in
     let old : (m i : ℕ) → get_or (set places n 0) m 0 ≡ i + 1 → get_or places m 0 ≡ i + 1 = λ m i s. sym (get-other places n 0 l m (kept m i s)) ∙ s in
@@ -195,14 +203,16 @@ IsListing-pop items places n h =
       placed = λ m i s. sym (item i (before m i s)) ∙ h.placed m i (old m i s);
       many =
           let change : count_below (λ m. holds places m) (length places) ≡ count_below (λ m. holds (set places n 0) m) (length places) + 1 =
-          count_below-change (λ m. holds (set places n 0) m) (λ m. holds places m) n (length places) l (holds-from_unplaced (set places n 0) n here) (holds-from_placed places n (omega (arith, place)))
+          count_below-change (λ m. holds (set places n 0) m) (λ m. holds places m) n (length places) l
+              (holds-from_unplaced (set places n 0) n here) (holds-from_placed places n (omega (arith, place)))
           (λ m a q. ap (ltb 0) (get-other places n 0 l m q))
           in
           ap (count_below (λ m. holds (set places n 0) m)) size ∙ omega (arith, change, h.many, more);
     }
 
 -- one is taken out, and the last of the list takes its place
-module _ (items places : List ℕ) (n index last : ℕ) (h : IsListing items places) (at : get_or places n 0 ≡ index + 1) (moved : get_or items (length items - 1) 0 ≡ last) where
+module _ (items places : List ℕ) (n index last : ℕ) (h : IsListing items places) (at : get_or places n 0 ≡ index + 1)
+    (moved : get_or items (length items - 1) 0 ≡ last) where
   in_list : index < length items
   in_list = h.placed_within n index at
 
@@ -224,7 +234,10 @@ module _ (items places : List ℕ) (n index last : ℕ) (h : IsListing items pla
       let first : holds (set places last (index + 1)) m ≡ holds places m =
       elim (cases_eq m last) [
         | inl e ↦
-            let one : holds (set places last (index + 1)) m ≡ true = holds-from_placed (set places last (index + 1)) m (omega (arith, ap (λ k. get_or (set places last (index + 1)) k 0) e, get-here places last (index + 1) last_within)) in
+            let one : holds (set places last (index + 1)) m ≡ true =
+                holds-from_placed (set places last (index + 1)) m
+                (omega (arith, ap (λ k. get_or (set places last (index + 1)) k 0) e,
+                get-here places last (index + 1) last_within)) in
             let two : holds places m ≡ true = holds-from_placed places m (omega (arith, ap (λ k. get_or places k 0) e, last_place, in_list)) in
             one ∙ sym two
         | inr e ↦ ap (ltb 0) (get-other places last (index + 1) last_within m e)
@@ -236,20 +249,26 @@ module _ (items places : List ℕ) (n index last : ℕ) (h : IsListing items pla
   place_n = get-here (set places last (index + 1)) n 0 (omega (arith, n_within, length-set places last (index + 1)))
 
   place_other : (m : ℕ) → m ≢ n → m ≢ last → get_or (set (set places last (index + 1)) n 0) m 0 ≡ get_or places m 0
-  place_other m a b = get-other (set places last (index + 1)) n 0 (omega (arith, n_within, length-set places last (index + 1))) m a ∙ get-other places last (index + 1) last_within m b
+  place_other m a b = get-other (set places last (index + 1)) n 0
+      (omega (arith, n_within, length-set places last (index + 1))) m a
+      ∙ get-other places last (index + 1) last_within m b
 
   place_last : last ≢ n → get_or (set (set places last (index + 1)) n 0) last 0 ≡ index + 1
-  place_last a = get-other (set places last (index + 1)) n 0 (omega (arith, n_within, length-set places last (index + 1))) last a ∙ get-here places last (index + 1) last_within
+  place_last a = get-other (set places last (index + 1)) n 0
+      (omega (arith, n_within, length-set places last (index + 1))) last a
+      ∙ get-here places last (index + 1) last_within
 
   -- the last is taken out exactly where it is the one
   last_is : last ≡ n → index + 1 ≡ length items
   last_is e = omega (arith, at, last_place, ap (λ k. get_or places k 0) e)
 
   size_items : (d : ℕ) → length (swap_remove items index d) ≡ length items - 1
-  size_items d = length-take-le (length items - 1) (set items index (get_or items (length items - 1) d)) (omega (arith, length-set items index (get_or items (length items - 1) d)))
+  size_items d = length-take-le (length items - 1) (set items index (get_or items (length items - 1) d))
+      (omega (arith, length-set items index (get_or items (length items - 1) d)))
 
   item_at : (d i : ℕ) → i < length items - 1 → i ≢ index → get_or (swap_remove items index d) i 0 ≡ get_or items i 0
-  item_at d i a b = get_or-take (length items - 1) (set items index (get_or items (length items - 1) d)) i 0 a ∙ get_or-set_other items index i (get_or items (length items - 1) d) 0 b
+  item_at d i a b = get_or-take (length items - 1) (set items index (get_or items (length items - 1) d)) i 0 a
+      ∙ get_or-set_other items index i (get_or items (length items - 1) d) 0 b
 
   item_moved : (d : ℕ) → index < length items - 1 → get_or (swap_remove items index d) index 0 ≡ last
   item_moved d a =
@@ -259,14 +278,17 @@ module _ (items places : List ℕ) (n index last : ℕ) (h : IsListing items pla
       ∙ moved
 
   -- who has place i + 1 afterwards
-  was : (m i : ℕ) → get_or (set (set places last (index + 1)) n 0) m 0 ≡ i + 1 → ((m ≡ last) × (i ≡ index) × (index < length items - 1)) ⊎ ((get_or places m 0 ≡ i + 1) × (i ≢ index) × (i < length items - 1))
+  was : (m i : ℕ) → get_or (set (set places last (index + 1)) n 0) m 0 ≡ i + 1
+      → ((m ≡ last) × (i ≡ index) × (index < length items - 1))
+      ⊎ ((get_or places m 0 ≡ i + 1) × (i ≢ index) × (i < length items - 1))
   was m i e =
       elim (cases_eq m n) [
         | inl q ↦ absurd (omega (arith, e, place_n, ap (λ k. get_or (set (set places last (index + 1)) n 0) k 0) q))
         | inr q ↦
             elim (cases_eq m last) [
               | inl r ↦
-                  let place : get_or (set (set places last (index + 1)) n 0) m 0 ≡ index + 1 = ap (λ k. get_or (set (set places last (index + 1)) n 0) k 0) r ∙ place_last (λ s. q (r ∙ s)) in
+                  let place : get_or (set (set places last (index + 1)) n 0) m 0 ≡ index + 1 =
+                      ap (λ k. get_or (set (set places last (index + 1)) n 0) k 0) r ∙ place_last (λ s. q (r ∙ s)) in
                   let apart : index + 1 ≢ length items = λ s.
                   q (r ∙ sym moved ∙ ap (λ k. get_or items k 0) (omega (arith, s)) ∙ item_n)
                   in
@@ -281,7 +303,8 @@ module _ (items places : List ℕ) (n index last : ℕ) (h : IsListing items pla
 
   pub IsListing-swap : (d : ℕ) → IsListing (swap_remove items index d) (set (set places last (index + 1)) n 0)
   IsListing-swap d =
-      let size : length (set (set places last (index + 1)) n 0) ≡ length places = length-set (set places last (index + 1)) n 0 ∙ length-set places last (index + 1) in
+      let size : length (set (set places last (index + 1)) n 0) ≡ length places =
+          length-set (set places last (index + 1)) n 0 ∙ length-set places last (index + 1) in
       let items_size = size_items d in
       record {
         within = λ i a.
@@ -292,7 +315,8 @@ module _ (items places : List ℕ) (n index last : ℕ) (h : IsListing items pla
         listed = λ i a.
             elim (cases_eq i index) [
               | inl q ↦
-                  let item : get_or (swap_remove items index d) i 0 ≡ last = ap (λ k. get_or (swap_remove items index d) k 0) q ∙ item_moved d (omega (arith, items_size)) in
+                  let item : get_or (swap_remove items index d) i 0 ≡ last =
+                      ap (λ k. get_or (swap_remove items index d) k 0) q ∙ item_moved d (omega (arith, items_size)) in
                   let apart : last ≢ n = λ s. omega (arith, last_is s, items_size) in
                   omega (arith, ap (λ k. get_or (set (set places last (index + 1)) n 0) k 0) item, place_last apart)
               | inr q ↦
@@ -310,8 +334,10 @@ module _ (items places : List ℕ) (n index last : ℕ) (h : IsListing items pla
             ];
         many =
             let held : holds places n ≡ true = holds-from_placed places n (omega (arith, at)) in
-            let change : count_below (λ m. holds places m) (length places) ≡ count_below (λ m. holds (set (set places last (index + 1)) n 0) m) (length places) + 1 =
-            count_below-change (λ m. holds (set (set places last (index + 1)) n 0) m) (λ m. holds places m) n (length places) n_within (holds-from_unplaced (set (set places last (index + 1)) n 0) n place_n) held
+            let change : count_below (λ m. holds places m) (length places)
+                ≡ count_below (λ m. holds (set (set places last (index + 1)) n 0) m) (length places) + 1 =
+            count_below-change (λ m. holds (set (set places last (index + 1)) n 0) m) (λ m. holds places m) n
+                (length places) n_within (holds-from_unplaced (set (set places last (index + 1)) n 0) n place_n) held
             (λ m a q. holds-swap m ∙ ap (λ b. holds places m && not b) (ne_eqb m n q) ∙ and-true (holds places m))
             in
             ap (count_below (λ m. holds (set (set places last (index + 1)) n 0) m)) size ∙ omega (arith, change, h.many, items_size);

@@ -30,10 +30,13 @@ module _ (items places : List ℕ) (h : IsListing items places) where
         | inr e ↦
             false_from_ne_true (is_among items n) (λ t.
             let a = Any-from_list_any (λ m. eqb m n) items t in
-            both_ways (holds places n) e (holds-from_contains items places h n (a.0, a.2, get_or_default items a.0 n a.1 a.2 ∙ a.3 ∙ eqb-true a.1 n a.4))) ∙ sym e
+            both_ways (holds places n) e
+                (holds-from_contains items places h n
+                (a.0, a.2, get_or_default items a.0 n a.1 a.2 ∙ a.3 ∙ eqb-true a.1 n a.4))) ∙ sym e
       ]
 
-module _ (net : Net) (t : Tally) (h : IsSettled net t) (queue : IsListing t.touched t.touched_places) (labels : (i : ℕ) → i < length net.offers → to_at net.offers i < length net.closed) where
+module _ (net : Net) (t : Tally) (h : IsSettled net t) (queue : IsListing t.touched t.touched_places) (labels : (i : ℕ)
+    → i < length net.offers → to_at net.offers i < length net.closed) where
   pub lists-reached : ListsReached net t.marked
   lists-reached =
       let listing = h.follows.steady.listing in
@@ -53,7 +56,9 @@ module _ (net : Net) (t : Tally) (h : IsSettled net t) (queue : IsListing t.touc
             let within : l < length net.closed = omega (arith, within-from_flag t.opened l o, h.follows.steady.sizes.opened) in
             let b = Follows-offered net (length t.marked) t h.follows l within (h.follows.steady.open_supported l o) in
             let here : (eqb (to_at net.offers b.0) l && is_among t.marked (from_at net.offers b.0)) ≡ true =
-            and_from (eqb (to_at net.offers b.0) l) (is_among t.marked (from_at net.offers b.0)) (eq-eqb (to_at net.offers b.0) l b.2.to) (among (from_at net.offers b.0) ∙ ap (is_marked_in t) b.2.from ∙ b.3)
+            and_from (eqb (to_at net.offers b.0) l) (is_among t.marked (from_at net.offers b.0))
+                (eq-eqb (to_at net.offers b.0) l b.2.to)
+                (among (from_at net.offers b.0) ∙ ap (is_marked_in t) b.2.from ∙ b.3)
             in
             and_from (not (is_closed net l)) (list_any (λ (e : Edge). eqb e.to l && is_among t.marked e.from) net.offers)
             (ap not (h.follows.steady.open_not_closed l o))
@@ -68,7 +73,9 @@ module _ (net : Net) (t : Tally) (h : IsSettled net t) (queue : IsListing t.touc
             let to : to_at net.offers a.0 ≡ l = ap (λ (x : Edge). x.to) item ∙ eqb-true a.1.to l tests.0 in
             let from : from_at net.offers a.0 ≡ a.1.from = ap (λ (x : Edge). x.from) item in
             both_ways (is_open_in t l) o
-            (open-from_offer net t h queue a.0 a.1.from l (record { within = a.2; from = from; to = to }) (sym (among a.1.from) ∙ tests.1) (omega (arith, labels a.0 a.2, to)) (not-true (is_closed net l) parts.0))) ∙ sym o
+            (open-from_offer net t h queue a.0 a.1.from l (record { within = a.2; from = from; to = to })
+                (sym (among a.1.from) ∙ tests.1) (omega (arith, labels a.0 a.2, to))
+                (not-true (is_closed net l) parts.0))) ∙ sym o
       ]
 
   pub visits-shown : t.visits ≡ visits_of net t.marked
@@ -78,8 +85,11 @@ module _ (net : Net) (t : Tally) (h : IsSettled net t) (queue : IsListing t.touc
         h.follows.counted.visits,
         count_by-count_below (λ (e : Edge). is_among t.marked e.from) net.offers (record { from = 0; to = 0 }),
         count_by-count_below (λ (e : Edge). is_open_among net t.marked e.from) net.waits (record { from = 0; to = 0 }),
-        count_below-same (λ i. is_among t.marked (from_at net.offers i)) (λ i. is_before t (length t.marked) (from_at net.offers i)) (length net.offers) (λ i a. among (from_at net.offers i) ∙ sym (before_all t h.follows.steady.listing (from_at net.offers i))),
-        count_below-same (λ i. is_open_among net t.marked (from_at net.waits i)) (λ i. is_open_in t (from_at net.waits i)) (length net.waits) (λ i a. open_among (from_at net.waits i)),
+        count_below-same (λ i. is_among t.marked (from_at net.offers i))
+            (λ i. is_before t (length t.marked) (from_at net.offers i)) (length net.offers)
+            (λ i a. among (from_at net.offers i) ∙ sym (before_all t h.follows.steady.listing (from_at net.offers i))),
+        count_below-same (λ i. is_open_among net t.marked (from_at net.waits i))
+            (λ i. is_open_in t (from_at net.waits i)) (length net.waits) (λ i a. open_among (from_at net.waits i)),
       )
 
 -- the marked nodes of a settled index are listed
@@ -87,12 +97,14 @@ pub lists : (g : Graph) (m : Marks) → IsSettled (net_of g) (tally_of m) → Li
 lists g m h = lists-reached (net_of g) (tally_of m) h m.touched.listed g.shaped.labels
 
 -- ... also where only room was added
-pub lists-grown : (g more : Graph) (m grown : Marks) → IsSettled (net_of g) (tally_of m) → net_of more ≡ net_of g → tally_of grown ≡ tally_of m → ListsReached (net_of more) grown.marked.items.items
+pub lists-grown : (g more : Graph) (m grown : Marks) → IsSettled (net_of g) (tally_of m) → net_of more ≡ net_of g
+    → tally_of grown ≡ tally_of m → ListsReached (net_of more) grown.marked.items.items
 lists-grown g more m grown h net tally =
     subst (λ (n : Net). ListsReached n grown.marked.items.items) (sym net) (subst (λ (t : Tally). ListsReached (net_of g) t.marked) (sym tally) (lists g m h))
 
 -- no wait edge leads to a node that is not there
-pub has_wait-past : (net : Net) (node : ℕ) → ((i : ℕ) → i < length net.waits → to_at net.waits i < length net.roots) → length net.roots ≤ node → has_wait net node ≡ false
+pub has_wait-past : (net : Net) (node : ℕ) → ((i : ℕ) → i < length net.waits → to_at net.waits i < length net.roots)
+    → length net.roots ≤ node → has_wait net node ≡ false
 has_wait-past net node nodes l =
     false_from_ne_true (has_wait net node) (λ e.
     let a = Any-from_list_any (λ (w : Edge). eqb w.to node) net.waits e in

@@ -4,7 +4,9 @@ use Rattle.std.proofs.Common.{◌≡◌, ℕ, zero, suc, ◌+◌, ◌⊎◌, inl
 use Rattle.std.specs.Prelude.{◌||◌}
 use Rattle.std.proofs.lemmas.Bool.{both_ways, or_cases, eqb-true}
 use Rattle.wait_index.specs.Edge.{IsEdge}
-use Rattle.wait_index.specs.Net.{Net, is_root, is_closed, IsReached, root, step, IsOpen, IsClosedUnder, IsTakenBack, itself, beyond, AreTakenBack, ClosesIn, HasReachOf, IsFallen, TellsFallen, has_wait, visits_of, edges_taken_back, edges_at, with_closed, with_all_closed}
+use Rattle.wait_index.specs.Net.{Net, is_root, is_closed, IsReached, root, step, IsOpen, IsClosedUnder, IsTakenBack}
+use Rattle.wait_index.specs.Net.{itself, beyond, AreTakenBack, ClosesIn, HasReachOf, IsFallen, TellsFallen, has_wait}
+use Rattle.wait_index.specs.Net.{visits_of, edges_taken_back, edges_at, with_closed, with_all_closed}
 use Rattle.wait_index.proofs.Least.{reached-least, contains-cons}
 use Rattle.wait_index.proofs.Closing.{taken-near, ClosesIn-one}
 
@@ -20,7 +22,9 @@ net = record {
 abbrev pub less : Net
 less = with_closed net 0
 
-offer : (i node label : ℕ) → IsEdge net.offers i node label → ((node ≡ 0) × (label ≡ 0)) ⊎ (((node ≡ 0) × (label ≡ 1)) ⊎ (((node ≡ 1) × (label ≡ 2)) ⊎ ((node ≡ 2) × (label ≡ 2))))
+offer : (i node label : ℕ) → IsEdge net.offers i node label
+    → ((node ≡ 0) × (label ≡ 0)) ⊎ (((node ≡ 0) × (label ≡ 1))
+    ⊎ (((node ≡ 1) × (label ≡ 2)) ⊎ ((node ≡ 2) × (label ≡ 2))))
 offer zero n l e = inl (sym e.from, sym e.to)
 offer (suc zero) n l e = inr (inl (sym e.from, sym e.to))
 offer (suc (suc zero)) n l e = inr (inr (inl (sym e.from, sym e.to)))
@@ -36,13 +40,16 @@ wait (suc (suc (suc i))) l n e = absurd (omega (arith, e.within))
 -- Which nodes are reached
 
 pub node_1 : IsReached net 1
-node_1 = step {label = 0} {i = 0} {j = 0} (root refl) (record { within = omega arith; from = refl; to = refl }) refl (record { within = omega arith; from = refl; to = refl })
+node_1 = step {label = 0} {i = 0} {j = 0} (root refl) (record { within = omega arith; from = refl; to = refl }) refl
+    (record { within = omega arith; from = refl; to = refl })
 
 pub node_2 : IsReached less 2
-node_2 = step {label = 1} {i = 1} {j = 1} (root refl) (record { within = omega arith; from = refl; to = refl }) refl (record { within = omega arith; from = refl; to = refl })
+node_2 = step {label = 1} {i = 1} {j = 1} (root refl) (record { within = omega arith; from = refl; to = refl }) refl
+    (record { within = omega arith; from = refl; to = refl })
 
 pub node_3 : IsReached less 3
-node_3 = step {label = 2} {i = 3} {j = 2} node_2 (record { within = omega arith; from = refl; to = refl }) refl (record { within = omega arith; from = refl; to = refl })
+node_3 = step {label = 2} {i = 3} {j = 2} node_2 (record { within = omega arith; from = refl; to = refl }) refl
+    (record { within = omega arith; from = refl; to = refl })
 
 -- every node but 1
 abbrev pub others : ℕ → Bool
@@ -58,7 +65,8 @@ others-closed = record { roots = roots; steps = steps }
     roots (suc (suc (suc zero))) e = refl
     roots (suc (suc (suc (suc n)))) e = absurd (both_ways false refl e)
 
-    steps : (node label next i j : ℕ) → others node ≡ true → IsEdge less.offers i node label → is_closed less label ≡ false → IsEdge less.waits j label next → others next ≡ true
+    steps : (node label next i j : ℕ) → others node ≡ true → IsEdge less.offers i node label
+        → is_closed less label ≡ false → IsEdge less.waits j label next → others next ≡ true
     steps node label next i j o e c w =
         let next_is = wait j label next w in
         elim (offer i node label e) [
@@ -129,7 +137,9 @@ taken_0 = itself (0, omega arith, refl) open_0
 
 -- with a label that is taken back
 taken_2 : (closing : List ℕ) → IsTakenBack net closing 0 → IsTakenBack net closing 2
-taken_2 closing b = beyond {here = 0} {node = 1} {i = 0} {j = 2} b (record { within = omega arith; from = refl; to = refl }) refl (record { within = omega arith; from = refl; to = refl }) refl
+taken_2 closing b = beyond {here = 0} {node = 1} {i = 0} {j =
+    2} b (record { within = omega arith; from = refl; to = refl }) refl
+    (record { within = omega arith; from = refl; to = refl }) refl
 
 pub taken : AreTakenBack net (0 ∷ []) lost
 taken = record {

@@ -9,7 +9,9 @@ use Rattle.wait_index.proofs.Listings.{contains-from_holds, holds-from_placed}
 use Rattle.wait_index.specs.Inside.Tally.{Tally, is_touched_in, is_open_in, Touches, TouchesAll}
 
 -- one label more
-pub TouchesAll-more : (labels : List ℕ) (i label : ℕ) (old now new : Tally) → i < length labels → label ≡ get_or labels i 0 → TouchesAll (take i labels) old now → Touches label now new → TouchesAll (take (i + 1) labels) old new
+pub TouchesAll-more : (labels : List ℕ) (i label : ℕ) (old now new : Tally) → i < length labels
+    → label ≡ get_or labels i 0 → TouchesAll (take i labels) old now → Touches label now new
+    → TouchesAll (take (i + 1) labels) old new
 TouchesAll-more labels i label old now new l at h s =
     let more : take (i + 1) labels ≡ take i labels ++ label ∷ [] = take_more labels i 0 l ∙ ap (λ k. take i labels ++ k ∷ []) (sym at) in
     let opened : (k : ℕ) → is_open_in now k ≡ is_open_in old k = λ k. ap (λ (t : Tally). is_open_in t k) h.same in
@@ -31,25 +33,32 @@ TouchesAll-more labels i label old now new l at h s =
             | inr b ↦
                 let parts = and_parts (eqb k label) (is_open_in now label) b in
                 let same = eqb-true k label parts.0 in
-                inr (subst (Contains (take i labels ++ label ∷ [])) (sym same) (Contains-push (take i labels) label), ap (is_open_in old) same ∙ sym (opened label) ∙ parts.1)
+                inr (subst (Contains (take i labels ++ label ∷ [])) (sym same) (Contains-push (take i labels) label),
+                    ap (is_open_in old) same ∙ sym (opened label) ∙ parts.1)
           ];
       size = s.size ∙ h.size;
     })
 
 -- Where none is touched after all, none of the labels is open, and nothing has changed.
 
-pub TouchesAll-shut : (labels : List ℕ) (old new : Tally) → IsListing new.touched new.touched_places → new.touched ≡ [] → TouchesAll labels old new → (l : ℕ) → Contains labels l → is_open_in old l ≡ false
+pub TouchesAll-shut : (labels : List ℕ) (old new : Tally) → IsListing new.touched new.touched_places → new.touched ≡ []
+    → TouchesAll labels old new → (l : ℕ) → Contains labels l → is_open_in old l ≡ false
 TouchesAll-shut labels old new queue none h l c =
     false_from_ne_true (is_open_in old l) (λ o.
     let listed = contains-from_holds new.touched new.touched_places queue l (h.all l c o) in
     omega (arith, listed.1, ap length none))
 
-pub TouchesAll-same : (labels : List ℕ) (old new : Tally) → IsListing old.touched old.touched_places → IsListing new.touched new.touched_places → old.touched ≡ [] → new.touched ≡ [] → TouchesAll labels old new → new ≡ old
+pub TouchesAll-same : (labels : List ℕ) (old new : Tally) → IsListing old.touched old.touched_places
+    → IsListing new.touched new.touched_places → old.touched ≡ [] → new.touched ≡ [] → TouchesAll labels old new
+    → new ≡ old
 TouchesAll-same labels old new queue queue_new none none_new h =
     let places : new.touched_places ≡ old.touched_places =
-    ext_get_or 0 new.touched_places old.touched_places h.size (λ k l. unplaced new.touched new.touched_places queue_new none_new k ∙ sym (unplaced old.touched old.touched_places queue none k))
+    ext_get_or 0 new.touched_places old.touched_places h.size
+        (λ k l. unplaced new.touched new.touched_places queue_new none_new k
+        ∙ sym (unplaced old.touched old.touched_places queue none k))
     in
-    h.same ∙ ap (λ xs. record old { touched = xs; touched_places = new.touched_places }) (none_new ∙ sym none) ∙ ap (λ xs. record old { touched_places = xs }) places
+    h.same ∙ ap (λ xs. record old { touched = xs; touched_places = new.touched_places }) (none_new ∙ sym none)
+        ∙ ap (λ xs. record old { touched_places = xs }) places
   where
     unplaced : (items places : List ℕ) → IsListing items places → items ≡ [] → (n : ℕ) → get_or places n 0 ≡ 0
     unplaced items places q e n =
@@ -59,7 +68,9 @@ TouchesAll-same labels old new queue queue_new none none_new h =
         ]
 
 -- Where none of the labels is open, none is touched.
-pub TouchesAll-untouched : (labels : List ℕ) (old new : Tally) → IsListing old.touched old.touched_places → IsListing new.touched new.touched_places → old.touched ≡ [] → ((l : ℕ) → Contains labels l → is_open_in old l ≡ false) → TouchesAll labels old new → length new.touched ≡ 0
+pub TouchesAll-untouched : (labels : List ℕ) (old new : Tally) → IsListing old.touched old.touched_places
+    → IsListing new.touched new.touched_places → old.touched ≡ []
+    → ((l : ℕ) → Contains labels l → is_open_in old l ≡ false) → TouchesAll labels old new → length new.touched ≡ 0
 TouchesAll-untouched labels old new queue queue_new none shut h =
     elim (cases_lt 0 (length new.touched)) [
       | inl a ↦

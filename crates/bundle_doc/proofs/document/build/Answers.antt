@@ -4,7 +4,9 @@ use Rattle.bundle_doc.proofs.document.build.Goals as goal
 
 pub returns-then-len-gt-MAX_DOCUMENT_BYTES : goal.returns-then-len-gt-MAX_DOCUMENT_BYTES
 returns-then-len-gt-MAX_DOCUMENT_BYTES c =
-    let built : IsBuilt c.args.contents.found.entries c.args.contents.rank c.args.contents.hint c.in_ok-authorities.authorities.items (string_bytes c.in_ok-authorities.canonical) (string_bytes c.write_numbers.new.out) = record {
+    let built : IsBuilt c.args.contents.found.entries c.args.contents.rank c.args.contents.hint
+        c.in_ok-authorities.authorities.items (string_bytes c.in_ok-authorities.canonical)
+        (string_bytes c.write_numbers.new.out) = record {
       entries = c.requires.entries;
       authorities_are = c.in_ok-authorities.ensures.authorities;
       rising = c.in_ok-authorities.ensures.rising;
@@ -15,7 +17,10 @@ returns-then-len-gt-MAX_DOCUMENT_BYTES c =
     } in
     too_long-built _ _ _ _ _ _ built c.len.result (c.len.ensures ∙ c.write_numbers.new.out.bytes.ok.0) c.if-len-gt-MAX_DOCUMENT_BYTES.true
 
-built : (c : goal.Else-len-gt-MAX_DOCUMENT_BYTES) → IsBuilt c.args.contents.found.entries c.args.contents.rank c.args.contents.hint c.in_ok-authorities.authorities.items (string_bytes c.in_ok-authorities.canonical) (string_bytes c.write_numbers.new.out)
+built : (c : goal.Else-len-gt-MAX_DOCUMENT_BYTES)
+    → IsBuilt c.args.contents.found.entries c.args.contents.rank c.args.contents.hint
+    c.in_ok-authorities.authorities.items (string_bytes c.in_ok-authorities.canonical)
+    (string_bytes c.write_numbers.new.out)
 built c = record {
   entries = c.requires.entries;
   authorities_are = c.in_ok-authorities.ensures.authorities;

@@ -11,11 +11,15 @@ loop-element-init c =
 pub loop-element-preserved : goal.loop-element-preserved
 loop-element-preserved c = record {
   entries = c.in_ok-add_element.ensures.entries c.loop-element.invariant.entries;
-  authorities = Gathers-next c.loop-element.found.entries c.add_element.new.found.entries c.args.elements.now c.loop-element.element-index c.element-item.result (items_view c.args.elements.now) c.loop-element-test.true (sym c.element-item.is) c.loop-element.invariant.entries c.in_ok-add_element.ensures c.loop-element.invariant.authorities;
+  authorities = Gathers-next c.loop-element.found.entries c.add_element.new.found.entries c.args.elements.now
+      c.loop-element.element-index c.element-item.result (items_view c.args.elements.now) c.loop-element-test.true
+      (sym c.element-item.is) c.loop-element.invariant.entries c.in_ok-add_element.ensures
+      c.loop-element.invariant.authorities;
 }
 
 pub returns : goal.returns
 returns c = record {
   entries = c.loop-element.invariant.entries;
-  authorities = Gathers-end c.loop-element.found.entries c.args.elements.now c.loop-element.element-index (items_view c.args.elements.now) c.loop-element-test.false c.loop-element.invariant.authorities;
+  authorities = Gathers-end c.loop-element.found.entries c.args.elements.now c.loop-element.element-index
+      (items_view c.args.elements.now) c.loop-element-test.false c.loop-element.invariant.authorities;
 }

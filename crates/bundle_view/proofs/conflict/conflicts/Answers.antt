@@ -8,7 +8,8 @@ use Rattle.bundle_view.proofs.GroupFacts.{taken_more, found_none, found_more, fo
 use Rattle.bundle_view.proofs.conflict.conflicts.Goals as goal
 
 pub loop-domain-init : goal.loop-domain-init
-loop-domain-init g c = subst (AreFoundOf (g.C.Closure.state c.args.closure.now).meaning []) (ap (map reported_by) (sym c.new-found.ensures.items)) (found_none _)
+loop-domain-init g c = subst (AreFoundOf (g.C.Closure.state c.args.closure.now).meaning [])
+    (ap (map reported_by) (sym c.new-found.ensures.items)) (found_none _)
 
 pub loop-domain-preserved : goal.loop-domain-preserved
 loop-domain-preserved g c =
@@ -20,6 +21,8 @@ loop-domain-preserved g c =
 
 pub returns : goal.returns
 returns g c =
-    found_all _ c.domains-domain-items.result.now _ (subst (λ config. AreDomains config c.domains-domain-items.result.now) c.config.ensures.config c.domains-domain-items.ensures.all)
+    found_all _ c.domains-domain-items.result.now _
+        (subst (λ config. AreDomains config c.domains-domain-items.result.now) c.config.ensures.config
+        c.domains-domain-items.ensures.all)
     (subst (λ domains. AreFoundOf (g.C.Closure.state c.args.closure.now).meaning domains (map reported_by c.loop-domain.found.items))
     (take_all c.loop-domain.domain-index c.domains-domain-items.result.now c.loop-domain-test.false) c.loop-domain.invariant)

@@ -5,4 +5,5 @@ use Rattle.bundle_view.specs.Report.{conflict_line}
 use Rattle.bundle_view.proofs.report.push_conflicts.Given as goal
 
 abbrev pub invariant-loop-conflict : goal.invariant-loop-conflict
-invariant-loop-conflict l = l.out.items ++ flat_map conflict_line (map reported_by (drop l.conflict-index l.conflicts)) ≡ l.initial.out.items ++ flat_map conflict_line (map reported_by l.conflicts)
+invariant-loop-conflict l = l.out.items ++ flat_map conflict_line (map reported_by (drop l.conflict-index l.conflicts))
+    ≡ l.initial.out.items ++ flat_map conflict_line (map reported_by l.conflicts)

@@ -10,6 +10,7 @@ use Rattle.bundle_view.proofs.waiting.list_waiting.Goals as goal
 
 pub returns : goal.returns
 returns g c = record {
-  sorted = c.sort_unstable_by.ensures.sorted (λ (x y : Receipt). is_lt (triple_cmp (need_of x) (need_of y))) (ranks_by triple_total need_of) (always_returns_same _ _ _ (λ a r f q. search rules));
+  sorted = c.sort_unstable_by.ensures.sorted (λ (x y : Receipt). is_lt (triple_cmp (need_of x) (need_of y)))
+      (ranks_by triple_total need_of) (always_returns_same _ _ _ (λ a r f q. search rules));
   trusted = trusted_moved _ _ _ c.sort_unstable_by.ensures.permutation c.in_ok-waiting.ensures;
 }

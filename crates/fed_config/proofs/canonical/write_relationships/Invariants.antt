@@ -5,4 +5,6 @@ use Rattle.fed_config.specs.Configuration.{relationship_tree}
 use Rattle.fed_config.proofs.canonical.write_relationships.Given as goal
 
 abbrev pub invariant-loop-relationship : goal.invariant-loop-relationship
-invariant-loop-relationship l = l.out.items ++ items_text l.later (items_of (map relationship_tree (drop l.relationship-index l.relationships))) ≡ l.fn.out.items ++ items_text false (items_of (map relationship_tree l.relationships))
+invariant-loop-relationship l =
+    l.out.items ++ items_text l.later (items_of (map relationship_tree (drop l.relationship-index l.relationships)))
+    ≡ l.fn.out.items ++ items_text false (items_of (map relationship_tree l.relationships))

@@ -5,4 +5,5 @@ use Rattle.fed_config.specs.Configuration.{seed_tree}
 use Rattle.fed_config.proofs.canonical.write_seeds.Given as goal
 
 abbrev pub invariant-loop-seed : goal.invariant-loop-seed
-invariant-loop-seed l = l.out.items ++ items_text l.later (items_of (map seed_tree (drop l.seed-index l.seeds))) ≡ l.fn.out.items ++ items_text false (items_of (map seed_tree l.seeds))
+invariant-loop-seed l = l.out.items ++ items_text l.later (items_of (map seed_tree (drop l.seed-index l.seeds)))
+    ≡ l.fn.out.items ++ items_text false (items_of (map seed_tree l.seeds))

@@ -7,4 +7,6 @@ use Rattle.fed_config.proofs.domains.domains_of.Goals as goal
 pub returns : goal.returns
 returns c =
     rw (dedup_is _ _ _ c.dedup.ensures.filtered)
-    (AreDomains-dedup c.args.relationships.now c.args.seeds.now _ (subst (λ l. IsPermutation l c.sort_unstable.new.self.items) c.in_ok-domains.ensures c.sort_unstable.ensures.permutation) c.sort_unstable.ensures.sorted)
+    (AreDomains-dedup c.args.relationships.now c.args.seeds.now _
+        (subst (λ l. IsPermutation l c.sort_unstable.new.self.items) c.in_ok-domains.ensures
+        c.sort_unstable.ensures.permutation) c.sort_unstable.ensures.sorted)

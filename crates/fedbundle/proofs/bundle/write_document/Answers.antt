@@ -9,7 +9,8 @@ pub returns-in_err-write_all-clause-beginning : goal.returns-in_err-write_all-cl
 returns-in_err-write_all-clause-beginning g c =
     let first = g.W.Sink.contents c.args.sink.now in
     let second = g.W.Sink.contents c.write_all.new.sink in
-    c.pieces.ensures.in_first first second (canonical_text c.args.document.now) (10 ∷ []) (subst (AppendsBeginning first second) c.canonical.ensures.text c.write_all.ensures.beginning)
+    c.pieces.ensures.in_first first second (canonical_text c.args.document.now) (10 ∷ [])
+        (subst (AppendsBeginning first second) c.canonical.ensures.text c.write_all.ensures.beginning)
 
 pub returns-clause-ok : goal.returns-clause-ok
 returns-clause-ok g c =
@@ -17,7 +18,8 @@ returns-clause-ok g c =
     let second = g.W.Sink.contents c.write_all.new.sink in
     let third = g.W.Sink.contents c.write_all-2.new.sink in
     on_ok_weaker c.write_all-2.result
-    (c.pieces.ensures.both first second third (canonical_text c.args.document.now) (10 ∷ []) (subst (Appends first second) c.canonical.ensures.text c.in_ok-write_all.ensures.ok))
+    (c.pieces.ensures.both first second third (canonical_text c.args.document.now) (10 ∷ [])
+        (subst (Appends first second) c.canonical.ensures.text c.in_ok-write_all.ensures.ok))
     c.write_all-2.ensures.ok
 
 pub returns-clause-beginning : goal.returns-clause-beginning
@@ -25,4 +27,6 @@ returns-clause-beginning g c =
     let first = g.W.Sink.contents c.args.sink.now in
     let second = g.W.Sink.contents c.write_all.new.sink in
     let third = g.W.Sink.contents c.write_all-2.new.sink in
-    c.pieces.ensures.in_second first second third (canonical_text c.args.document.now) (10 ∷ []) (subst (Appends first second) c.canonical.ensures.text c.in_ok-write_all.ensures.ok) c.write_all-2.ensures.beginning
+    c.pieces.ensures.in_second first second third (canonical_text c.args.document.now) (10 ∷ [])
+        (subst (Appends first second) c.canonical.ensures.text c.in_ok-write_all.ensures.ok)
+        c.write_all-2.ensures.beginning

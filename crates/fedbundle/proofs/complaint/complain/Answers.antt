@@ -5,7 +5,9 @@ use Rattle.fedbundle.specs.Stream.{why_text}
 use Rattle.fedbundle.proofs.complaint.complain.Goals as goal
 
 pub returns-in_err-write_all-clause-beginning : goal.returns-in_err-write_all-clause-beginning
-returns-in_err-write_all-clause-beginning g c = c.pieces.ensures.in_first _ _ (codes "line ") (decimal c.args.number ++ why_text c.args.why) c.write_all.ensures.beginning
+returns-in_err-write_all-clause-beginning g c =
+    c.pieces.ensures.in_first _ _ (codes "line ") (decimal c.args.number ++ why_text c.args.why)
+    c.write_all.ensures.beginning
 
 pub returns-in_err-write_all-2-clause-beginning : goal.returns-in_err-write_all-2-clause-beginning
 returns-in_err-write_all-2-clause-beginning g c =
@@ -14,7 +16,8 @@ returns-in_err-write_all-2-clause-beginning g c =
     let second = g.E.Sink.contents c.write_all.new.sink in
     let third = g.E.Sink.contents c.write_all-2.new.sink in
     c.pieces.ensures.in_second first second third (codes "line ") (decimal c.args.number ++ why_text c.args.why) c.in_ok-write_all.ensures.ok
-    (c.pieces.ensures.in_first second third (decimal c.args.number) (why_text c.args.why) (subst (AppendsBeginning second third) digits c.write_all-2.ensures.beginning))
+    (c.pieces.ensures.in_first second third (decimal c.args.number) (why_text c.args.why)
+        (subst (AppendsBeginning second third) digits c.write_all-2.ensures.beginning))
 
 pub returns-clause-beginning : goal.returns-clause-beginning
 returns-clause-beginning g c =
@@ -25,5 +28,6 @@ returns-clause-beginning g c =
     let third = g.E.Sink.contents c.write_all-2.new.sink in
     let fourth = g.E.Sink.contents c.write_all-3.new.sink in
     c.pieces.ensures.in_second first second fourth (codes "line ") (decimal c.args.number ++ why_text c.args.why) c.in_ok-write_all.ensures.ok
-    (c.pieces.ensures.in_second second third fourth (decimal c.args.number) (why_text c.args.why) (subst (Appends second third) digits c.in_ok-write_all-2.ensures.ok)
+    (c.pieces.ensures.in_second second third fourth (decimal c.args.number) (why_text c.args.why)
+        (subst (Appends second third) digits c.in_ok-write_all-2.ensures.ok)
     (subst (AppendsBeginning third fourth) why c.write_all-3.ensures.beginning))

@@ -1,7 +1,8 @@
 use Rattle.std.proofs.Common.{◌+◌, length, arith, ap, refl}
 use Rattle.std.proofs.lemmas.Result.{err_from_is_err_and}
 use Rattle.fedbundle.specs.declared.complaint.LineFault.TheVariants.{TooLong}
-use Rattle.fedbundle.proofs.RunFacts.{so_far_none, so_far_text, so_far_told, at_most_one, stops_line, stops_text, stops_io, begun_so_far, begun_line, begun_rest, judged_rest, end_of}
+use Rattle.fedbundle.proofs.RunFacts.{so_far_none, so_far_text, so_far_told, at_most_one, stops_line, stops_text}
+use Rattle.fedbundle.proofs.RunFacts.{stops_io, begun_so_far, begun_line, begun_rest, judged_rest, end_of}
 use Rattle.fedbundle.proofs.judge.take_lines.Goals as goal
 
 pub lines-init : goal.lines-init
@@ -9,7 +10,8 @@ lines-init g c =
     let few = g.met.R.Source.bounded c.args.source.now in
     let empty = ap length c.new-lines.ensures in
     record {
-      so_far = so_far_none (g.C.Closure.state c.args.closure.now).meaning.config (g.R.Source.remaining c.args.source.now) _ (g.C.Closure.state c.args.closure.now).meaning
+      so_far = so_far_none (g.C.Closure.state c.args.closure.now).meaning.config
+          (g.R.Source.remaining c.args.source.now) _ (g.C.Closure.state c.args.closure.now).meaning
           (g.E.Sink.contents c.args.complaints.now) c.new-lines.ensures refl c.requires.receipts c.requires.records;
       below = omega (arith, few, empty);
       few = omega arith;
@@ -24,18 +26,26 @@ pub returns-in_err-count-in-Text-clause-stops : goal.returns-in_err-count-in-Tex
 returns-in_err-count-in-Text-clause-stops g c =
     let taken = rw (c.in_ok-text.was, c.in-Text.is) at c.next_line.follows.holds-at-none in
     let exit = err_from_is_err_and c.from_residual-in_err-count-in-Text.result c.from_residual-in_err-count-in-Text.ensures.1 in
-    rw (exit.1, exit.2) (stops_text _ _ _ _ (g.C.Closure.state c.lines.closure) (g.C.Closure.state c.take_text.new.closure) _ (g.E.Sink.contents c.lines.complaints) (g.E.Sink.contents c.take_text.new.complaints)
-    c.lines.number c.lines.count c.in-Text.text.now (g.E.Sink.has_failed c.take_text.new.complaints) c.in_err-count-in-Text.field-0.0 c.lines.invariant.so_far taken.finds.0 c.in_err-count-in-Text.ensures)
+    rw (exit.1, exit.2) (stops_text _ _ _ _ (g.C.Closure.state c.lines.closure)
+        (g.C.Closure.state c.take_text.new.closure) _ (g.E.Sink.contents c.lines.complaints)
+        (g.E.Sink.contents c.take_text.new.complaints)
+    c.lines.number c.lines.count c.in-Text.text.now (g.E.Sink.has_failed c.take_text.new.complaints)
+        c.in_err-count-in-Text.field-0.0 c.lines.invariant.so_far taken.finds.0 c.in_err-count-in-Text.ensures)
 
 pub lines-preserved-in-Text : goal.lines-preserved-in-Text
 lines-preserved-in-Text g c =
     let taken = rw (c.in_ok-text.was, c.in-Text.is) at c.next_line.follows.holds-at-none in
     let less = taken.falls (λ e. cc) in
-    let one = at_most_one (g.C.Closure.state c.lines.closure) (g.C.Closure.state c.take_text.new.closure) c.in-Text.text.now (c.lines.number + 1) (g.E.Sink.contents c.lines.complaints) (g.E.Sink.contents c.take_text.new.complaints)
+    let one = at_most_one (g.C.Closure.state c.lines.closure) (g.C.Closure.state c.take_text.new.closure)
+        c.in-Text.text.now (c.lines.number + 1) (g.E.Sink.contents c.lines.complaints)
+        (g.E.Sink.contents c.take_text.new.complaints)
     (g.E.Sink.has_failed c.take_text.new.complaints) c.in_ok-count-in-Text.field-0 c.in_ok-count-in-Text.ensures in
     record {
-      so_far = so_far_text _ _ _ _ (g.C.Closure.state c.lines.closure) (g.C.Closure.state c.take_text.new.closure) _ (g.E.Sink.contents c.lines.complaints) (g.E.Sink.contents c.take_text.new.complaints)
-          c.lines.number c.lines.count c.in-Text.text.now (g.E.Sink.has_failed c.take_text.new.complaints) c.in_ok-count-in-Text.field-0 c.requires.config c.lines.invariant.so_far taken.finds.0 c.in_ok-count-in-Text.ensures;
+      so_far = so_far_text _ _ _ _ (g.C.Closure.state c.lines.closure) (g.C.Closure.state c.take_text.new.closure) _
+          (g.E.Sink.contents c.lines.complaints) (g.E.Sink.contents c.take_text.new.complaints)
+          c.lines.number c.lines.count c.in-Text.text.now (g.E.Sink.has_failed c.take_text.new.complaints)
+              c.in_ok-count-in-Text.field-0 c.requires.config c.lines.invariant.so_far taken.finds.0
+              c.in_ok-count-in-Text.ensures;
       below = omega (arith, less);
       few = omega (arith, one);
     }
@@ -62,7 +72,9 @@ pub returns-in_err-complain-in-Cut-clause-stops : goal.returns-in_err-complain-i
 returns-in_err-complain-in-Cut-clause-stops g c =
     let taken = rw (c.in_ok-text.was, c.in-Cut.is) at c.next_line.follows.holds-at-none in
     let exit = err_from_is_err_and c.from_residual-in_err-complain-in-Cut.result c.from_residual-in_err-complain-in-Cut.ensures.1 in
-    rw (exit.1, exit.2) (stops_io _ _ _ _ (begun_rest _ _ _ _ _ _ _ _ _ c.lines.invariant.so_far taken.finds.0 taken.finds.1 c.complain-in-Cut.ensures.beginning))
+    rw (exit.1, exit.2)
+        (stops_io _ _ _ _ (begun_rest _ _ _ _ _ _ _ _ _ c.lines.invariant.so_far taken.finds.0 taken.finds.1
+        c.complain-in-Cut.ensures.beginning))
 
 pub returns-in-Cut-clause-ok : goal.returns-in-Cut-clause-ok
 returns-in-Cut-clause-ok g c =

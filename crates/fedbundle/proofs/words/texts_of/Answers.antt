@@ -7,7 +7,10 @@ use Rattle.fedbundle.proofs.WordsFacts.{texts_more}
 use Rattle.fedbundle.proofs.words.texts_of.Goals as goal
 
 pub options-preserved : goal.options-preserved
-options-preserved c = texts_more (given (rows_of (found_of c.args.matches.now))) c.args.options.now c.options.option-index _ c.options-test.true (search rules) (map (λ t. t.now) c.options.texts.items) (map (λ t. t.now) c.push.new.self.items) c.in-Some.text.now
+options-preserved c = texts_more (given (rows_of (found_of c.args.matches.now))) c.args.options.now
+    c.options.option-index _ c.options-test.true (search rules) (map (λ t. t.now) c.options.texts.items)
+    (map (λ t. t.now) c.push.new.self.items) c.in-Some.text.now
     (ap (map (λ t. t.now)) c.in_ok-push.ensures.items ∙ map-append (λ t. t.now) c.options.texts.items (c.in-Some.text ∷ []))
-    (sym (first_value-rows (found_of c.args.matches.now) (option_text _)) ∙ ap (first_value (found_of c.args.matches.now)) (sym c.text.ensures) ∙ sym c.in-Some.ensures)
+    (sym (first_value-rows (found_of c.args.matches.now) (option_text _))
+        ∙ ap (first_value (found_of c.args.matches.now)) (sym c.text.ensures) ∙ sym c.in-Some.ensures)
     ∙ c.options.invariant

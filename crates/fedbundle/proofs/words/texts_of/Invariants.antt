@@ -4,4 +4,5 @@ use Rattle.fedbundle.specs.Words.{given}
 use Rattle.fedbundle.proofs.words.texts_of.Given as goal
 
 abbrev pub invariant-options : goal.invariant-options
-invariant-options l = map Some (map (λ t. t.now) l.texts.items) ++ map (given (rows_of (found_of l.matches))) (drop l.option-index l.options) ≡ map (given (rows_of (found_of l.matches))) l.options
+invariant-options l = map Some (map (λ t. t.now) l.texts.items) ++ map (given (rows_of (found_of l.matches)))
+    (drop l.option-index l.options) ≡ map (given (rows_of (found_of l.matches))) l.options

@@ -4,7 +4,9 @@ use Rattle.receipt_core.proofs.ChainFacts.{next_told, distrusted_told, told_no, 
 use Rattle.receipt_core.proofs.chain.is_vouched_for.Goals as goal
 
 pub returns-then-is_distrusted : goal.returns-then-is_distrusted
-returns-then-is_distrusted c = told_no _ false refl (distrusted_told c.args.records.now (pair_of c.args.previous.now) c.args.receipt.now (c.is_distrusted.ensures.0 c.if-is_distrusted.true))
+returns-then-is_distrusted c =
+    told_no _ false refl (distrusted_told c.args.records.now (pair_of c.args.previous.now) c.args.receipt.now
+    (c.is_distrusted.ensures.0 c.if-is_distrusted.true))
 
 pub returns-else-is_distrusted : goal.returns-else-is_distrusted
 returns-else-is_distrusted c =

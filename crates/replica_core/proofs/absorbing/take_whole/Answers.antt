@@ -14,7 +14,8 @@ pub distrust_all-requires : goal.distrust_all-requires
 distrust_all-requires g c =
     let m = (g.C.Closure.state c.args.closure.now).meaning in
     let content = c.args.give.content in
-    subst (λ (xs : List Distrust). AreWelcome m (of_records xs)) (sym c.distrusts.ensures) (welcome-front m (of_records content.records) (of_receipts content.held) c.requires.welcome)
+    subst (λ (xs : List Distrust). AreWelcome m (of_records xs)) (sym c.distrusts.ensures)
+        (welcome-front m (of_records content.records) (of_receipts content.held) c.requires.welcome)
 
 pub take_all-requires-clause-welcome : goal.take_all-requires-clause-welcome
 take_all-requires-clause-welcome g c =
@@ -23,14 +24,17 @@ take_all-requires-clause-welcome g c =
     let held : c.give.inside.receipts.items ≡ content.held = ap (λ (r : Reply). r.content.held) c.give.view_is in
     subst (λ (rs : List Receipt). AreWelcome (g.C.Closure.state c.distrust_all.new.closure).meaning (of_receipts rs)) (sym held)
     (subst (λ (k : Meaning). AreWelcome k (of_receipts content.held)) (sym c.distrust_all.ensures.meaning)
-    (subst (λ (xs : List Distrust). AreWelcome (record m { records = with_items distrust_cmp xs m.records }) (of_receipts content.held)) (sym c.distrusts.ensures)
+    (subst (λ (xs : List Distrust). AreWelcome (record m { records = with_items distrust_cmp xs m.records })
+        (of_receipts content.held)) (sym c.distrusts.ensures)
     (receipts-welcome m content.records content.held c.requires.welcome)))
 
 pub overflow_sub-result : goal.overflow_sub-result
 overflow_sub-result g c =
     let m = (g.C.Closure.state c.args.closure.now).meaning in
     let before : (g.C.Closure.state c.distrust_all.new.closure).meaning.held ≡ m.held = ap (λ (k : Meaning). k.held) c.distrust_all.ensures.meaning in
-    let after : (g.C.Closure.state c.take_all.new.closure).meaning.held ≡ with_items receipt_cmp c.give.inside.receipts.items (g.C.Closure.state c.distrust_all.new.closure).meaning.held = ap (λ (k : Meaning). k.held) c.take_all.ensures in
+    let after : (g.C.Closure.state c.take_all.new.closure).meaning.held
+        ≡ with_items receipt_cmp c.give.inside.receipts.items
+        (g.C.Closure.state c.distrust_all.new.closure).meaning.held = ap (λ (k : Meaning). k.held) c.take_all.ensures in
     let grown = with_items-grows receipt_cmp c.give.inside.receipts.items (g.C.Closure.state c.distrust_all.new.closure).meaning.held in
     omega (arith, c.receipt_count-held.ensures, c.receipt_count.ensures, ap length before, ap length after, grown)
 
@@ -38,6 +42,8 @@ pub returns-clause-count : goal.returns-clause-count
 returns-clause-count g c =
     let m = (g.C.Closure.state c.args.closure.now).meaning in
     let before : (g.C.Closure.state c.distrust_all.new.closure).meaning.held ≡ m.held = ap (λ (k : Meaning). k.held) c.distrust_all.ensures.meaning in
-    let after : (g.C.Closure.state c.take_all.new.closure).meaning.held ≡ with_items receipt_cmp c.give.inside.receipts.items (g.C.Closure.state c.distrust_all.new.closure).meaning.held = ap (λ (k : Meaning). k.held) c.take_all.ensures in
+    let after : (g.C.Closure.state c.take_all.new.closure).meaning.held
+        ≡ with_items receipt_cmp c.give.inside.receipts.items
+        (g.C.Closure.state c.distrust_all.new.closure).meaning.held = ap (λ (k : Meaning). k.held) c.take_all.ensures in
     let grown = with_items-grows receipt_cmp c.give.inside.receipts.items (g.C.Closure.state c.distrust_all.new.closure).meaning.held in
     omega (arith, c.receipt_count-held.ensures, c.receipt_count.ensures, ap length before, ap length after, grown)

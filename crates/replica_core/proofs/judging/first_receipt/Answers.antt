@@ -21,7 +21,8 @@ returns-in-Err g c = λ records.
     let misfits = subst (λ (k : Configuration). Misfits k r c.in-Err.why) c.config-config.ensures.config c.in-Err.ensures.fits in
     let refused = misfit-refused (record m { held = with_items receipt_cmp (take c.loop-receipt.place rs) m.held }) r c.in-Err.why misfits in
     receipt-refused m rs c.loop-receipt.place r c.in-Err.why (omega (arith, same, c.loop-receipt-test.true))
-    (subst (λ i. get_or rs i r ≡ r) (sym same) (sym c.receipt-item.is)) (subst (λ i. AreWelcome m (of_receipts (take i rs))) (sym same) (c.loop-receipt.invariant.welcome records))
+    (subst (λ i. get_or rs i r ≡ r) (sym same) (sym c.receipt-item.is))
+        (subst (λ i. AreWelcome m (of_receipts (take i rs))) (sym same) (c.loop-receipt.invariant.welcome records))
     refused.0 refused.1
 
 pub returns-in-None : goal.returns-in-None
@@ -31,7 +32,8 @@ returns-in-None g c = λ records.
     let r = c.receipt-item.result in
     let same = c.loop-receipt.invariant.place in
     receipt-refused m rs c.loop-receipt.place r Full (omega (arith, same, c.loop-receipt-test.true))
-    (subst (λ i. get_or rs i r ≡ r) (sym same) (sym c.receipt-item.is)) (subst (λ i. AreWelcome m (of_receipts (take i rs))) (sym same) (c.loop-receipt.invariant.welcome records))
+    (subst (λ i. get_or rs i r ≡ r) (sym same) (sym c.receipt-item.is))
+        (subst (λ i. AreWelcome m (of_receipts (take i rs))) (sym same) (c.loop-receipt.invariant.welcome records))
     (record {
       fits = subst (λ (k : Configuration). IsFitting k r) c.config-config.ensures.config c.in_default.ensures.fits;
       unheld = c.in-None.ensures.unheld;
@@ -55,5 +57,7 @@ loop-receipt-preserved g c =
       places = places-next receipt_cmp 65536 rs m.held i c.in-Some.more r c.loop-receipt-test.true at has.after;
       welcome = λ records. receipt-judged (record m { records = records }) rs i r c.loop-receipt-test.true at (c.loop-receipt.invariant.welcome records)
           (subst IsConfiguration own c.domains-form.ensures.form) (subst (λ (k : Configuration). IsFitting k r) own c.in_default.ensures.fits) has.place;
-      forms = subst (λ (xs : List Receipt). AllByRecursion IsReceipt xs) (sym (take-next rs i r c.loop-receipt-test.true at)) (all-push IsReceipt (take i rs) r c.loop-receipt.invariant.forms c.fit.ensures.form);
+      forms = subst (λ (xs : List Receipt). AllByRecursion IsReceipt xs)
+          (sym (take-next rs i r c.loop-receipt-test.true at))
+          (all-push IsReceipt (take i rs) r c.loop-receipt.invariant.forms c.fit.ensures.form);
     }

@@ -8,7 +8,9 @@ use Rattle.replica_core.proofs.judging.fit.Goals as goal
 
 pub returns-in_default-clause-fits : goal.returns-in_default-clause-fits
 returns-in_default-clause-fits c = λ x has e.
-    let none : IsRelationshipOf c.args.config.now c.domain.result.now None = subst (λ o. IsRelationshipOf c.args.config.now c.domain.result.now (option_copied o)) c.in_default.is c.relationship.ensures in
+    let none : IsRelationshipOf c.args.config.now c.domain.result.now None =
+        subst (λ o. IsRelationshipOf c.args.config.now c.domain.result.now (option_copied o)) c.in_default.is
+        c.relationship.ensures in
     none x has (e ∙ sym c.domain.ensures.domain)
 
 pub returns-then-eq-clause-fits : goal.returns-then-eq-clause-fits
@@ -18,6 +20,7 @@ returns-then-eq-clause-fits c =
       relationship = c.in-Some.relationship.now;
       has = c.in-Some.ensures.0;
       domain = c.in-Some.ensures.1 ∙ c.domain.ensures.domain;
-      endpoint = one_value c.in-Some.relationship.now.endpoint c.args.receipt.now.endpoint c.as_str.ensures.valid (subst (λ (e : Id). IsId e) c.endpoint.ensures c.as_str-2.ensures.valid)
+      endpoint = one_value c.in-Some.relationship.now.endpoint c.args.receipt.now.endpoint c.as_str.ensures.valid
+          (subst (λ (e : Id). IsId e) c.endpoint.ensures c.as_str-2.ensures.valid)
           (sym c.as_str.ensures.text ∙ texts ∙ c.as_str-2.ensures.text ∙ ap (λ (e : Id). e.text) c.endpoint.ensures);
     }

@@ -8,7 +8,8 @@ use Rattle.replica_sync.proofs.answer_reader.read_content.Given as goal
 
 abbrev pub invariant-lines : goal.invariant-lines
 invariant-lines g l = record {
-  gathers : Gathers l.head.count l.head.distrusts (stream_of g.R.Source.remaining l.initial.lines l.initial.source) (answer_content l.content) (stream_of g.R.Source.remaining l.lines l.source);
+  gathers : Gathers l.head.count l.head.distrusts (stream_of g.R.Source.remaining l.initial.lines l.initial.source)
+      (answer_content l.content) (stream_of g.R.Source.remaining l.lines l.source);
   last : l.content.last.items ≡ last_of (content_lines (answer_content l.content));
   fault : g.R.Source.has_failed l.source ≡ g.R.Source.has_failed l.initial.source;
 }

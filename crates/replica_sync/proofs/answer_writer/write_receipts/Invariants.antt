@@ -4,4 +4,6 @@ use Rattle.replica_sync.proofs.Written.{Wrote}
 use Rattle.replica_sync.proofs.answer_writer.write_receipts.Given as goal
 
 abbrev pub invariant-loop-receipt : goal.invariant-loop-receipt
-invariant-loop-receipt g l = Wrote (g.W.Sink.contents l.initial.sink) (g.W.Sink.contents l.sink) (flat_map receipt_text l.initial.receipt-iterator) (flat_map receipt_text l.receipt-iterator)
+invariant-loop-receipt g l =
+    Wrote (g.W.Sink.contents l.initial.sink) (g.W.Sink.contents l.sink)
+    (flat_map receipt_text l.initial.receipt-iterator) (flat_map receipt_text l.receipt-iterator)

@@ -4,4 +4,6 @@ use Rattle.replica_sync.proofs.Written.{Wrote}
 use Rattle.replica_sync.proofs.answer_writer.write_records.Given as goal
 
 abbrev pub invariant-loop-domain : goal.invariant-loop-domain
-invariant-loop-domain g l = Wrote (g.W.Sink.contents l.initial.sink) (g.W.Sink.contents l.sink) (flat_map record_text l.initial.domain-iterator) (flat_map record_text l.domain-iterator)
+invariant-loop-domain g l =
+    Wrote (g.W.Sink.contents l.initial.sink) (g.W.Sink.contents l.sink) (flat_map record_text l.initial.domain-iterator)
+    (flat_map record_text l.domain-iterator)

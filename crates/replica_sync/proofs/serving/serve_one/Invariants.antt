@@ -6,7 +6,9 @@ use Rattle.replica_sync.proofs.serving.serve_one.Given as goal
 
 abbrev pub invariant-questions : goal.invariant-questions
 invariant-questions g l = record {
-  served : Served (g.C.Closure.state l.closure).meaning (g.R.Source.remaining l.fn.source) (stream_of g.R.Source.remaining l.lines l.source) (g.W.Sink.contents l.fn.sink) (g.W.Sink.contents l.sink) l.count;
+  served : Served (g.C.Closure.state l.closure).meaning (g.R.Source.remaining l.fn.source)
+      (stream_of g.R.Source.remaining l.lines l.source) (g.W.Sink.contents l.fn.sink) (g.W.Sink.contents l.sink)
+      l.count;
   below : l.count + left_of g.R.Source.budget l.lines l.source < 2 ^ 64;
 }
 

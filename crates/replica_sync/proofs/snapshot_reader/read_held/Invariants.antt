@@ -7,7 +7,9 @@ use Rattle.replica_sync.proofs.snapshot_reader.read_held.Given as goal
 
 abbrev pub invariant-lines : goal.invariant-lines
 invariant-lines g l = record {
-  holds : Holds (g.C.Closure.state l.initial.closure).meaning.config (stream_of g.R.Source.remaining l.initial.lines l.initial.source) l.format (g.C.Closure.state l.closure).meaning (stream_of g.R.Source.remaining l.lines l.source);
+  holds : Holds (g.C.Closure.state l.initial.closure).meaning.config
+      (stream_of g.R.Source.remaining l.initial.lines l.initial.source) l.format (g.C.Closure.state l.closure).meaning
+      (stream_of g.R.Source.remaining l.lines l.source);
   last : l.last.items ≡ last_line (g.C.Closure.state l.closure).meaning;
   number : l.number ≡ next_number (g.C.Closure.state l.closure).meaning;
   fault : g.R.Source.has_failed l.source ≡ g.R.Source.has_failed l.initial.source;

@@ -27,10 +27,13 @@ returns-in_err-put_line-clause-writes g c =
     let x : Receipt = c.in-Some.receipt.now in
     let new = g.W.Sink.contents c.put_line.new.sink in
     let later = text_of_lines (map line c.next.new.self) in
-    let first = ap (λ (items : List Receipt). text_of_lines (map line items)) c.in-Some.ensures.steps ∙ flat_map-cons ended (line x) (map line c.next.new.self) in
-    refused_write c.from_residual-in_err-put_line.result c.in_err-put_line.field-0.0 start new _ c.from_residual-in_err-put_line.ensures.1 c.in_err-put_line.ensures.writes.cause
+    let first = ap (λ (items : List Receipt). text_of_lines (map line items)) c.in-Some.ensures.steps
+        ∙ flat_map-cons ended (line x) (map line c.next.new.self) in
+    refused_write c.from_residual-in_err-put_line.result c.in_err-put_line.field-0.0 start new _
+        c.from_residual-in_err-put_line.ensures.1 c.in_err-put_line.ensures.writes.cause
     (subst (λ (items : List Receipt). AppendsBeginning start new (text_of_lines (map line items))) all
-    (begun_in c.pieces.ensures.both c.pieces.ensures.in_first c.pieces.ensures.in_second start now new (ended (line x)) later _ whole first c.receipts.invariant.written
+    (begun_in c.pieces.ensures.both c.pieces.ensures.in_first c.pieces.ensures.in_second start now new (ended (line x))
+        later _ whole first c.receipts.invariant.written
     (subst (λ (t : List ℕ). AppendsBeginning now new (ended t)) c.in_ok-text.ensures c.in_err-put_line.ensures.writes.begun)))
 
 pub receipts-preserved : goal.receipts-preserved
@@ -42,9 +45,11 @@ receipts-preserved g c =
     let x : Receipt = c.in-Some.receipt.now in
     let new = g.W.Sink.contents c.put_line.new.sink in
     let later = text_of_lines (map line c.next.new.self) in
-    let first = ap (λ (items : List Receipt). text_of_lines (map line items)) c.in-Some.ensures.steps ∙ flat_map-cons ended (line x) (map line c.next.new.self) in
+    let first = ap (λ (items : List Receipt). text_of_lines (map line items)) c.in-Some.ensures.steps
+        ∙ flat_map-cons ended (line x) (map line c.next.new.self) in
     record {
-      written = one_more c.pieces.ensures.both c.pieces.ensures.in_first c.pieces.ensures.in_second start now new (ended (line x)) later _ whole first c.receipts.invariant.written
+      written = one_more c.pieces.ensures.both c.pieces.ensures.in_first c.pieces.ensures.in_second start now new
+          (ended (line x)) later _ whole first c.receipts.invariant.written
           (subst (λ (t : List ℕ). Appends now new (ended t)) c.in_ok-text.ensures c.in_ok-put_line.ensures.writes.all);
       fault = c.in_ok-put_line.ensures.fault ∙ c.receipts.invariant.fault;
     }
@@ -57,7 +62,8 @@ returns-clause-writes g c =
     let whole = text_of_lines (map line c.into_iter-receipt-iterator.result) in
     let none = ap (λ (items : List Receipt). text_of_lines (map line items)) c.in-None.ensures.steps.0 in
     record {
-      all = subst (λ (items : List Receipt). Appends start now (text_of_lines (map line items))) all (finished start now _ whole none c.receipts.invariant.written);
+      all = subst (λ (items : List Receipt). Appends start now (text_of_lines (map line items))) all
+          (finished start now _ whole none c.receipts.invariant.written);
       begun = subst (λ (items : List Receipt). AppendsBeginning start now (text_of_lines (map line items))) all
           (begun_before c.pieces.ensures.in_second (nothing c.pieces.ensures.none) start now _ whole c.receipts.invariant.written);
       cause = tt;

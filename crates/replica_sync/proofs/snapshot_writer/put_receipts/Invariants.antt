@@ -7,6 +7,7 @@ use Rattle.replica_sync.proofs.snapshot_writer.put_receipts.Given as goal
 
 abbrev pub invariant-receipts : goal.invariant-receipts
 invariant-receipts g l = record {
-  written : WrittenSoFar (g.W.Sink.contents l.initial.sink) (g.W.Sink.contents l.sink) (text_of_lines (map line l.receipt-iterator)) (text_of_lines (map line l.initial.receipt-iterator));
+  written : WrittenSoFar (g.W.Sink.contents l.initial.sink) (g.W.Sink.contents l.sink)
+      (text_of_lines (map line l.receipt-iterator)) (text_of_lines (map line l.initial.receipt-iterator));
   fault : g.W.Sink.has_failed l.sink ≡ g.W.Sink.has_failed l.initial.sink;
 }

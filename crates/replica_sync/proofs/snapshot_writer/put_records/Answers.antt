@@ -28,10 +28,13 @@ returns-in_err-put_line-clause-writes g c =
     let x : Distrust = record { domain = c.in-Some.domain.now; key = c.in-Some.key.now } in
     let new = g.W.Sink.contents c.put_line.new.sink in
     let later = text_of_lines (map distrust_line c.next.new.self) in
-    let first = ap (λ (items : List Distrust). text_of_lines (map distrust_line items)) c.in-Some.ensures.steps ∙ flat_map-cons ended (distrust_line x) (map distrust_line c.next.new.self) in
-    refused_write c.from_residual-in_err-put_line.result c.in_err-put_line.field-0.0 start new _ c.from_residual-in_err-put_line.ensures.1 c.in_err-put_line.ensures.writes.cause
+    let first = ap (λ (items : List Distrust). text_of_lines (map distrust_line items)) c.in-Some.ensures.steps
+        ∙ flat_map-cons ended (distrust_line x) (map distrust_line c.next.new.self) in
+    refused_write c.from_residual-in_err-put_line.result c.in_err-put_line.field-0.0 start new _
+        c.from_residual-in_err-put_line.ensures.1 c.in_err-put_line.ensures.writes.cause
     (subst (λ (items : List Distrust). AppendsBeginning start new (text_of_lines (map distrust_line items))) all
-    (begun_in c.pieces.ensures.both c.pieces.ensures.in_first c.pieces.ensures.in_second start now new (ended (distrust_line x)) later _ whole first c.records.invariant.written
+    (begun_in c.pieces.ensures.both c.pieces.ensures.in_first c.pieces.ensures.in_second start now new
+        (ended (distrust_line x)) later _ whole first c.records.invariant.written
     (subst (λ (t : List ℕ). AppendsBeginning now new (ended t)) c.in_ok-text.ensures c.in_err-put_line.ensures.writes.begun)))
 
 pub records-preserved : goal.records-preserved
@@ -43,10 +46,12 @@ records-preserved g c =
     let x : Distrust = record { domain = c.in-Some.domain.now; key = c.in-Some.key.now } in
     let new = g.W.Sink.contents c.put_line.new.sink in
     let later = text_of_lines (map distrust_line c.next.new.self) in
-    let first = ap (λ (items : List Distrust). text_of_lines (map distrust_line items)) c.in-Some.ensures.steps ∙ flat_map-cons ended (distrust_line x) (map distrust_line c.next.new.self) in
+    let first = ap (λ (items : List Distrust). text_of_lines (map distrust_line items)) c.in-Some.ensures.steps
+        ∙ flat_map-cons ended (distrust_line x) (map distrust_line c.next.new.self) in
     let one = ap (λ (items : List Distrust). length items) c.in-Some.ensures.steps in
     record {
-      written = one_more c.pieces.ensures.both c.pieces.ensures.in_first c.pieces.ensures.in_second start now new (ended (distrust_line x)) later _ whole first c.records.invariant.written
+      written = one_more c.pieces.ensures.both c.pieces.ensures.in_first c.pieces.ensures.in_second start now new
+          (ended (distrust_line x)) later _ whole first c.records.invariant.written
           (subst (λ (t : List ℕ). Appends now new (ended t)) c.in_ok-text.ensures c.in_ok-put_line.ensures.writes.all);
       count = omega (arith, one, c.records.invariant.count);
       fault = c.in_ok-put_line.ensures.fault ∙ c.records.invariant.fault;
@@ -60,7 +65,8 @@ returns-clause-writes g c =
     let whole = text_of_lines (map distrust_line c.into_iter-domain-iterator.result) in
     let none = ap (λ (items : List Distrust). text_of_lines (map distrust_line items)) c.in-None.ensures.steps.0 in
     record {
-      all = subst (λ (items : List Distrust). Appends start now (text_of_lines (map distrust_line items))) all (finished start now _ whole none c.records.invariant.written);
+      all = subst (λ (items : List Distrust). Appends start now (text_of_lines (map distrust_line items))) all
+          (finished start now _ whole none c.records.invariant.written);
       begun = subst (λ (items : List Distrust). AppendsBeginning start now (text_of_lines (map distrust_line items))) all
           (begun_before c.pieces.ensures.in_second (nothing c.pieces.ensures.none) start now _ whole c.records.invariant.written);
       cause = tt;

@@ -7,7 +7,9 @@ use Rattle.replica_sync.proofs.snapshot_writer.put_records.Given as goal
 
 abbrev pub invariant-records : goal.invariant-records
 invariant-records g l = record {
-  written : WrittenSoFar (g.W.Sink.contents l.initial.sink) (g.W.Sink.contents l.sink) (text_of_lines (map distrust_line l.domain-iterator)) (text_of_lines (map distrust_line l.initial.domain-iterator));
+  written : WrittenSoFar (g.W.Sink.contents l.initial.sink) (g.W.Sink.contents l.sink)
+      (text_of_lines (map distrust_line l.domain-iterator))
+      (text_of_lines (map distrust_line l.initial.domain-iterator));
   count : l.count + length l.domain-iterator ≡ length l.initial.domain-iterator;
   fault : g.W.Sink.has_failed l.sink ≡ g.W.Sink.has_failed l.initial.sink;
 }

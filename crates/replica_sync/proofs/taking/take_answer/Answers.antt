@@ -11,7 +11,8 @@ returns-in_err-told-clause-refused g c =
     let old = (g.C.Closure.state c.args.closure.now).meaning in
     let stream = stream_of g.R.Source.remaining c.args.lines.now c.args.source.now in
     refused_by c.from_residual.result (StopsReply old c.args.bucket (c.args.place.now.read + 1) stream old) c.in_err-told.field-0.0 c.from_residual.ensures.1
-    (answer_refused old c.config.result.now c.args.bucket (c.args.place.now.read + 1) stream _ c.in_err-told.field-0.0 c.config.ensures.config c.in_err-told.ensures.refused)
+    (answer_refused old c.config.result.now c.args.bucket (c.args.place.now.read + 1) stream _ c.in_err-told.field-0.0
+        c.config.ensures.config c.in_err-told.ensures.refused)
 
 pub returns-clause-ok : goal.returns-clause-ok
 returns-clause-ok g c =
@@ -22,7 +23,8 @@ returns-clause-ok g c =
     let left = stream_of g.R.Source.remaining c.take_lines.new.lines c.take_lines.new.source in
     let before = c.args.place.now.read in
     let told = c.in_ok-told.told in
-    on_ok_weaker c.take_lines.result (answer_taken old c.config.result.now c.args.bucket before told stream middle left new c.take_lines.new.place.read c.config.ensures.config c.in_ok-told.ensures.ok) c.take_lines.ensures.ok
+    on_ok_weaker c.take_lines.result (answer_taken old c.config.result.now c.args.bucket before told stream middle left
+        new c.take_lines.new.place.read c.config.ensures.config c.in_ok-told.ensures.ok) c.take_lines.ensures.ok
 
 pub returns-clause-refused : goal.returns-clause-refused
 returns-clause-refused g c =
@@ -33,4 +35,5 @@ returns-clause-refused g c =
     let first = c.args.place.now.read + 1 in
     let told = c.in_ok-told.told in
     IfErr-weaker c.take_lines.result (StopsWithin old middle told.count told.distrusts first new) (StopsReply old c.args.bucket first stream new)
-    (λ e. answer_stops old c.config.result.now c.args.bucket first told stream middle new e c.config.ensures.config c.in_ok-told.ensures.ok) c.take_lines.ensures.refused
+    (λ e. answer_stops old c.config.result.now c.args.bucket first told stream middle new e c.config.ensures.config
+        c.in_ok-told.ensures.ok) c.take_lines.ensures.refused

@@ -1,28 +1,36 @@
 use Rattle.std.proofs.Common.{◌≡◌, ◌+◌, suc, length, arith, ◌∙◌, ap}
 use Rattle.std.specs.List.{concat}
-use Rattle.sorted_order.proofs.BlockFacts.{full_from, has_spare, first_spot, second_spot, first_room, second_room, concat-halved, AreFilled-halved, length-halved}
+use Rattle.sorted_order.proofs.BlockFacts.{full_from, has_spare, first_spot, second_spot, first_room, second_room}
+use Rattle.sorted_order.proofs.BlockFacts.{concat-halved, AreFilled-halved, length-halved}
 use Rattle.sorted_order.proofs.directory.make_room.Goals as goal
 
 pub split-requires-clause-spare : goal.split-requires-clause-spare
 split-requires-clause-spare c =
     let bs = c.args.blocks.now.items in
     let at = c.locate-block.result in
-    let h = full_from bs c.as_slice.result.now c.args.at at.0 at.1 c.len-len.result c.index.result.now c.as_slice.ensures.value c.locate-block.ensures.spot c.index.ensures c.len-len.ensures.len c.len-len.ensures.most c.if-len-lt-BLOCK.false in
+    let h = full_from bs c.as_slice.result.now c.args.at at.0 at.1 c.len-len.result c.index.result.now
+        c.as_slice.ensures.value c.locate-block.ensures.spot c.index.ensures c.len-len.ensures.len
+        c.len-len.ensures.most c.if-len-lt-BLOCK.false in
     has_spare bs c.args.at at.0 at.1 (length c.args.spare.now.items) h c.requires.filled c.requires.room
 
 pub split-requires-clause-directory : goal.split-requires-clause-directory
 split-requires-clause-directory c =
     let bs = c.args.blocks.now.items in
     let at = c.locate-block.result in
-    let h = full_from bs c.as_slice.result.now c.args.at at.0 at.1 c.len-len.result c.index.result.now c.as_slice.ensures.value c.locate-block.ensures.spot c.index.ensures c.len-len.ensures.len c.len-len.ensures.most c.if-len-lt-BLOCK.false in
+    let h = full_from bs c.as_slice.result.now c.args.at at.0 at.1 c.len-len.result c.index.result.now
+        c.as_slice.ensures.value c.locate-block.ensures.spot c.index.ensures c.len-len.ensures.len
+        c.len-len.ensures.most c.if-len-lt-BLOCK.false in
     omega (arith, c.requires.directory, has_spare bs c.args.at at.0 at.1 (length c.args.spare.now.items) h c.requires.filled c.requires.room)
 
 pub sum_up-requires-clause-all : goal.sum_up-requires-clause-all
 sum_up-requires-clause-all c =
     let bs = c.args.blocks.now.items in
     let at = c.locate-block.result in
-    let h = full_from bs c.as_slice.result.now c.args.at at.0 at.1 c.len-len.result c.index.result.now c.as_slice.ensures.value c.locate-block.ensures.spot c.index.ensures c.len-len.ensures.len c.len-len.ensures.most c.if-len-lt-BLOCK.false in
-    omega (arith, ap length c.as_slice-2.ensures.value, ap length c.split.ensures.items, length-halved bs at.0 h.spot.listed, c.split.ensures.spare, c.requires.grouped)
+    let h = full_from bs c.as_slice.result.now c.args.at at.0 at.1 c.len-len.result c.index.result.now
+        c.as_slice.ensures.value c.locate-block.ensures.spot c.index.ensures c.len-len.ensures.len
+        c.len-len.ensures.most c.if-len-lt-BLOCK.false in
+    omega (arith, ap length c.as_slice-2.ensures.value, ap length c.split.ensures.items,
+        length-halved bs at.0 h.spot.listed, c.split.ensures.spare, c.requires.grouped)
 
 pub sum_up-requires-clause-few : goal.sum_up-requires-clause-few
 sum_up-requires-clause-few c =
@@ -38,14 +46,18 @@ pub returns-then-place-le-HALF-clause-spot : goal.returns-then-place-le-HALF-cla
 returns-then-place-le-HALF-clause-spot c =
     let bs = c.args.blocks.now.items in
     let at = c.locate-block.result in
-    let h = full_from bs c.as_slice.result.now c.args.at at.0 at.1 c.len-len.result c.index.result.now c.as_slice.ensures.value c.locate-block.ensures.spot c.index.ensures c.len-len.ensures.len c.len-len.ensures.most c.if-len-lt-BLOCK.false in
+    let h = full_from bs c.as_slice.result.now c.args.at at.0 at.1 c.len-len.result c.index.result.now
+        c.as_slice.ensures.value c.locate-block.ensures.spot c.index.ensures c.len-len.ensures.len
+        c.len-len.ensures.most c.if-len-lt-BLOCK.false in
     rw c.split.ensures.items (first_spot bs c.args.at at.0 at.1 h.spot (omega (arith, h.full)) c.if-place-le-HALF.true)
 
 pub returns-then-place-le-HALF-clause-room : goal.returns-then-place-le-HALF-clause-room
 returns-then-place-le-HALF-clause-room c =
     let bs = c.args.blocks.now.items in
     let at = c.locate-block.result in
-    let h = full_from bs c.as_slice.result.now c.args.at at.0 at.1 c.len-len.result c.index.result.now c.as_slice.ensures.value c.locate-block.ensures.spot c.index.ensures c.len-len.ensures.len c.len-len.ensures.most c.if-len-lt-BLOCK.false in
+    let h = full_from bs c.as_slice.result.now c.args.at at.0 at.1 c.len-len.result c.index.result.now
+        c.as_slice.ensures.value c.locate-block.ensures.spot c.index.ensures c.len-len.ensures.len
+        c.len-len.ensures.most c.if-len-lt-BLOCK.false in
     rw c.split.ensures.items (first_room bs c.args.at at.0 at.1 h)
 
 pub returns-then-place-le-HALF-clause-items : goal.returns-then-place-le-HALF-clause-items
@@ -55,21 +67,27 @@ pub returns-then-place-le-HALF-clause-filled : goal.returns-then-place-le-HALF-c
 returns-then-place-le-HALF-clause-filled c =
     let bs = c.args.blocks.now.items in
     let at = c.locate-block.result in
-    let h = full_from bs c.as_slice.result.now c.args.at at.0 at.1 c.len-len.result c.index.result.now c.as_slice.ensures.value c.locate-block.ensures.spot c.index.ensures c.len-len.ensures.len c.len-len.ensures.most c.if-len-lt-BLOCK.false in
+    let h = full_from bs c.as_slice.result.now c.args.at at.0 at.1 c.len-len.result c.index.result.now
+        c.as_slice.ensures.value c.locate-block.ensures.spot c.index.ensures c.len-len.ensures.len
+        c.len-len.ensures.most c.if-len-lt-BLOCK.false in
     rw c.split.ensures.items (AreFilled-halved bs at.0 h.spot.listed (omega (arith, h.full)) c.requires.filled)
 
 pub returns-then-place-le-HALF-clause-blocks : goal.returns-then-place-le-HALF-clause-blocks
 returns-then-place-le-HALF-clause-blocks c =
     let bs = c.args.blocks.now.items in
     let at = c.locate-block.result in
-    let h = full_from bs c.as_slice.result.now c.args.at at.0 at.1 c.len-len.result c.index.result.now c.as_slice.ensures.value c.locate-block.ensures.spot c.index.ensures c.len-len.ensures.len c.len-len.ensures.most c.if-len-lt-BLOCK.false in
+    let h = full_from bs c.as_slice.result.now c.args.at at.0 at.1 c.len-len.result c.index.result.now
+        c.as_slice.ensures.value c.locate-block.ensures.spot c.index.ensures c.len-len.ensures.len
+        c.len-len.ensures.most c.if-len-lt-BLOCK.false in
     omega (arith, ap length c.split.ensures.items, length-halved bs at.0 h.spot.listed, c.split.ensures.spare)
 
 pub returns-clause-spot : goal.returns-clause-spot
 returns-clause-spot c =
     let bs = c.args.blocks.now.items in
     let at = c.locate-block.result in
-    let h = full_from bs c.as_slice.result.now c.args.at at.0 at.1 c.len-len.result c.index.result.now c.as_slice.ensures.value c.locate-block.ensures.spot c.index.ensures c.len-len.ensures.len c.len-len.ensures.most c.if-len-lt-BLOCK.false in
+    let h = full_from bs c.as_slice.result.now c.args.at at.0 at.1 c.len-len.result c.index.result.now
+        c.as_slice.ensures.value c.locate-block.ensures.spot c.index.ensures c.len-len.ensures.len
+        c.len-len.ensures.most c.if-len-lt-BLOCK.false in
     let one : at.0 + 1 ≡ suc at.0 = omega arith in
     rw (one, c.split.ensures.items) (second_spot bs c.args.at at.0 at.1 h.spot (omega (arith, h.full)) c.if-place-le-HALF.false)
 
@@ -77,7 +95,9 @@ pub returns-clause-room : goal.returns-clause-room
 returns-clause-room c =
     let bs = c.args.blocks.now.items in
     let at = c.locate-block.result in
-    let h = full_from bs c.as_slice.result.now c.args.at at.0 at.1 c.len-len.result c.index.result.now c.as_slice.ensures.value c.locate-block.ensures.spot c.index.ensures c.len-len.ensures.len c.len-len.ensures.most c.if-len-lt-BLOCK.false in
+    let h = full_from bs c.as_slice.result.now c.args.at at.0 at.1 c.len-len.result c.index.result.now
+        c.as_slice.ensures.value c.locate-block.ensures.spot c.index.ensures c.len-len.ensures.len
+        c.len-len.ensures.most c.if-len-lt-BLOCK.false in
     let one : at.0 + 1 ≡ suc at.0 = omega arith in
     rw (one, c.split.ensures.items) (second_room bs c.args.at at.0 at.1 h)
 
@@ -88,12 +108,16 @@ pub returns-clause-filled : goal.returns-clause-filled
 returns-clause-filled c =
     let bs = c.args.blocks.now.items in
     let at = c.locate-block.result in
-    let h = full_from bs c.as_slice.result.now c.args.at at.0 at.1 c.len-len.result c.index.result.now c.as_slice.ensures.value c.locate-block.ensures.spot c.index.ensures c.len-len.ensures.len c.len-len.ensures.most c.if-len-lt-BLOCK.false in
+    let h = full_from bs c.as_slice.result.now c.args.at at.0 at.1 c.len-len.result c.index.result.now
+        c.as_slice.ensures.value c.locate-block.ensures.spot c.index.ensures c.len-len.ensures.len
+        c.len-len.ensures.most c.if-len-lt-BLOCK.false in
     rw c.split.ensures.items (AreFilled-halved bs at.0 h.spot.listed (omega (arith, h.full)) c.requires.filled)
 
 pub returns-clause-blocks : goal.returns-clause-blocks
 returns-clause-blocks c =
     let bs = c.args.blocks.now.items in
     let at = c.locate-block.result in
-    let h = full_from bs c.as_slice.result.now c.args.at at.0 at.1 c.len-len.result c.index.result.now c.as_slice.ensures.value c.locate-block.ensures.spot c.index.ensures c.len-len.ensures.len c.len-len.ensures.most c.if-len-lt-BLOCK.false in
+    let h = full_from bs c.as_slice.result.now c.args.at at.0 at.1 c.len-len.result c.index.result.now
+        c.as_slice.ensures.value c.locate-block.ensures.spot c.index.ensures c.len-len.ensures.len
+        c.len-len.ensures.most c.if-len-lt-BLOCK.false in
     omega (arith, ap length c.split.ensures.items, length-halved bs at.0 h.spot.listed, c.split.ensures.spare)

@@ -13,7 +13,9 @@ pub returns-in_err-share-clause-merges : goal.returns-in_err-share-clause-merges
 returns-in_err-share-clause-merges g c =
     let p = err_from_is_err_and c.from_residual.result c.from_residual.ensures.1 in
     rw (p.1, p.2) (record {
-      cause = refuses_same (meaning_of c.held.result.now) (g.C.Mergeable.state c.args.closure.now).meaning (meaning_of c.held-2.result.now) (g.C.Mergeable.state c.args.other.now).meaning c.in_err-share.field-0.0 c.held.ensures c.held-2.ensures c.in_err-share.ensures;
+      cause = refuses_same (meaning_of c.held.result.now) (g.C.Mergeable.state c.args.closure.now).meaning
+          (meaning_of c.held-2.result.now) (g.C.Mergeable.state c.args.other.now).meaning c.in_err-share.field-0.0
+          c.held.ensures c.held-2.ensures c.in_err-share.ensures;
       unchanged = record { meaning = refl; room = record { receipts = omega arith; offers = omega arith } };
     })
 
@@ -45,7 +47,10 @@ take_all-requires g c =
     let share = c.in_ok-share.share in
     let is = share_same (meaning_of c.held.result.now) m (meaning_of c.held-2.result.now) other share c.held.ensures c.held-2.ensures c.in_ok-share.ensures in
     let size = c.len-count.ensures ∙ share.copies.ok.0 in
-    let roomier = on_ok c.make_room.result (IsRoomier (record { receipts = c.len-count.result; offers = share.offers }) (g.C.Mergeable.state c.make_room.new.self).room) (sym c.is_err.ensures.value ∙ c.if-is_err.false) c.make_room.ensures.ok in
+    let roomier =
+        on_ok c.make_room.result (IsRoomier (record { receipts = c.len-count.result; offers = share.offers })
+        (g.C.Mergeable.state c.make_room.new.self).room) (sym c.is_err.ensures.value ∙ c.if-is_err.false)
+        c.make_room.ensures.ok in
     share_welcome m other (g.C.Mergeable.state c.make_room.new.self)
     (g.C.Mergeable.state c.distrust_all.new.self) share c.distrusts.result is
     c.make_room.ensures.meaning c.distrust_all.ensures.meaning c.distrust_all.ensures.room

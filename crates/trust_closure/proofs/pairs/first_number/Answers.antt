@@ -6,4 +6,5 @@ use Rattle.trust_closure.proofs.pairs.first_number.Goals as goal
 
 pub find-requires-clause-rising : goal.find-requires-clause-rising
 find-requires-clause-rising c =
-    rising-sought (pairs_of c.args.sought.now.seeds.now c.args.sought.now.receipts.now) c.args.order.now.items (document_of c.args.sought.now.domain.now c.args.sought.now.document.now) c.requires.rising
+    rising-sought (pairs_of c.args.sought.now.seeds.now c.args.sought.now.receipts.now) c.args.order.now.items
+        (document_of c.args.sought.now.domain.now c.args.sought.now.document.now) c.requires.rising

@@ -6,4 +6,5 @@ use Rattle.trust_closure.proofs.seeding.add_seeds.Goals as goal
 
 pub add_seed-requires-clause-domain : goal.add_seed-requires-clause-domain
 add_seed-requires-clause-domain c =
-    subst (λ (s : Seed). HasDomain c.args.held.now.config s.domain) (sym c.index-seeds-place.is) (c.requires.domains c.loop-place.place c.index-seeds-place.result (omega arith))
+    subst (λ (s : Seed). HasDomain c.args.held.now.config s.domain) (sym c.index-seeds-place.is)
+        (c.requires.domains c.loop-place.place c.index-seeds-place.result (omega arith))

@@ -10,7 +10,8 @@ returns-then-count-len-clause-gathers c =
     let over : 8388608 - length lines.line.items < count = omega arith in
     let is : count ≡ unwrap_or c.line_feed-place.result (length (ahead_of lines.ahead)) =
     subst (λ (l : List ℕ). count ≡ unwrap_or c.line_feed-place.result (length l)) c.as_slice-piece.ensures c.unwrap_or-count.ensures in (
-      too_much lines.is_given lines.line.items (ahead_of lines.ahead) _ c.line_feed-place.result count c.requires.open lines.unbroken c.line_feed-place.ensures is over c.pass.ensures.bytes,
+      too_much lines.is_given lines.line.items (ahead_of lines.ahead) _ c.line_feed-place.result count c.requires.open
+          lines.unbroken c.line_feed-place.ensures is over c.pass.ensures.bytes,
       c.clear.ensures.items,
       c.requires.open,
     )

@@ -8,7 +8,8 @@ use Rattle.byte_lines.proofs.read_ahead.ReadAhead.skip_line.Given as goal
 abbrev pub invariant-pieces : goal.invariant-pieces
 invariant-pieces g l = record {
   room : 0 < chunk_room l.self;
-  went : Went (prepend_known (ahead_of l.initial.self) (g.R.Source.remaining l.initial.source)) (prepend_known (ahead_of l.self) (g.R.Source.remaining l.source));
+  went : Went (prepend_known (ahead_of l.initial.self) (g.R.Source.remaining l.initial.source))
+      (prepend_known (ahead_of l.self) (g.R.Source.remaining l.source));
   spent : length (ahead_of l.self) + g.R.Source.budget l.source ≤ length (ahead_of l.initial.self) + g.R.Source.budget l.initial.source;
   sound : g.R.Source.has_failed l.source ≡ g.R.Source.has_failed l.initial.source;
 }

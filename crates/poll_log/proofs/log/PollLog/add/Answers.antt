@@ -6,15 +6,22 @@ use Rattle.poll_log.proofs.PollFacts.{Adds-at, IsLog-more, kept-set, slice_get-d
 use Rattle.poll_log.proofs.log.PollLog.add.Goals as goal
 
 -- the standings as they are afterwards
-changed : (c : goal.After-self-1) → map kept_standing (set c.self.inside.standings.items c.args.place c.add.new.self) ≡ set c.args.self.now c.args.place (after (get_or c.args.self.now c.args.place (kept_standing c.index_mut.result.now)) c.args.moment.nanosecond c.args.ok)
-changed c = kept-set c.self.inside.standings.items c.args.self.now c.args.place c.index_mut.result.now c.add.new.self c.args.moment.nanosecond c.args.ok c.self.view_is c.index_mut.ensures.value c.requires c.add.ensures
+changed : (c : goal.After-self-1) → map kept_standing (set c.self.inside.standings.items c.args.place c.add.new.self)
+    ≡ set c.args.self.now c.args.place
+    (after (get_or c.args.self.now c.args.place (kept_standing c.index_mut.result.now)) c.args.moment.nanosecond
+    c.args.ok)
+changed c = kept-set c.self.inside.standings.items c.args.self.now c.args.place c.index_mut.result.now c.add.new.self
+    c.args.moment.nanosecond c.args.ok c.self.view_is c.index_mut.ensures.value c.requires c.add.ensures
 
-adds : (c : goal.After-self-1) (p : Poll) → p.moment ≡ c.args.moment.nanosecond → p.ok ≡ c.args.ok → slice_get (polled_domains c.args.self.now) c.args.place ≡ Some p.domain
+adds : (c : goal.After-self-1) (p : Poll) → p.moment ≡ c.args.moment.nanosecond → p.ok ≡ c.args.ok
+    → slice_get (polled_domains c.args.self.now) c.args.place ≡ Some p.domain
     → RecordsPoll c.args.self.now p (map kept_standing (set c.self.inside.standings.items c.args.place c.add.new.self))
 adds c p moment ok at =
     let is : IsLog c.args.self.now = subst IsLog c.self.view_is c.self.invariant in
     subst (RecordsPoll c.args.self.now p) (sym (changed c))
-    (subst (λ (z : Poll). RecordsPoll c.args.self.now p (set c.args.self.now c.args.place (after (get_or c.args.self.now c.args.place (kept_standing c.index_mut.result.now)) z.moment z.ok)))
+    (subst (λ (z : Poll). RecordsPoll c.args.self.now p
+        (set c.args.self.now c.args.place
+        (after (get_or c.args.self.now c.args.place (kept_standing c.index_mut.result.now)) z.moment z.ok)))
     (λ i. record { domain = p.domain; moment = moment i; ok = ok i })
     (Adds-at c.args.self.now p c.args.place (kept_standing c.index_mut.result.now) is at))
 
@@ -23,7 +30,10 @@ invariant_of-self c =
     let is : IsLog c.args.self.now = subst IsLog c.self.view_is c.self.invariant in
     let s : Standing = get_or c.args.self.now c.args.place (kept_standing c.index_mut.result.now) in
     let p : Poll = record { domain = s.domain; moment = c.args.moment.nanosecond; ok = c.args.ok } in
-    IsLog-more c.args.self.now _ p is (adds c p (λ i. c.args.moment.nanosecond) (λ i. c.args.ok) (slice_get-domain c.args.self.now c.args.place (kept_standing c.index_mut.result.now) c.requires))
+    IsLog-more c.args.self.now _ p is
+        (adds c p (λ i. c.args.moment.nanosecond) (λ i. c.args.ok)
+        (slice_get-domain c.args.self.now c.args.place (kept_standing c.index_mut.result.now) c.requires))
 
 pub returns : goal.returns
-returns c = λ domain at. adds c (record { domain = domain; moment = c.args.moment.nanosecond; ok = c.args.ok }) (λ i. c.args.moment.nanosecond) (λ i. c.args.ok) at
+returns c = λ domain at. adds c (record { domain = domain; moment = c.args.moment.nanosecond; ok = c.args.ok })
+    (λ i. c.args.moment.nanosecond) (λ i. c.args.ok) at

@@ -29,5 +29,6 @@ loop-receipt-preserved c =
     let named = tells-named ids c.in-Some.receipt.now c.id.result.0 c.is_named.result c.id.ensures c.is_named.ensures in
     let is : c.is_named.result ≡ true = c.if-not-is_named.false in (
       c.loop-receipt.invariant.0,
-      named-skipped ids c.in-Some.receipt.now c.loop-receipt.self-inside.receipts c.next.new.self c.in-Some.ensures.steps (named ∙ is) ∙ c.loop-receipt.invariant.1,
+      named-skipped ids c.in-Some.receipt.now c.loop-receipt.self-inside.receipts c.next.new.self
+          c.in-Some.ensures.steps (named ∙ is) ∙ c.loop-receipt.invariant.1,
     )

@@ -10,12 +10,15 @@ use Rattle.wait_index.proofs.marks.Marks.add_offer.Goals as goal
 pub follow_new_offer-requires-clause-visits : goal.follow_new_offer-requires-clause-visits
 follow_new_offer-requires-clause-visits c =
     let s = c.args.self.now in
-    omega (arith, c.requires.few, ap (λ (n : Net). length n.waits) c.add_offer.ensures.net, Follows-visits (net_of c.args.graph.now) (length s.marked.items.items) 0 0 (tally_of s) c.requires.settled.follows)
+    omega (arith, c.requires.few, ap (λ (n : Net). length n.waits) c.add_offer.ensures.net,
+        Follows-visits (net_of c.args.graph.now) (length s.marked.items.items) 0 0 (tally_of s)
+        c.requires.settled.follows)
 
 pub follow_new_offer-requires-clause-support : goal.follow_new_offer-requires-clause-support
 follow_new_offer-requires-clause-support c =
     let s = c.args.self.now in
-    omega (arith, c.requires.few, Follows-support (net_of c.args.graph.now) (length s.marked.items.items) 0 0 (tally_of s) c.requires.settled.follows c.args.label c.requires.label)
+    omega (arith, c.requires.few, Follows-support (net_of c.args.graph.now) (length s.marked.items.items) 0 0
+        (tally_of s) c.requires.settled.follows c.args.label c.requires.label)
 
 pub follow_all-requires-clause-follows : goal.follow_all-requires-clause-follows
 follow_all-requires-clause-follows c =
@@ -32,7 +35,8 @@ returns-clause-front c =
     let then = c.follow_new_offer.new.self.marked.items.items in
     let first : take (length old) then ≡ old =
     elim c.follow_new_offer.ensures.followed [
-      | inl f ↦ (Settles-spreads (net_of c.add_offer.new.self) c.args.label (with_support (tally_of s) c.args.label) (tally_of c.follow_new_offer.new.self) f.1).front
+      | inl f ↦ (Settles-spreads (net_of c.add_offer.new.self) c.args.label (with_support (tally_of s) c.args.label)
+          (tally_of c.follow_new_offer.new.self) f.1).front
       | inr f ↦ ap (λ (t : Tally). take (length old) t.marked) f.1 ∙ take_all (length old) old (omega arith)
     ]
     in

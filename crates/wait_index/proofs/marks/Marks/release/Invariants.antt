@@ -4,7 +4,8 @@ use Rattle.wait_index.proofs.Spread.{ReleasesFrom}
 use Rattle.wait_index.proofs.marks.Marks.release.Given as goal
 
 abbrev pub invariant-waits : goal.invariant-waits
-invariant-waits l = ReleasesFrom (net_of l.graph) l.label l.link (tally_of l.initial.self) (tally_of l.self) × (marks_capacity l.self ≡ marks_capacity l.initial.self)
+invariant-waits l = ReleasesFrom (net_of l.graph) l.label l.link (tally_of l.initial.self) (tally_of l.self)
+    × (marks_capacity l.self ≡ marks_capacity l.initial.self)
 
 abbrev pub decreases-waits : goal.decreases-waits
 decreases-waits l = l.link

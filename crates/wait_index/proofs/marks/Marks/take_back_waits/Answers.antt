@@ -17,17 +17,24 @@ waits-init g c =
     let s = c.args.self.now in
     let f = c.requires.0 in
     let label = c.index-label.result in
-    let item : c.index-label.result ≡ get_or s.touched.items.items c.args.index 0 = c.index-label.ensures ∙ get_or_read s.touched.items.items c.args.index c.index.result.now c.requires.1.0 c.index.ensures 0 in
+    let item : c.index-label.result ≡ get_or s.touched.items.items c.args.index 0 =
+        c.index-label.ensures ∙ get_or_read s.touched.items.items c.args.index c.index.result.now c.requires.1.0
+        c.index.ensures 0 in
     let there = s.touched.listed.within c.args.index c.requires.1.0 in
     let within : c.index-label.result < length graph.closed.items = omega (arith, item, there, f.sizes.touched) in
     let first : IsLast graph.waits.edges.items c.index-label.result (length graph.waits.edges.items) c.index-link.result.now =
-    first_link graph.waits.edges.items graph.waits.newest.items graph.waits.earlier.items c.index-label.result c.index-link.result.now graph.waits.linked (omega (arith, within, graph.shaped.labels_listed)) c.index-link.ensures
+    first_link graph.waits.edges.items graph.waits.newest.items graph.waits.earlier.items c.index-label.result
+        c.index-link.result.now graph.waits.linked (omega (arith, within, graph.shaped.labels_listed))
+        c.index-link.ensures
     in (
       record {
-        falling = IsFalling-start (net_of graph) g.closing (tally_of s) c.args.index c.index-label.result c.index-link.result.now f c.requires.1.0 item within first;
+        falling = IsFalling-start (net_of graph) g.closing (tally_of s) c.args.index c.index-label.result
+            c.index-link.result.now f c.requires.1.0 item within first;
         at = IsLink-last graph.waits.edges.items c.index-label.result (length graph.waits.edges.items) c.index-link.result.now (omega arith) first;
         shut_label = flag-here s.opened.items c.index-label.result _ (omega (arith, within, f.sizes.opened));
-        touched_label = holds-from_placed s.touched.places.items c.index-label.result (omega (arith, ap (λ k. get_or s.touched.places.items k 0) item, s.touched.listed.listed c.args.index c.requires.1.0));
+        touched_label = holds-from_placed s.touched.places.items c.index-label.result
+            (omega (arith, ap (λ k. get_or s.touched.places.items k 0) item,
+            s.touched.listed.listed c.args.index c.requires.1.0));
         within = c.requires.1.0;
         front = take_all (length s.touched.items.items) s.touched.items.items (omega arith);
       },
@@ -45,10 +52,14 @@ overflow_sub-self g c =
     let owner = h.at.owned (c.waits.link - 1) at in
     let within : c.waits.link - 1 < length graph.waits.edges.items = omega (arith, h.at.within, at) in
     let last : IsLast graph.waits.edges.items c.index-label.result (c.waits.link - 1) (get_or graph.waits.earlier.items (c.waits.link - 1) 0) =
-    subst (λ o. IsLast graph.waits.edges.items o (c.waits.link - 1) (get_or graph.waits.earlier.items (c.waits.link - 1) 0)) owner (graph.waits.linked.before (c.waits.link - 1) within)
+    subst (λ o. IsLast graph.waits.edges.items o (c.waits.link - 1)
+        (get_or graph.waits.earlier.items (c.waits.link - 1) 0)) owner
+        (graph.waits.linked.before (c.waits.link - 1) within)
     in
     let old : Tally = record (tally_of c.args.self.now) { opened = set c.args.self.now.opened.items c.index-label.result false } in
-    omega (arith, visits_some (net_of graph) graph.shaped.once g.closing c.args.index c.index-label.result (c.waits.link - 1) c.waits.link (get_or graph.waits.earlier.items (c.waits.link - 1) 0) old (tally_of c.waits.self) h at last)
+    omega (arith, visits_some (net_of graph) graph.shaped.once g.closing c.args.index c.index-label.result
+        (c.waits.link - 1) c.waits.link (get_or graph.waits.earlier.items (c.waits.link - 1) 0) old
+        (tally_of c.waits.self) h at last)
 
 pub fall-requires-clause-can : goal.fall-requires-clause-can
 fall-requires-clause-can g c =
@@ -58,12 +69,18 @@ fall-requires-clause-can g c =
     let owner = h.at.owned (c.waits.link - 1) at in
     let within : c.waits.link - 1 < length graph.waits.edges.items = omega (arith, h.at.within, at) in
     let last : IsLast graph.waits.edges.items c.index-label.result (c.waits.link - 1) (get_or graph.waits.earlier.items (c.waits.link - 1) 0) =
-    subst (λ o. IsLast graph.waits.edges.items o (c.waits.link - 1) (get_or graph.waits.earlier.items (c.waits.link - 1) 0)) owner (graph.waits.linked.before (c.waits.link - 1) within)
+    subst (λ o. IsLast graph.waits.edges.items o (c.waits.link - 1)
+        (get_or graph.waits.earlier.items (c.waits.link - 1) 0)) owner
+        (graph.waits.linked.before (c.waits.link - 1) within)
     in
     let old : Tally = record (tally_of c.args.self.now) { opened = set c.args.self.now.opened.items c.index-label.result false } in
     let then : Tally = record (tally_of c.waits.self) { visits = c.waits.self.visits - 1 } in
-    let can : CanFall (net_of graph) then (to_at graph.waits.edges.items (c.waits.link - 1)) = node_can (net_of graph) graph.shaped.once g.closing c.args.index c.index-label.result (c.waits.link - 1) c.waits.link (get_or graph.waits.earlier.items (c.waits.link - 1) 0) old (tally_of c.waits.self) h at last in
-    subst (λ n. CanFall (net_of graph) then n) (sym (read_to graph.waits.edges.items (c.waits.link - 1) c.index-in-waits.result.now within c.index-in-waits.ensures)) can
+    let can : CanFall (net_of graph) then (to_at graph.waits.edges.items (c.waits.link - 1)) =
+        node_can (net_of graph) graph.shaped.once g.closing c.args.index c.index-label.result (c.waits.link - 1)
+        c.waits.link (get_or graph.waits.earlier.items (c.waits.link - 1) 0) old (tally_of c.waits.self) h at last in
+    subst (λ n. CanFall (net_of graph) then n)
+        (sym (read_to graph.waits.edges.items (c.waits.link - 1) c.index-in-waits.result.now within
+        c.index-in-waits.ensures)) can
 
 pub fall-requires-clause-marked : goal.fall-requires-clause-marked
 fall-requires-clause-marked g c =
@@ -75,7 +92,9 @@ fall-requires-clause-marked g c =
     let marked : is_marked_in (tally_of c.waits.self) (to_at graph.waits.edges.items (c.waits.link - 1)) ≡ true =
     h.falling.released (c.waits.link - 1) (record { within = within; by = inr (owner, omega (arith, at)) })
     in
-    subst (λ n. is_marked_in (tally_of c.waits.self) n ≡ true) (sym (read_to graph.waits.edges.items (c.waits.link - 1) c.index-in-waits.result.now within c.index-in-waits.ensures)) marked
+    subst (λ n. is_marked_in (tally_of c.waits.self) n ≡ true)
+        (sym (read_to graph.waits.edges.items (c.waits.link - 1) c.index-in-waits.result.now within
+        c.index-in-waits.ensures)) marked
 
 pub fall-requires-clause-last_room : goal.fall-requires-clause-last_room
 fall-requires-clause-last_room g c =
@@ -95,25 +114,36 @@ waits-preserved g c =
     let edge = c.waits.link - 1 in
     let at : c.waits.link ≡ edge + 1 = omega (arith, c.waits-test.true) in
     let within : edge < length graph.waits.edges.items = omega (arith, h.at.within, at) in
-    let last = next_link graph.waits.edges.items graph.waits.newest.items graph.waits.earlier.items c.index-label.result edge c.waits.link c.index-link-in-waits.result.now graph.waits.linked h.at at c.index-link-in-waits.ensures in
+    let last = next_link graph.waits.edges.items graph.waits.newest.items graph.waits.earlier.items c.index-label.result
+        edge c.waits.link c.index-link-in-waits.result.now graph.waits.linked h.at at c.index-link-in-waits.ensures in
     let old : Tally = record (tally_of c.args.self.now) { opened = set c.args.self.now.opened.items c.index-label.result false } in
     let then : Tally = record (tally_of c.waits.self) { visits = c.waits.self.visits - 1 } in
     let falls : Falls (net_of graph) (to_at graph.waits.edges.items edge) then (tally_of c.fall.new.self) =
-    subst (λ n. Falls (net_of graph) n then (tally_of c.fall.new.self)) (read_to graph.waits.edges.items edge c.index-in-waits.result.now within c.index-in-waits.ensures) c.fall.ensures.falls
+    subst (λ n. Falls (net_of graph) n then (tally_of c.fall.new.self))
+        (read_to graph.waits.edges.items edge c.index-in-waits.result.now within c.index-in-waits.ensures)
+        c.fall.ensures.falls
     in
-    let marked = node_marked (net_of graph) graph.shaped.once g.closing c.args.index c.index-label.result edge c.waits.link c.index-link-in-waits.result.now old (tally_of c.waits.self) h at last in
+    let marked = node_marked (net_of graph) graph.shaped.once g.closing c.args.index c.index-label.result edge
+        c.waits.link c.index-link-in-waits.result.now old (tally_of c.waits.self) h at last in
     let node = to_at graph.waits.edges.items edge in
     let listed : c.fall.new.last.fallen.items ≡ with_fallen (net_of graph) node c.waits.last.fallen.items =
-    subst (λ n. c.fall.new.last.fallen.items ≡ with_fallen (net_of graph) n c.waits.last.fallen.items) (read_to graph.waits.edges.items edge c.index-in-waits.result.now within c.index-in-waits.ensures) c.fall.ensures.listed
+    subst (λ n. c.fall.new.last.fallen.items ≡ with_fallen (net_of graph) n c.waits.last.fallen.items)
+        (read_to graph.waits.edges.items edge c.index-in-waits.result.now within c.index-in-waits.ensures)
+        c.fall.ensures.listed
     in (
-      TakesBackFrom-step (net_of graph) graph.shaped.once g.closing c.args.index c.index-label.result edge c.waits.link c.index-link-in-waits.result.now old (tally_of c.waits.self) h at last (tally_of c.fall.new.self) falls c.fall.new.self.marked.listed c.fall.new.self.touched.listed,
+      TakesBackFrom-step (net_of graph) graph.shaped.once g.closing c.args.index c.index-label.result edge c.waits.link
+          c.index-link-in-waits.result.now old (tally_of c.waits.self) h at last (tally_of c.fall.new.self) falls
+          c.fall.new.self.marked.listed c.fall.new.self.touched.listed,
       c.fall.ensures.capacity ∙ c.waits.invariant.1,
-      rw listed (ListsFallen-step (net_of graph) node (tally_of c.waits.self) (c.waits.self.visits - 1) (tally_of c.fall.new.self) c.waits.last.fallen.items falls marked (h.falling.sound node marked) c.waits.invariant.2),
+      rw listed (ListsFallen-step (net_of graph) node (tally_of c.waits.self) (c.waits.self.visits - 1)
+          (tally_of c.fall.new.self) c.waits.last.fallen.items falls marked (h.falling.sound node marked)
+          c.waits.invariant.2),
       omega (
         arith,
         c.waits.invariant.3,
         ap length listed,
-        fallen-many (net_of graph) node (tally_of c.waits.self) (c.waits.self.visits - 1) (tally_of c.fall.new.self) c.waits.last.fallen.items falls marked c.waits.self.marked.listed c.fall.new.self.marked.listed,
+        fallen-many (net_of graph) node (tally_of c.waits.self) (c.waits.self.visits - 1) (tally_of c.fall.new.self)
+            c.waits.last.fallen.items falls marked c.waits.self.marked.listed c.fall.new.self.marked.listed,
       ),
       c.fall.ensures.last_room ∙ c.waits.invariant.4,
     )
@@ -122,4 +152,6 @@ pub returns-clause-falling : goal.returns-clause-falling
 returns-clause-falling g c =
     let graph = c.args.graph.now in
     let none : c.waits.link ≡ 0 = omega (arith, c.waits-test.false) in
-    IsFalling-between (net_of graph) g.closing (tally_of c.waits.self) (c.args.index + 1) c.index-label.result (subst (λ k. IsFalling (net_of graph) g.closing (tally_of c.waits.self) (c.args.index + 1) c.index-label.result k) none c.waits.invariant.0.falling)
+    IsFalling-between (net_of graph) g.closing (tally_of c.waits.self) (c.args.index + 1) c.index-label.result
+        (subst (λ k. IsFalling (net_of graph) g.closing (tally_of c.waits.self) (c.args.index + 1) c.index-label.result
+        k) none c.waits.invariant.0.falling)

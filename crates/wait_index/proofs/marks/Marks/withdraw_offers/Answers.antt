@@ -9,7 +9,8 @@ pub offers-init : goal.offers-init
 offers-init c =
     let g = c.args.graph.now in
     let within : c.args.node < length g.offers.newest.items = omega (arith, c.requires.node, g.shaped.nodes_listed) in
-    let first = first_link g.offers.edges.items g.offers.newest.items g.offers.earlier.items c.args.node c.index-link.result.now g.offers.linked within c.index-link.ensures in
+    let first = first_link g.offers.edges.items g.offers.newest.items g.offers.earlier.items c.args.node
+        c.index-link.result.now g.offers.linked within c.index-link.ensures in
     (WithdrawsFrom-start (net_of g) c.args.node c.index-link.result.now (tally_of c.args.self.now) c.requires.can first, refl)
 
 pub withdraw-requires : goal.withdraw-requires
@@ -34,7 +35,9 @@ pub offers-smaller : goal.offers-smaller
 offers-smaller c =
     let g = c.args.graph.now in
     let at : c.offers.link ≡ (c.offers.link - 1) + 1 = omega (arith, c.offers-test.true) in
-    let last = next_link g.offers.edges.items g.offers.newest.items g.offers.earlier.items c.args.node (c.offers.link - 1) c.offers.link c.index-link-in-offers.result.now g.offers.linked c.offers.invariant.0.at at c.index-link-in-offers.ensures in
+    let last = next_link g.offers.edges.items g.offers.newest.items g.offers.earlier.items c.args.node
+        (c.offers.link - 1) c.offers.link c.index-link-in-offers.result.now g.offers.linked c.offers.invariant.0.at at
+        c.index-link-in-offers.ensures in
     omega (arith, at, last.below)
 
 pub offers-preserved : goal.offers-preserved
@@ -44,10 +47,14 @@ offers-preserved c =
     let edge = c.offers.link - 1 in
     let at : c.offers.link ≡ edge + 1 = omega (arith, c.offers-test.true) in
     let within : edge < length g.offers.edges.items = omega (arith, h.at.within, at) in
-    let last = next_link g.offers.edges.items g.offers.newest.items g.offers.earlier.items c.args.node edge c.offers.link c.index-link-in-offers.result.now g.offers.linked h.at at c.index-link-in-offers.ensures in
+    let last = next_link g.offers.edges.items g.offers.newest.items g.offers.earlier.items c.args.node edge
+        c.offers.link c.index-link-in-offers.result.now g.offers.linked h.at at c.index-link-in-offers.ensures in
     let withdraws : Withdraws (to_at g.offers.edges.items edge) (tally_of c.offers.self) (tally_of c.withdraw.new.self) =
-    subst (λ n. Withdraws n (tally_of c.offers.self) (tally_of c.withdraw.new.self)) (read_to g.offers.edges.items edge c.index.result.now within c.index.ensures) c.withdraw.ensures.withdrawn
+    subst (λ n. Withdraws n (tally_of c.offers.self) (tally_of c.withdraw.new.self))
+        (read_to g.offers.edges.items edge c.index.result.now within c.index.ensures) c.withdraw.ensures.withdrawn
     in (
-      WithdrawsFrom-step (net_of g) c.args.node edge c.offers.link c.index-link-in-offers.result.now (tally_of c.args.self.now) (tally_of c.offers.self) (tally_of c.withdraw.new.self) h at (g.shaped.labels edge within) last withdraws,
+      WithdrawsFrom-step (net_of g) c.args.node edge c.offers.link c.index-link-in-offers.result.now
+          (tally_of c.args.self.now) (tally_of c.offers.self) (tally_of c.withdraw.new.self) h at
+          (g.shaped.labels edge within) last withdraws,
       c.withdraw.ensures.capacity ∙ c.offers.invariant.1,
     )

@@ -4,7 +4,8 @@ use Rattle.wait_index.proofs.Withdrawing.{WithdrawsFrom}
 use Rattle.wait_index.proofs.marks.Marks.withdraw_offers.Given as goal
 
 abbrev pub invariant-offers : goal.invariant-offers
-invariant-offers l = WithdrawsFrom (net_of l.graph) l.node l.link (tally_of l.initial.self) (tally_of l.self) × (marks_capacity l.self ≡ marks_capacity l.initial.self)
+invariant-offers l = WithdrawsFrom (net_of l.graph) l.node l.link (tally_of l.initial.self) (tally_of l.self)
+    × (marks_capacity l.self ≡ marks_capacity l.initial.self)
 
 abbrev pub decreases-offers : goal.decreases-offers
 decreases-offers l = l.link

@@ -13,7 +13,8 @@ returns-clause-reached c =
     let k = c.self.invariant.settled in
     let held : c.holds.result ≡ is_marked_in (tally_of r.marks) c.args.node = c.holds.ensures ∙ ap (is_marked_in (tally_of r.marks)) c.index.ensures in (
       λ e. subst (λ (x : Index). IsReached x.net c.args.node) c.self.view_is (k.follows.steady.sound c.args.node (sym held ∙ e)),
-      λ e. held ∙ marked-from_reached (net_of r.graph) (tally_of r.marks) k r.marks.touched.listed r.graph.shaped.labels c.args.node (subst (λ (x : Index). IsReached x.net c.args.node) (sym c.self.view_is) e),
+      λ e. held ∙ marked-from_reached (net_of r.graph) (tally_of r.marks) k r.marks.touched.listed r.graph.shaped.labels
+          c.args.node (subst (λ (x : Index). IsReached x.net c.args.node) (sym c.self.view_is) e),
     )
 
 pub returns-clause-listed : goal.returns-clause-listed
@@ -21,6 +22,8 @@ returns-clause-listed c =
     let r = c.self.inside in
     let s = r.marks.marked in
     let held : c.holds.result ≡ is_marked_in (tally_of r.marks) c.args.node = c.holds.ensures ∙ ap (is_marked_in (tally_of r.marks)) c.index.ensures in (
-      λ e. subst (λ (x : Index). Contains x.marked c.args.node) c.self.view_is (contains-from_holds s.items.items s.places.items s.listed c.args.node (sym held ∙ e)),
-      λ e. held ∙ holds-from_contains s.items.items s.places.items s.listed c.args.node (subst (λ (x : Index). Contains x.marked c.args.node) (sym c.self.view_is) e),
+      λ e. subst (λ (x : Index). Contains x.marked c.args.node) c.self.view_is
+          (contains-from_holds s.items.items s.places.items s.listed c.args.node (sym held ∙ e)),
+      λ e. held ∙ holds-from_contains s.items.items s.places.items s.listed c.args.node
+          (subst (λ (x : Index). Contains x.marked c.args.node) (sym c.self.view_is) e),
     )
