@@ -35,6 +35,21 @@ too_much false line ahead left place count waiting plain feed is over rest =
           ∙ ap (λ l. (line ++ take count ahead) ++ l) (sym rest);
     }
 
+-- ---- whole lines that are kept
+
+-- `all` was kept at first: what is held now ends it, and a read comes only where nothing is held
+pub unbroken_at_first : (front held filled all : List ℕ) → (held ≡ [] → HasNoFeed all) → (0 < length held → front ++ held ≡ all)
+    → (0 < length held → filled ≡ held) → HasNoFeed (front ++ filled) → HasNoFeed all
+unbroken_at_first front [] filled all none same stays plain = none refl
+unbroken_at_first front (b ∷ held) filled all none same stays plain =
+    subst HasNoFeed (ap (λ l. front ++ l) (stays (omega arith)) ∙ same (omega arith)) plain
+
+pub unbroken_skipped : (bytes ahead : List ℕ) → SkipsText bytes ahead → HasNoFeed ahead → HasNoFeed bytes
+unbroken_skipped bytes ahead p plain = subst HasNoFeed (sym p.parts) (All-append (λ (x : ℕ). x ≢ 10) p.text ahead p.plain plain)
+
+pub none_there : {T : Type 0} (held : List ℕ) → held ≡ [] → 0 < length held → T
+none_there held none some = absurd (omega (arith, ap length none, some))
+
 -- ---- what the exits of a call say
 
 pub spent_on : (front old new : List ℕ) (before after total : ℕ) → length (front ++ old) + before ≤ total

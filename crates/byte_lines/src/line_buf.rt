@@ -64,11 +64,13 @@ impl LineBuf {
     ///
     /// # Errors
     ///
-    /// `Io` where the source failed: nothing is said then of what remains. `NoMemory` where the
-    /// allocator refused: no byte is lost, and the next call begins at the same line.
+    /// `Io` where the source failed and no whole line was kept: the lines that were read before a
+    /// fault are given before it is. After `Io` nothing is said of what remains. `NoMemory` where
+    /// the allocator refused: no byte is lost, and the next call begins at the same line.
     pub fn next_line<R: Source>(&mut self, source: &mut R) -> Result<Line<'_>, DeviceError>
         ensures* takes { sem 𝓛 (Rests the_row self.entry (λ new.
             TakesLine R.remaining R.budget self.old source.old new source.new result)) }
+        ensures lines_first { is_source_fault result ≡ true → HasNoFeed (kept self.old) }
         ensures fault { R.has_failed source.new
             ≡ (is_source_fault result || R.has_failed source.old) }
     {
@@ -84,6 +86,7 @@ impl LineBuf {
     fn advance<R: Source>(&mut self, source: &mut R) -> Result<Found, DeviceError>
         ensures takes { TakesFound R.remaining R.budget self.old source.old self.new source.new
             result }
+        ensures lines_first { is_source_fault result ≡ true → HasNoFeed (kept self.old) }
         ensures fault { R.has_failed source.new
             ≡ (is_source_fault result || R.has_failed source.old) }
     {

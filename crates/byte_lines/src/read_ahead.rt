@@ -1,8 +1,8 @@
 //! A chunk of the bytes of a source, read ahead of the lines in them.
 ghost use Rattle.std.specs.Prelude.{◌≡◌, ◌+◌, ◌<◌, ◌≤◌, ◌||◌, ℕ, List, true, false, [], length};
-ghost use Rattle.std.specs.Prelude.{take, drop, is_err, IfOk, OnOk, vec_len};
+ghost use Rattle.std.specs.Prelude.{take, drop, is_err, IfOk, OnOk, OnErr, vec_len};
 ghost use Rattle.std.specs.Io.KnownBytes.{Keeps, Consumes, IsAtEnd, prepend_known};
-ghost use Rattle.byte_lines.specs.Lines.{HasLine, HasNoLine};
+ghost use Rattle.byte_lines.specs.Lines.{HasLine, HasNoLine, HasNoFeed};
 
 use crate::error::Fault;
 use crate::source::Source;
@@ -56,6 +56,8 @@ impl ReadAhead {
         ensures some { IfOk result (λ any. any ≡ true → 0 < length (ahead_of self.new)) }
         ensures none { IfOk result
             (λ any. any ≡ false → (ahead_of self.new ≡ []) × IsAtEnd (R.remaining source.new)) }
+        ensures held { 0 < length (ahead_of self.old) → ahead_of self.new ≡ ahead_of self.old }
+        ensures empty { OnErr result (ahead_of self.old ≡ []) }
         ensures spends { length (ahead_of self.new) + R.budget source.new
             ≤ length (ahead_of self.old) + R.budget source.old }
         ensures fault { R.has_failed source.new ≡ (is_err result || R.has_failed source.old) }
@@ -110,6 +112,7 @@ impl ReadAhead {
         ensures rest { IfOk result (λ ended. ended ≡ false
             → HasNoLine (prepend_known (ahead_of self.old) (R.remaining source.old))
             × IsAtEnd (prepend_known (ahead_of self.new) (R.remaining source.new))) }
+        ensures lines_first { OnErr result (HasNoFeed (ahead_of self.old)) }
         ensures spends { length (ahead_of self.new) + R.budget source.new
             ≤ length (ahead_of self.old) + R.budget source.old }
         ensures fault { R.has_failed source.new ≡ (is_err result || R.has_failed source.old) }

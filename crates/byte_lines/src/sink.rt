@@ -1,6 +1,6 @@
 //! Where bytes go.
 ghost use Rattle.std.specs.Prelude.{◌≡◌, ℕ, ◌<◌, ◌||◌, List, Bool, true, false, length, is_err};
-ghost use Rattle.std.specs.Prelude.{Option, IfOk, OnOk, IsErr};
+ghost use Rattle.std.specs.Prelude.{Option, IfOk, OnOk, IsOk, IsErr};
 ghost use Rattle.std.specs.Io.{WritesAtMost};
 ghost use Rattle.std.specs.Io.KnownBytes.{Appends, WriteAppends};
 ghost use Rattle.byte_lines.specs.Device.{AppendsBeginning};
@@ -51,6 +51,7 @@ impl<W: Sink> Sink for &mut W {
 pub fn write_all<W: Sink>(sink: &mut W, bytes: &[u8]) -> Result<(), Fault>
     ensures ok { OnOk result (Appends (W.contents sink.old) (W.contents sink.new) bytes.now) }
     ensures beginning { AppendsBeginning (W.contents sink.old) (W.contents sink.new) bytes.now }
+    ensures no_bytes { length bytes.now ≡ 0 → IsOk result }
 
     ensures io { IsErr result → W.has_failed sink.new ≡ true }
     ensures fault { W.has_failed sink.new ≡ (is_err result || W.has_failed sink.old) }

@@ -5,7 +5,7 @@ use Rattle.std.proofs.KnownBytes.{Keeps-trans}
 use Rattle.byte_lines.specs.Inside.Ahead.{ahead_of}
 use Rattle.byte_lines.specs.Streams.{stream_of, left_of}
 use Rattle.byte_lines.proofs.StreamFacts.{prepend_known-front}
-use Rattle.byte_lines.proofs.StepFacts.{spent_on, TakesFound-io, TakesFound-memory, length_line, taken_line, kept_none, long_line, long_cut, length_passed}
+use Rattle.byte_lines.proofs.StepFacts.{spent_on, TakesFound-io, TakesFound-memory, length_line, taken_line, kept_none, long_line, long_cut, length_passed, unbroken_at_first, unbroken_skipped}
 use Rattle.byte_lines.proofs.line_buf.LineBuf.advance.Goals as goal
 
 pub returns-in_err-fill-clause-takes : goal.returns-in_err-fill-clause-takes
@@ -56,6 +56,14 @@ returns-in_err-is_ended-in-TooMuch-clause-takes g c =
     let same = kept_none c.gather.new.self.is_given _ (ahead_of c.skip_line.new.self) over.1 in
     TakesFound-io _ _ _ _ _ _ _ exit.0 exit.1 exit.2
         (omega (arith, length_passed _ _ over.0, ap length same, spent, c.in_err-is_ended-in-TooMuch.ensures.spends))
+
+pub returns-in_err-is_ended-in-TooMuch-clause-lines_first : goal.returns-in_err-is_ended-in-TooMuch-clause-lines_first
+returns-in_err-is_ended-in-TooMuch-clause-lines_first g c =
+    let over = rw c.in-TooMuch.is at c.in_ok-gather.ensures.gathers in
+    let front = if c.pieces.self.is_given then [] else c.pieces.self.line.items in
+    let plain = unbroken_skipped _ _ over.0 c.in_err-is_ended-in-TooMuch.ensures.lines_first in
+    let inv = c.pieces.invariant in
+    λ _. unbroken_at_first front (ahead_of c.pieces.self.ahead) (ahead_of c.fill.new.self) _ inv.none inv.same c.in_ok-fill.ensures.held plain
 
 pub returns-then-is_ended-clause-takes : goal.returns-then-is_ended-clause-takes
 returns-then-is_ended-clause-takes g c =
