@@ -11,11 +11,9 @@ use trust_closure::IndexedClosure;
 pub(crate) fn tell_world(asked: Asked<'_>, answer: &mut String) -> Result<(), Stop> {
     let config = asked.config()?;
     let events = events_of(asked)?;
-    tell_replicas(
-        asked,
-        &run_world(asked.alloc, &config, asked.number(1)?, events.as_slice())?,
-        answer,
-    )
+    let replicas: Vec<IndexedClosure> =
+        run_world(asked.alloc, &config, asked.number(1)?, events.as_slice())?;
+    tell_replicas(asked, &replicas, answer)
 }
 
 fn tell_replicas(

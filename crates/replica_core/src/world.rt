@@ -10,7 +10,6 @@ use crate::playing::{
 use closure_core::{Closure, NoMemory};
 use fed_config::Config;
 use std::alloc::Global;
-use trust_closure::IndexedClosure;
 
 /// Lets the events happen, one after another, to `n` replicas of one configuration, which hold
 /// nothing at first, and answers what each then holds, by its number. It is a model of replicas
@@ -23,16 +22,16 @@ use trust_closure::IndexedClosure;
 ///
 /// # Errors
 /// Memory ran out, which ends the play.
-pub fn run_world(
+pub fn run_world<C: Closure>(
     alloc: Global,
     config: &Config,
     n: usize,
     events: &[Event],
-) -> Result<Vec<IndexedClosure>, NoMemory>
-    ensures { IfOk result (λ closures. AreOf (λ c. c.state.meaning) config.now n closures.items
+) -> Result<Vec<C>, NoMemory>
+    ensures { IfOk result (λ closures. AreOf (λ c. (C.state c).meaning) config.now n closures.items
         (run (rules_of config.now n) events.now).now) }
 {
-    let mut playing: Playing<IndexedClosure> = start(alloc, config, n)?;
+    let mut playing: Playing<C> = start(alloc, config, n)?;
     for event in events {
         play(alloc, config, &mut playing, event)?;
     }

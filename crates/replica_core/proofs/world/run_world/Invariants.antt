@@ -1,8 +1,8 @@
 use Rattle.std.proofs.Common.{take}
-use Rattle.trust_closure.specs.Indexed.{Indexed}
 use Rattle.replica_core.specs.World.{rules_of, run}
 use Rattle.replica_core.specs.Inside.Playing.{Plays}
 use Rattle.replica_core.proofs.world.run_world.Given as goal
 
 abbrev pub invariant-loop-event : goal.invariant-loop-event
-invariant-loop-event l = Plays (λ (c : Indexed). c.state.meaning) l.config l.n l.playing (run (rules_of l.config l.n) (take l.event-index l.events))
+invariant-loop-event g l = Plays (λ c. (g.C.Closure.state c).meaning) l.config l.n l.playing
+    (run (rules_of l.config l.n) (take l.event-index l.events))
