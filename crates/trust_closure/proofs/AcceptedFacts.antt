@@ -19,7 +19,7 @@ use Rattle.receipt_core.specs.Receipt.{Pair}
 use Rattle.receipt_core.specs.Acceptance.{Meaning, IsMember}
 use Rattle.fed_config.specs.Configuration.{domain_cmp}
 use Rattle.sorted_order.specs.Sought.{IsRising, is_equal}
-use Rattle.label_net.proofs.Arrows.{Contains-head, Contains-later, Contains-cons_cases}
+use Rattle.trust_closure.proofs.Arrows.{Contains-head, Contains-later, Contains-cons_cases}
 use Rattle.closure_core.specs.Inside.Flags.{TellsMembers}
 use Rattle.closure_core.specs.Inside.Nodes.{is_raised, raised_document, raised_documents, flags_of}
 use Rattle.trust_closure.specs.Pairs.{pair_cmp, no_pair, pair_at, Paired, AreRising, numbers_of, raised_of}

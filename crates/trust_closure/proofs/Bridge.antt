@@ -10,10 +10,10 @@ use Rattle.wait_index.specs.Net.{Net, is_root, is_closed, IsReached, root, step}
 use Rattle.receipt_core.specs.declared.triple.Triple.{Triple}
 use Rattle.receipt_core.specs.Receipt.{Receipt, Pair, pair_of, offers_of, need_of}
 use Rattle.receipt_core.specs.Acceptance.{IsFitting, Vouches, Leads, Meaning, IsMember, IsReleased, pair_of_seed}
-use Rattle.label_net.specs.Spots.{Spot}
-use Rattle.label_net.proofs.Edges.{slice_get-left, slice_get-right, slice_get-append_cases, slice_get-map_at}
-use Rattle.label_net.proofs.Edges.{slice_get-map_cases, Contains-slice_get, slice_get-Contains, offer-of_edge}
-use Rattle.label_net.proofs.Edges.{wait-of_edge, root-of_spot, spot-of_root, reached-on}
+use Rattle.trust_closure.specs.Spots.{Spot}
+use Rattle.trust_closure.proofs.Edges.{slice_get-left, slice_get-right, slice_get-append_cases, slice_get-map_at}
+use Rattle.trust_closure.proofs.Edges.{slice_get-map_cases, Contains-slice_get, slice_get-Contains, offer-of_edge}
+use Rattle.trust_closure.proofs.Edges.{wait-of_edge, root-of_spot, spot-of_root, reached-on}
 use Rattle.closure_core.specs.Inside.Nodes.{pairs_of}
 use Rattle.trust_closure.specs.NetOf.{spot_of_seed, spot_of_receipt, spots_of, IsShutBy, IsNetOf}
 use Rattle.closure_core.proofs.MemberFacts.{leads_more, all_more}

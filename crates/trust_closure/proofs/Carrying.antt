@@ -13,8 +13,8 @@ use Rattle.receipt_core.specs.declared.distrust.Distrust.{Distrust}
 use Rattle.receipt_core.specs.declared.triple.Triple.{Triple}
 use Rattle.receipt_core.specs.Receipt.{Receipt, Pair, pair_of, IsReceipt}
 use Rattle.receipt_core.specs.Acceptance.{Meaning, IsMeaning, IsFitting, IsReleased, pair_of_seed}
-use Rattle.label_net.proofs.Edges.{slice_get-left, slice_get-append_cases, slice_get-map_cases}
-use Rattle.label_net.proofs.Mirroring.{slice_get-more, slice_get-push_cases}
+use Rattle.trust_closure.proofs.Edges.{slice_get-left, slice_get-append_cases, slice_get-map_cases}
+use Rattle.trust_closure.proofs.Mirroring.{slice_get-more, slice_get-push_cases}
 use Rattle.closure_core.specs.Inside.Nodes.{pairs_of, is_raised, flags_of}
 use Rattle.closure_core.specs.Changes.{IsGain}
 use Rattle.closure_core.specs.Inside.Flags.{raised_count}

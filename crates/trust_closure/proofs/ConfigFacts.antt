@@ -22,8 +22,8 @@ use Rattle.std.specs.Bool.{IsTrue}
 use Rattle.std.specs.Prelude.{◌↔◌, Bool}
 use Rattle.closure_core.specs.Inside.Records.{distrust_by, distrusts_of, AreWithin}
 use Rattle.trust_closure.specs.Records.{record_cmp, InsertsRecord}
-use Rattle.trust_closure.specs.declared.records.Addition.{Addition}
-use Rattle.trust_closure.specs.declared.records.Addition.TheVariants.{Added, There, Full as NoPlace}
+use Rattle.trust_closure.specs.declared.shared.records.Addition.{Addition}
+use Rattle.trust_closure.specs.declared.shared.records.Addition.TheVariants.{Added, There, Full as NoPlace}
 use Rattle.closure_core.specs.declared.record.Record.{Record}
 use Rattle.trust_closure.specs.Held.{domains_of, bucket_cmp, IsHoard, AddsOrRefuses, addition_result}
 use Rattle.closure_core.proofs.ContainsFacts.{contains_none, IsMapped, mapped, contains_map}

@@ -24,15 +24,15 @@ use Rattle.receipt_core.specs.Order.{receipt_total, distrust_total}
 use Rattle.receipt_core.specs.Sets.{AreSets, Always}
 use Rattle.receipt_core.proofs.LineFacts.{one_receipt, one_distrust}
 use Rattle.receipt_core.proofs.RisingFacts.{AreSets-from_total}
-use Rattle.label_net.specs.declared.label.Label.{Label}
-use Rattle.label_net.specs.Spots.{Spot, Mirrors, bare_spot}
-use Rattle.label_net.proofs.Arrows.{Contains-map, Contains-from_map}
+use Rattle.trust_closure.specs.declared.indexed.labels.label.Label.{Label}
+use Rattle.trust_closure.specs.Spots.{Spot, Mirrors, bare_spot}
+use Rattle.trust_closure.proofs.Arrows.{Contains-map, Contains-from_map}
 use Rattle.std.proofs.lemmas.List.{length-map, length-append}
 use Rattle.closure_core.specs.AcceptedList.{IsPendingCount}
 use Rattle.receipt_core.specs.Acceptance.{Meaning, IsMeaning, IsMember, IsReleased, IsFitting, pair_of_seed}
-use Rattle.label_net.specs.Labels.{Wired, IsOfKey, Closes, HasNode, IsRooted, IsRoomierIndex as IsRoomierWired}
-use Rattle.label_net.proofs.Edges.{slice_get-left, slice_get-map_cases, slice_get-Contains, Contains-slice_get, one_place, root-of_spot}
-use Rattle.label_net.proofs.Mirroring.{Mirrors-shut}
+use Rattle.trust_closure.specs.Labels.{Wired, IsOfKey, Closes, HasNode, IsRooted, IsRoomierIndex as IsRoomierWired}
+use Rattle.trust_closure.proofs.Edges.{slice_get-left, slice_get-map_cases, slice_get-Contains, Contains-slice_get, one_place, root-of_spot}
+use Rattle.trust_closure.proofs.Mirroring.{Mirrors-shut}
 use Rattle.closure_core.specs.Inside.Nodes.{pairs_of, is_raised, flags_of, count_at}
 use Rattle.closure_core.specs.Inside.Flags.{raised_count, TellsMembers}
 use Rattle.trust_closure.specs.NodeCounts.{AreCounts, AddsNodes}
@@ -42,7 +42,7 @@ use Rattle.trust_closure.specs.Pairs.{Paired, IsPairing, HasRaised, no_pair}
 use Rattle.trust_closure.specs.Work.{ClosesAtOnce, IsWorkOf, AreOld}
 use Rattle.trust_closure.specs.Indexed.{IsBuilt, IsIndexed, WasCounted, IsDistrusted, IsBefore, HasRoom}
 use Rattle.trust_closure.specs.Indexed.{IsIndexedClosure, Reserves, IsIndexOf, Indexed, indexed_of, IsSeeded}
-use Rattle.trust_closure.specs.declared.indexed.Spare.{Spare}
+use Rattle.trust_closure.specs.declared.indexed.changes.Spare.{Spare}
 use Rattle.closure_core.specs.Changes.{IsGain}
 use Rattle.std.proofs.Common.{eqb}
 use Rattle.std.proofs.lemmas.Bool.{eq-eqb, eqb-true, not-true, not_from_false, false_from_ne_true}

@@ -18,12 +18,12 @@ use Rattle.receipt_core.specs.Rising.{placed, with_item, with_items}
 use Rattle.receipt_core.specs.Acceptance.{IsFitting, Meaning, IsMeaning}
 use Rattle.closure_core.specs.Changes.{HeldAndRoom, Takes, HasMerged, Took}
 use Rattle.trust_closure.specs.Held.{AddsRecord, AddsOrRefuses}
-use Rattle.trust_closure.specs.declared.records.Addition.{Addition}
-use Rattle.trust_closure.specs.declared.records.Addition.TheVariants.{Added, There, Full as NoPlace}
+use Rattle.trust_closure.specs.declared.shared.records.Addition.{Addition}
+use Rattle.trust_closure.specs.declared.shared.records.Addition.TheVariants.{Added, There, Full as NoPlace}
 use Rattle.closure_core.specs.Refusals.{offers_count, Room, IsRoomier, IsOfWrongEndpoint, RefusesReceipt, RefusesDistrust, RefusesMerge, WantsCopies}
 use Rattle.closure_core.specs.Refusals.{all_records}
 use Rattle.trust_closure.specs.Merge.{IsShare, AreKnown, FitWithinRoom}
-use Rattle.trust_closure.specs.declared.copies.Share.{Share}
+use Rattle.trust_closure.specs.declared.shared.copies.Share.{Share}
 use Rattle.closure_core.specs.declared.error.TakeError.{TakeError}
 use Rattle.closure_core.specs.declared.error.TakeError.TheVariants.{UnknownDomain, WrongEndpoint, Full, NoMemory, ConfigDiffers}
 use Rattle.closure_core.specs.declared.outcome.Refused.{Refused}

@@ -1,16 +1,25 @@
+-- What both closures have
 mod RecordFacts
 mod HeldFacts
 mod ConfigFacts
 mod MergeFacts
 mod JoinFacts
-pub mod Vouching
-pub mod Bridge
-pub mod Wirings
-pub mod NodeCountFacts
-pub mod PairFacts
-pub mod IndexFacts
+mod NodeCountFacts
+mod PairFacts
+mod AcceptedFacts
+-- The labels of the index
+mod Arrows
+mod Mirroring
+mod Edges
+mod InOrder
+mod Closing
+-- The closure over an index
+mod Vouching
+mod Bridge
+mod Wirings
+mod IndexFacts
 mod RecountFacts
+-- The closure by rounds
 mod PlainFacts
 mod Carrying
 mod SownFacts
-mod AcceptedFacts

@@ -23,7 +23,7 @@ use Rattle.bundle_doc.proofs.BundleFacts.{one_text}
 use Rattle.receipt_core.specs.Receipt.{Pair}
 use Rattle.sorted_order.specs.Sought.{IsRising, IsFound, IsMissing}
 use Rattle.fed_config.specs.Configuration.{domain_cmp}
-use Rattle.label_net.proofs.Mirroring.{slice_get-push_cases}
+use Rattle.trust_closure.proofs.Mirroring.{slice_get-push_cases}
 use Rattle.closure_core.specs.Order.{document_total}
 use Rattle.closure_core.specs.AcceptedList.{document_cmp}
 use Rattle.closure_core.specs.Inside.Nodes.{is_raised, flags_of}

@@ -10,7 +10,7 @@ use Rattle.receipt_core.specs.declared.distrust.Distrust.{Distrust}
 use Rattle.receipt_core.specs.declared.triple.Triple.{Triple}
 use Rattle.receipt_core.specs.Receipt.{Receipt, Pair, pair_of, offers_of, need_of}
 use Rattle.receipt_core.specs.Acceptance.{Meaning, IsMeaning, IsMember, IsFitting, IsReleased, Vouches, pair_of_seed}
-use Rattle.label_net.proofs.Edges.{slice_get-append_cases, slice_get-map_cases, slice_get-Contains, Contains-slice_get}
+use Rattle.trust_closure.proofs.Edges.{slice_get-append_cases, slice_get-map_cases, slice_get-Contains, Contains-slice_get}
 use Rattle.closure_core.specs.Inside.Nodes.{pairs_of, is_raised, flags_of}
 use Rattle.closure_core.specs.Inside.Flags.{TellsMembers}
 use Rattle.trust_closure.specs.Held.{Hoard, meaning_of}

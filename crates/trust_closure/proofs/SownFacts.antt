@@ -10,8 +10,8 @@ use Rattle.fed_config.specs.declared.seed.Seed.{Seed}
 use Rattle.receipt_core.specs.declared.triple.Triple.{Triple}
 use Rattle.receipt_core.specs.Receipt.{Receipt, pair_of, offers_of}
 use Rattle.receipt_core.specs.Acceptance.{IsMeaning, pair_of_seed}
-use Rattle.label_net.proofs.Arrows.{Contains-map, Contains-from_map}
-use Rattle.label_net.proofs.Edges.{slice_get-Contains, Contains-slice_get, one_place}
+use Rattle.trust_closure.proofs.Arrows.{Contains-map, Contains-from_map}
+use Rattle.trust_closure.proofs.Edges.{slice_get-Contains, Contains-slice_get, one_place}
 use Rattle.closure_core.specs.Inside.Nodes.{pairs_of, is_raised, count_at}
 use Rattle.closure_core.specs.Inside.Flags.{raised_count}
 use Rattle.trust_closure.specs.Held.{Hoard, meaning_of}

@@ -15,7 +15,7 @@ use Rattle.receipt_core.specs.Rising.{placed, with_item}
 use Rattle.receipt_core.specs.Receipt.{Receipt, Pair, key_cmp, with_key_id, key_ids, offer_of, offers_of, need_of}
 use Rattle.receipt_core.specs.Acceptance.{Vouches}
 use Rattle.trust_closure.specs.NetOf.{IsShutBy}
-use Rattle.label_net.proofs.Arrows.{Contains-head, Contains-later, Contains-cons_cases, Contains-map, Contains-from_map}
+use Rattle.trust_closure.proofs.Arrows.{Contains-head, Contains-later, Contains-cons_cases, Contains-map, Contains-from_map}
 
 -- ---- a set with one more item
 

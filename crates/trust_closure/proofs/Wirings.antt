@@ -16,13 +16,14 @@ use Rattle.receipt_core.specs.declared.distrust.Distrust.{Distrust}
 use Rattle.receipt_core.specs.declared.triple.Triple.{Triple}
 use Rattle.receipt_core.specs.Receipt.{Receipt, Pair, key_ids, offer_of, offers_of}
 use Rattle.receipt_core.specs.Acceptance.{IsFitting}
-use Rattle.label_net.specs.declared.label.Label.{Label}
-use Rattle.label_net.specs.Labels.{Wired, HasNumber, HasNode, Offers, Awaits, IsRooted}
-use Rattle.label_net.specs.Spots.{Spot, Mirrors, bare_spot}
-use Rattle.label_net.proofs.Arrows.{Contains-from_map}
-use Rattle.label_net.proofs.Edges.{slice_get-map_at, slice_get-Contains}
-use Rattle.label_net.proofs.Mirroring.{rooted_spot, offering_spot, awaiting_spot, length-roots, MirrorsBut, Mirrors-but}
-use Rattle.label_net.proofs.Mirroring.{Mirrors-node, Mirrors-label, Mirrors-root, Mirrors-offer, Mirrors-wait}
+use Rattle.trust_closure.specs.declared.indexed.labels.label.Label.{Label}
+use Rattle.trust_closure.specs.Labels.{Wired, HasNumber, HasNode, Offers, Awaits, IsRooted}
+use Rattle.trust_closure.specs.Spots.{Spot, Mirrors, bare_spot}
+use Rattle.trust_closure.proofs.Arrows.{Contains-from_map}
+use Rattle.trust_closure.proofs.Edges.{slice_get-map_at, slice_get-Contains}
+use Rattle.trust_closure.proofs.Mirroring.{rooted_spot, offering_spot, awaiting_spot, length-roots, MirrorsBut}
+use Rattle.trust_closure.proofs.Mirroring.{Mirrors-but, Mirrors-node, Mirrors-label, Mirrors-root, Mirrors-offer}
+use Rattle.trust_closure.proofs.Mirroring.{Mirrors-wait}
 use Rattle.trust_closure.specs.NetOf.{IsShutBy, triple_by, IsLabelOf, IsWiringOf, Widens}
 use Rattle.closure_core.proofs.RisingFacts.{each_has}
 

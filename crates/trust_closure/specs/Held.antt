@@ -22,10 +22,11 @@ use Rattle.closure_core.specs.declared.error.TakeError.{TakeError}
 use Rattle.closure_core.specs.declared.error.TakeError.TheVariants.{UnknownDomain, WrongEndpoint}
 use Rattle.closure_core.specs.declared.error.TakeError.TheVariants.{Full, NoMemory, ConfigDiffers}
 use Rattle.closure_core.specs.declared.record.Record.{Record}
-use Rattle.trust_closure.specs.declared.held.Standing.{Standing}
-use Rattle.trust_closure.specs.declared.held.Standing.TheVariants.{Present, Absent}
-use Rattle.trust_closure.specs.declared.records.Addition.{Addition}
-use Rattle.trust_closure.specs.declared.records.Addition.TheVariants.{Added, There, Full as NoPlace}
+use Rattle.trust_closure.specs.declared.shared.held.Standing.{Standing}
+use Rattle.trust_closure.specs.declared.shared.held.Standing.TheVariants.{Present, Absent}
+use Rattle.trust_closure.specs.declared.shared.records.Addition.{Addition}
+use Rattle.trust_closure.specs.declared.shared.records.Addition.TheVariants.{Added, There}
+use Rattle.trust_closure.specs.declared.shared.records.Addition.TheVariants.{Full as NoPlace}
 
 -- the domains of a configuration, as its rising list
 abbrev pub domains_of : Configuration → List (List ℕ)

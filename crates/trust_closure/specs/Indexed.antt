@@ -11,17 +11,17 @@ use Rattle.receipt_core.specs.declared.triple.Triple.{Triple}
 use Rattle.receipt_core.specs.Acceptance.{IsMeaning, IsReleased}
 use Rattle.wait_index.specs.Index.{Index}
 use Rattle.wait_index.specs.Net.{Net, ListsReached, TellsFallen}
-use Rattle.label_net.specs.Labels.{Wired}
+use Rattle.trust_closure.specs.Labels.{Wired}
 use Rattle.closure_core.specs.Inside.Nodes.{pairs_of, count_at}
 use Rattle.trust_closure.specs.NodeCounts.{AreCounts}
-use Rattle.label_net.specs.declared.label.Label.{Label}
+use Rattle.trust_closure.specs.declared.indexed.labels.label.Label.{Label}
 use Rattle.trust_closure.specs.Held.{Hoard, meaning_of, domains_of}
 use Rattle.trust_closure.specs.NetOf.{spots_of, spot_of_seed, IsShutBy, triple_by, IsNetOf}
 use Rattle.trust_closure.specs.NetOf.{IsWiringOf}
 use Rattle.trust_closure.specs.Pairs.{Paired, IsPairing}
 use Rattle.closure_core.specs.Refusals.{Room, IsRoomier}
 use Rattle.closure_core.specs.Changes.{HeldAndRoom}
-use Rattle.trust_closure.specs.declared.indexed.Spare.{Spare}
+use Rattle.trust_closure.specs.declared.indexed.changes.Spare.{Spare}
 use Rattle.std.specs.Prelude.{[], ◌∷◌, ◌++◌, take, Result, MatchResult}
 use Rattle.closure_core.specs.declared.outcome.Refused.{Refused}
 use Rattle.closure_core.specs.declared.outcome.Taken.{Taken}

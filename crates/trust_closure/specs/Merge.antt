@@ -11,7 +11,7 @@ use Rattle.closure_core.specs.Changes.{HeldAndRoom}
 use Rattle.closure_core.specs.declared.error.TakeError.{TakeError}
 use Rattle.closure_core.specs.declared.error.TakeError.TheVariants.{UnknownDomain, WrongEndpoint}
 use Rattle.closure_core.specs.declared.error.TakeError.TheVariants.{Full, NoMemory, ConfigDiffers}
-use Rattle.trust_closure.specs.declared.copies.Share.{Share}
+use Rattle.trust_closure.specs.declared.shared.copies.Share.{Share}
 
 -- Both together are of one configuration, and no more than one holds.
 pub record IsMergeable (m other : Meaning) : Type 0 where

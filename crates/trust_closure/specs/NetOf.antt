@@ -9,9 +9,9 @@ use Rattle.receipt_core.specs.declared.distrust.Distrust.{Distrust}
 use Rattle.receipt_core.specs.declared.triple.Triple.{Triple}
 use Rattle.receipt_core.specs.Receipt.{Receipt, pair_of, offers_of, need_of}
 use Rattle.receipt_core.specs.Acceptance.{pair_of_seed}
-use Rattle.label_net.specs.declared.label.Label.{Label}
-use Rattle.label_net.specs.Labels.{Wired}
-use Rattle.label_net.specs.Spots.{Spot, Mirrors}
+use Rattle.trust_closure.specs.declared.indexed.labels.label.Label.{Label}
+use Rattle.trust_closure.specs.Labels.{Wired}
+use Rattle.trust_closure.specs.Spots.{Spot, Mirrors}
 
 -- A configured document's node is a root and awaits nothing.
 abbrev pub spot_of_seed : Seed → Spot Triple

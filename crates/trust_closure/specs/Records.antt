@@ -6,8 +6,8 @@ use Rattle.std.specs.List.Sorted.{IsStrictlySortedBy}
 use Rattle.receipt_core.specs.Receipt.{key_cmp}
 use Rattle.receipt_core.specs.Rising.{with_item}
 use Rattle.closure_core.specs.declared.record.Record.{Record}
-use Rattle.trust_closure.specs.declared.records.Addition.{Addition}
-use Rattle.trust_closure.specs.declared.records.Addition.TheVariants.{Added, There, Full}
+use Rattle.trust_closure.specs.declared.shared.records.Addition.{Addition}
+use Rattle.trust_closure.specs.declared.shared.records.Addition.TheVariants.{Added, There, Full}
 
 -- records are ordered by key, and then by the numbers of their domains
 abbrev pub record_cmp : Record → Record → Ordering

@@ -1,8 +1,10 @@
-//! What holds of every index of a closure.
+//! What holds of every closure, which `closure_core` shows, and of every index of one.
 ghost use Rattle.std.specs.Prelude.{ℕ, ◌+◌, ◌*◌, ◌≤◌, List, length};
 ghost use Rattle.receipt_core.specs.declared.distrust.Distrust.{Distrust};
 ghost use Rattle.trust_closure.specs.Indexed.{Indexed};
 ghost use Rattle.trust_closure.specs.Work.{ClosesAtOnce, IsWorkOf};
+
+pub use closure_core::laws::{larger_and_smaller, least, one_list, one_number};
 
 /// Whatever the keys that are distrusted and however many their labels are, a close looks at each
 /// edge at most twice.

@@ -1,7 +1,7 @@
 -- Documents of domains by number: those of the configuration, and then those of the receipts in
 -- order of arrival
 use Rattle.std.specs.Prelude.{ℕ, ◌<◌, ◌≡◌, Bool, false, cond, List, ◌++◌, map, length, slice_get}
-use Rattle.std.specs.Prelude.{slice_index_or, Option, None}
+use Rattle.std.specs.Prelude.{◌==◌, not, slice_index_or, Option, None}
 use Rattle.std.specs.Option.{option_map}
 use Rattle.std.specs.List.{All, filter_map}
 use Rattle.fed_config.specs.declared.seed.Seed.{Seed}

@@ -1,0 +1,295 @@
+-- A net stays a mirror
+use Rattle.std.proofs.Common.{◌≡◌, ◌≢◌, ℕ, zero, suc, ◌+◌, ◌<◌, ◌⊎◌, inl, inr, Bool, true, false, List, [], ◌∷◌, ◌++◌}
+use Rattle.std.proofs.Common.{length, get_or, set, map, Option, Some, None, arith, refl, sym, ap, ◌∙◌, subst}
+use Rattle.std.specs.Prelude.{AllPairs, Contains, slice_get, ◌↔◌}
+use Rattle.std.specs.Option.{option_to_list}
+use Rattle.std.proofs.lemmas.List.{append-nil, append_assoc, map_push, length-map, length_push, get_or_append_left, set_at, get_or_push}
+use Rattle.std.proofs.lemmas.List.Quantifiers.{all_pairs_push}
+use Rattle.std.proofs.lemmas.List.Elements.{Contains-get_or, Contains-push, Contains-push_cases, Contains-append_left}
+use Rattle.std.proofs.lemmas.Option.{slice_get_within, same_Some, none-some}
+use Rattle.wait_index.specs.declared.edges.Edge.{Edge}
+use Rattle.wait_index.specs.Net.{Net, is_closed, with_node, with_label, with_offer, with_wait, with_root}
+use Rattle.trust_closure.specs.Spots.{Spot, Arrow, arrow_at, arrows_from, offered_at, awaited_at, offer_arrow, wait_arrow, IsUsed, Mirrors, bare_spot}
+use Rattle.trust_closure.proofs.Arrows.{arrows-push}
+
+-- arrows name labels that are there, so more labels change none
+
+pub slice_get-more : {A : Type 0} (xs ys : List A) (i : ℕ) (x : A) → slice_get xs i ≡ Some x → slice_get (xs ++ ys) i ≡ Some x
+slice_get-more [] ys i x e = absurd (omega (arith, slice_get_within [] i x e))
+slice_get-more (z ∷ xs) ys zero x e = e
+slice_get-more (z ∷ xs) ys (suc i) x e = slice_get-more xs ys i x e
+
+pub slice_get-push : {A : Type 0} (xs : List A) (x : A) → slice_get (xs ++ x ∷ []) (length xs) ≡ Some x
+slice_get-push [] x = refl
+slice_get-push (z ∷ xs) x = slice_get-push xs x
+
+-- each of these arrows names a label
+abbrev pub AreNamed : {A : Type 0} → List (Arrow A) → Type 0
+AreNamed [] = Unit {0}
+AreNamed {A} (arrow ∷ arrows) = ((label : A) × (arrow.label ≡ Some label)) × AreNamed arrows
+
+AreNamed-map : {A : Type 0} (node : ℕ) (labels : List A) → AreNamed (map (arrow_at node) labels)
+AreNamed-map node [] = tt
+AreNamed-map node (label ∷ labels) = ((label, refl), AreNamed-map node labels)
+
+AreNamed-append : {A : Type 0} (xs ys : List (Arrow A)) → AreNamed xs → AreNamed ys → AreNamed (xs ++ ys)
+AreNamed-append [] ys a b = b
+AreNamed-append (x ∷ xs) ys a b = (a.0, AreNamed-append xs ys a.1 b)
+
+pub AreNamed-arrows : {A : Type 0} (of : Spot A → List A) (node : ℕ) (spots : List (Spot A)) → AreNamed (arrows_from of node spots)
+AreNamed-arrows of node [] = tt
+AreNamed-arrows of node (spot ∷ spots) =
+    AreNamed-append (map (arrow_at node) (of spot)) (arrows_from of (node + 1) spots) (AreNamed-map node (of spot)) (AreNamed-arrows of (node + 1) spots)
+
+offers-named : {A : Type 0} (labels more : List A) (edges : List Edge) → AreNamed (map (offer_arrow labels) edges)
+    → map (offer_arrow (labels ++ more)) edges ≡ map (offer_arrow labels) edges
+offers-named labels more [] a = refl
+offers-named {A = A} labels more (edge ∷ edges) a =
+    let e : slice_get (labels ++ more) edge.to ≡ slice_get labels edge.to = slice_get-more labels more edge.to a.0.0 a.0.1 ∙ sym a.0.1 in
+    let same : offer_arrow (labels ++ more) edge ≡ offer_arrow labels edge =
+        ap (λ (o : Option A). let arrow : Arrow A = record { node = edge.from; label = o } in arrow) e in
+    ap (λ first. first ∷ map (offer_arrow (labels ++ more)) edges) same ∙ ap (λ rest. offer_arrow labels edge ∷ rest) (offers-named labels more edges a.1)
+
+waits-named : {A : Type 0} (labels more : List A) (edges : List Edge) → AreNamed (map (wait_arrow labels) edges)
+    → map (wait_arrow (labels ++ more)) edges ≡ map (wait_arrow labels) edges
+waits-named labels more [] a = refl
+waits-named {A = A} labels more (edge ∷ edges) a =
+    let e : slice_get (labels ++ more) edge.from ≡ slice_get labels edge.from = slice_get-more labels more edge.from a.0.0 a.0.1 ∙ sym a.0.1 in
+    let same : wait_arrow (labels ++ more) edge ≡ wait_arrow labels edge =
+        ap (λ (o : Option A). let arrow : Arrow A = record { node = edge.to; label = o } in arrow) e in
+    ap (λ first. first ∷ map (wait_arrow (labels ++ more)) edges) same ∙ ap (λ rest. wait_arrow labels edge ∷ rest) (waits-named labels more edges a.1)
+
+-- what is the label at a place when one more is added
+pub slice_get-push_cases : {A : Type 0} (xs : List A) (x : A) (i : ℕ) (y : A) → slice_get (xs ++ x ∷ []) i ≡ Some y
+    → ((i < length xs) × (slice_get xs i ≡ Some y)) ⊎ ((i ≡ length xs) × (x ≡ y))
+slice_get-push_cases [] x zero y e = inr (refl, same_Some x y e)
+slice_get-push_cases [] x (suc i) y e = absurd (none-some y e)
+slice_get-push_cases (z ∷ xs) x zero y e = inl (omega arith, e)
+slice_get-push_cases (z ∷ xs) x (suc i) y e =
+    elim (slice_get-push_cases xs x i y e) [
+      | inl a ↦ inl (omega (arith, a.0), a.1)
+      | inr a ↦ inr (ap suc a.0, a.1)
+    ]
+
+-- ---- which labels are used
+
+IsUsed-push : {A : Type 0} (spots : List (Spot A)) (spot : Spot A) (label : A) → IsUsed spots label
+    → IsUsed (spots ++ spot ∷ []) label
+IsUsed-push spots spot label h = record {
+  spot = h.spot;
+  stands = Contains-append_left spots (spot ∷ []) h.spot h.stands;
+  uses = h.uses;
+}
+
+IsUsed-last : {A : Type 0} (spots : List (Spot A)) (spot : Spot A) (label : A)
+    → Contains spot.offers label ⊎ (spot.awaits ≡ Some label) → IsUsed (spots ++ spot ∷ []) label
+IsUsed-last spots spot label uses = record {
+  spot = spot;
+  stands = Contains-push spots spot;
+  uses = uses;
+}
+
+-- another last spot, which uses what that one does
+IsUsed-other : {A : Type 0} (spots : List (Spot A)) (spot other : Spot A) (label : A)
+    → (Contains spot.offers label → Contains other.offers label)
+    → (spot.awaits ≡ Some label → other.awaits ≡ Some label)
+    → IsUsed (spots ++ spot ∷ []) label → IsUsed (spots ++ other ∷ []) label
+IsUsed-other {A = A} spots spot other label offers awaits h =
+    elim (Contains-push_cases spots spot h.spot h.stands) [
+      | inl c ↦
+          IsUsed-push spots other label (record { spot = h.spot; stands = c; uses = h.uses })
+      | inr e ↦
+          let uses : Contains spot.offers label ⊎ (spot.awaits ≡ Some label) =
+          subst (λ (s : Spot A). Contains s.offers label ⊎ (s.awaits ≡ Some label)) (sym e) h.uses
+          in
+          IsUsed-last spots other label
+          (elim uses [ inl a ↦ inl (offers a) | inr a ↦ inr (awaits a) ])
+    ]
+
+-- The net mirrors the spots, but none needs to use a label that is new.
+pub record MirrorsBut {A : Type 0} (IsNew : A → Type 0) (spots : List (Spot A)) (labels : List A)
+    (IsShut : A → Type 0) (net : Net) : Type 0 where
+  pub roots : net.roots ≡ map (λ spot. spot.rooted) spots
+  pub sizes : length net.closed ≡ length labels
+  pub closed : (number : ℕ) (label : A) → slice_get labels number ≡ Some label
+      → (is_closed net number ≡ true) ↔ IsShut label
+  pub offers : map (offer_arrow labels) net.offers ≡ arrows_from offered_at 0 spots
+  pub waits : map (wait_arrow labels) net.waits ≡ arrows_from awaited_at 0 spots
+  pub once : AllPairs ◌≢◌ labels
+  pub used : (label : A) → Contains labels label → IsUsed spots label ⊎ IsNew label
+
+module _ {A : Type 0} (spots : List (Spot A)) (labels : List A) (IsShut : A → Type 0) (net : Net) (h : Mirrors spots labels IsShut net) where
+  pub length-roots : length net.roots ≡ length spots
+  length-roots = ap length h.roots ∙ length-map spots (λ (s : Spot A). s.rooted)
+
+  -- a node is added
+  pub Mirrors-node : Mirrors (spots ++ bare_spot ∷ []) labels IsShut (with_node net)
+  Mirrors-node = record {
+    roots = ap (λ rs. rs ++ false ∷ []) h.roots ∙ sym (map_push (λ (s : Spot A). s.rooted) spots bare_spot);
+    sizes = h.sizes;
+    closed = h.closed;
+    offers = h.offers ∙ sym (arrows-push offered_at 0 spots bare_spot ∙ append-nil (arrows_from offered_at 0 spots));
+    waits = h.waits ∙ sym (arrows-push awaited_at 0 spots bare_spot ∙ append-nil (arrows_from awaited_at 0 spots));
+    once = h.once;
+    used = λ label c. IsUsed-push spots bare_spot label (h.used label c);
+  }
+
+  -- none is added
+  pub Mirrors-but : (IsNew : A → Type 0) → MirrorsBut IsNew spots labels IsShut net
+  Mirrors-but IsNew = record {
+    roots = h.roots;
+    sizes = h.sizes;
+    closed = h.closed;
+    offers = h.offers;
+    waits = h.waits;
+    once = h.once;
+    used = λ label c. inl (h.used label c);
+  }
+
+  -- a label is added
+  pub Mirrors-label : (IsNew : A → Type 0) (label : A) (closed : Bool) → IsNew label
+      → (Contains labels label → ⊥) → ((closed ≡ true) ↔ IsShut label)
+      → MirrorsBut IsNew spots (labels ++ label ∷ []) IsShut (with_label net closed)
+  Mirrors-label IsNew label closed is new when = record {
+    roots = h.roots;
+    sizes = omega (arith, h.sizes, length_push labels label, length_push net.closed closed);
+    closed = λ number other e.
+        elim (slice_get-push_cases labels label number other e) [
+          | inl a ↦
+              let l : number < length net.closed = omega (arith, a.0, h.sizes) in
+              let same : get_or (net.closed ++ closed ∷ []) number false ≡ get_or net.closed number false =
+                  get_or_append_left net.closed (closed ∷ []) false number l in
+              let old = h.closed number other a.1 in
+              (λ t. old.0 (sym same ∙ t), λ s. same ∙ old.1 s)
+          | inr a ↦
+              let at : get_or (net.closed ++ closed ∷ []) number false ≡ closed = get_or_push net.closed closed false number (h.sizes ∙ sym a.0) in
+              (λ t. subst IsShut a.1 (when.0 (sym at ∙ t)), λ s. at ∙ when.1 (subst IsShut (sym a.1) s))
+        ];
+    offers = offers-named labels (label ∷ []) net.offers (subst AreNamed (sym h.offers) (AreNamed-arrows offered_at 0 spots)) ∙ h.offers;
+    waits = waits-named labels (label ∷ []) net.waits (subst AreNamed (sym h.waits) (AreNamed-arrows awaited_at 0 spots)) ∙ h.waits;
+    once = all_pairs_push ◌≢◌ labels label h.once (λ k d l e. new (subst (Contains labels) e (Contains-get_or labels k d l)));
+    used = λ other c.
+        elim (Contains-push_cases labels label other c) [
+          | inl a ↦ inl (h.used other a)
+          | inr e ↦ inr (subst IsNew e is)
+        ];
+  }
+
+  -- other words for what is shut, and other flags that say so
+  pub Mirrors-shut : (IsShut' : A → Type 0) (flags : List Bool) → length flags ≡ length net.closed
+      → ((number : ℕ) (label : A) → slice_get labels number ≡ Some label
+      → (get_or flags number false ≡ true) ↔ IsShut' label)
+      → Mirrors spots labels IsShut' (record net { closed = flags })
+  Mirrors-shut IsShut' flags size when = record {
+    roots = h.roots;
+    sizes = size ∙ h.sizes;
+    closed = when;
+    offers = h.offers;
+    waits = h.waits;
+    once = h.once;
+    used = h.used;
+  }
+
+-- The last spot changes.
+
+abbrev pub rooted_spot : {A : Type 0} → Spot A → Spot A
+rooted_spot spot = record spot { rooted = true }
+
+abbrev pub offering_spot : {A : Type 0} → Spot A → A → Spot A
+offering_spot spot label = record spot { offers = spot.offers ++ label ∷ [] }
+
+abbrev pub awaiting_spot : {A : Type 0} → Spot A → A → Spot A
+awaiting_spot spot label = record spot { awaits = Some label }
+
+module _ {A : Type 0} (spots : List (Spot A)) (spot : Spot A) (labels : List A) (IsShut : A
+    → Type 0) (net : Net) (h : Mirrors (spots ++ spot ∷ []) labels IsShut net) where
+  pub Mirrors-root : Mirrors (spots ++ rooted_spot spot ∷ []) labels IsShut (with_root net (length spots))
+  Mirrors-root = record {
+    roots = ap (λ rs. set rs (length spots) true) (h.roots ∙ map_push (λ (s : Spot A). s.rooted) spots spot)
+        ∙ set_at (map (λ (s : Spot A). s.rooted) spots) spot.rooted [] true (length spots) (length-map spots (λ (s : Spot A). s.rooted))
+        ∙ sym (map_push (λ (s : Spot A). s.rooted) spots (rooted_spot spot));
+    sizes = h.sizes;
+    closed = h.closed;
+    offers = h.offers ∙ arrows-push offered_at 0 spots spot ∙ sym (arrows-push offered_at 0 spots (rooted_spot spot));
+    waits = h.waits ∙ arrows-push awaited_at 0 spots spot ∙ sym (arrows-push awaited_at 0 spots (rooted_spot spot));
+    once = h.once;
+    used = λ label c.
+        IsUsed-other spots spot (rooted_spot spot) label (λ a. a) (λ a. a) (h.used label c);
+  }
+
+-- It offers or awaits a label that may be new.
+module _ {A : Type 0} (spots : List (Spot A)) (spot : Spot A) (labels : List A)
+    (IsShut : A → Type 0) (net : Net) (label : A)
+    (h : MirrorsBut (λ other. label ≡ other) (spots ++ spot ∷ []) labels IsShut net) where
+  same-roots : (other : Spot A) → spot.rooted ≡ other.rooted → net.roots ≡ map (λ (s : Spot A). s.rooted) (spots ++ other ∷ [])
+  same-roots other e =
+      h.roots ∙ map_push (λ (s : Spot A). s.rooted) spots spot ∙ ap (λ b. map (λ (s : Spot A). s.rooted) spots ++ b ∷ []) e
+      ∙ sym (map_push (λ (s : Spot A). s.rooted) spots other)
+
+  pub Mirrors-offer : (number : ℕ) → slice_get labels number ≡ Some label
+      → Mirrors (spots ++ offering_spot spot label ∷ []) labels IsShut
+      (with_offer net (length spots) number)
+  Mirrors-offer number at =
+      let edge : Edge = record { from = length spots; to = number } in
+      let here : offer_arrow labels edge ≡ arrow_at (0 + length spots) label =
+      ap (λ (o : Option A). let arrow : Arrow A = record { node = length spots; label = o } in arrow) at
+      ∙ ap (λ (n : ℕ). arrow_at n label) (let e : length spots ≡ 0 + length spots = omega arith in e)
+      in
+      record {
+        roots = same-roots (offering_spot spot label) refl;
+        sizes = h.sizes;
+        closed = h.closed;
+        offers = map_push (offer_arrow labels) net.offers edge
+            ∙ ap (λ arrows. arrows ++ offer_arrow labels edge ∷ []) (h.offers ∙ arrows-push offered_at 0 spots spot)
+            ∙ append_assoc (arrows_from offered_at 0 spots) (map (arrow_at (0 + length spots)) spot.offers) (offer_arrow labels edge ∷ [])
+            ∙ ap (λ arrow. arrows_from offered_at 0 spots ++ (map (arrow_at (0 + length spots)) spot.offers ++ arrow ∷ [])) here
+            ∙ ap (λ arrows. arrows_from offered_at 0 spots ++ arrows) (sym (map_push (arrow_at (0 + length spots)) spot.offers label))
+            ∙ sym (arrows-push offered_at 0 spots (offering_spot spot label));
+        waits = h.waits ∙ arrows-push awaited_at 0 spots spot ∙ sym (arrows-push awaited_at 0 spots (offering_spot spot label));
+        once = h.once;
+        used = λ other c.
+            elim (h.used other c) [
+              | inl u ↦
+                  IsUsed-other spots spot (offering_spot spot label) other
+                  (Contains-append_left spot.offers (label ∷ []) other) (λ a. a) u
+              | inr e ↦
+                  IsUsed-last spots (offering_spot spot label) other
+                  (inl (subst (Contains (spot.offers ++ label ∷ [])) e
+                  (Contains-push spot.offers label)))
+            ];
+      }
+
+  pub Mirrors-wait : (number : ℕ) → spot.awaits ≡ None → slice_get labels number ≡ Some label
+      → Mirrors (spots ++ awaiting_spot spot label ∷ []) labels IsShut
+      (with_wait net number (length spots))
+  Mirrors-wait number none at =
+      let edge : Edge = record { from = number; to = length spots } in
+      let here : wait_arrow labels edge ≡ arrow_at (0 + length spots) label =
+      ap (λ (o : Option A). let arrow : Arrow A = record { node = length spots; label = o } in arrow) at
+      ∙ ap (λ (n : ℕ). arrow_at n label) (let e : length spots ≡ 0 + length spots = omega arith in e)
+      in
+      let before : arrows_from awaited_at 0 (spots ++ spot ∷ []) ≡ arrows_from awaited_at 0 spots =
+      arrows-push awaited_at 0 spots spot
+      ∙ ap (λ (o : Option A). arrows_from awaited_at 0 spots ++ map (arrow_at (0 + length spots)) (option_to_list o)) none
+      ∙ append-nil (arrows_from awaited_at 0 spots)
+      in
+      record {
+        roots = same-roots (awaiting_spot spot label) refl;
+        sizes = h.sizes;
+        closed = h.closed;
+        offers = h.offers ∙ arrows-push offered_at 0 spots spot ∙ sym (arrows-push offered_at 0 spots (awaiting_spot spot label));
+        waits = map_push (wait_arrow labels) net.waits edge
+            ∙ ap (λ arrows. arrows ++ wait_arrow labels edge ∷ []) (h.waits ∙ before)
+            ∙ ap (λ arrow. arrows_from awaited_at 0 spots ++ arrow ∷ []) here
+            ∙ sym (arrows-push awaited_at 0 spots (awaiting_spot spot label));
+        once = h.once;
+        used = λ other c.
+            elim (h.used other c) [
+              | inl u ↦
+                  IsUsed-other spots spot (awaiting_spot spot label) other (λ a. a)
+                  (λ a. absurd (none-some other (sym none ∙ a))) u
+              | inr e ↦
+                  IsUsed-last spots (awaiting_spot spot label) other
+                  (inr (ap (λ (x : A). Some x) e))
+            ];
+      }

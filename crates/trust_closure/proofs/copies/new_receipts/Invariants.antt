@@ -1,6 +1,0 @@
--- So many of the receipts so far are not held.
-use Rattle.trust_closure.proofs.MergeFacts.{IsCounted}
-use Rattle.trust_closure.proofs.copies.new_receipts.Given as goal
-
-abbrev pub invariant-loop-receipt : goal.invariant-loop-receipt
-invariant-loop-receipt l = IsCounted l.held.held l.initial.receipt-iterator l.receipt-iterator l.count 65536

@@ -1,0 +1,88 @@
+-- The labels of distrusted keys are closed, and what fell is counted no more.
+use Rattle.std.proofs.Common.{List, ℕ, length, arith, sym, ap, subst}
+use Rattle.fed_config.specs.Configuration.{Configuration, AreDomains}
+use Rattle.trust_closure.specs.Labels.{Closes}
+use Rattle.trust_closure.specs.NodeCounts.{AreCounts}
+use Rattle.trust_closure.specs.Indexed.{IsBuilt, IsDistrusted, WasIndexed}
+use Rattle.trust_closure.proofs.IndexFacts.{firsts-within, pairs-few, distrusted-shut, shuts-all, built-closed, was-counted, work-of}
+use Rattle.trust_closure.proofs.indexed.grow.close_all.Goals as goal
+
+pub recount-requires-clause-before : goal.recount-requires-clause-before
+recount-requires-clause-before c =
+    let h = c.args.held.now in
+    let more = c.requires.before.0 in
+    let b : WasIndexed h more c.args.pairs.now c.args.wiring.now = c.requires.before.1 in
+    let p = c.args.pairs.now in
+    let w = c.args.wiring.now in
+    let v = c.close_where-turns.new.self in
+    let turns : ℕ = c.close_where-turns.result in
+    let closes : Closes w (IsDistrusted h) v turns = c.close_where-turns.ensures.closes in
+    was-counted b.old p w v c.reach.result.now (IsDistrusted h) turns b.indexed closes
+    c.reach.ensures.marked c.reach.ensures.last
+
+pub recount-requires-clause-firsts : goal.recount-requires-clause-firsts
+recount-requires-clause-firsts c = let b = c.requires.before.1 in firsts-within b.old
+    c.args.pairs.now c.args.wiring.now b.indexed.built
+
+pub recount-requires-clause-few : goal.recount-requires-clause-few
+recount-requires-clause-few c =
+    let b = c.requires.before.1 in
+    pairs-few b.old c.args.pairs.now b.indexed.built.pairing
+    (omega (
+      arith,
+      c.config-valid.ensures.form.few_seeds,
+      ap (λ (k : Configuration). length k.seeds)
+          b.before.config,
+    ))
+    (omega (
+      arith,
+      c.config-valid.ensures.valid.few,
+      c.config-valid.ensures.size,
+      ap length
+          b.before.arrived,
+    ))
+
+pub returns-clause-indexed : goal.returns-clause-indexed
+returns-clause-indexed c =
+    let h = c.args.held.now in
+    let more = c.requires.before.0 in
+    let b : WasIndexed h more c.args.pairs.now c.args.wiring.now = c.requires.before.1 in
+    let p = c.args.pairs.now in
+    let w = c.args.wiring.now in
+    let v = c.close_where-turns.new.self in
+    let turns : ℕ = c.close_where-turns.result in
+    let closes : Closes w (IsDistrusted h) v turns = c.close_where-turns.ensures.closes in
+    let q = c.recount.new.pairs in
+    let built : IsBuilt h q v = built-closed b.old h more p q w v (IsDistrusted h) turns
+    b.indexed.built b.before c.config-valid.ensures.valid
+    (λ domains d. shuts-all domains b.old.records h.records more (IsDistrusted h) b.before.records
+    (distrusted-shut h domains (subst (λ (k : Configuration). AreDomains k domains)
+    (sym b.before.config) d)))
+    closes c.close_where-turns.ensures.reached c.recount.ensures.numbers c.recount.ensures.firsts
+    c.recount.ensures.size in
+    record {
+      built = built;
+      counts = subst (λ (ns : List ℕ). AreCounts q.firsts ns q.counts)
+          c.reach.ensures.marked c.recount.ensures.counts;
+    }
+
+pub returns-clause-work : goal.returns-clause-work
+returns-clause-work c old before spare count was is =
+    let h = c.args.held.now in
+    let more = c.requires.before.0 in
+    let b : WasIndexed h more c.args.pairs.now c.args.wiring.now = c.requires.before.1 in
+    let p = c.args.pairs.now in
+    let w = c.args.wiring.now in
+    let v = c.close_where-turns.new.self in
+    let turns : ℕ = c.close_where-turns.result in
+    let closes : Closes w (IsDistrusted h) v turns = c.close_where-turns.ensures.closes in
+    let q = c.recount.new.pairs in
+    let built : IsBuilt h q v = built-closed b.old h more p q w v (IsDistrusted h) turns
+    b.indexed.built b.before c.config-valid.ensures.valid
+    (λ domains d. shuts-all domains b.old.records h.records more (IsDistrusted h) b.before.records
+    (distrusted-shut h domains (subst (λ (k : Configuration). AreDomains k domains)
+    (sym b.before.config) d)))
+    closes c.close_where-turns.ensures.reached c.recount.ensures.numbers c.recount.ensures.firsts
+    c.recount.ensures.size in
+    work-of old h before p q w v spare count turns was is.built built c.config-valid.ensures.size
+    closes

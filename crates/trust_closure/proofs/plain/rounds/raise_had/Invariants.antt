@@ -1,0 +1,19 @@
+-- The flags of the documents that are had so far are raised.
+use Rattle.std.proofs.Common.{◌≡◌, ◌≤◌, ℕ, true, length}
+use Rattle.std.specs.Prelude.{◌↔◌}
+use Rattle.closure_core.specs.Inside.Nodes.{is_raised, flags_of, count_at}
+use Rattle.closure_core.specs.Inside.Flags.{raised_count}
+use Rattle.trust_closure.specs.Plain.{IsFirstHad}
+use Rattle.trust_closure.proofs.plain.rounds.raise_had.Given as goal
+
+abbrev pub invariant-loop-node : goal.invariant-loop-node
+invariant-loop-node l = record {
+  numbers : l.pairs.numbers ≡ l.initial.pairs.numbers;
+  firsts : l.pairs.firsts ≡ l.initial.pairs.firsts;
+  size : length l.pairs.counts ≡ length l.initial.pairs.counts;
+  few : (number : ℕ) → count_at l.pairs.counts number ≤ l.node;
+  raised : (number : ℕ) → (is_raised (flags_of l.pairs.counts) number ≡ true) ↔ IsFirstHad l.seeds
+      l.released l.initial.pairs.firsts l.node number;
+  count : raised_count (flags_of l.pairs.counts) ≡ l.count;
+  capacity : l.pairs.capacity ≡ l.initial.pairs.capacity;
+}

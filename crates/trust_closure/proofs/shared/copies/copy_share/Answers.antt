@@ -1,0 +1,10 @@
+-- So many offers are those of some copies.
+use Rattle.std.proofs.Common.{length, ap, arith}
+use Rattle.trust_closure.specs.Held.{meaning_of}
+use Rattle.trust_closure.proofs.MergeFacts.{copies_new}
+use Rattle.trust_closure.proofs.shared.copies.copy_share.Goals as goal
+
+pub returns-in-None : goal.returns-in-None
+returns-in-None c =
+    copies_new (meaning_of c.args.held.now) (meaning_of c.args.other.now) c.in_ok-copies.copies.items c.in_ok-copies.ensures
+    (omega (arith, c.in-None.ensures, ap length c.deref.ensures.value))

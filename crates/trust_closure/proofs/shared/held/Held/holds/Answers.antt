@@ -1,0 +1,26 @@
+use Rattle.std.proofs.Common.{sym, subst}
+use Rattle.std.specs.Bool.{IsTrue}
+use Rattle.std.specs.Ordering.{ordering_index}
+use Rattle.std.specs.List.{Contains}
+use Rattle.std.specs.List.Sorted.{IsNonDecreasingBy}
+use Rattle.std.specs.Prelude.{◌↔◌}
+use Rattle.receipt_core.specs.Order.{receipt_total}
+use Rattle.receipt_core.specs.Receipt.{Receipt, receipt_cmp}
+use Rattle.sorted_order.specs.Stock.{in_order, FindsNumber}
+use Rattle.trust_closure.specs.Held.{Hoard}
+use Rattle.closure_core.proofs.RisingFacts.{sought}
+use Rattle.trust_closure.proofs.HeldFacts.{finds_held}
+use Rattle.trust_closure.proofs.shared.held.Held.holds.Goals as goal
+
+pub find-requires : goal.find-requires
+find-requires c = record {
+  rising = subst (λ (r : Receipt). IsNonDecreasingBy (λ s. ordering_index (receipt_cmp s r)) (in_order c.self.inside.receipts)) (sym c.new.ensures)
+      (sought receipt_total (in_order c.self.inside.receipts) c.args.receipt.now c.self.invariant.rising);
+}
+
+pub returns : goal.returns
+returns c =
+    let found = subst (λ (r : Receipt). FindsNumber (λ s. receipt_cmp s r) c.self.inside.receipts c.find.result) c.new.ensures c.find.ensures in
+    subst (λ (h : Hoard). IsTrue c.is_ok.result ↔ Contains h.held c.args.receipt.now) c.self.view_is
+    (subst (λ b. IsTrue b ↔ Contains (in_order c.self.inside.receipts) c.args.receipt.now) (sym c.is_ok.ensures.value)
+    (finds_held c.self.inside.receipts c.args.receipt.now c.find.result c.self.invariant.receipts c.domain-form.ensures.form found))

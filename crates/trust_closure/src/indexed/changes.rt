@@ -1,0 +1,99 @@
+//! Takes and distrusts over an index.
+ghost use Rattle.std.specs.Prelude.{◌≡◌, ℕ, ◌+◌, ◌^◌, ◌<◌, ◌≤◌, ◌∷◌, ◌++◌, [], length, take, IsOk};
+ghost use Rattle.std.specs.Prelude.{OnOk};
+ghost use Rattle.receipt_core.specs.Receipt.{pair_of, offers_of, with_receipt};
+ghost use Rattle.closure_core.specs.Changes.{Takes};
+ghost use Rattle.closure_core.specs.Refusals.{IsRoomier};
+ghost use Rattle.trust_closure.specs.Held.{meaning_of};
+ghost use Rattle.trust_closure.specs.Indexed.{IsIndexedClosure, Reserves, ArrivesLast, room_of};
+ghost use Rattle.trust_closure.specs.Indexed.{closure_state};
+
+use crate::indexed::grow::add;
+use crate::indexed::labels::Wiring;
+use crate::shared::held::{Held, Standing};
+use crate::shared::pairs::Pairs;
+use closure_core::{Refused, TakeError, Taken};
+use receipt_core::Receipt;
+use std::alloc::AllocError;
+
+/// The most nodes, whose numbers have 32 bits.
+const MOST_NODES: usize = 0xffff_ffff;
+
+/// For how many receipts more, and for how many offers of theirs, there is room.
+#[derive(Clone, Copy, Debug, PartialEq, Eq, Drop)]
+pub(crate) struct Spare {
+    pub(crate) receipts: usize,
+    pub(crate) offers: usize,
+}
+
+/// Takes a receipt: all growths come before the first change.
+pub(crate) fn take_into(
+    held: &mut Held,
+    pairs: &mut Pairs,
+    wiring: &mut Wiring,
+    spare: &mut Spare,
+    receipt: Receipt,
+) -> Result<Taken, Refused>
+    requires { IsIndexedClosure held.old pairs.old wiring.old spare.old }
+    ensures kept { IsIndexedClosure held.new pairs.new wiring.new spare.new }
+    ensures takes { Takes (closure_state held.old spare.old) receipt
+        (closure_state held.new spare.new) result }
+    ensures arrived { ArrivesLast held.old.arrived receipt held.new.arrived result }
+    ensures marked { take (length wiring.old.marked) wiring.new.marked ≡ wiring.old.marked }
+{
+    let place = match held.standing(&receipt) {
+        Ok(Standing::Present) => return Ok(Taken::Already),
+        Ok(Standing::Absent(place)) => place,
+        Err(why) => return Err(Refused { why, receipt }),
+    };
+    let offers = receipt.offers().len();
+    match reserve(held, pairs, wiring, spare, 1, offers) {
+        Ok(()) => {
+            let accepted_now = add(held, pairs, wiring, place, receipt);
+            spare.receipts -= 1;
+            spare.offers -= offers;
+            Ok(Taken::New { accepted_now })
+        }
+        Err(_) => Err(Refused {
+            why: TakeError::NoMemory,
+            receipt,
+        }),
+    }
+}
+
+/// Makes room for this many more receipts, with this many offers together.
+pub(crate) fn reserve(
+    held: &mut Held,
+    pairs: &mut Pairs,
+    wiring: &mut Wiring,
+    spare: &mut Spare,
+    receipts: usize,
+    offers: usize,
+) -> Result<(), AllocError>
+    requires { IsIndexedClosure held.old pairs.old wiring.old spare.old }
+    ensures reserves { Reserves held.old held.new pairs.old pairs.new wiring.old wiring.new
+        spare.old spare.new }
+    ensures ok { OnOk result
+        (IsRoomier (record { receipts = receipts; offers = offers }) (room_of spare.new)) }
+    ensures within { IsRoomier (record { receipts = receipts; offers = offers }) (room_of spare.old)
+        → IsOk result }
+{
+    if receipts <= spare.receipts && offers <= spare.offers {
+        return Ok(());
+    }
+    let receipts = receipts.max(spare.receipts);
+    let offers = offers.max(spare.offers);
+    let nodes = pairs.len();
+    let Some(edges) = receipts.checked_add(offers) else {
+        return Err(AllocError);
+    };
+    if receipts > MOST_NODES - nodes {
+        return Err(AllocError);
+    }
+    held.try_reserve(receipts)?;
+    pairs.try_reserve(receipts)?;
+    wiring.try_reserve(receipts, edges)?;
+    spare.receipts = receipts;
+    spare.offers = offers;
+    Ok(())
+}

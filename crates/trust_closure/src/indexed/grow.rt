@@ -1,0 +1,225 @@
+//! What is held, its different documents and its index change together.
+ghost use Rattle.std.specs.Prelude.{◌≡◌, ℕ, ◌+◌, ◌^◌, ◌<◌, ◌≤◌, ◌∷◌, ◌++◌, [], List, length, take};
+ghost use Rattle.fed_config.specs.Configuration.{HasDomain};
+ghost use Rattle.receipt_core.specs.declared.distrust.Distrust.{Distrust};
+ghost use Rattle.receipt_core.specs.Receipt.{distrust_cmp, pair_of, offers_of, with_receipt};
+ghost use Rattle.receipt_core.specs.Rising.{with_items};
+ghost use Rattle.closure_core.specs.Changes.{IsGain, TakesDistrust};
+ghost use Rattle.trust_closure.specs.Held.{Hoard, meaning_of, IsAbsent};
+ghost use Rattle.trust_closure.specs.Indexed.{IsBuilt, IsIndexed, IsBefore, WasIndexed, indexed_of};
+ghost use Rattle.trust_closure.specs.Merge.{AreKnown};
+ghost use Rattle.trust_closure.specs.Work.{ClosesAtOnce, Works, IsWorkOf, WorksOnce};
+ghost use Rattle.trust_closure.specs.declared.indexed.changes.Spare.{Spare};
+
+use crate::indexed::labels::Wiring;
+use crate::indexed::recount::recount;
+use crate::indexed::wire::{add_receipt, domain_number};
+use crate::shared::held::Held;
+use crate::shared::merge::hold_all;
+use crate::shared::pairs::Pairs;
+use crate::shared::records::Addition;
+use closure_core::{Distrusted, Distrusts, TakeError};
+use jwk_set::KeyId;
+use receipt_core::Receipt;
+use spiffe_name::TrustDomain;
+
+/// Holds a receipt that is absent, at its place, and returns how many documents of domains are
+/// accepted now and were not before. There is room for it: it takes no memory, and looks at its own
+/// edges and at what is marked from now on.
+pub(crate) fn add(
+    held: &mut Held,
+    pairs: &mut Pairs,
+    wiring: &mut Wiring,
+    place: usize,
+    receipt: Receipt,
+) -> usize
+    requires indexed { IsIndexed held.old pairs.old wiring.old }
+    requires absent { IsAbsent (meaning_of held.old) receipt place }
+    requires held_room { length held.old.arrived < held.old.capacity }
+    requires pairs_room { length pairs.old.firsts < pairs.old.capacity }
+    requires few { length pairs.old.firsts < 2 ^ 32 }
+    requires nodes { 0 < wiring.old.nodes }
+    requires edges { length (offers_of (pair_of receipt)) < wiring.old.edges }
+    ensures indexed { IsIndexed held.new pairs.new wiring.new }
+    ensures held { held.new
+        ≡ record held.old {
+          arrived = held.old.arrived ++ receipt ∷ [];
+          held = with_receipt receipt held.old.held;
+        } }
+    ensures gain { IsGain (meaning_of held.old) (meaning_of held.new) result }
+    ensures front { take (length wiring.old.marked) wiring.new.marked ≡ wiring.old.marked }
+    ensures firsts { length pairs.new.firsts ≡ length pairs.old.firsts + 1 }
+    ensures pairs_room { pairs.new.capacity ≡ pairs.old.capacity }
+    ensures nodes { wiring.old.nodes ≡ wiring.new.nodes + 1 }
+    ensures edges { wiring.old.edges
+        ≤ wiring.new.edges + (length (offers_of (pair_of receipt)) + 1) }
+{
+    let count = wiring.reach().marked().len();
+    place_receipt(held, pairs, wiring, place, receipt);
+    let _few = held.config();
+    pairs.raise(&wiring.reach().marked()[count..])
+}
+
+/// Holds a receipt that is absent, at its place, and adds its node.
+fn place_receipt(
+    held: &mut Held,
+    pairs: &mut Pairs,
+    wiring: &mut Wiring,
+    place: usize,
+    receipt: Receipt,
+)
+    requires built { IsBuilt held.old pairs.old wiring.old }
+    requires absent { IsAbsent (meaning_of held.old) receipt place }
+    requires held_room { length held.old.arrived < held.old.capacity }
+    requires pairs_room { length pairs.old.firsts < pairs.old.capacity }
+    requires few { length pairs.old.firsts < 2 ^ 32 }
+    requires nodes { 0 < wiring.old.nodes }
+    requires edges { length (offers_of (pair_of receipt)) < wiring.old.edges }
+    ensures built { IsBuilt held.new pairs.new wiring.new }
+    ensures held { held.new
+        ≡ record held.old {
+          arrived = held.old.arrived ++ receipt ∷ [];
+          held = with_receipt receipt held.old.held;
+        } }
+    ensures firsts { (first : ℕ) × (pairs.new.firsts ≡ pairs.old.firsts ++ first ∷ []) }
+    ensures counts { pairs.new.counts ≡ pairs.old.counts ++ 0 ∷ [] }
+    ensures front { take (length wiring.old.marked) wiring.new.marked ≡ wiring.old.marked }
+    ensures pairs_room { pairs.new.capacity ≡ pairs.old.capacity }
+    ensures nodes { wiring.old.nodes ≡ wiring.new.nodes + 1 }
+    ensures edges { wiring.old.edges
+        ≤ wiring.new.edges + (length (offers_of (pair_of receipt)) + 1) }
+{
+    let seeds = held.config().seeds();
+    pairs.add(seeds, held.arrived(), receipt.domain(), receipt.document());
+    add_receipt(wiring, held, &receipt);
+    held.insert(place, receipt);
+    let _valid = held.config();
+}
+
+/// What came of a close of labels.
+#[derive(Clone, Copy, Drop)]
+struct Fall {
+    /// How many documents of domains were accepted and are not now.
+    lost: usize,
+    /// How many edges the close looked at.
+    turns: usize,
+}
+
+/// Distrusts a key in a domain, and notes the turns where the record is new. It takes no memory:
+/// the labels of the key are closed at once, and of the counts only those of documents whose nodes
+/// fell are looked at.
+///
+/// # Errors
+/// The domain is none of the configuration, or there are as many records as there may be.
+pub(crate) fn lose(
+    held: &mut Held,
+    pairs: &mut Pairs,
+    wiring: &mut Wiring,
+    turns: &mut usize,
+    domain: &TrustDomain,
+    key: KeyId,
+) -> Result<Distrusted, TakeError>
+    requires indexed { IsIndexed held.old pairs.old wiring.old }
+    ensures indexed { IsIndexed held.new pairs.new wiring.new }
+    ensures meaning { TakesDistrust (meaning_of held.old)
+        (record { domain = domain.now; key = key }) (meaning_of held.new) result }
+    ensures work { (spare : Spare) → Works (indexed_of held.old wiring.old spare turns.old)
+        (record { domain = domain.now; key = key })
+        (indexed_of held.new wiring.new spare turns.new) result }
+    ensures arrived { held.new.arrived ≡ held.old.arrived }
+    ensures capacity { held.new.capacity ≡ held.old.capacity }
+    ensures firsts { pairs.new.firsts ≡ pairs.old.firsts }
+    ensures pairs_room { pairs.new.capacity ≡ pairs.old.capacity }
+    ensures nodes { wiring.new.nodes ≡ wiring.old.nodes }
+    ensures edges { wiring.new.edges ≡ wiring.old.edges }
+{
+    match held.add_record(domain, key)? {
+        Addition::Added => {
+            let fall = close(held, pairs, wiring, domain, key);
+            *turns = fall.turns;
+            Ok(Distrusted::New { lost: fall.lost })
+        }
+        Addition::There => Ok(Distrusted::Already),
+        Addition::Full => Err(TakeError::Full),
+    }
+}
+
+/// Closes the labels of a key that is distrusted from now on.
+fn close(
+    held: &Held,
+    pairs: &mut Pairs,
+    wiring: &mut Wiring,
+    domain: &TrustDomain,
+    key: KeyId,
+) -> Fall
+    requires domain { HasDomain held.now.config domain.now }
+    requires before { WasIndexed held.now (record { domain = domain.now; key = key } ∷ []) pairs.old
+        wiring.old }
+    ensures indexed { IsIndexed held.now pairs.new wiring.new }
+    ensures loss { (old : Hoard)
+        → IsBefore old (record { domain = domain.now; key = key } ∷ []) held.now
+        → IsIndexed old pairs.old wiring.old
+        → IsGain (meaning_of held.now) (meaning_of old) result.lost }
+    ensures work { (old : Hoard) (spare : Spare) (turns : ℕ)
+        → IsBefore old (record { domain = domain.now; key = key } ∷ []) held.now
+        → IsIndexed old pairs.old wiring.old
+        → ClosesAtOnce (indexed_of old wiring.old spare turns)
+        (record { domain = domain.now; key = key } ∷ [])
+        (indexed_of held.now wiring.new spare result.turns) }
+    ensures firsts { pairs.new.firsts ≡ pairs.old.firsts }
+    ensures pairs_room { pairs.new.capacity ≡ pairs.old.capacity }
+    ensures nodes { wiring.new.nodes ≡ wiring.old.nodes }
+    ensures edges { wiring.new.edges ≡ wiring.old.edges }
+{
+    let number = domain_number(held.config(), domain);
+    let turns = wiring.close_key(number, key);
+    let lost = recount(pairs, wiring.reach());
+    Fall { lost, turns }
+}
+
+/// Distrusts keys in domains of the configuration, as many as there may be. It takes no memory.
+/// Where one of the records is new, all their labels are closed at once, and the turns are noted.
+pub(crate) fn lose_all(
+    held: &mut Held,
+    pairs: &mut Pairs,
+    wiring: &mut Wiring,
+    turns: &mut usize,
+    records: Distrusts<'_>,
+)
+    requires indexed { IsIndexed held.old pairs.old wiring.old }
+    requires known { AreKnown (meaning_of held.old) records }
+    ensures indexed { IsIndexed held.new pairs.new wiring.new }
+    ensures meaning { meaning_of held.new ≡ record (meaning_of held.old)
+        { records = with_items distrust_cmp records.entry (meaning_of held.old).records } }
+    ensures work { (spare : Spare) → WorksOnce (indexed_of held.old wiring.old spare turns.old)
+        records.entry (indexed_of held.new wiring.new spare turns.new) }
+    ensures arrived { held.new.arrived ≡ held.old.arrived }
+    ensures capacity { held.new.capacity ≡ held.old.capacity }
+    ensures firsts { pairs.new.firsts ≡ pairs.old.firsts }
+    ensures pairs_room { pairs.new.capacity ≡ pairs.old.capacity }
+    ensures nodes { wiring.new.nodes ≡ wiring.old.nodes }
+    ensures edges { wiring.new.edges ≡ wiring.old.edges }
+{
+    if hold_all(held, records) {
+        *turns = close_all(held, pairs, wiring);
+    }
+}
+
+/// Closes the labels of all keys that are distrusted, and returns how many edges that looked at.
+fn close_all(held: &Held, pairs: &mut Pairs, wiring: &mut Wiring) -> usize
+    requires before { (more : List Distrust) × WasIndexed held.now more pairs.old wiring.old }
+    ensures indexed { IsIndexed held.now pairs.new wiring.new }
+    ensures work { (old : Hoard) (more : List Distrust) (spare : Spare) (turns : ℕ)
+        → IsBefore old more held.now
+        → IsIndexed old pairs.old wiring.old
+        → IsWorkOf (indexed_of old wiring.old spare turns) more result }
+    ensures firsts { pairs.new.firsts ≡ pairs.old.firsts }
+    ensures pairs_room { pairs.new.capacity ≡ pairs.old.capacity }
+    ensures nodes { wiring.new.nodes ≡ wiring.old.nodes }
+    ensures edges { wiring.new.edges ≡ wiring.old.edges }
+{
+    let _valid = held.config();
+    let turns = wiring.close_where(held);
+    recount(pairs, wiring.reach());
+    turns
+}

@@ -1,0 +1,81 @@
+//! What labels stand for.
+ghost use Rattle.std.specs.Prelude.{◌≡◌, ◌↔◌, IsTrue};
+ghost use Rattle.std.specs.Ordering.{nat_cmp, ordering_then};
+ghost use Rattle.std.specs.Cmp.Lexicographic.{slice_cmp};
+ghost use Rattle.trust_closure.specs.Labels.{label_cmp};
+
+use bundle_doc::DocId;
+use jwk_set::KeyId;
+use sorted_order::ItemProbe;
+use std::cmp::Ordering;
+
+/// A key of a document of a trust domain, by the domain's number and by the ids of the document and
+/// of the key.
+#[derive(Clone, Copy, Debug, PartialEq, Eq)]
+pub(crate) struct Label {
+    pub(crate) domain: u32,
+    pub(crate) document: DocId,
+    pub(crate) key: KeyId,
+}
+
+/// Which labels are meant.
+pub(crate) trait LabelTest {
+    ghost use Rattle.trust_closure.specs.declared.indexed.labels.label.Label.{Label};
+
+    // Whether a label is meant.
+    ghost IsMeant: { Self → Label → Type 0 };
+
+    /// Whether the label is meant.
+    fn is_meant(&self, label: &Label) -> bool
+        ensures { IsTrue result ↔ IsMeant self.now label.now };
+}
+
+/// Seeks a label.
+#[derive(Drop)]
+pub(crate) struct SoughtLabel {
+    pub(crate) label: Label,
+}
+
+impl ItemProbe<Label> for SoughtLabel {
+    ghost use Rattle.trust_closure.specs.Labels.{label_cmp};
+
+    ghost compared = { λ sought item. label_cmp item sought.label };
+
+    fn compare(&self, item: &Label) -> Ordering {
+        match item.domain.cmp(&self.label.domain) {
+            Ordering::Equal => compare_ids(item, &self.label),
+            unequal => unequal,
+        }
+    }
+}
+
+// Labels of one domain are ordered by the key, and by the document only where that is the same.
+fn compare_ids(a: &Label, b: &Label) -> Ordering
+    ensures { result ≡ ordering_then (slice_cmp nat_cmp a.now.key.0 b.now.key.0)
+        (slice_cmp nat_cmp a.now.document.0 b.now.document.0) }
+{
+    match a.key.cmp(&b.key) {
+        Ordering::Equal => a.document.cmp(&b.document),
+        unequal => unequal,
+    }
+}
+
+/// Seeks the labels of a key in a domain.
+#[derive(Drop)]
+pub(crate) struct SoughtKey {
+    pub(crate) domain: u32,
+    pub(crate) key: KeyId,
+}
+
+impl ItemProbe<Label> for SoughtKey {
+    ghost use Rattle.trust_closure.specs.Labels.{cmp_to_key};
+
+    ghost compared = { λ sought item. cmp_to_key sought.domain sought.key item };
+
+    fn compare(&self, item: &Label) -> Ordering {
+        match item.domain.cmp(&self.domain) {
+            Ordering::Equal => item.key.cmp(&self.key),
+            unequal => unequal,
+        }
+    }
+}

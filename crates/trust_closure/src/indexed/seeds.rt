@@ -1,0 +1,58 @@
+//! The index of a configuration.
+ghost use Rattle.std.specs.Prelude.{◌≡◌, ◌<◌, ◌≤◌, ◌∷◌, ◌++◌, [], length, OnOk};
+ghost use Rattle.std.specs.List.{All};
+ghost use Rattle.fed_config.specs.Configuration.{HasDomain};
+ghost use Rattle.trust_closure.specs.Indexed.{IsSeeded};
+
+use crate::indexed::labels::Wiring;
+use crate::indexed::wire::offer_triples;
+use crate::shared::held::Held;
+use crate::shared::pairs::Pairs;
+use fed_config::Seed;
+use receipt_core::offers_of;
+use std::alloc::{AllocError, Global};
+
+/// Adds the nodes of the configured documents.
+pub(crate) fn add_seeds(
+    alloc: Global,
+    held: &Held,
+    pairs: &mut Pairs,
+    wiring: &mut Wiring,
+    seeds: &[Seed],
+) -> Result<(), AllocError>
+    requires domains { All (λ s. HasDomain held.now.config s.domain) seeds.now }
+    requires few { length seeds.now ≤ 4096 }
+    requires arrived { held.now.arrived ≡ [] }
+    requires seeded { IsSeeded held.now [] pairs.old wiring.old }
+    ensures { OnOk result (IsSeeded held.now seeds.now pairs.new wiring.new) }
+{
+    for (place, seed) in seeds.iter().enumerate() {
+        add_seed(alloc, held, pairs, wiring, &seeds[..place], seed)?;
+    }
+    Ok(())
+}
+
+/// Adds the node of a configured document, which is a root and offers what the document offers.
+fn add_seed(
+    alloc: Global,
+    held: &Held,
+    pairs: &mut Pairs,
+    wiring: &mut Wiring,
+    earlier: &[Seed],
+    seed: &Seed,
+) -> Result<(), AllocError>
+    requires seeded { IsSeeded held.now earlier.now pairs.old wiring.old }
+    requires few { length earlier.now < 4096 }
+    requires arrived { held.now.arrived ≡ [] }
+    requires domain { HasDomain held.now.config seed.now.domain }
+    ensures { OnOk result (IsSeeded held.now (earlier.now ++ seed.now ∷ []) pairs.new wiring.new) }
+{
+    let offers = offers_of(alloc, &seed.domain, &seed.document)?;
+    pairs.try_reserve(1)?;
+    wiring.try_reserve(1, offers.len())?;
+    pairs.add(earlier, held.arrived(), &seed.domain, &seed.document);
+    let node = wiring.add_node();
+    wiring.mark(node);
+    offer_triples(wiring, held, node, offers.as_slice());
+    Ok(())
+}

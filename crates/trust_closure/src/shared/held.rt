@@ -1,0 +1,261 @@
+//! What a closure holds: its configuration, receipts, and records of distrust.
+ghost use Rattle.std.specs.Prelude.{◌≡◌, ℕ, ◌+◌, ◌<◌, ◌≤◌, ◌↔◌, [], ◌∷◌, ◌++◌, length, Contains};
+ghost use Rattle.std.specs.Prelude.{IsTrue, IsOk, OnOk, IfOk, MatchResult};
+ghost use Rattle.fed_config.specs.Configuration.{IsConfiguration};
+ghost use Rattle.receipt_core.specs.Receipt.{IsReceipt, with_receipt};
+ghost use Rattle.receipt_core.specs.Acceptance.{IsFitting, IsMeaning};
+ghost use Rattle.closure_core.specs.Refusals.{Misfits};
+ghost use Rattle.trust_closure.specs.Held.{Hoard, meaning_of, IsAbsent, Stands, Repels};
+ghost use Rattle.trust_closure.specs.Held.{AddsOrRefuses, addition_result};
+ghost use Rattle.closure_core.specs.AcceptedList.{receipts_in};
+
+use crate::indexed::labels::{Label, LabelTest};
+use crate::shared::probes::{InBucket, OfReceipt, SpotInBuckets};
+use crate::shared::records::{Addition, Records};
+use closure_core::{Distrusts, NoMemory, Receipts, Record, TakeError, record_of};
+use fed_config::Config;
+use jwk_set::KeyId;
+use receipt_core::Receipt;
+use sorted_order::{Arena, Lent, Order};
+use spiffe_name::TrustDomain;
+use std::alloc::Global;
+use std::marker::Model;
+
+/// The most receipts that are held.
+const MOST_RECEIPTS: usize = 65_536;
+
+/// Where a receipt that fits stands.
+pub(crate) enum Standing {
+    /// It is held.
+    Present,
+    /// It is not held, and its place among the held ones is this.
+    Absent(usize),
+}
+
+/// The configuration, the receipts in order of arrival, beside their order by lines and that by the
+/// first byte of their ids, and the records of distrust in their order.
+#[derive(Drop)]
+pub(crate) struct Held {
+    config: Config,
+    receipts: Arena<Receipt>,
+    buckets: Order,
+    records: Records,
+}
+
+impl Model for Held {
+    ghost use Rattle.std.specs.Prelude.{min};
+    ghost use Rattle.sorted_order.specs.Stock.{in_order};
+    ghost use Rattle.closure_core.specs.Inside.Records.{distrusts_of};
+    ghost use Rattle.trust_closure.specs.Held.{Hoard, IsHoard, domains_of};
+
+    ghost Value = { Hoard };
+
+    ghost view = { λ h. record {
+      config = h.config;
+      arrived = h.receipts.items;
+      held = in_order h.receipts;
+      records = distrusts_of (domains_of h.config) h.records;
+      capacity = min h.receipts.capacity h.buckets.capacity;
+    } };
+
+    ghost invariant = { λ h. IsHoard h.config h.receipts h.buckets.items h.records };
+}
+
+impl Held {
+    /// Holds nothing, with room for all records.
+    pub(crate) fn new(alloc: Global, config: &Config) -> Result<Held, NoMemory>
+        ensures { IfOk result (λ h.
+            (meaning_of h ≡ record { config = config.now; held = []; records = [] })
+            × (h.arrived ≡ [])) }
+    {
+        // That the configuration is well formed stands on this call.
+        let _ = config.domains();
+        Ok(Held {
+            config: config.try_clone(alloc)?,
+            receipts: Arena::new(alloc),
+            buckets: Order::new(alloc),
+            records: Records::new(alloc)?,
+        })
+    }
+
+    pub(crate) fn config(&self) -> &Config
+        ensures config { result.now ≡ self.now.config }
+        ensures valid { IsMeaning (meaning_of self.now) }
+        ensures form { IsConfiguration self.now.config }
+        ensures size { length self.now.arrived ≡ length self.now.held }
+    {
+        &self.config
+    }
+
+    /// Whether the receipt fits, and is held.
+    pub(crate) fn standing(&self, receipt: &Receipt) -> Result<Standing, TakeError>
+        ensures { MatchResult result (Stands (meaning_of self.now) receipt.now)
+            (Repels (meaning_of self.now) receipt.now) }
+    {
+        if let Err(why) = fit(&self.config, receipt) {
+            return Err(why);
+        }
+        match self.receipts.find(&OfReceipt::new(receipt)) {
+            Ok(_) => Ok(Standing::Present),
+            Err(_) if self.receipts.len() >= MOST_RECEIPTS => Err(TakeError::Full),
+            Err(place) => Ok(Standing::Absent(place)),
+        }
+    }
+
+    /// Makes room for this many more receipts.
+    pub(crate) fn try_reserve(&mut self, receipts: usize) -> Result<(), NoMemory>
+        ensures same { self.new ≡ record self.old { capacity = self.new.capacity } }
+        ensures capacity { self.old.capacity ≤ self.new.capacity }
+        ensures ok { OnOk result (length self.new.arrived + receipts ≤ self.new.capacity) }
+        ensures within { length self.old.arrived + receipts ≤ self.old.capacity → IsOk result }
+    {
+        self.receipts.try_reserve(receipts)?;
+        self.buckets.try_reserve(receipts)
+    }
+
+    /// For how many receipts more there is room.
+    pub(crate) fn room(&self) -> usize
+        ensures { length self.now.arrived + result ≡ self.now.capacity }
+    {
+        self.receipts.room().min(self.buckets.room())
+    }
+
+    /// Holds a receipt that is absent, at its place.
+    pub(crate) fn insert(&mut self, place: usize, receipt: Receipt)
+        requires absent { IsAbsent (meaning_of self.old) receipt place }
+        requires room { length self.old.arrived < self.old.capacity }
+        ensures { self.new ≡ record self.old {
+          arrived = self.old.arrived ++ receipt ∷ [];
+          held = with_receipt receipt self.old.held;
+        } }
+    {
+        let spot = self
+            .buckets
+            .before(&SpotInBuckets::new(self.receipts.items(), &receipt));
+        let number = self.receipts.insert(place, receipt);
+        self.buckets.insert(spot, number);
+    }
+
+    /// Holds a record of distrust.
+    pub(crate) fn add_record(
+        &mut self,
+        domain: &TrustDomain,
+        key: KeyId,
+    ) -> Result<Addition, TakeError>
+        ensures meaning { AddsOrRefuses (meaning_of self.old)
+            (record { domain = domain.now; key = key }) (meaning_of self.new) result }
+        ensures arrived { self.new.arrived ≡ self.old.arrived }
+        ensures capacity { self.new.capacity ≡ self.old.capacity }
+    {
+        let Some(number) = self.config.domain_no(domain) else {
+            return Err(TakeError::UnknownDomain);
+        };
+        answer_of(self.records.add(record_of(&key.0, number)))
+    }
+
+    /// Whether the receipt is held.
+    pub(crate) fn holds(&self, receipt: &Receipt) -> bool
+        ensures { IsTrue result ↔ Contains self.now.held receipt.now }
+    {
+        let _form = receipt.domain();
+        self.receipts.find(&OfReceipt::new(receipt)).is_ok()
+    }
+
+    /// The receipts in order of arrival.
+    pub(crate) fn arrived(&self) -> &[Receipt]
+        ensures { result.now ≡ self.now.arrived }
+    {
+        self.receipts.items()
+    }
+
+    pub(crate) fn receipts(&self) -> Receipts<'_>
+        ensures { result ≡ self.now.held }
+    {
+        Receipts::new(self.receipts.from(0))
+    }
+
+    pub(crate) fn receipts_of(&self, bucket: u8) -> Receipts<'_>
+        ensures { result ≡ receipts_in bucket self.now.held }
+    {
+        let items = self.receipts.items();
+        let numbers = self.buckets.matching(&InBucket::new(items, bucket));
+        Receipts::new(Lent::new(numbers, items))
+    }
+
+    pub(crate) fn distrusts(&self) -> Distrusts<'_>
+        ensures { result ≡ self.now.records }
+    {
+        Distrusts::new(self.config.domains(), self.records.as_slice())
+    }
+
+    /// How many more receipts there may be.
+    pub(crate) fn receipts_left(&self) -> usize
+        ensures { length self.now.held + result ≡ 65536 }
+    {
+        let _valid = self.config();
+        MOST_RECEIPTS - self.receipts.len()
+    }
+
+    /// How many more records of distrust there may be.
+    pub(crate) fn records_left(&self) -> usize
+        ensures { length self.now.records + result ≡ 4096 }
+    {
+        self.records.left()
+    }
+
+    pub(crate) fn alloc(&self) -> Global {
+        self.records.alloc()
+    }
+
+    /// Whether the key is distrusted in the domain.
+    pub(crate) fn is_distrusted(&self, domain: &TrustDomain, key: KeyId) -> bool
+        ensures { IsTrue result
+            ↔ Contains self.now.records (record { domain = domain.now; key = key }) }
+    {
+        match self.config.domain_no(domain) {
+            Some(number) => self.records.holds(&record_of(&key.0, number)),
+            None => false,
+        }
+    }
+}
+
+/// Meant are the labels of keys that are distrusted.
+impl LabelTest for Held {
+    ghost use Rattle.trust_closure.specs.Indexed.{IsDistrusted};
+
+    ghost IsMeant = { IsDistrusted };
+
+    fn is_meant(&self, label: &Label) -> bool {
+        let record = Record {
+            key: label.key,
+            domain: label.domain,
+        };
+        self.records.holds(&record)
+    }
+}
+
+/// Whether the configuration has a relationship with the receipt's domain, and its endpoint.
+pub(crate) fn fit(config: &Config, receipt: &Receipt) -> Result<(), TakeError>
+    ensures fits { MatchResult result (λ _. IsFitting config.now receipt.now)
+        (Misfits config.now receipt.now) }
+    ensures form { IsReceipt receipt.now }
+{
+    let Some(relationship) = config.relationship(receipt.domain()) else {
+        return Err(TakeError::UnknownDomain);
+    };
+    if relationship.endpoint.as_str() == receipt.endpoint().as_str() {
+        Ok(())
+    } else {
+        Err(TakeError::WrongEndpoint)
+    }
+}
+
+fn answer_of(addition: Addition) -> Result<Addition, TakeError>
+    ensures { result ≡ addition_result addition }
+{
+    match addition {
+        Addition::Full => Err(TakeError::Full),
+        Addition::Added => Ok(Addition::Added),
+        Addition::There => Ok(Addition::There),
+    }
+}

@@ -1,0 +1,119 @@
+//! All that another closure holds is taken in, or nothing.
+ghost use Rattle.std.specs.Prelude.{◌≡◌, ◌⊎◌, ℕ, List, IsTrue, IsOk, OnOk, MatchResult};
+ghost use Rattle.receipt_core.specs.declared.distrust.Distrust.{Distrust};
+ghost use Rattle.receipt_core.specs.Receipt.{receipt_cmp, distrust_cmp};
+ghost use Rattle.receipt_core.specs.Rising.{with_items};
+ghost use Rattle.closure_core.specs.Changes.{Merges};
+ghost use Rattle.trust_closure.specs.Held.{meaning_of};
+ghost use Rattle.trust_closure.specs.Merge.{FitWithinRoom, AreKnown};
+ghost use Rattle.trust_closure.specs.Work.{AreOld};
+
+use crate::shared::copies::share_of;
+use crate::shared::held::Held;
+use closure_core::{Distrusts, NoMemory, Refused, TakeError, Taken};
+use receipt_core::Receipt;
+
+/// What a merge asks of a closure.
+pub(crate) trait Mergeable {
+    ghost use Rattle.trust_closure.specs.Held.{meaning_of};
+    ghost use Rattle.closure_core.specs.Refusals.{IsRoomier};
+    ghost use Rattle.trust_closure.specs.Merge.{AreKnown};
+    ghost use Rattle.closure_core.specs.Changes.{HeldAndRoom, Takes};
+    ghost use Rattle.trust_closure.specs.Work.{AreOld};
+
+    ghost state: { Self → HeldAndRoom };
+
+    // How many edges the last close looked at, and that it would be this many if these records were
+    // held besides.
+    ghost turns: { Self → ℕ };
+
+    ghost IsWork: { Self → List Distrust → ℕ → Type 0 };
+
+    /// What it holds.
+    fn held(&self) -> &Held
+        ensures { meaning_of result.now ≡ (state self.now).meaning };
+
+    /// As [`crate::Closure::take`].
+    fn take_one(&mut self, receipt: Receipt) -> Result<Taken, Refused>
+        ensures takes { Takes (state self.old) receipt (state self.new) result }
+        ensures turns { turns self.new ≡ turns self.old };
+
+    /// Distrusts keys in domains of the configuration, as many as there may be.
+    fn distrust_all(&mut self, records: Distrusts<'_>)
+        requires { AreKnown (state self.old).meaning records }
+        ensures meaning { (state self.new).meaning ≡ record (state self.old).meaning
+            { records = with_items distrust_cmp records.entry (state self.old).meaning.records } }
+        ensures room { (state self.new).room ≡ (state self.old).room }
+        ensures work { (AreOld (state self.old).meaning records.entry
+            × (turns self.new ≡ turns self.old)) ⊎ IsWork self.old records.entry (turns self.new) };
+
+    /// As [`crate::Closure::try_reserve`].
+    fn make_room(&mut self, receipts: usize, offers: usize) -> Result<(), NoMemory>
+        ensures meaning { (state self.new).meaning ≡ (state self.old).meaning }
+        ensures room { IsRoomier (state self.old).room (state self.new).room }
+        ensures ok { OnOk result
+            (IsRoomier (record { receipts = receipts; offers = offers }) (state self.new).room) }
+        ensures within { IsRoomier (record { receipts = receipts; offers = offers })
+            (state self.old).room → IsOk result }
+        ensures work { (records : List Distrust) (count : ℕ) → IsWork self.new records count
+            → IsWork self.old records count }
+        ensures turns { turns self.new ≡ turns self.old };
+}
+
+/// Takes all receipts and all records of distrust of another closure, or none, and returns how many
+/// receipts were not held. All memory is there before the first of them is taken.
+///
+/// # Errors
+/// As [`crate::Closure::merge`] tells.
+pub(crate) fn merge_into<C: Mergeable>(closure: &mut C, other: &C) -> Result<usize, TakeError>
+    ensures merges { Merges (C.state closure.old) (C.state other.now).meaning (C.state closure.new)
+        result }
+    ensures work { MatchResult result
+        (λ count. (AreOld (C.state closure.old).meaning (C.state other.now).meaning.records
+        × (C.turns closure.new ≡ C.turns closure.old))
+        ⊎ C.IsWork closure.old (C.state other.now).meaning.records (C.turns closure.new))
+        (λ why. C.turns closure.new ≡ C.turns closure.old) }
+{
+    let share = share_of(closure.held(), other.held())?;
+    let count = share.copies.len();
+    if closure.make_room(count, share.offers).is_err() {
+        return Err(TakeError::NoMemory);
+    }
+    closure.distrust_all(other.held().distrusts());
+    take_all(closure, share.copies);
+    Ok(count)
+}
+
+/// Holds records of distrust in domains of the configuration, as many as there may be, and answers
+/// whether one is new.
+pub(crate) fn hold_all(held: &mut Held, records: Distrusts<'_>) -> bool
+    requires { AreKnown (meaning_of held.old) records }
+    ensures meaning { meaning_of held.new ≡ record (meaning_of held.old)
+        { records = with_items distrust_cmp records.entry (meaning_of held.old).records } }
+    ensures arrived { held.new.arrived ≡ held.old.arrived }
+    ensures capacity { held.new.capacity ≡ held.old.capacity }
+    ensures none { IsTrue result ⊎ (meaning_of held.new ≡ meaning_of held.old) }
+{
+    let left = held.records_left();
+    for (domain, key) in records {
+        let _valid = held.config();
+        // The domain is one of the configuration, and there are not too many, so it is never
+        // refused.
+        let _ = held.add_record(domain, *key);
+    }
+    held.records_left() < left
+}
+
+/// Takes receipts that fit, and for which there is room.
+fn take_all<C: Mergeable>(closure: &mut C, receipts: Vec<Receipt>)
+    requires { FitWithinRoom (C.state closure.old) receipts.items }
+    ensures meaning { (C.state closure.new).meaning ≡ record (C.state closure.old).meaning
+        { held = with_items receipt_cmp receipts.items (C.state closure.old).meaning.held } }
+    ensures turns { C.turns closure.new ≡ C.turns closure.old }
+{
+    for receipt in receipts {
+        let _valid = closure.held().config();
+        // It fits, and there is room, so it is never refused.
+        let _ = closure.take_one(receipt);
+    }
+}

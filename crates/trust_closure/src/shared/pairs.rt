@@ -1,0 +1,304 @@
+//! Different documents of domains in order.
+ghost use Rattle.std.specs.Prelude.{◌≡◌, ℕ, ◌+◌, ◌^◌, ◌<◌, ◌≤◌, ◌↔◌, ◌∷◌, ◌++◌, [], length, IsTrue};
+ghost use Rattle.std.specs.Prelude.{OnOk};
+ghost use Rattle.std.specs.List.{All};
+ghost use Rattle.closure_core.specs.Inside.Nodes.{pairs_of, is_raised, flags_of, count_at};
+ghost use Rattle.trust_closure.specs.NodeCounts.{nodes_with, AddsNodes};
+ghost use Rattle.closure_core.specs.Inside.Flags.{raised_count};
+ghost use Rattle.trust_closure.specs.Pairs.{IsPairing, AreRising, PutsFirst, HasRaised, raised_of};
+ghost use Rattle.closure_core.specs.AcceptedList.{document_cmp, document_of};
+
+use crate::shared::counts::{clear, lower_all, raise_all};
+use bundle_doc::Document;
+use closure_core::{Accepted, document_at, domain_at};
+use fed_config::Seed;
+use receipt_core::Receipt;
+use sorted_order::{Order, Probe};
+use spiffe_name::TrustDomain;
+use std::alloc::{AllocError, Global};
+use std::cmp::Ordering;
+use std::marker::Model;
+use wait_index::NodeNo;
+
+/// The documents of domains that the nodes have, each different one once in their order, by the
+/// number of its first node; that number for each node; and for each node a count, which says of a
+/// first one how many marked nodes have its document. A document is accepted where its count is not
+/// 0.
+#[derive(Drop)]
+pub(crate) struct Pairs {
+    order: Order,
+    firsts: Vec<u32>,
+    counts: Vec<u32>,
+}
+
+impl Model for Pairs {
+    ghost use Rattle.std.specs.Prelude.{min, vec_capacity};
+    ghost use Rattle.trust_closure.specs.Pairs.{Paired};
+
+    ghost Value = { Paired };
+
+    ghost view = { λ p. record {
+      numbers = p.order.items;
+      firsts = p.firsts.items;
+      counts = p.counts.items;
+      capacity = min p.order.capacity (min (vec_capacity p.firsts) (vec_capacity p.counts));
+    } };
+}
+
+/// A document of a domain, sought among numbers of nodes.
+#[derive(Drop)]
+pub(crate) struct SoughtPair<'a> {
+    seeds: &'a [Seed],
+    receipts: &'a [Receipt],
+    domain: &'a TrustDomain,
+    document: &'a Document,
+}
+
+impl<'a> Probe for SoughtPair<'a> {
+    ghost use Rattle.std.specs.Prelude.{◌<◌, length};
+    ghost use Rattle.closure_core.specs.Inside.Nodes.{pairs_of};
+    ghost use Rattle.trust_closure.specs.Pairs.{pair_cmp, pair_at};
+    ghost use Rattle.closure_core.specs.AcceptedList.{document_of};
+
+    ghost compared = { λ s number. pair_cmp (pair_at (pairs_of s.seeds.now s.receipts.now) number)
+        (document_of s.domain.now s.document.now) };
+
+    ghost knows = { λ s number. number < length (pairs_of s.seeds.now s.receipts.now) };
+
+    fn compare(&self, number: u32) -> Ordering {
+        match domain_at(self.seeds, self.receipts, number as usize).cmp(self.domain) {
+            Ordering::Equal => {
+                let document = document_at(self.seeds, self.receipts, number as usize);
+                compare_documents(document, self.document)
+            }
+            unequal => unequal,
+        }
+    }
+}
+
+/// A domain, sought among numbers of nodes.
+#[derive(Drop)]
+pub(crate) struct SoughtDomain<'a> {
+    seeds: &'a [Seed],
+    receipts: &'a [Receipt],
+    domain: &'a TrustDomain,
+}
+
+impl<'a> Probe for SoughtDomain<'a> {
+    ghost use Rattle.std.specs.Prelude.{◌<◌, length};
+    ghost use Rattle.fed_config.specs.Configuration.{domain_cmp};
+    ghost use Rattle.closure_core.specs.Inside.Nodes.{pairs_of};
+    ghost use Rattle.trust_closure.specs.Pairs.{pair_at};
+
+    ghost compared = { λ s number. domain_cmp
+        (pair_at (pairs_of s.seeds.now s.receipts.now) number).domain s.domain.now };
+
+    ghost knows = { λ s number. number < length (pairs_of s.seeds.now s.receipts.now) };
+
+    fn compare(&self, number: u32) -> Ordering {
+        domain_at(self.seeds, self.receipts, number as usize).cmp(self.domain)
+    }
+}
+
+/// Documents are ordered by rank and then by canonical text, which is read only where the ranks are
+/// equal.
+fn compare_documents(a: &Document, b: &Document) -> Ordering
+    ensures { result ≡ document_cmp a.now b.now }
+{
+    match a.rank().cmp(&b.rank()) {
+        Ordering::Equal => a.canonical().cmp(b.canonical()),
+        unequal => unequal,
+    }
+}
+
+impl Pairs {
+    /// No nodes, without room.
+    pub(crate) fn new(alloc: Global) -> Self
+        ensures { result ≡ record { numbers = []; firsts = []; counts = []; capacity = 0 } }
+    {
+        Pairs {
+            order: Order::new(alloc),
+            firsts: Vec::new(alloc),
+            counts: Vec::new(alloc),
+        }
+    }
+
+    /// How many nodes there are.
+    pub(crate) fn len(&self) -> usize
+        ensures { result ≡ length self.now.firsts }
+    {
+        self.firsts.len()
+    }
+
+    /// Makes room for this many more nodes.
+    pub(crate) fn try_reserve(&mut self, nodes: usize) -> Result<(), AllocError>
+        requires counts { length self.old.counts ≡ length self.old.firsts }
+        requires numbers { length self.old.numbers ≤ length self.old.firsts }
+        requires few { length self.old.firsts + nodes < 2 ^ 64 }
+        ensures numbers { self.new.numbers ≡ self.old.numbers }
+        ensures firsts { self.new.firsts ≡ self.old.firsts }
+        ensures counts { self.new.counts ≡ self.old.counts }
+        ensures capacity { self.old.capacity ≤ self.new.capacity }
+        ensures ok { OnOk result (length self.new.firsts + nodes ≤ self.new.capacity) }
+    {
+        let more = self.firsts.len() - self.order.len() + nodes;
+        self.order.try_reserve(more)?;
+        self.firsts.try_reserve(nodes)?;
+        self.counts.try_reserve(nodes)?;
+        Ok(())
+    }
+
+    /// Adds the next node, with its document, to those of these nodes. There is room for it. Its
+    /// count is 0.
+    pub(crate) fn add(
+        &mut self,
+        seeds: &[Seed],
+        receipts: &[Receipt],
+        domain: &TrustDomain,
+        document: &Document,
+    )
+        requires pairing { IsPairing (pairs_of seeds.now receipts.now) self.old }
+        requires room { length self.old.firsts < self.old.capacity }
+        requires few { length self.old.firsts < 2 ^ 32 }
+        ensures pairing { IsPairing
+            (pairs_of seeds.now receipts.now ++ document_of domain.now document.now ∷ []) self.new }
+        ensures counts { self.new.counts ≡ self.old.counts ++ 0 ∷ [] }
+        ensures firsts { (first : ℕ) × (self.new.firsts ≡ self.old.firsts ++ first ∷ []) }
+        ensures capacity { self.new.capacity ≡ self.old.capacity }
+    {
+        let _form = document.canonical();
+        let sought = SoughtPair {
+            seeds,
+            receipts,
+            domain,
+            document,
+        };
+        let number = self.firsts.len() as u32;
+        let first = first_number(&mut self.order, &sought, number);
+        self.firsts.push_reserved(first);
+        self.counts.push_reserved(0);
+    }
+
+    /// Adds one for each of these nodes to the count of its document, and returns how many
+    /// documents are accepted now and were not before.
+    pub(crate) fn raise(&mut self, nodes: &[NodeNo]) -> usize
+        requires nodes { All (λ n. n < length self.old.firsts) nodes.now }
+        requires firsts { All (λ f. f < length self.old.counts) self.old.firsts }
+        requires few { (number : ℕ) → count_at self.old.counts number + length nodes.now < 2 ^ 32 }
+        ensures numbers { self.new.numbers ≡ self.old.numbers }
+        ensures firsts { self.new.firsts ≡ self.old.firsts }
+        ensures adds { AddsNodes self.old.firsts nodes.now self.old.counts self.new.counts }
+        ensures count { raised_count (flags_of self.new.counts)
+            ≡ raised_count (flags_of self.old.counts) + result }
+        ensures capacity { self.new.capacity ≡ self.old.capacity }
+    {
+        raise_all(&mut self.counts, &self.firsts, nodes)
+    }
+
+    /// Takes one for each of these nodes off the count of its document, and returns how many
+    /// documents were accepted and are not now.
+    pub(crate) fn lower(&mut self, nodes: &[NodeNo]) -> usize
+        requires nodes { All (λ n. n < length self.old.firsts) nodes.now }
+        requires firsts { All (λ f. f < length self.old.counts) self.old.firsts }
+        requires counted { (number : ℕ)
+            → nodes_with self.old.firsts nodes.now number ≤ count_at self.old.counts number }
+        ensures numbers { self.new.numbers ≡ self.old.numbers }
+        ensures firsts { self.new.firsts ≡ self.old.firsts }
+        ensures takes { AddsNodes self.old.firsts nodes.now self.new.counts self.old.counts }
+        ensures count { raised_count (flags_of self.old.counts)
+            ≡ raised_count (flags_of self.new.counts) + result }
+        ensures capacity { self.new.capacity ≡ self.old.capacity }
+    {
+        lower_all(&mut self.counts, &self.firsts, nodes)
+    }
+
+    /// Sets all counts to 0, and returns how many documents were accepted.
+    pub(crate) fn clear(&mut self) -> usize
+        ensures numbers { self.new.numbers ≡ self.old.numbers }
+        ensures firsts { self.new.firsts ≡ self.old.firsts }
+        ensures size { length self.new.counts ≡ length self.old.counts }
+        ensures cleared { (number : ℕ) → count_at self.new.counts number ≡ 0 }
+        ensures count { result ≡ raised_count (flags_of self.old.counts) }
+        ensures capacity { self.new.capacity ≡ self.old.capacity }
+    {
+        clear(&mut self.counts)
+    }
+
+    /// Whether the document is accepted: some marked node has it.
+    pub(crate) fn is_raised(
+        &self,
+        seeds: &[Seed],
+        receipts: &[Receipt],
+        domain: &TrustDomain,
+        document: &Document,
+    ) -> bool
+        requires { IsPairing (pairs_of seeds.now receipts.now) self.now }
+        ensures { IsTrue result
+            ↔ HasRaised (pairs_of seeds.now receipts.now) self.now
+            (document_of domain.now document.now) }
+    {
+        let _form = document.canonical();
+        let sought = SoughtPair {
+            seeds,
+            receipts,
+            domain,
+            document,
+        };
+        match self.order.find(&sought) {
+            Ok(place) => flag_at(&self.counts, self.order.get(place) as usize),
+            Err(_) => false,
+        }
+    }
+
+    /// The domain's accepted documents, in order.
+    pub(crate) fn accepted<'a>(
+        &'a self,
+        seeds: &'a [Seed],
+        receipts: &'a [Receipt],
+        domain: &TrustDomain,
+    ) -> Accepted<'a>
+        requires { IsPairing (pairs_of seeds.now receipts.now) self.now }
+        ensures { result ≡ raised_of (pairs_of seeds.now receipts.now) self.now domain.now }
+    {
+        let sought = SoughtDomain {
+            seeds,
+            receipts,
+            domain,
+        };
+        Accepted::new(
+            self.order.matching(&sought),
+            self.counts.as_slice(),
+            seeds,
+            receipts,
+        )
+    }
+}
+
+/// The first number of what is sought, which is added as `number` where it is not there. There is
+/// room for it.
+fn first_number(order: &mut Order, sought: &SoughtPair<'_>, number: u32) -> u32
+    requires known { All (λ n. n < length (pairs_of sought.now.seeds.now sought.now.receipts.now))
+        order.old.items }
+    requires rising { AreRising (pairs_of sought.now.seeds.now sought.now.receipts.now)
+        order.old.items }
+    requires room { length order.old.items < order.old.capacity }
+    ensures first { PutsFirst (pairs_of sought.now.seeds.now sought.now.receipts.now)
+        (document_of sought.now.domain.now sought.now.document.now) number order.old.items
+        order.new.items result }
+    ensures capacity { order.new.capacity ≡ order.old.capacity }
+{
+    match order.find(sought) {
+        Ok(place) => order.get(place),
+        Err(place) => {
+            order.insert(place, number);
+            number
+        }
+    }
+}
+
+fn flag_at(counts: &[u32], number: usize) -> bool
+    requires { number < length counts.now }
+    ensures { result ≡ is_raised (flags_of counts.now) number }
+{
+    counts[number] != 0
+}
