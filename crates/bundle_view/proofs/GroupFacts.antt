@@ -49,9 +49,6 @@ group_first rest len cs ds rising is p q =
     (λ d h. subst (λ (z : List Bundle). Contains z d) (take-append-drop len rest) (Contains-append_right (take len rest) (drop len rest) d h))
     (group_below (take len rest) (drop len rest) (cut_at rest len rising) is.ended) cs ds p q
 
-pub so_far_init : (domain : List ℕ) (documents : List Bundle) (old : List ReportedConflict) → SoFar domain documents 0 old old
-so_far_init domain documents old = record { within = omega arith; clashes = []; now = sym (append-nil old); all = λ others are. are }
-
 pub so_far_step : (domain : List ℕ) (documents : List Bundle) (start len : ℕ) (rest : List Bundle)
     (old new more : List ReportedConflict) → IsStrictlySortedBy document_cmp documents → rest ≡ drop start documents
     → SoFar domain documents start old new → IsGroupLength rest len → AddsClashes domain (take len rest) new more

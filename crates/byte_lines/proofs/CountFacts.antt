@@ -1,7 +1,6 @@
 -- Lemmas on counting the lines of a stream.
 use Rattle.std.proofs.Common.{◌≡◌, ℕ, ◌+◌, List, [], length, Option, None, Some, IfSome, ap, ◌∙◌, arith}
 use Rattle.std.specs.Prelude.{⊤}
-use Rattle.std.specs.Io.KnownBytes.{IsAtEnd, prepend_known}
 use Rattle.byte_lines.specs.Lines.{Lines, lines_of, with_line, HasLine, HasNoLine}
 use Rattle.byte_lines.proofs.StreamFacts.{lines_of-line, lines_of-rest}
 
@@ -10,10 +9,6 @@ abbrev pub CountsTo : Option (List ℕ) → Option (List ℕ) → ℕ → Type 0
 CountsTo None new n = ⊤
 CountsTo (Some xs) None n = ⊥
 CountsTo (Some xs) (Some ys) n = length (lines_of xs).whole ≡ n + length (lines_of ys).whole
-
-pub CountsTo-none : (a : Option (List ℕ)) → CountsTo a (prepend_known [] a) 0
-CountsTo-none None = tt
-CountsTo-none (Some xs) = let e : length (lines_of xs).whole ≡ 0 + length (lines_of xs).whole = omega arith in e
 
 pub CountsTo-line : (a b c : Option (List ℕ)) (n : ℕ) (text : List ℕ) → CountsTo a b n → HasLine b c text → CountsTo a c (n + 1)
 CountsTo-line None b c n text counted line = tt
@@ -29,11 +24,4 @@ CountsTo-rest None b n counted none = tt
 CountsTo-rest (Some xs) None n counted none = absurd counted
 CountsTo-rest (Some xs) (Some ys) n counted none =
     let empty : length (lines_of ys).whole ≡ 0 = ap (λ (l : Lines). length l.whole) (lines_of-rest ys none) in
-    omega (arith, counted, empty)
-
-pub CountsTo-end : (a b : Option (List ℕ)) (n : ℕ) → CountsTo a b n → IsAtEnd b → IfSome a (λ xs. n ≡ length (lines_of xs).whole)
-CountsTo-end None b n counted end = tt
-CountsTo-end (Some xs) None n counted end = absurd counted
-CountsTo-end (Some xs) (Some ys) n counted end =
-    let empty : length (lines_of ys).whole ≡ 0 = ap (λ (l : List ℕ). length (lines_of l).whole) end in
     omega (arith, counted, empty)

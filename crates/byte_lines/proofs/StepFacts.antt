@@ -1,7 +1,7 @@
 -- Lemmas on the steps of a line buffer.
 use Rattle.std.proofs.Common.{◌≡◌, ◌≢◌, ℕ, suc, ◌+◌, ◌-◌, ◌<◌, ◌≤◌, Bool, true, false, if◌then◌else◌, List, [], ◌∷◌}
 use Rattle.std.proofs.Common.{◌++◌, length, take, drop, Option, None, Some, Result, Err, refl, sym, ap, ◌∙◌, subst}
-use Rattle.std.proofs.Common.{append_assoc, append-nil, take-append-drop, length-append, length-take, arith, unwrap_or}
+use Rattle.std.proofs.Common.{append_assoc, take-append-drop, length-append, length-take, arith, unwrap_or}
 use Rattle.std.proofs.lemmas.List.Elements.{All-append, All-take}
 use Rattle.std.specs.Io.KnownBytes.{Keeps, Consumes, IsAtEnd, prepend_known}
 use Rattle.byte_lines.specs.Lines.{HasNoFeed, HasLine, HasNoLine, HasMore}
@@ -13,7 +13,7 @@ use Rattle.byte_lines.specs.declared.line_buf.Found.{Found}
 use Rattle.byte_lines.specs.declared.error.DeviceError.{DeviceError}
 use Rattle.byte_lines.specs.declared.error.DeviceError.TheVariants.{Io}
 use Rattle.byte_lines.proofs.StreamFacts.{Consumes-from_kept, Consumes-front, Consumes-feed, HasLine-after}
-use Rattle.byte_lines.proofs.StreamFacts.{HasNoLine-after, HasNoLine-end, HasMore-text, IsAtEnd-empty}
+use Rattle.byte_lines.proofs.StreamFacts.{HasNoLine-after, HasMore-text}
 
 -- the bytes before the first line feed, or all
 front_plain : (ahead : List ℕ) (place : Option ℕ) (count : ℕ) → AtFeed ahead place
@@ -105,10 +105,3 @@ long_cut s bytes ahead rest left a b keeps p same none end =
 
 pub length_passed : (bytes ahead : List ℕ) → SkipsText bytes ahead → length ahead < length bytes
 length_passed bytes ahead p = omega (arith, ap length p.parts, length-append p.text ahead, p.long)
-
--- all that is kept is a rest
-pub short_cut : (s : Option (List ℕ)) (bytes : List ℕ) (a : Option (List ℕ)) → Keeps s (prepend_known bytes a)
-    → HasNoFeed bytes → 0 < length bytes → IsAtEnd a → HasNoLine s × HasMore s
-short_cut s bytes a keeps plain some end =
-    let came = Consumes-from_kept s (prepend_known bytes a) (prepend_known [] a) bytes keeps (Consumes-front bytes bytes [] a (sym (append-nil bytes))) in
-    (HasNoLine-end s (prepend_known [] a) bytes plain came (IsAtEnd-empty [] a refl end), HasMore-text s (prepend_known [] a) bytes some came)

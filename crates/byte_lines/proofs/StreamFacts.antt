@@ -5,10 +5,10 @@ use Rattle.std.proofs.Common.{append-nil, take-append-drop, add-one, drop-cons, 
 use Rattle.std.proofs.Common.{arith}
 use Rattle.std.proofs.lemmas.Bool.{ne_eqb, eqb-true, eq-eqb}
 use Rattle.std.proofs.lemmas.List.{take_all, get_or-take, drop-take}
-use Rattle.std.proofs.lemmas.List.Elements.{All-append, All-drop, All-nil}
+use Rattle.std.proofs.lemmas.List.Elements.{All-append, All-drop}
 use Rattle.std.proofs.lemmas.Grind.{get_or_default_zero}
 use Rattle.std.specs.Io.KnownBytes.{Keeps, Consumes, IsAtEnd, prepend_known}
-use Rattle.std.proofs.KnownBytes.{Consumes-trans, Consumes-nil, Consumes-kept}
+use Rattle.std.proofs.KnownBytes.{Consumes-trans, Consumes-kept}
 use Rattle.memchr.specs.Find.{IsFirstByte, Nowhere, Passes, is_byte}
 use Rattle.byte_lines.specs.Lines.{Lines, lines_of, with_byte, with_line, HasNoFeed, HasLine, HasNoLine, HasMore}
 use Rattle.byte_lines.specs.Inside.Ahead.{AtFeed, IsFeed}
@@ -87,9 +87,6 @@ pub record Went (old new : Option (List ℕ)) : Type 0 where
   pub plain : HasNoFeed text
   pub parts : Consumes old new text
 
-pub went_nowhere : (a : Option (List ℕ)) → Went a a
-went_nowhere a = record { text = []; plain = All-nil (λ (x : ℕ). x ≢ 10); parts = Consumes-nil a }
-
 pub went_kept : (a b c : Option (List ℕ)) → Went a b → Keeps b c → Went a c
 went_kept a b c went kept = record { text = went.text; plain = went.plain; parts = Consumes-kept a b c went.text went.parts kept }
 
@@ -132,11 +129,6 @@ pub HasMore-text : (a b : Option (List ℕ)) (text : List ℕ) → 0 < length te
 HasMore-text None b text some passed = tt
 HasMore-text (Some x) None text some passed = absurd passed
 HasMore-text (Some x) (Some y) text some passed = omega (arith, ap length passed, length-append text y)
-
-pub IsAtEnd-kept : (a b : Option (List ℕ)) → Keeps a b → IsAtEnd b → IsAtEnd a
-IsAtEnd-kept None b kept end = tt
-IsAtEnd-kept (Some x) None kept end = absurd kept
-IsAtEnd-kept (Some x) (Some y) kept end = sym kept ∙ end
 
 pub IsAtEnd-empty : (bs : List ℕ) (a : Option (List ℕ)) → bs ≡ [] → IsAtEnd a → IsAtEnd (prepend_known bs a)
 IsAtEnd-empty bs None none end = tt

@@ -199,16 +199,6 @@ judged_at : (c : Configuration) (lines other : Lines) (m : Meaning) (told tells 
     → other ≡ lines → HasJudged c lines m told tells n → HasJudged c other m told tells n
 judged_at c lines other m told tells n e judged = subst (λ (l : Lines). HasJudged c l m told tells n) (sym e) judged
 
-pub judged_end : (c : Configuration) (stream left : Option (List ℕ)) (m : Meaning) (told tells : Option (List ℕ))
-    (number count : ℕ) → SoFar c stream left m told tells number count → IsAtEnd left
-    → IfSome stream (λ bytes. HasJudged c (lines_of bytes) m told tells count)
-judged_end c None left m told tells number count so end = tt
-judged_end c (Some xs) None m told tells number count so end = absurd so.passed
-judged_end c (Some xs) (Some ys) m told tells number count so end =
-    let none : lines_of ys ≡ only [] = ap lines_of end in
-    judged_at c (only so.read) (lines_of xs) m told tells count
-    (so.passed ∙ (λ i. record { whole = so.read ++ (none i).whole; rest = (none i).rest }) ∙ ap only (append-nil so.read)) so.judged
-
 rest_after : (xs ys : List ℕ) (read : List (List ℕ)) → Passed (Some xs) (Some ys) read → HasNoLine (Some ys) → lines_of xs ≡ record { whole = read; rest = ys }
 rest_after xs ys read passed none =
     let rest : lines_of ys ≡ record { whole = []; rest = ys } = lines_of-rest ys none in

@@ -85,9 +85,6 @@ chain_told c records r rest b f h = (
 pub no_first : (c : Configuration) (records : List Distrust) (r : Receipt) (rest : List Receipt) → (IsFirst c records r → ⊥) → IsChain c records (r ∷ rest) → ⊥
 no_first c records r rest none k = none (k.leads.0, record { seed = k.seed; configured = k.configured; vouches = k.leads.1 })
 
-pub no_chain : (c : Configuration) (records : List Distrust) → IsChain c records [] → ⊥
-no_chain c records k = let some = k.some in omega arith
-
 -- an answer no, where nothing is so
 pub told_no : (P : Type 0) (b : Bool) → b ≡ false → (P → ⊥) → IsTrue b ↔ P
 told_no P b e none = (λ t. absurd (cc), λ p. absurd (none p))

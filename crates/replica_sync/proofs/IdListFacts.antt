@@ -1,7 +1,7 @@
 -- The ids of a question's line, from its text and back.
 use Rattle.std.proofs.Common.{◌≡◌, ◌≢◌, ℕ, zero, suc, ◌/◌, ◌%◌, ◌<◌, ◌≤◌, ◌&&◌, Bool, true, false, inl, inr, List, []}
 use Rattle.std.proofs.Common.{◌∷◌, ◌++◌, length, take, drop, get_or, map, codes, slice_index, refl, ap, sym, ◌∙◌, subst}
-use Rattle.std.proofs.Common.{arith, length-append, length-take, append_assoc, append-nil}
+use Rattle.std.proofs.Common.{arith, length-append, length-take, append_assoc}
 use Rattle.std.specs.Prelude.{Option, Some, None}
 use Rattle.std.specs.Borrow.{Bor}
 use Rattle.std.specs.List.{AllPass, AllByRecursion, flat_map, join_by}
@@ -180,10 +180,6 @@ lists-more text rest ids more found back lists takes e = λ wanted digests spelt
     let so_far = lists wanted digests spelt in
     subst (λ taken. IsRest wanted taken back.now) (sym (ap (map bytes_of) e ∙ map-append bytes_of ids (found ∷ [])))
     (more-of wanted (map bytes_of ids) so_far.others rest found back so_far.digests so_far.parts (takes so_far.others so_far.digests so_far.listed))
-
-all-of : (wanted taken others : List (List ℕ)) → wanted ≡ taken ++ others → TakesId others None → taken ≡ wanted
-all-of wanted taken [] e takes = sym (e ∙ append-nil taken)
-all-of wanted taken (id ∷ others) e takes = absurd takes
 
 all_both : (xs ys : List (List ℕ)) → AllByRecursion IsDigest xs → AllByRecursion IsDigest ys → AllByRecursion IsDigest (xs ++ ys)
 all_both [] ys h k = k

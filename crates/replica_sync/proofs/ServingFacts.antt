@@ -1,22 +1,21 @@
 -- Questions that are read, and sessions that are served.
-use Rattle.std.proofs.Common.{◌≡◌, ℕ, ◌+◌, ◌⊎◌, inl, inr, List, [], ◌∷◌, ◌++◌, length, Option, None, Some, ap, sym, ◌∙◌}
+use Rattle.std.proofs.Common.{◌≡◌, ℕ, ◌+◌, ◌⊎◌, inl, inr, List, [], ◌∷◌, ◌++◌, length, Option, ap, sym, ◌∙◌}
 use Rattle.std.proofs.Common.{subst, arith, length-append, append-nil}
-use Rattle.std.specs.Prelude.{IfSome}
 use Rattle.std.specs.List.{AllByRecursion, flat_map}
-use Rattle.std.specs.Io.KnownBytes.{Appends, Consumes, IsAtEnd}
+use Rattle.std.specs.Io.KnownBytes.{Appends, Consumes}
 use Rattle.std.proofs.KnownBytes.{Appends-trans, Consumes-trans}
 use Rattle.std.proofs.lemmas.Grind.{flat_map-append}
 use Rattle.std.proofs.lemmas.List.{take_all}
 use Rattle.fed_config.specs.Configuration.{Configuration}
 use Rattle.receipt_core.specs.Acceptance.{Meaning}
 use Rattle.byte_lines.specs.Device.{AppendsBeginning}
-use Rattle.byte_lines.specs.Lines.{HasLine, HasNoLine, HasNoFeed}
+use Rattle.byte_lines.specs.Lines.{HasLine}
 use Rattle.replica_core.specs.Session.{Question, reply_of}
 use Rattle.replica_core.specs.declared.error.SyncError.{SyncError}
 use Rattle.replica_core.specs.declared.error.SyncError.TheVariants.{BadHeader, ConfigDiffers, VersionDiffers, NotCanonical, NotRising, BadCount, Truncated}
 use Rattle.replica_core.specs.declared.error.SyncError.TheVariants.{Refused, Io, NoMemory}
 use Rattle.replica_sync.specs.Messages.{question_text, reply_text}
-use Rattle.replica_sync.specs.Questions.{Asks, IsQuestionOf, IsWritten, RefusesFurther, RefusesQuestion, ServesUpTo, replies_text}
+use Rattle.replica_sync.specs.Questions.{Asks, IsQuestionOf, IsWritten, RefusesFurther, ServesUpTo, replies_text}
 use Rattle.replica_sync.specs.Inside.Asking.{HasAsked, IsNoneAsked, RefusesHaveLine, RefusesSpoken, asking_by}
 use Rattle.replica_sync.specs.Inside.Serving.{FailsReading, FailsWriting, Served, ServesOne}
 use Rattle.replica_sync.specs.declared.have_fields.VersionedHave.{VersionedHave}
@@ -27,22 +26,6 @@ use Rattle.replica_sync.proofs.Written.{begins-second}
 pub refused-line : (old new : Option (List ℕ)) (text : List ℕ) (e : SyncError) → HasLine old new text → IsNoneAsked text e → RefusesHaveLine old new e
 refused-line old new text e is (inl none) = subst (RefusesHaveLine old new) (sym none.0) (record { text = text; is = is; cause = inr none.1 })
 refused-line old new text e is (inr memory) = subst (RefusesHaveLine old new) (sym memory) tt
-
-pub refused-question : (old new : Option (List ℕ)) (e : SyncError) → RefusesHaveLine old new e → RefusesQuestion None old new e
-refused-question old new BadHeader h = h
-refused-question old new ConfigDiffers h = absurd h
-refused-question old new VersionDiffers h = absurd h
-refused-question old new (NotCanonical n) h = h
-refused-question old new (NotRising n) h = h
-refused-question old new BadCount h = h
-refused-question old new Truncated h = h.0
-refused-question old new (Refused n why) h = h
-refused-question old new Io h = tt
-refused-question old new NoMemory h = tt
-
-pub no-line-at-end : (old : Option (List ℕ)) → IsAtEnd old → HasNoLine old
-no-line-at-end None h = tt
-no-line-at-end (Some xs) h = subst HasNoFeed (sym h) (λ i d below. absurd (omega arith))
 
 pub refused-further : (config : Configuration) (old new : Option (List ℕ)) (e : SyncError) → RefusesHaveLine old new e → RefusesFurther config old e
 refused-further config old new BadHeader h = (new, record { text = h.text; is = h.is; cause = h.cause })
@@ -102,11 +85,6 @@ served-more m stream left next old now new count s one = record {
   written = subst (Appends old new) (one-more (answered m) s.questions one.question)
       (Appends-trans old now new (replies_text m s.questions) (answered m one.question) s.written one.written);
 }
-
-no-more : (stream left : Option (List ℕ)) (text : List ℕ) → Consumes stream left text → IsAtEnd left → IfSome stream (λ bytes. bytes ≡ text)
-no-more None left text passed ends = tt
-no-more (Some bytes) None text passed ends = absurd passed
-no-more (Some bytes) (Some rest) text passed ends = passed ∙ ap (λ t. text ++ t) ends ∙ append-nil text
 
 and-nothing : (old now new : Option (List ℕ)) (text : List ℕ) → Appends old now text → Appends now new [] → Appends old new text
 and-nothing old now new text before nothing = subst (Appends old new) (append-nil text) (Appends-trans old now new text [] before nothing)

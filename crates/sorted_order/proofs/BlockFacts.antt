@@ -197,10 +197,6 @@ second_spot bs at i w spot half high =
 pub put_at : (bs : List (List ℕ)) (at i w n : ℕ) → IsSpot bs at i w → concat (put bs i w n) ≡ insert (concat bs) at n
 put_at bs at i w n spot = concat-put bs i w n at spot.listed spot.within spot.whole
 
-pub put_at_half : (bs : List (List ℕ)) (at i w n from : ℕ) → IsSpot (halved bs from) at i w
-    → concat (put (halved bs from) i w n) ≡ insert (concat bs) at n
-put_at_half bs at i w n from spot = put_at (halved bs from) at i w n spot ∙ ap (λ xs. insert xs at n) (concat-halved bs from)
-
 -- what is left from a place on
 half_after : (bs : List (List ℕ)) (i : ℕ) → AreHalfFull bs → AreHalfFull (drop i bs)
 half_after [] zero h = tt

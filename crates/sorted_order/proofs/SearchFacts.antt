@@ -206,17 +206,6 @@ past_rises compared items rises = record {
 past_less : (o : Ordering) → o ≡ Less → past o ≡ Less
 past_less o e = rw e refl
 
-pub gaps_in_order : {X : Type 0} (compared : X → Ordering) (items : List X) (first end : ℕ) → IsGap compared items first
-    → IsGap (λ x. past (compared x)) items end → first ≤ end
-gaps_in_order compared [] first end gap past_gap = let w : first ≤ 0 = gap.within in omega arith
-gaps_in_order compared (x ∷ xs) first end gap past_gap =
-    elim (cases_lt end first) [
-      | inl less ↦
-          let w : first ≤ length (x ∷ xs) = gap.within in
-          absurd (past_gap.after end x (omega arith) (omega arith) (past_less (compared (slice_index_or (x ∷ xs) end x)) (gap.before end x (omega arith) less)))
-      | inr order ↦ order
-    ]
-
 -- what a gap in a list says of the rest
 gap_rest : {X : Type 0} (compared : X → Ordering) (x : X) (xs : List X) (p : ℕ) → IsGap compared (x ∷ xs) (suc p) → IsGap compared xs p
 gap_rest compared x xs p gap = record {

@@ -24,11 +24,6 @@ sum_suc xs i h = let e : suc i ≡ i + 1 = omega arith in ap (λ k. sum (take k 
 pub sum_all : (xs : List ℕ) (i : ℕ) → length xs ≤ i → sum (take i xs) ≡ sum xs
 sum_all xs i h = ap sum (take_all i xs h)
 
--- All sums together count all numbers.
-pub sum_whole : (xs : List ℕ) (bs : List (List ℕ)) → AreSums xs bs → sum xs ≡ length (concat bs)
-sum_whole xs bs h = sym (sum_all xs (length xs) (omega arith)) ∙ h.each (length xs) (omega arith)
-    ∙ before_all bs (64 * length xs) h.all
-
 -- the numbers before a block, by those before an earlier one
 none_before : (i : ℕ) → length_before [] i ≡ 0
 none_before zero = refl
@@ -105,25 +100,6 @@ rest_within xs bs at g rest h l whole within =
       ap (λ k. length_before bs k) here,
       before_after bs (g * 64),
     ))
-
-pub group_listed : (xs : List ℕ) (bs : List (List ℕ)) (at g rest : ℕ) → AreSums xs bs
-    → g < length xs → sum (take g xs) + rest ≡ at
-    → at ≤ length (concat bs) → 0 < length bs → (0 < g → 0 < rest) → g * 64 < length bs
-group_listed xs bs at g rest h l whole within some later =
-    let here : 64 * g ≡ g * 64 = omega arith in
-    elim (cases_lt (g * 64) (length bs)) [
-      | inl listed ↦ listed
-      | inr past ↦
-          elim (cases_lt 0 g) [
-            | inl high ↦ absurd (omega (
-              arith,
-              later high,
-              h.each g (omega arith),
-              before_all bs (64 * g) (omega arith),
-            ))
-            | inr first ↦ absurd (omega arith)
-          ]
-    ]
 
 pub spot_among : (xs : List ℕ) (bs : List (List ℕ)) (at g rest i w : ℕ) → AreSums xs bs
     → g < length xs → sum (take g xs) + rest ≡ at

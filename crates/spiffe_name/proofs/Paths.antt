@@ -32,9 +32,6 @@ pub record Reads (path rest : List ℕ) : Type 0 where
   pub whole : path ≡ path_of_segments front ++ rest
   pub slash : EmptyOrSlash rest
 
-pub Reads-none : (path : List ℕ) → EmptyOrSlash path → Reads path path
-Reads-none path slash = record { front = []; each = tt; whole = refl; slash = slash }
-
 pub Reads-more : (path rest after segment next : List ℕ) → Reads path rest → rest ≡ 47 ∷ after
     → SplitsAtSlash after segment next → IsSegment segment → Reads path next
 Reads-more path rest after segment next r e split good = record {
@@ -57,26 +54,6 @@ pub IsPath-read : (path rest : List ℕ) → Reads path rest → ((more : List �
 IsPath-read path rest r none = record { segments = r.front; each = r.each; whole =
     r.whole ∙ ap (λ x. path_of_segments r.front ++ x) (no_rest rest r.slash none)
     ∙ append-nil (path_of_segments r.front) }
-
-pub FirstFault-read : (path rest after segment next : List ℕ) (n : ℕ) → Reads path rest → rest ≡ 47 ∷ after
-    → SplitsAtSlash after segment next → FaultInSegment segment n → FirstFault path (length path - length after + n)
-FirstFault-read path rest after segment next n r e split fault = record {
-  front = r.front;
-  each = r.each;
-  segment = segment;
-  rest = next;
-  whole = r.whole ∙ ap (λ x. path_of_segments r.front ++ x) (e ∙ ap (λ x. 47 ∷ x) split.whole);
-  no_slash = split.no_slash;
-  slash = split.slash;
-  offset = n;
-  fault = fault;
-  counted =
-      let size : length path ≡ length (path_of_segments r.front) + (1 + length after) =
-          ap length (r.whole ∙ ap (λ x. path_of_segments r.front ++ x) e)
-          ∙ length-append (path_of_segments r.front) (47 ∷ after)
-          ∙ ap (λ x. length (path_of_segments r.front) + x) (omega arith) in
-      omega arith;
-}
 
 EmptyOrSlash-front : (segments : List (List ℕ)) (rest : List ℕ) → EmptyOrSlash rest → EmptyOrSlash (path_of_segments segments ++ rest)
 EmptyOrSlash-front [] rest h = h

@@ -197,9 +197,6 @@ release-fewer old new xs before s released =
     ((distrust-sets.all_members xs old.records y (always-all xs) (always-all old.records)).1
     (inr c))) s released
 
-pub sound-lowered : (m : Meaning) (arrived : List Receipt) (flags : List Bool) → ((n : ℕ) → is_raised flags n ≡ false) → AreSound m arrived flags
-sound-lowered m arrived flags low place r at raised = absurd (both_ways (is_raised flags place) (low place) raised)
-
 -- ---- more room
 
 pub settled-roomier : (h new : Hoard) (p q : Paired) (offers : List Triple) (released : List Bool)

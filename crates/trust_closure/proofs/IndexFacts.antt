@@ -512,17 +512,6 @@ before-added old new x a arrived = record {
   records = ap (λ (m : Meaning). m.records) a.meaning;
 }
 
-pub before-all : (old new : Hoard) (more : List Distrust)
-    → meaning_of new ≡ record (meaning_of old)
-    { records = with_items distrust_cmp more old.records } → new.arrived ≡ old.arrived
-    → IsBefore old more new
-before-all old new more meaning arrived = record {
-  config = ap (λ (m : Meaning). m.config) meaning;
-  arrived = arrived;
-  held = ap (λ (m : Meaning). m.held) meaning;
-  records = ap (λ (m : Meaning). m.records) meaning;
-}
-
 -- ---- more room
 
 same-wiring : (w : Wired) → IsRoomierWired w w

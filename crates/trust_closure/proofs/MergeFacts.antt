@@ -50,9 +50,6 @@ pub record IsPassed {X : Type 0} (P : X → Type 0) (all rest : List X) : Type 0
   pub within : (x : X) → Contains rest x → Contains all x
   pub passed : (x : X) → Contains all x → Contains rest x ⊎ P x
 
-pub IsPassed-start : {X : Type 0} (P : X → Type 0) (all : List X) → IsPassed P all all
-IsPassed-start P all = record { within = λ x has. has; passed = λ x has. inl has }
-
 pub IsPassed-next : {X : Type 0} (P : X → Type 0) (all rest later : List X) (x : X) → IsPassed P all rest → rest ≡ x ∷ later → P x → IsPassed P all later
 IsPassed-next {X} P all rest later x passed e holds =
     let front : IsPassed P all (x ∷ later) = subst (IsPassed P all) e passed in
@@ -123,9 +120,6 @@ pub record IsCounted {X : Type 0} (set all rest : List X) (count limit : ℕ) : 
   pub lacking : (m : ℕ) → IsLacking set rest m → IsLacking set all (count + m)
   pub few : count + length rest ≤ limit
 
-pub IsCounted-start : {X : Type 0} (set all : List X) (limit : ℕ) → length all ≤ limit → IsCounted set all all 0 limit
-IsCounted-start set all limit few = record { lacking = λ m h. subst (IsLacking set all) (omega arith) h; few = omega arith }
-
 pub IsCounted-held : {X : Type 0} (set all rest later : List X) (x : X) (count limit : ℕ)
     → IsCounted set all rest count limit → rest ≡ x ∷ later → Contains set x → IsCounted set all later count limit
 IsCounted-held set all rest later x count limit counted e has =
@@ -179,15 +173,6 @@ pub record IsCopied (held all rest copies : List Receipt) : Type 0 where
   pub each : (r : Receipt) → Contains copies r → Contains all r
   pub unheld : (r : Receipt) → Contains copies r → Contains held r → ⊥
   pub counted : IsCounted held all rest (length copies) 65536
-
-pub IsCopied-start : (held all copies : List Receipt) → length all ≤ 65536 → copies ≡ [] → IsCopied held all all copies
-IsCopied-start held all copies few e = record {
-  joined = ap (λ (xs : List Receipt). with_items receipt_cmp (xs ++ all) held) e;
-  within = λ r has. has;
-  each = λ r has. absurd (contains_none r (subst (λ (xs : List Receipt). Contains xs r) e has));
-  unheld = λ r has. absurd (contains_none r (subst (λ (xs : List Receipt). Contains xs r) e has));
-  counted = subst (λ (xs : List Receipt). IsCounted held all all (length xs) 65536) (sym e) (IsCounted-start held all 65536 few);
-}
 
 pub IsCopied-held : (held all rest later copies : List Receipt) (r : Receipt) → IsStrictlySortedBy receipt_cmp held
     → IsCopied held all rest copies → rest ≡ r ∷ later → Contains held r → IsCopied held all later copies

@@ -72,13 +72,6 @@ module _ (firsts nodes : List ℕ) (k number : ℕ) (l : k < length nodes)
 
 -- ---- one after another
 
-pub AddsNodes-none : (firsts counts : List ℕ) → AddsNodes firsts [] counts counts
-AddsNodes-none firsts counts = record {
-  size = refl;
-  each = λ n.
-      (let e : count_at counts n ≡ count_at counts n + 0 = omega arith in e);
-}
-
 pub AddsNodes-more : (firsts nodes old mid : List ℕ) (k number : ℕ) → k < length nodes
     → first_of_node firsts (get_or nodes k 0) ≡ number → number < length mid
     → AddsNodes firsts (take k nodes) old mid

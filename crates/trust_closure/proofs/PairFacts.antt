@@ -1,6 +1,6 @@
 -- Different documents in order
 use Rattle.std.proofs.Common.{◌≡◌, ℕ, suc, ◌+◌, ◌-◌, ◌<◌, ◌≤◌, inl, inr, Bool, true, List, [], ◌∷◌, ◌++◌, length}
-use Rattle.std.proofs.Common.{get_or, take, drop, Option, Some, None, arith, refl, sym, ap, ◌∙◌, subst}
+use Rattle.std.proofs.Common.{get_or, take, drop, Option, Some, arith, refl, sym, ap, ◌∙◌, subst}
 use Rattle.std.specs.Prelude.{Contains, slice_get, AllPairs, ◌↔◌}
 use Rattle.std.specs.declared.cmp.Ordering.{Ordering}
 use Rattle.std.specs.declared.cmp.Ordering.TheVariants.{Less, Equal, Greater}
@@ -16,7 +16,7 @@ use Rattle.std.proofs.lemmas.List.Edits.{length-insert, get_or-insert_below, get
 use Rattle.std.proofs.lemmas.List.Elements.{All-contains, All-push, All-append, All-cons, All-take, All-drop}
 use Rattle.std.proofs.lemmas.List.Elements.{All-weaker, Contains-append_left, Contains-append_right}
 use Rattle.std.proofs.lemmas.List.Elements.{Contains-append_cases}
-use Rattle.std.proofs.lemmas.Map.Lookups.{exact_bytes, exact_unsigned}
+use Rattle.std.proofs.lemmas.Map.Lookups.{exact_bytes}
 use Rattle.std.proofs.lemmas.Option.{slice_get-get_or, slice_get_within, get_or_from_slice_get}
 use Rattle.bundle_doc.specs.Bundle.{Bundle, IsBundle, canonical_text}
 use Rattle.bundle_doc.proofs.BundleFacts.{one_text}
@@ -36,12 +36,6 @@ then-first : (a b : Ordering) → ordering_then a b ≡ Equal → (a ≡ Equal) 
 then-first Less b e = absurd (cc)
 then-first Equal b e = (refl, e)
 then-first Greater b e = absurd (cc)
-
-rank-exact : (a b : Option ℕ) → option_cmp nat_cmp a b ≡ Equal → a ≡ b
-rank-exact None None e = refl
-rank-exact None (Some y) e = absurd (cc)
-rank-exact (Some x) None e = absurd (cc)
-rank-exact (Some x) (Some y) e = ap (λ (n : ℕ). Some n) (exact_unsigned x y e)
 
 -- documents of their forms that are in one place are equal
 pub pair-exact : (p q : Pair) → IsBundle p.document → IsBundle q.document → pair_cmp p q ≡ Equal → p ≡ q

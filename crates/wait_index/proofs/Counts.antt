@@ -16,14 +16,6 @@ bit-true b h = ap bit h
 pub bit-false : (b : Bool) → b ≡ false → bit b ≡ 0
 bit-false b h = ap bit h
 
-pub true-from_bit : (b : Bool) → 0 < bit b → b ≡ true
-true-from_bit true h = refl
-true-from_bit false h = absurd (omega arith)
-
-pub false-from_bit : (b : Bool) → bit b ≡ 0 → b ≡ false
-false-from_bit true h = absurd (omega arith)
-false-from_bit false h = refl
-
 -- one number more
 pub count_below-more : (p : ℕ → Bool) (n : ℕ) → count_below p (n + 1) ≡ count_below p n + bit (p n)
 count_below-more p n = rw add-one
@@ -31,11 +23,6 @@ count_below-more p n = rw add-one
 pub count_below-le : (p : ℕ → Bool) (n : ℕ) → count_below p n ≤ n
 count_below-le p zero = omega arith
 count_below-le p (suc n) = omega (arith, count_below-le p n, bit-le (p n))
-
--- what is said of each number holds of the counts
-pub count_below-cover : (p q r : ℕ → Bool) (n : ℕ) → ((k : ℕ) → k < n → bit (p k) ≤ bit (q k) + bit (r k)) → count_below p n ≤ count_below q n + count_below r n
-count_below-cover p q r zero h = omega arith
-count_below-cover p q r (suc n) h = omega (arith, count_below-cover p q r n (λ k l. h k (omega arith)), h n (omega arith))
 
 pub count_below-add : (p q r : ℕ → Bool) (n : ℕ) → ((k : ℕ) → k < n → bit (p k) ≡ bit (q k) + bit (r k)) → count_below p n ≡ count_below q n + count_below r n
 count_below-add p q r zero h = omega arith

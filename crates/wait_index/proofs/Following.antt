@@ -415,12 +415,6 @@ OffersFrom-step net cursor node edge link next old now new h e within last listi
       spreads = Spreads-trans old now new h.spreads spreads;
     }
 
--- no edges of one node are left
-pub Follows-between : (net : Net) (cursor node : ℕ) (t : Tally) → Follows net t cursor node 0 → Follows net t cursor 0 0
-Follows-between net cursor node t h =
-    record { steady = h.steady; counted = record { support = h.counted.support; visits = h.counted.visits }; opened =
-    h.opened }
-
 -- the counts do not pass the numbers of edges
 pub Follows-visits : (net : Net) (cursor node link : ℕ) (t : Tally) → Follows net t cursor node link → t.visits ≤ length net.offers + length net.waits
 Follows-visits net cursor node link t h =

@@ -28,9 +28,6 @@ reached-more old new h n (step {node = m} {label = l} {i = i} {j = j} r e c w) =
       | inr a ↦ step (reached-more old new h m r) offer.1 a wait.1
     ]
 
-pub IsMore-refl : (net : Net) → IsMore net net
-IsMore-refl net = record { roots = λ n a. a; closed = λ l a. a; offers = λ i m l e. (i, e); waits = λ i l n e. (i, e) }
-
 -- A root is added.
 
 module _ (net : Net) (node : ℕ) (l : node < length net.roots) where

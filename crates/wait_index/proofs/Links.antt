@@ -9,10 +9,6 @@ use Rattle.wait_index.specs.Edge.{edge_at, from_at, to_at, IsEdge}
 use Rattle.wait_index.specs.Inside.Links.{IsLink, IsLast, AreLinked}
 use Rattle.wait_index.proofs.Counts.{bit-true, count_below-more, count_below-gap}
 
--- the edges of an owner that pass a test
-abbrev pub owned_and : List Edge → ℕ → (ℕ → Bool) → ℕ → Bool
-owned_and es owner test i = eqb (from_at es i) owner && test i
-
 pub IsLink-last : (es : List Edge) (owner n link : ℕ) → n ≤ length es → IsLast es owner n link → IsLink es owner link
 IsLink-last es owner n link l h = record { within = omega (arith, h.below); owned = h.owned }
 
@@ -161,28 +157,6 @@ module _ (es : List Edge) (e : Edge) where
                   (subst (λ k. IsLast (es ++ e ∷ []) e.from (length es) k) (sym link) old))
             ];
       }
-
--- an owner that is added at the end has no edge yet
-pub AreLinked-owner : (es : List Edge) (newest earlier : List ℕ) → AreLinked es newest earlier → AreLinked es (newest ++ 0 ∷ []) earlier
-AreLinked-owner es newest earlier h =
-    let many = length_push newest 0 in
-    record {
-      owners = λ i a. omega (arith, many, h.owners i a);
-      links = h.links;
-      last = λ owner a.
-          elim (cases_lt owner (length newest)) [
-            | inl b ↦ subst (λ k. IsLast es owner (length es) k) (sym (get_or_append_left newest (0 ∷ []) 0 owner b)) (h.last owner b)
-            | inr b ↦
-                let at : length newest ≡ owner = omega (arith, many) in
-                let none : IsLast es owner (length es) 0 = record {
-                  below = omega arith;
-                  owned = λ i c. absurd (omega arith);
-                  none_later = λ i c d f. absurd (omega (arith, h.owners i d));
-                } in
-                subst (λ k. IsLast es owner (length es) k) (sym (get_or_push newest 0 0 owner at)) none
-          ];
-      before = h.before;
-    }
 
 -- what is read of the lists of edges
 

@@ -81,15 +81,6 @@ holds-remove places n l m =
     and-true true = refl
     and-true false = refl
 
-pub IsListing-none : IsListing [] []
-IsListing-none = record {
-  within = λ i l. absurd (omega arith);
-  listed = λ i l. absurd (omega arith);
-  placed_within = λ n i e. absurd (omega arith);
-  placed = λ n i e. absurd (omega arith);
-  many = refl;
-}
-
 -- there is room for one that is not listed
 pub fewer : (items places : List ℕ) (n : ℕ) → IsListing items places → n < length places → holds places n ≡ false → length items < length places
 fewer items places n h l e = omega (arith, h.many, count_below-less (λ m. holds places m) n (length places) l e)

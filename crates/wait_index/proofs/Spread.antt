@@ -6,7 +6,7 @@ use Rattle.wait_index.specs.Inside.Count.{count_below}
 use Rattle.wait_index.specs.Edge.{from_at, to_at, IsEdge}
 use Rattle.wait_index.specs.Inside.Links.{IsLink, IsLast}
 use Rattle.wait_index.specs.Net.{Net}
-use Rattle.wait_index.specs.Inside.Tally.{Tally, HasSizes, is_marked_in, waits_of, MarksNode, Releases}
+use Rattle.wait_index.specs.Inside.Tally.{Tally, HasSizes, is_marked_in, waits_of, MarksNode}
 use Rattle.wait_index.proofs.Counts.{count_below-le, count_below-at}
 use Rattle.wait_index.proofs.Links.{IsLink-last, count_owned, count_owned-step}
 
@@ -109,17 +109,3 @@ ReleasesFrom-fits net label edge link old now h e =
     omega (arith, h.visits, count_below-le (λ i. eqb (from_at net.waits i) label) (length net.waits),
         count_below-at (λ i. eqb (from_at net.waits i) label) edge link (omega arith)
         (eq-eqb (from_at net.waits edge) label (h.at.owned edge e)))
-
-pub Releases-end : (net : Net) (label : ℕ) (old now : Tally) → ReleasesFrom net label 0 old now → Releases net label old now
-Releases-end net label old now h = record {
-  front = h.front;
-  kept = h.kept;
-  all = λ i a e. h.all i a (omega arith) e;
-  only = h.only;
-  size = h.size;
-  support = h.support;
-  opened = h.opened;
-  touched = h.touched;
-  touched_places = h.touched_places;
-  visits = omega (arith, h.visits);
-}

@@ -6,7 +6,7 @@ use Rattle.wait_index.specs.Inside.Count.{count_below}
 use Rattle.wait_index.specs.Edge.{from_at, to_at, IsEdge}
 use Rattle.wait_index.specs.Inside.Links.{IsLink, IsLast}
 use Rattle.wait_index.specs.Net.{Net}
-use Rattle.wait_index.specs.Inside.Tally.{Tally, HasSizes, is_touched_in, is_open_in, support_in, offer_count_of, offers_between, Withdraws, WithdrawsAll}
+use Rattle.wait_index.specs.Inside.Tally.{Tally, HasSizes, is_touched_in, is_open_in, support_in, offer_count_of, offers_between, Withdraws}
 use Rattle.wait_index.specs.Inside.Fall.{CanFall}
 use Rattle.wait_index.proofs.Counts.{bit-true, bit-false, count_below-at}
 use Rattle.wait_index.proofs.Links.{IsLink-last, count_owned, count_owned-step, count_owned_and, count_owned_and-step}
@@ -147,18 +147,3 @@ WithdrawsFrom-step net node edge link next old now new h e within last w =
       visits = omega (arith, h.visits, w.visits, some.0, count_owned-step net.offers node edge next owner last,
           ap (count_below (λ i. eqb (from_at net.offers i) node)) e);
     }
-
-pub Withdraws-end : (net : Net) (node : ℕ) (old now : Tally) → WithdrawsFrom net node 0 old now → WithdrawsAll net node old now
-Withdraws-end net node old now h = record {
-  marked = h.marked;
-  places = h.places;
-  support = λ l a. omega (arith, h.support l a);
-  supports = h.supports;
-  opened = h.opened;
-  front = h.front;
-  kept = h.kept;
-  all = λ i a o p. h.all i a (omega arith) o p;
-  only = h.only;
-  size = h.size;
-  visits = omega (arith, h.visits);
-}
