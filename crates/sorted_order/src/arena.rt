@@ -1,5 +1,5 @@
 //! Items in order of arrival, beside the order that the caller gives them.
-ghost use Rattle.std.specs.Prelude.{◌≡◌, ℕ, ◌+◌, ◌<◌, ◌≤◌, [], ◌∷◌, ◌++◌, length, take, drop};
+ghost use Rattle.std.specs.Prelude.{◌≡◌, ℕ, ◌+◌, ◌<◌, ◌≤◌, [], ◌∷◌, ◌++◌, length, drop};
 ghost use Rattle.std.specs.Prelude.{slice_get, IsOk, OnOk, Some};
 ghost use Rattle.std.specs.List.{insert, filter};
 ghost use Rattle.sorted_order.specs.Sought.{IsRising, IsGap, is_equal};
@@ -113,14 +113,6 @@ impl<T> Arena<T> {
         &self.items[..]
     }
 
-    /// The items' numbers in order.
-    pub fn order(&self) -> &Order
-        ensures items { result.now.items ≡ self.now.order }
-        ensures arranged { Arranges self.now.order (length self.now.items) }
-    {
-        &self.order
-    }
-
     /// The number of the first item in the order that is what is sought, or, as an error, the place
     /// in the order where it would stand.
     pub fn find<P: ItemProbe<T>>(&self, probe: &P) -> Result<u32, usize>
@@ -146,14 +138,6 @@ impl<T> Arena<T> {
         ensures { result ≡ drop at (in_order self.now) }
     {
         Lent::new(self.order.from(at), self.items.as_slice())
-    }
-
-    /// So many items from a place of the order on.
-    pub fn range(&self, at: usize, items: usize) -> Lent<'_, T>
-        requires { at + items ≤ length self.now.items }
-        ensures { result ≡ take items (drop at (in_order self.now)) }
-    {
-        Lent::new(self.order.range(at, items), self.items.as_slice())
     }
 
     /// The items in the place of what is sought, in order.

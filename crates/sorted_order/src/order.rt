@@ -148,8 +148,8 @@ impl Order {
         self.range(at, self.len() - at)
     }
 
-    /// So many numbers from a place on, in order.
-    pub fn range(&self, at: usize, numbers: usize) -> Numbers<'_>
+    /// This many numbers from a place on, in order.
+    pub(crate) fn range(&self, at: usize, numbers: usize) -> Numbers<'_>
         requires { at + numbers ≤ length self.now.items }
         ensures { result ≡ take numbers (drop at self.now.items) }
     {
