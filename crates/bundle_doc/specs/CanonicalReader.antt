@@ -27,7 +27,7 @@ pub record ReadsAuthority (text : List ℕ) (a : Authority) (rest : List ℕ) : 
   pub whole : text ≡ authority_text a ++ rest
   pub form : IsAuthority a
 
--- the text is the authority's own, perhaps behind a comma, and the rest; and the authority is above
+-- the text is the authority's own, perhaps after a comma, and the rest; and the authority is above
 -- the last one
 pub record ReadsNext (text : List ℕ) (later : Bool) (last : List ℕ) (a : Authority)
     (own rest : List ℕ) : Type 0 where

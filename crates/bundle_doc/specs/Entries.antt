@@ -67,12 +67,12 @@ pub record IsBundleOf (es : List Entry) (rank hint : Option ℕ) (b : Bundle) : 
 abbrev pub keys_text : List Authority → List ℕ
 keys_text authorities = codes "{\"keys\":[" ++ items_text false (trees authorities)
 
--- a number behind its label, where there is one
+-- a number after its label, where there is one
 abbrev pub number_part : List ℕ → Option ℕ → List ℕ
 number_part label None = []
 number_part label (Some n) = label ++ decimal n
 
--- the canonical text behind `keys`
+-- the canonical text after `keys`
 abbrev pub numbers_text : Option ℕ → Option ℕ → List ℕ
 numbers_text hint rank = number_part (codes ",\"spiffe_refresh_hint\":") hint
     ++ (number_part (codes ",\"spiffe_sequence\":") rank ++ codes "}")

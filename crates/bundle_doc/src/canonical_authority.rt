@@ -55,7 +55,7 @@ pub(crate) fn read_authority<'a>(
     }
 }
 
-/// The kind that the first two names of an element tell.
+/// The kind that the first two names of an element give.
 fn kind_of(text: &str) -> Result<Kind, GivesUp> {
     if let Some(rest) = text.strip_prefix("{\"e\":\"") {
         let (_, rest) = text_before(rest, "\",\"k")?;

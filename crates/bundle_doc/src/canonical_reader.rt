@@ -99,7 +99,7 @@ fn read_numbers(alloc: Global, text: &str) -> Result<(Option<u64>, Option<u64>),
     Ok((hint, rank))
 }
 
-/// The number behind the label, where the text begins with one, and what follows. What is read is
+/// The number after the label, where the text begins with one, and what follows. What is read is
 /// written and compared by the caller.
 fn number_behind<'a>(text: &'a str, label: &str) -> (Option<u64>, &'a str)
     ensures { FitsWord result.0 }

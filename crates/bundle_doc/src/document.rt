@@ -250,7 +250,7 @@ impl PartialEq for Document {
 
     ghost laws = { on_per canonical_text (partial_equiv_from_equiv nat_list_eq_equiv) };
 
-    /// Whether both mean the same, told by their canonical texts.
+    /// Whether both mean the same, judged by their canonical texts.
     fn eq(&self, other: &Document) -> bool
         ensures text { result ≡ same_text self.now other.now }
         ensures meaning { IsTrue result ↔ (self.now ≡ other.now) }

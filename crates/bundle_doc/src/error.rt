@@ -7,7 +7,7 @@ use thiserror::Error;
 
 /// Why something is no document. Of several causes the first of this list is returned. Want of
 /// memory can come in place of each that is found out after memory was first wanted: of a text
-/// behind `TooLong`, of a JSON value behind `BadRefreshHint`.
+/// after `TooLong`, of a JSON value after `BadRefreshHint`.
 #[derive(Clone, Copy, Debug, PartialEq, Eq, Error)]
 pub enum DocError {
     /// More bytes than `MAX_DOCUMENT_BYTES`.

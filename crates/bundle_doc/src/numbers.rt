@@ -47,7 +47,7 @@ pub(crate) fn put_number(
     }
 }
 
-/// Writes the canonical text behind `keys`.
+/// Writes the canonical text after `keys`.
 pub(crate) fn write_numbers(
     out: &mut String,
     rank: Option<u64>,

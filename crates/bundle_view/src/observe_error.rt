@@ -10,7 +10,7 @@ use std::alloc::AllocError;
 use thiserror::Error;
 
 /// Why nothing is observed. Of several causes the first of this list is returned. Lack of memory,
-/// which is `Take(NoMemory)` wherever it is met, can come in place of each that is found out behind
+/// which is `Take(NoMemory)` wherever it is met, can come in place of each that is found out after
 /// `Document(TooLong)`.
 #[derive(Clone, Copy, Debug, PartialEq, Eq, Error)]
 pub enum ObserveError {

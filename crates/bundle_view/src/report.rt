@@ -25,7 +25,7 @@ use std::alloc::{AllocError, Global};
 /// each distrusted key. So the text depends on the configuration, the set of receipts and the set
 /// of records of distrust alone.
 ///
-/// All memory is had before the first byte is written.
+/// All memory is taken before the first byte is written.
 ///
 /// # Errors
 /// - [`ReportError::Io`]: the sink failed, and holds a beginning of the report.

@@ -5,7 +5,7 @@ ghost use Rattle.byte_lines.specs.declared.error.DeviceError.TheVariants.{Io, No
 use std::alloc::AllocError;
 use thiserror::Error;
 
-/// A device failed. What happened is not told; the device answers `failed()` with true from then
+/// A device failed. What happened is not said; the device answers `failed()` with true from then
 /// on.
 #[derive(Clone, Copy, Debug, PartialEq, Eq, Error)]
 #[error("the device failed")]

@@ -11,7 +11,7 @@ use crate::error::Fault;
 ///
 /// A sink that failed once stays failed.
 pub trait Sink {
-    // The bytes that the sink holds, where it can tell them.
+    // The bytes that the sink holds, where it knows them.
     ghost contents: { Self → Option (List ℕ) };
 
     // Whether a write failed.

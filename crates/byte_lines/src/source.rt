@@ -13,7 +13,7 @@ use std::alloc::Global;
 ///
 /// A source that failed once stays failed.
 pub trait Source {
-    // The bytes that are still to come, where the source can tell them.
+    // The bytes that are still to come, where the source knows them.
     ghost remaining: { Self → Option (List ℕ) };
 
     // At most this many bytes still come.

@@ -26,7 +26,7 @@ impl Rows for World {
     }
 }
 
-/// Answers a row about no closure or about the index, and tells whether it is one.
+/// Answers a row about no closure or about the index, and returns whether it is one.
 fn answer_alone(
     world: &mut World,
     script: &Script,

@@ -32,7 +32,7 @@ pub(crate) fn answer_to_record<C: Closure>(here: &mut C, record: &Distrust) -> A
     }
 }
 
-/// Writes an answer, with the words for the number of documents behind it.
+/// Writes an answer, with the words for the number of documents after it.
 pub(crate) fn say(answer: Answer, documents: &str, out: &mut String) -> Result<(), AllocError> {
     match answer {
         Ok(Some(number)) => writeln!(out, "{number} {documents}"),

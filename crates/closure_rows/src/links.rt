@@ -41,7 +41,7 @@ impl Chain<'_> {
     }
 }
 
-/// The chain that a row names by `DOMAIN ENDPOINT KEY`, and what stands behind these words.
+/// The chain that a row names by `DOMAIN ENDPOINT KEY`, and what stands after these words.
 fn chain_of<'a>(
     alloc: Global,
     script: &Script,
@@ -64,7 +64,7 @@ fn chain_of<'a>(
     Ok((chain, words))
 }
 
-/// What stands before the sign `%` in a text, and behind it.
+/// What stands before the sign `%` in a text, and after it.
 fn halves(text: &[u8]) -> Result<(&str, &str), RowFault> {
     match str::from_utf8(text) {
         Ok(text) => text.split_once('%').ok_or(RowFault::UnknownWord),

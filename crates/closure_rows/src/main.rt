@@ -31,7 +31,7 @@
 //!
 //! Rows about polls and refusals:
 //! - `seconds = TEXT`, `interval HINT`, `wait HINT FAILURES`: parts of polls,
-//! - `next CONFIG DOMAIN HINT NOW = LINES`: the next poll behind these lines, and whether one is
+//! - `next CONFIG DOMAIN HINT NOW = LINES`: the next poll after these lines, and whether one is
 //!   due,
 //! - `fuse CONFIG READS = LINES`: the lines from a source that fails,
 //! - `log CONFIG`, `record DOMAIN OUTCOME MOMENT`, `recorded DOMAIN HINT NOW`: a log of polls,

@@ -46,7 +46,7 @@ fn two_replicas<C: Closure>(alloc: Global, config: &Config) -> Result<Pair<C>, A
     Ok(Pair { here, beside })
 }
 
-/// Makes a replica of the configuration of that name, behind the word that says over which
+/// Makes a replica of the configuration of that name, after the word that says over which
 /// closures, which is here from now on.
 pub(crate) fn make<C: Closure>(
     alloc: Global,

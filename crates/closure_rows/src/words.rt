@@ -4,7 +4,7 @@ use jiff::Timestamp;
 use jwk_set::KeyId;
 use row_script::Script;
 
-/// The text before the first space and the one behind it, or all of it and nothing.
+/// The text before the first space and the one after it, or all of it and nothing.
 pub(crate) fn first_word(words: &str) -> (&str, &str) {
     words.split_once(' ').unwrap_or((words, ""))
 }

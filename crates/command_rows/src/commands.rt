@@ -26,7 +26,7 @@ use std::alloc::Global;
 pub(crate) struct Case<'a> {
     pub(crate) alloc: Global,
     pub(crate) script: &'a Script,
-    /// The words of the command line, each behind a zero byte.
+    /// The words of the command line, each after a zero byte.
     pub(crate) words: &'a str,
     /// The bytes of standard input, or what the other replica of a session sends.
     pub(crate) input: &'a [u8],
@@ -41,7 +41,7 @@ impl Case<'_> {
     }
 }
 
-/// A subcommand, and the texts of its options behind those of the configuration and the state.
+/// A subcommand, and the texts of its options after those of the configuration and the state.
 #[derive(Clone, Copy)]
 struct Asked<'a> {
     name: CommandName,

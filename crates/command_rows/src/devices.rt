@@ -14,7 +14,7 @@ const MAX_LINES_BYTES: usize = 4_000;
 pub(crate) struct Limits {
     /// The input comes in pieces of this many bytes.
     pub(crate) piece: usize,
-    /// The input fails behind this many reads.
+    /// The input fails after this many reads.
     pub(crate) reads: u64,
     /// The bytes that fit where a command writes, and a session where it sends.
     pub(crate) room: usize,
@@ -100,7 +100,7 @@ fn show_failure(label: &str, has_failed: bool, answer: &mut String) -> Result<()
     Ok(())
 }
 
-/// Appends the lines of a text, each behind the label, or a line of a text that is too long for
+/// Appends the lines of a text, each after the label, or a line of a text that is too long for
 /// that.
 fn show_text(
     script: &Script,

@@ -12,7 +12,7 @@ use trust_closure::{IndexedClosure, PlainClosure};
 pub(crate) enum Trial {
     /// The output, or what a session sends, has room for this many bytes.
     Full,
-    /// The input fails behind this many reads of 100 bytes.
+    /// The input fails after this many reads of 100 bytes.
     Broken,
     /// Complaints have room for this many bytes.
     Untold,

@@ -5,7 +5,7 @@ use row_script::{Row, Script};
 use std::alloc::{AllocError, Global};
 use std::str;
 
-/// The words of a row's head, each behind a zero byte. In a word `$` and a name stand for the text
+/// The words of a row's head, each after a zero byte. In a word `$` and a name stand for the text
 /// of this name.
 pub(crate) fn head_words(alloc: Global, script: &Script, head: &str) -> Result<String, AllocError> {
     let mut words = String::new(alloc);
@@ -23,7 +23,7 @@ fn push_word(script: &Script, word: &str, words: &mut String) -> Result<(), Allo
     words.push_str("\0")
 }
 
-/// The words behind which zero bytes stand.
+/// The words after which zero bytes stand.
 pub(crate) fn split_words<'a>(alloc: Global, words: &'a str) -> Result<Vec<&'a str>, AllocError> {
     words
         .split_terminator('\0')

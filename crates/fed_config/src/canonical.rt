@@ -54,7 +54,7 @@ fn text_of(
     Ok(out)
 }
 
-/// Writes the relationships, and the bracket behind them.
+/// Writes the relationships, and the bracket after them.
 fn write_relationships(
     alloc: Global,
     out: &mut Vec<u8>,
@@ -73,7 +73,7 @@ fn write_relationships(
     Ok(())
 }
 
-/// Writes the seeds, and the bracket behind them.
+/// Writes the seeds, and the bracket after them.
 fn write_seeds(alloc: Global, out: &mut Vec<u8>, seeds: &[Seed]) -> Result<(), AllocError>
     ensures { OnOk result (out.new.items
         ≡ out.old.items ++ items_text false (items_of (map seed_tree seeds.now))) }

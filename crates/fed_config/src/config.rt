@@ -10,7 +10,7 @@ use spiffe_name::TrustDomain;
 use std::alloc::{AllocError, Global};
 use std::marker::Model;
 
-/// What an operator tells a replica out of band (SPIFFE Federation, section 5): at most one
+/// What an operator says to a replica out of band (SPIFFE Federation, section 5): at most one
 /// relationship with each foreign trust domain, and seeds, which are bundles of trust domains.
 ///
 /// A configuration is its meaning: two of them are equal exactly where they have the same

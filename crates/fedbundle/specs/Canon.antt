@@ -55,7 +55,7 @@ pub record RefusesCanon (before after held holds : Option (List ℕ))
   pub cause : RefusesBytes bytes why
   pub unwritten : holds ≡ held
 
--- The bytes read are a document, and the sink failed behind a beginning of its text.
+-- The bytes read are a document, and the sink failed after a beginning of its text.
 pub record CutsCanon (before after : Option (List ℕ)) (domain : List ℕ)
     (held holds : Option (List ℕ)) : Type 0 where
   pub bytes : List ℕ

@@ -31,7 +31,7 @@ pub record Explains (before after : Option (List ℕ)) (m : Meaning) (domain : L
   pub is : IsDocument bytes document
   pub prints : PrintsChain m (document_of domain document) held holds accepted
 
--- The bytes read are a document that is accepted, and the sink failed behind a beginning of the
+-- The bytes read are a document that is accepted, and the sink failed after a beginning of the
 -- lines.
 pub record CutsExplanation (before after : Option (List ℕ)) (m : Meaning) (domain : List ℕ)
     (held holds : Option (List ℕ)) : Type 0 where

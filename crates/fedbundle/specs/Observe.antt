@@ -26,7 +26,7 @@ pub record PrintsObservation (before after : Option (List ℕ)) (domain : List �
   pub observes : Observes before after domain verdict old new receipt
   pub written : Appends held holds (line receipt ++ 10 ∷ [])
 
--- They were, and the sink failed behind a beginning of the line.
+-- They were, and the sink failed after a beginning of the line.
 pub record CutsObservation (before after : Option (List ℕ)) (domain : List ℕ) (verdict : Verdict)
     (old new : Meaning) (held holds : Option (List ℕ)) : Type 0 where
   pub receipt : Receipt

@@ -93,7 +93,7 @@ pub record RefusesLines (before : Option (List ℕ)) (m : Meaning) (held holds :
   pub fault : why ≡ SourceFailed → source_failed ≡ true
   pub unwritten : holds ≡ held
 
--- The lines read have a log, and the sink failed behind a beginning of its text.
+-- The lines read have a log, and the sink failed after a beginning of its text.
 pub record CutsPolls (before : Option (List ℕ)) (m : Meaning) (now : ℤ)
     (held holds : Option (List ℕ)) : Type 0 where
   pub log : List Standing

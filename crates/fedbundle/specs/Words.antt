@@ -66,7 +66,7 @@ leaf name = fold with_option (new_app (name_text name)) (options_of name)
 abbrev pub with_name : App → CommandName → App
 with_name app name = with_subcommand app (leaf name).top
 
--- the command before it has its subcommands: its words begin behind the program's name, and it has
+-- the command before it has its subcommands: its words begin after the program's name, and it has
 -- a version
 abbrev pub bare_app : App
 bare_app = let app = new_app (codes "fedbundle") in record app

@@ -56,7 +56,7 @@ pub(crate) static COMMANDS: [CommandName; 10] = [
 ];
 
 impl OptionName {
-    /// The option's name, which its word has behind two hyphens.
+    /// The option's name, which its word has after two hyphens.
     pub fn text<'a>(self) -> &'a str
         ensures { result.now ≡ option_text self }
     {

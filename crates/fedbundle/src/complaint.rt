@@ -22,7 +22,7 @@ pub(crate) enum LineFault {
     Cut,
 }
 
-/// Writes the line that tells of a fault, as `line 2: not canonical`. It takes no memory.
+/// Writes the line that reports a fault, as `line 2: not canonical`. It takes no memory.
 ///
 /// # Errors
 /// The sink failed, and holds a beginning of the line.

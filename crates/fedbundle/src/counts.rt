@@ -1,4 +1,4 @@
-//! Lines that tell a number.
+//! Lines that say a number.
 ghost use Rattle.std.specs.Prelude.{◌≡◌, true, IsErr, OnOk};
 ghost use Rattle.std.specs.Io.KnownBytes.{Appends};
 ghost use Rattle.byte_lines.specs.Device.{AppendsBeginning};

@@ -1,4 +1,4 @@
-//! The line on standard error that tells of a refusal.
+//! The line on standard error that reports a refusal.
 ghost use Rattle.std.specs.Prelude.{◌≡◌, ◌≤◌, true, OnOk, IfErr, IsErr};
 ghost use Rattle.fedbundle.specs.Fault.{AppendsFault, BeginsFault, fault_line};
 ghost use Rattle.fedbundle.specs.declared.error.CommandError.TheVariants.{Io};

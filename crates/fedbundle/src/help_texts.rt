@@ -4,7 +4,7 @@ use crate::command_name::{CommandName, OptionName};
 /// The command's usage.
 pub(crate) const USAGE: &str = "fedbundle <COMMAND>";
 
-/// What help says behind the list of subcommands.
+/// What help says after the list of subcommands.
 pub(crate) const NOTES: &str = "\
 `fedbundle <COMMAND> --help` says what a subcommand reads, what it writes, and how it ends.
 
@@ -224,7 +224,7 @@ impl CommandName {
         }
     }
 
-    /// What help says behind the subcommand's options: what it reads and writes, and how it ends.
+    /// What help says after the subcommand's options: what it reads and writes, and how it ends.
     pub(crate) fn notes<'a>(self) -> &'a str {
         match self {
             CommandName::Canon => CANON_NOTES,

@@ -17,7 +17,7 @@ use std::alloc::Global;
 /// from the source.
 ///
 /// # Errors
-/// `Pull`, as [`pull`] tells it: what the answers before the fault have is held, and nothing was
+/// `Pull`, as [`pull`] reports it: what the answers before the fault have is held, and nothing was
 /// written to the sink. `Io` where the sink failed: then all is held, and a beginning of the line
 /// was written.
 pub fn run_pull<C: Closure, R: Source, P: Sink, W: Sink>(

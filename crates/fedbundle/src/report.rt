@@ -17,9 +17,9 @@ use trust_closure::IndexedClosure;
 
 /// Takes every receipt of the source's lines that fits the configuration, and then writes the
 /// report of what is accepted with these receipts and no record of distrust
-/// (`bundle_view::write_report`). Of each other line it tells on `complaints` by a line of its own,
-/// as `line 2: not canonical`, in order and as they come; lines are counted from 1. Answers how
-/// many it told of.
+/// (`bundle_view::write_report`). Of each other line it reports on `complaints` by a line of its
+/// own, as `line 2: not canonical`, in order and as they come; lines are counted from 1. Returns
+/// how many it reported.
 ///
 /// | After the number | What stands in the stream |
 /// |---|---|
@@ -36,11 +36,11 @@ use trust_closure::IndexedClosure;
 ///
 /// # Errors
 /// After each the source may have been read in part, and `complaints` holds a beginning of what
-/// there was to tell.
+/// there was to report.
 /// - [`RunError::Full`]: more than 65,536 different receipts fit. Nothing was written on `sink`.
 /// - [`RunError::NoMemory`]: memory ran out. Nothing was written on `sink`.
 /// - [`RunError::Io`]: the source or `complaints` failed, and nothing was written on `sink`; or
-///   `sink` failed behind a beginning of the report.
+///   `sink` failed after a beginning of the report.
 pub fn run_report<R: Source, W: Sink, E: Sink>(
     alloc: Global,
     config: &Config,

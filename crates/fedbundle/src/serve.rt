@@ -17,8 +17,8 @@ use std::alloc::Global;
 /// a question would begin. Answers how many there were.
 ///
 /// # Errors
-/// `Sync`, as [`serve_one`] tells it. The questions before the fault are answered, and nothing else
-/// is written; where the sink failed or memory ran out, a beginning of that.
+/// `Sync`, as [`serve_one`] reports it. The questions before the fault are answered, and nothing
+/// else is written; where the sink failed or memory ran out, a beginning of that.
 pub fn run_serve<C: Closure, R: Source, W: Sink>(
     alloc: Global,
     closure: &C,

@@ -16,7 +16,7 @@ use std::{fs, io};
 const BUFFER_BYTES: usize = 65_536;
 
 /// Keeps other commands that write the same state file waiting, until it is dropped or the process
-/// ends. It is an exclusive lock of the file named like the state file with `.lock` behind it,
+/// ends. It is an exclusive lock of the file named like the state file with `.lock` after it,
 /// which stays where it is.
 #[derive(Drop)]
 pub struct StateLock {
@@ -60,11 +60,11 @@ pub fn load_state<C: Closure, R: Files>(
     }
 }
 
-/// Writes the closure's snapshot to the file named like the state file with `.new` behind it, has
+/// Writes the closure's snapshot to the file named like the state file with `.new` after it, has
 /// the system write that to the disk, gives it the state file's name, and has the system write the
 /// folder. So where a rename is one step, the state file is as it was or as it is to be, at any
 /// fault and wherever the process is killed. No clause says this: it is shown by refusing each call
-/// of the system, and by killing the program before and behind each.
+/// of the system, and by killing the program before and after each.
 ///
 /// # Errors
 /// - [`SyncError::Io`]: the system refused a step,
@@ -87,7 +87,7 @@ pub fn save_state<C: Closure, R: Files>(
     sync_folder(files, path)
 }
 
-// The file behind the buffer, once the buffer has given it all.
+// The file under the buffer, once the buffer has given it all.
 fn flushed<W: io::Write + Drop>(mut sink: FromWrite<BufWriter<W>>) -> Result<W, SyncError> {
     if sink.flush().is_err() {
         return Err(SyncError::Io);

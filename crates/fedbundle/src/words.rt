@@ -29,7 +29,7 @@ pub enum WordsError {
     NoMemory,
 }
 
-/// Reads the words behind the program's name, as `clap` reads them for the command with these
+/// Reads the words after the program's name, as `clap` reads them for the command with these
 /// subcommands, each of whose options has one text: the subcommand, and the text of each of its
 /// options, all of which it wants.
 ///

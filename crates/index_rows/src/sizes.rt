@@ -72,7 +72,7 @@ impl Sizes {
 }
 
 /// Inserts the numbers up to a `/` in turn, tells the different ones in both orders, and which of
-/// the numbers behind it are there.
+/// the numbers after it are there.
 pub(crate) fn insert(alloc: Global, words: &str, answer: &mut String) -> Result<(), AllocError> {
     let (numbers, sought) = words.split_once(" / ").unwrap_or((words, ""));
     let mut sizes = Sizes {

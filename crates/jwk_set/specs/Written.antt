@@ -9,7 +9,7 @@ use Rattle.jwk_set.specs.declared.authority.PublicKey.TheVariants.{Rsa, Ec}
 use Rattle.jwk_set.specs.declared.authority.Authority.{Authority}
 use Rattle.jwk_set.specs.declared.authority.Authority.TheVariants.{X509, Jwt}
 
--- these tokens come behind the old ones, in a text that began empty
+-- these tokens come after the old ones, in a text that began empty
 pub record AppendsTokens (old new : Written) (added : List Token) : Type 0 where
   pub before : new.before ≡ old.before
   pub tokens : new.tokens ≡ old.tokens ++ added

@@ -14,7 +14,7 @@ use std::marker::Model;
 
 /// A text in the form of base64url without padding, as `n`, `e`, `x` and `y` are written (RFC 7518,
 /// sections 6.2.1 and 6.3.1; RFC 4648, section 5): some letters, digits, hyphens and low lines, in
-/// such a number that no symbol is left over behind the groups of four. It is kept as it was
+/// such a number that no symbol is left over after the groups of four. It is kept as it was
 /// written, and nothing is decoded, so texts are equal exactly when their bytes are.
 #[derive(Debug, Drop)]
 pub struct UrlText {

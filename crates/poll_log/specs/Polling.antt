@@ -84,7 +84,7 @@ pub record IsLog (log : List Standing) : Type 0 where
   pub polls : List Poll
   pub is : log ≡ log_of domains polls
 
--- the log of any polls became that of the same polls with one more behind them
+-- the log of any polls became that of the same polls with one more after them
 abbrev pub RecordsPoll : List Standing → Poll → List Standing → Type 0
 RecordsPoll old p new = (domains : List (List ℕ)) (polls : List Poll) → old ≡ log_of domains polls
     → new ≡ log_of domains (polls ++ p ∷ [])

@@ -1,4 +1,4 @@
-//! Why a poll is not recorded, or not told.
+//! Why a poll is not recorded, or not given.
 ghost use Rattle.std.specs.Prelude.{◌≡◌};
 ghost use Rattle.poll_log.specs.declared.error.PollError.TheVariants.{NoMemory};
 
@@ -6,7 +6,7 @@ use byte_lines::DeviceError;
 use std::alloc::AllocError;
 use thiserror::Error;
 
-/// Why a poll is not recorded, or not told. Lines are counted from 1.
+/// Why a poll is not recorded, or not given. Lines are counted from 1.
 #[derive(Clone, Copy, Debug, PartialEq, Eq, Error)]
 pub enum PollError {
     /// The configuration has no relationship with the domain.

@@ -92,7 +92,7 @@ fn read_parts(log: &PollLog, text: &[u8]) -> Option<Parts>
     Some(Parts { place, ok, seconds })
 }
 
-/// What stands before the first space, and what stands behind it.
+/// What stands before the first space, and what stands after it.
 fn first_word(text: &[u8]) -> Option<(&[u8], &[u8])>
     ensures { MatchOption result (AllPass is_no_space text.now)
         (λ words. IsWord text.now words.0.now words.1.now) }
@@ -108,7 +108,7 @@ fn first_space(text: &[u8]) -> Option<usize>
     text.iter().position(|byte| *byte == b' ')
 }
 
-/// Whether the poll succeeded, and what stands behind the space that follows.
+/// Whether the poll succeeded, and what stands after the space that follows.
 fn read_outcome(text: &[u8]) -> Option<(bool, &[u8])>
     ensures { MatchOption result
         ((ok : Bool) (rest : List ℕ) → text.now ≡ outcome_text ok ++ (codes " " ++ rest) → ⊥)

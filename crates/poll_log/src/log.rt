@@ -47,7 +47,7 @@ impl PollLog {
             (λ e. (e ≡ PollError.NoMemory) × (0 < length config.now.relationships)) }
         ensures form { IsConfiguration config.now }
     {
-        // It tells that the relationships rise.
+        // It says that the relationships rise.
         let _ = config.domains();
         Ok(PollLog {
             standings: never_polled(alloc, config.relationships())?,

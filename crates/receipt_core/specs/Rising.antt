@@ -3,7 +3,7 @@ use Rattle.std.specs.Prelude.{List, [], ◌∷◌, fold}
 use Rattle.std.specs.declared.cmp.Ordering.{Ordering}
 use Rattle.std.specs.declared.cmp.Ordering.TheVariants.{Less, Equal, Greater}
 
--- the head goes before the rest, is the same as the rest's head, or goes behind it
+-- the head goes before the rest, is the same as the rest's head, or goes after it
 abbrev pub placed : {A : Type 0} → Ordering → A → A → List A → List A → List A
 placed Less item head rest longer = item ∷ head ∷ rest
 placed Equal item head rest longer = head ∷ rest

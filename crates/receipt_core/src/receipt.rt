@@ -220,7 +220,7 @@ impl Receipt {
         })
     }
 
-    // The order of the parts behind the document.
+    // The order of the parts after the document.
     fn cmp_behind_document(&self, other: &Receipt) -> Ordering
         ensures { result ≡ rest_cmp self.now other.now }
     {

@@ -130,7 +130,7 @@ pub(crate) fn read_reader(
     tell_rest(alloc, script, &mut source, answer)
 }
 
-/// Tells what a source over a reader of std gives up to a limit that fails behind these bytes, and
+/// Tells what a source over a reader of std gives up to a limit that fails after these bytes, and
 /// then.
 pub(crate) fn read_broken(
     alloc: Global,

@@ -43,7 +43,7 @@ of_records records = map Record records
 abbrev pub of_receipts : List Receipt → List Entry
 of_receipts receipts = map AReceipt receipts
 
--- what the lines behind the first one say: the records, and then the receipts
+-- what the lines after the first one say: the records, and then the receipts
 abbrev pub entries_of : State → List Entry
 entries_of content = of_records content.records ++ of_receipts content.held
 

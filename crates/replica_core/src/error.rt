@@ -27,7 +27,7 @@ pub enum SyncError {
     /// The line is not greater than the one before it.
     #[error("S5 NotRising line {0}")]
     NotRising(u64),
-    /// The count line does not tell how many lines there were.
+    /// The count line does not say how many lines there were.
     #[error("S6 BadCount")]
     BadCount,
     /// The input ends before it is complete.

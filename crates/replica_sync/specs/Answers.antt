@@ -66,7 +66,7 @@ pub record AnswerBegins (expected : Option Expected) (stream : Option (List ℕ)
   pub begun : IsBegun count distrusts content
   pub text : Consumes stream left (ended first ++ text_of_lines (content_lines content))
 
--- which line is wanted behind so much of an answer that is not whole
+-- which line is wanted after so much of an answer that is not whole
 abbrev pub Wants : ℕ → ℕ → State → Wanted → Type 0
 Wants count distrusts content Records = length content.records < distrusts
 Wants count distrusts content Receipts = (length content.records ≡ distrusts)
@@ -93,7 +93,7 @@ pub record HasNoNext (count distrusts : ℕ) (content : State) (left : Option (L
   pub wants : Wants count distrusts content wanted
   pub ends : HasNoLine left
 
--- why the line that is wanted behind so much of an answer is not read
+-- why the line that is wanted after so much of an answer is not read
 abbrev pub RefusesNextEntry : (Wanted → List ℕ → List ℕ → SyncError → Type 0) → ℕ → ℕ → State
     → Option (List ℕ) → Option (List ℕ) → SyncError → Type 0
 RefusesNextEntry refuses count distrusts content left after BadHeader = ⊥
@@ -133,7 +133,7 @@ abbrev pub refused_text : State → Wanted → List ℕ → List ℕ → SyncErr
 refused_text content wanted last text e = RefusesEntryText wanted last (next_entry_number 1 content)
     text e
 
--- A good beginning, and behind it this fault.
+-- A good beginning, and after it this fault.
 pub record AnswerFailsBehind (old new : Option (List ℕ)) (e : SyncError) : Type 0 where
   pub count : ℕ
   pub distrusts : ℕ

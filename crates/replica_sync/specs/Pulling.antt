@@ -60,7 +60,7 @@ abbrev pub refused_line : Configuration → State → ℕ → State → Wanted �
 refused_line config state first content wanted last text e = RefusesEntryLine wanted
     (meaning_of_state config (joined state content)) last (next_entry_number first content) text e
 
--- A good beginning of the answer, and behind it this fault.
+-- A good beginning of the answer, and after it this fault.
 pub record FailsWithin (config : Configuration) (state : State) (bucket first : ℕ) (content : State)
     (left : Option (List ℕ)) (e : SyncError) : Type 0 where
   pub count : ℕ

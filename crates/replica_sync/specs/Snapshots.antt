@@ -161,7 +161,7 @@ RefusesFirst config stream (Refused n why) = ⊥
 RefusesFirst config stream Io = Unit {0}
 RefusesFirst config stream NoMemory = Unit {0}
 
--- ---- what is refused: a line behind a good beginning
+-- ---- what is refused: a line after a good beginning
 
 -- in the first format a record's line is none
 abbrev pub wanted_of : Format → Wanted
@@ -238,7 +238,7 @@ RefusesNext format m left NoMemory = Unit {0}
 
 -- ---- the first fault
 
--- A good beginning, and behind it this fault.
+-- A good beginning, and after it this fault.
 pub record HasFaultBehind (config : Configuration) (stream : Option (List ℕ))
     (e : SyncError) : Type 0 where
   pub format : Format

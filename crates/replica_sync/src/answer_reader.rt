@@ -79,7 +79,7 @@ fn give_of(head: &Head, content: Content) -> Give
     )
 }
 
-// Reads the lines behind the first.
+// Reads the lines after the first.
 fn read_content<R: Source>(
     alloc: Global,
     head: &Head,
@@ -144,7 +144,7 @@ fn read_next<R: Source>(
     }
 }
 
-// Which line should stand behind what was read, where that is not all.
+// Which line should stand after what was read, where that is not all.
 fn next_wanted(head: &Head, content: &Content) -> Option<Wanted>
     requires { IsBegun head.now.count head.now.distrusts (answer_content content.now) }
     ensures { MatchOption result
@@ -160,7 +160,7 @@ fn next_wanted(head: &Head, content: &Content) -> Option<Wanted>
     None
 }
 
-// The number of the line behind what was read. There is no memory for so many that it has more than
+// The number of the line after what was read. There is no memory for so many that it has more than
 // 64 bits.
 fn number_behind(content: &Content) -> Result<u64, AllocError>
     ensures { IfOk result (λ number. number ≡ next_entry_number 1 (answer_content content.now)) }

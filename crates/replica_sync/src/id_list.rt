@@ -11,7 +11,7 @@ use crate::scanner::{behind, digest_behind};
 use receipt_core::ReceiptId;
 use std::alloc::{AllocError, Global};
 
-/// What stands behind the label and before the first closing bracket, and what begins with that.
+/// What stands after the label and before the first closing bracket, and what begins with that.
 pub(crate) fn list_behind<'a>(text: &'a [u8], label: &[u8]) -> (&'a [u8], &'a [u8])
     ensures { (inside rest : List ℕ) → AllPass is_inside inside
         → text.now ≡ label.now ++ (inside ++ (93 ∷ rest))
@@ -49,7 +49,7 @@ pub(crate) fn read_ids(alloc: Global, text: &[u8]) -> Result<Vec<ReceiptId>, All
     }
 }
 
-// The first id, and what stands behind it and its comma.
+// The first id, and what stands after it and its comma.
 fn take_id(text: &[u8]) -> Option<(ReceiptId, &[u8])>
     ensures same { (ids : List (List ℕ)) → AllByRecursion IsDigest ids
         → text.now ≡ join_by quoted (codes ",") ids → TakesId ids result }

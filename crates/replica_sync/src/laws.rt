@@ -69,7 +69,7 @@ pub fn answers()
 /// determined by the bytes that are read. Only a device that fails, lack of memory, or a line whose
 /// receipt or record the replica cannot hold, ends it otherwise.
 ///
-/// - `served`: a stream that is wholly questions of the configuration has no fault, behind
+/// - `served`: a stream that is wholly questions of the configuration has no fault, after
 ///   whichever of them.
 /// - `served_once`: it is this many questions, and no other number of them.
 /// - `pulled`: a stream that begins with answers about all buckets has no fault in them, but that

@@ -32,10 +32,10 @@ pub struct PullFault {
 ///
 /// Each question has the ids that are held when it is asked. It is written whole before its answer
 /// is read, and what follows the last answer is not taken. Beside what is held, memory is taken for
-/// one question and for a few lines, and never by a number that the other side tells.
+/// one question and for a few lines, and never by a number that the other side says.
 ///
 /// # Errors
-/// What the lines before the fault say stays held, and [`PullFault::taken`] tells how many receipts
+/// What the lines before the fault say stays held, and [`PullFault::taken`] says how many receipts
 /// of it were new. Of several faults the one that comes first in the answers' bytes:
 /// - [`SyncError::Truncated`]: the source ends before the last answer does,
 /// - [`SyncError::BadHeader`]: an answer's first line is none, of whatever format and number of

@@ -11,8 +11,8 @@ use replica_core::{Have, SyncError};
 use std::alloc::{AllocError, Global};
 
 /// Writes the question: one line of compact JSON with the members `bucket`, `config`, `format`,
-/// which is 2, `have`, the ids as lower-case hexadecimal, and `of`, which is 256. All memory is had
-/// before the first byte is written.
+/// which is 2, `have`, the ids as lower-case hexadecimal, and `of`, which is 256. All memory is
+/// taken before the first byte is written.
 ///
 /// # Errors
 /// - [`SyncError::Io`]: the sink failed, and holds a beginning of the question.

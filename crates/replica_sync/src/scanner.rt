@@ -27,7 +27,7 @@ pub(crate) fn behind<'a>(text: &'a [u8], label: &[u8]) -> &'a [u8]
     }
 }
 
-/// The number behind the label, and what follows its digits.
+/// The number after the label, and what follows its digits.
 pub(crate) fn number_behind<'a>(text: &'a [u8], label: &[u8]) -> (u64, &'a [u8])
     ensures few { result.0 < 2 ^ 64 }
     ensures right { (n stop : ℕ) (more : List ℕ) → n < 2 ^ 64 → is_ascii_digit stop ≡ false
@@ -38,7 +38,7 @@ pub(crate) fn number_behind<'a>(text: &'a [u8], label: &[u8]) -> (u64, &'a [u8])
     (number_of(digits), rest)
 }
 
-/// The digest behind the label, and what follows its digits.
+/// The digest after the label, and what follows its digits.
 pub(crate) fn digest_behind<'a>(text: &'a [u8], label: &[u8]) -> ([u8; 32], &'a [u8])
     ensures { (digest rest : List ℕ) → IsDigest digest
         → text.now ≡ label.now ++ (encode_lower digest ++ rest)

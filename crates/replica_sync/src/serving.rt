@@ -49,7 +49,7 @@ pub fn serve_one<C: Closure, R: Source, W: Sink>(
     Ok(count)
 }
 
-// Answers the next question, and tells whether there was one.
+// Answers the next question, and returns whether there was one.
 fn serve_next<C: Closure, R: Source, W: Sink>(
     alloc: Global,
     closure: &C,

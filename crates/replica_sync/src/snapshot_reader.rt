@@ -22,7 +22,7 @@ use std::alloc::{AllocError, Global};
 
 /// Reads a snapshot of this configuration: a first line, the lines of records of distrust and of
 /// receipts, rising, and a last line with their numbers, each ended by a line feed (byte 10), and
-/// nothing behind them. The second format is read, which [`write_snapshot`](crate::write_snapshot)
+/// nothing after them. The second format is read, which [`write_snapshot`](crate::write_snapshot)
 /// writes, and the first, which has receipts alone. The closure then holds exactly what the lines
 /// say.
 ///
@@ -38,7 +38,7 @@ use std::alloc::{AllocError, Global};
 ///   first format, or has more than 8,388,608 bytes, or something follows the last line,
 /// - [`SyncError::NotRising`]: a line is not greater than the one before,
 /// - [`SyncError::Refused`]: a receipt or a record is not of the configuration, or is one too many,
-/// - [`SyncError::BadCount`]: a line begins as the last one, and tells other numbers,
+/// - [`SyncError::BadCount`]: a line begins as the last one, and says other numbers,
 /// - [`SyncError::Io`]: the source failed,
 /// - [`SyncError::NoMemory`]: memory ran out.
 pub fn read_snapshot<C: Closure, R: Source>(
@@ -123,7 +123,7 @@ fn read_next<C: Closure, R: Source>(
 }
 
 // Takes what the line with this number says, where `last` is the one before, or compares the
-// numbers that it tells. Answers whether it was not the last one.
+// numbers that it says. Returns whether it was not the last one.
 fn judge<C: Closure>(
     alloc: Global,
     format: Format,
@@ -163,7 +163,7 @@ fn judge<C: Closure>(
     Ok(true)
 }
 
-// Whether the line tells these numbers.
+// Whether the line says these numbers.
 fn tells(
     alloc: Global,
     format: Format,

@@ -14,7 +14,7 @@ use closure_core::Closure;
 use replica_core::SyncError;
 use std::alloc::Global;
 
-/// How far the answers of a session were read: how many lines, and the last one of those behind the
+/// How far the answers of a session were read: how many lines, and the last one of those after the
 /// first line of the answer, which is empty where there is none.
 #[derive(Drop)]
 pub(crate) struct Place {
@@ -54,7 +54,7 @@ pub(crate) fn take_answer<C: Closure, R: Source>(
     take_lines(alloc, closure, told, place, lines, source)
 }
 
-// Takes as many records and receipts as the first line tells.
+// Takes as many records and receipts as the first line says.
 fn take_lines<C: Closure, R: Source>(
     alloc: Global,
     closure: &mut C,
@@ -137,7 +137,7 @@ fn take_next<C: Closure, R: Source>(
     }
 }
 
-// Takes what the line says. Memory to keep it is had first, so that nothing is taken without it.
+// Takes what the line says. Memory to keep it is taken first, so that nothing is taken without it.
 fn take_text<C: Closure>(
     alloc: Global,
     closure: &mut C,

@@ -15,7 +15,7 @@
 //! | `${lf}` | a line feed |
 //!
 //! [`run`] reads a script from standard input and prints a block for each row: its line, and what
-//! came of it, each line of that behind two spaces.
+//! came of it, each line of that after two spaces.
 #![tactic(auto)]
 
 mod answers;

@@ -58,7 +58,7 @@ fn take_row<R: Print + AllocGlobal, P: Rows>(
     }
 }
 
-/// Prints a row's line, and behind two spaces each line of what came of it.
+/// Prints a row's line, and after two spaces each line of what came of it.
 ///
 /// # Errors
 /// Standard output failed.

@@ -22,7 +22,7 @@ pub struct Row<'a> {
     pub line: &'a str,
     /// The first word of its head.
     pub verb: &'a str,
-    /// The rest of its head, behind the first space.
+    /// The rest of its head, after the first space.
     pub words: &'a str,
     /// What its template stands for, or nothing where it has none.
     pub text: Vec<u8>,
@@ -106,7 +106,7 @@ fn split_line(line: &str) -> (&str, &str) {
     }
 }
 
-// The first word, and what stands behind the space after it.
+// The first word, and what stands after the space after it.
 fn split_word(head: &str) -> (&str, &str) {
     head.split_once(' ').unwrap_or((head, ""))
 }

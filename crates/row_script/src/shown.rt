@@ -7,7 +7,7 @@ use std::alloc::{AllocError, Global};
 const MAX_SHOWN_BYTES: usize = 200;
 
 impl Script {
-    /// Appends a text as it is shown on one line, without a line feed behind it: up to 200 bytes
+    /// Appends a text as it is shown on one line, without a line feed after it: up to 200 bytes
     /// byte by byte, and else as `${NAME}`, where a line of the script gave this text a name, or as
     /// its length and its SHA-256.
     ///
@@ -26,7 +26,7 @@ impl Script {
         }
     }
 
-    /// Appends the lines of a text, each as [`Script::show`] shows it, and a line feed behind each.
+    /// Appends the lines of a text, each as [`Script::show`] shows it, and a line feed after each.
     /// Where the text does not end with a line feed, a line more says so. An empty text has no
     /// lines.
     ///

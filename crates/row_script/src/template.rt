@@ -25,7 +25,7 @@ impl Script {
         Ok(())
     }
 
-    // Appends what stands behind a `${`, up to the next one.
+    // Appends what stands after a `${`, up to the next one.
     fn append_call(&self, piece: &str, text: &mut Vec<u8>) -> Result<(), ScriptError> {
         let Some((call, literal)) = piece.split_once('}') else {
             return Err(ScriptError::BadTemplate);

@@ -25,7 +25,7 @@ const MOST_NUMBERS: usize = 4_294_967_040;
 /// place is found by passing over the sums of the groups before it, at most one for each 16,000
 /// numbers and one more, and over the lengths of at most 64 blocks. An insertion looks at those,
 /// raises one sum, and moves at most 2 KiB of numbers. Where it finds a full block, at most once in
-/// 256 insertions on average, it cuts that into halves, moves the directory's entries behind it and
+/// 256 insertions on average, it cuts that into halves, moves the directory's entries after it and
 /// makes all sums anew.
 #[derive(Drop)]
 pub struct Order {

@@ -26,7 +26,7 @@ pub record IsSegment (segment : List ℕ) : Type 0 where
   pub bytes : AllPass is_segment_byte segment
   pub named : is_empty_or_modifier segment ≡ false
 
--- each segment behind a slash
+-- each segment after a slash
 abbrev pub path_of_segments : List (List ℕ) → List ℕ
 path_of_segments segments = flat_map (λ segment. 47 ∷ segment) segments
 

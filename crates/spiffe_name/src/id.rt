@@ -25,8 +25,8 @@ use std::marker::Model;
 /// The most bytes that a SPIFFE ID has (SPIFFE-ID, section 2.3).
 pub const MAX_ID_BYTES: usize = 2048;
 
-/// A SPIFFE ID (SPIFFE-ID, section 2): behind `spiffe://` stands the name of a trust domain, and
-/// behind that a path, if any, in which each slash opens a segment. The whole has no more than
+/// A SPIFFE ID (SPIFFE-ID, section 2): after `spiffe://` stands the name of a trust domain, and
+/// after that a path, if any, in which each slash opens a segment. The whole has no more than
 /// 2,048 bytes. Segments consist of letters, digits, full stops, hyphens and low lines; the empty
 /// one and the relative ones `.` and `..` don't occur.
 ///
@@ -94,7 +94,7 @@ impl SpiffeId {
         &self.domain
     }
 
-    /// Its path: empty, or from the slash behind the trust domain name on.
+    /// Its path: empty, or from the slash after the trust domain name on.
     pub fn path(&self) -> &str
         ensures { result.now ≡ self.now.path }
     {

@@ -21,7 +21,7 @@ use Rattle.closure_core.specs.Inside.Flags.{raised_count}
 use Rattle.trust_closure.specs.Held.{Hoard, meaning_of}
 use Rattle.trust_closure.specs.Indexed.{IsBefore}
 use Rattle.trust_closure.specs.Pairs.{Paired, IsPairing, no_pair}
-use Rattle.trust_closure.specs.Plain.{AreSound, AreReleased, IsHadNode, IsFirstHad, IsSet, HasPlainFlags, IsRoomierPaired}
+use Rattle.trust_closure.specs.Plain.{AreSound, AreReleased, IsAcceptedNode, IsFirstAccepted, IsSet, HasPlainFlags, IsRoomierPaired}
 use Rattle.trust_closure.proofs.Bridge.{pair-of_receipt_node}
 use Rattle.closure_core.proofs.FlagFacts.{gain-from_flags, count-fewer}
 use Rattle.trust_closure.proofs.IndexFacts.{pairing-counts, same-more, pairs-push, with_arrival, hoard-before, with_mistrust, distrust-sets, always-all}
@@ -55,7 +55,7 @@ module _ (h new : Hoard) (p q : Paired) (offers : List Triple) (released others 
     (i : HasPlainFlags h p offers released) (j : HasPlainFlags new q offers others)
     (firsts : (node number : ℕ) → slice_get p.firsts node ≡ Some number → slice_get q.firsts node ≡ Some number)
     (sizes : length p.counts ≤ length q.counts) where
-  had-carry : (node : ℕ) → IsHadNode (length h.config.seeds) released node → IsHadNode (length new.config.seeds) others node
+  had-carry : (node : ℕ) → IsAcceptedNode (length h.config.seeds) released node → IsAcceptedNode (length new.config.seeds) others node
   had-carry node had = elim had [
     | inl l ↦ inl (subst (λ (c : Configuration). node < length c.seeds) config l)
     | inr f ↦
@@ -105,7 +105,7 @@ module _ (h new : Hoard) (p q : Paired) (offers : List Triple) (released others 
 pub settled-from : (h : Hoard) (p q : Paired) (offers : List Triple) (old released : List Bool) → IsSet h p offers old
     → length released ≡ length old → AreReleased (meaning_of h) h.arrived released
     → q.numbers ≡ p.numbers → q.firsts ≡ p.firsts → length q.counts ≡ length p.counts
-    → ((number : ℕ) → (is_raised (flags_of q.counts) number ≡ true) ↔ IsFirstHad
+    → ((number : ℕ) → (is_raised (flags_of q.counts) number ≡ true) ↔ IsFirstAccepted
     (length h.config.seeds) released p.firsts (length p.firsts) number)
     → HasPlainFlags h q offers released
 settled-from h p q offers old released s size are numbers firsts flags raised = record {
@@ -118,7 +118,7 @@ settled-from h p q offers old released s size are numbers firsts flags raised = 
     size = size ∙ s.size;
   };
   settled = are;
-  flags = λ n. subst (λ (fs : List ℕ). (is_raised (flags_of q.counts) n ≡ true) ↔ IsFirstHad
+  flags = λ n. subst (λ (fs : List ℕ). (is_raised (flags_of q.counts) n ≡ true) ↔ IsFirstAccepted
       (length h.config.seeds) released fs (length fs) n) (sym firsts) (raised n);
 }
 
@@ -215,9 +215,9 @@ settled-roomier h new p q offers released i is r =
       };
       settled = i.settled;
       flags = λ n.
-          subst (λ fs. (is_raised (flags_of q.counts) n ≡ true) ↔ IsFirstHad (length h.config.seeds)
+          subst (λ fs. (is_raised (flags_of q.counts) n ≡ true) ↔ IsFirstAccepted (length h.config.seeds)
           released fs (length fs) n) (sym r.firsts)
-          (subst (λ ks. (is_raised (flags_of ks) n ≡ true) ↔ IsFirstHad (length h.config.seeds)
+          (subst (λ ks. (is_raised (flags_of ks) n ≡ true) ↔ IsFirstAccepted (length h.config.seeds)
           released p.firsts (length p.firsts) n) (sym r.counts) (i.flags n));
     })
 
@@ -232,11 +232,11 @@ firsts-lowered h p low offers released s firsts flags =
     (firsts-within h p offers released s))
 
 pub raised-as : (flags : List Bool) (a b : ℕ) (rs ss : List Bool) (fs gs : List ℕ) → a ≡ b → rs ≡ ss → fs ≡ gs
-    → ((n : ℕ) → (is_raised flags n ≡ true) ↔ IsFirstHad a rs fs (length fs) n) → (n : ℕ) → (is_raised flags n ≡ true) ↔ IsFirstHad b ss gs (length gs) n
+    → ((n : ℕ) → (is_raised flags n ≡ true) ↔ IsFirstAccepted a rs fs (length fs) n) → (n : ℕ) → (is_raised flags n ≡ true) ↔ IsFirstAccepted b ss gs (length gs) n
 raised-as flags a b rs ss fs gs seeds released firsts raised n =
-    subst (λ (k : ℕ). (is_raised flags n ≡ true) ↔ IsFirstHad k ss gs (length gs) n) seeds
-    (subst (λ (bs : List Bool). (is_raised flags n ≡ true) ↔ IsFirstHad a bs gs (length gs) n) released
-    (subst (λ (ns : List ℕ). (is_raised flags n ≡ true) ↔ IsFirstHad a rs ns (length ns) n) firsts (raised n)))
+    subst (λ (k : ℕ). (is_raised flags n ≡ true) ↔ IsFirstAccepted k ss gs (length gs) n) seeds
+    (subst (λ (bs : List Bool). (is_raised flags n ≡ true) ↔ IsFirstAccepted a bs gs (length gs) n) released
+    (subst (λ (ns : List ℕ). (is_raised flags n ≡ true) ↔ IsFirstAccepted a rs ns (length ns) n) firsts (raised n)))
 
 pub gain-added : (h new : Hoard) (p q : Paired) (offers : List Triple) (released others : List Bool) (r : Receipt)
     (first : ℕ) → HasPlainFlags h p offers released → IsReceipt r → new ≡ with_arrival h r

@@ -16,7 +16,7 @@ use Rattle.closure_core.specs.Inside.Flags.{TellsMembers}
 use Rattle.trust_closure.specs.Held.{Hoard, meaning_of}
 use Rattle.trust_closure.specs.Pairs.{Paired, HasRaised}
 use Rattle.trust_closure.specs.Plain.{AreSeedOffers, IsOfferedBelow, IsOffered, IsVouched, AreSound, AreQuietBelow}
-use Rattle.trust_closure.specs.Plain.{AreReleased, IsHadNode, IsFirstHad, HasPlainFlags}
+use Rattle.trust_closure.specs.Plain.{AreReleased, IsAcceptedNode, IsFirstAccepted, HasPlainFlags}
 use Rattle.trust_closure.proofs.Bridge.{pair-of_seed_node, pair-of_receipt_node}
 use Rattle.closure_core.proofs.ContainsFacts.{contains_first, contains_later, contains_none, contains_cases}
 use Rattle.closure_core.proofs.FlagFacts.{Raises}
@@ -153,22 +153,22 @@ quiet-more records seed_offers arrived released k r at not quiet place s below t
 
 -- ---- flags of documents
 
-pub first-none : (seeds : ℕ) (released : List Bool) (firsts : List ℕ) (number : ℕ) → IsFirstHad seeds released firsts 0 number → ⊥
+pub first-none : (seeds : ℕ) (released : List Bool) (firsts : List ℕ) (number : ℕ) → IsFirstAccepted seeds released firsts 0 number → ⊥
 first-none seeds released firsts number f = omega (arith, f.below)
 
 module _ (seeds : ℕ) (released : List Bool) (firsts : List ℕ) (k : ℕ) where
-  pub first-later : (number : ℕ) → IsFirstHad seeds released firsts k number → IsFirstHad seeds released firsts (k + 1) number
+  pub first-later : (number : ℕ) → IsFirstAccepted seeds released firsts k number → IsFirstAccepted seeds released firsts (k + 1) number
   first-later number f = record { node = f.node; below = omega (arith, f.below); had = f.had; first = f.first }
 
-  pub first-skip : (IsHadNode seeds released k → ⊥) → (number : ℕ) → IsFirstHad seeds released firsts (k + 1) number → IsFirstHad seeds released firsts k number
+  pub first-skip : (IsAcceptedNode seeds released k → ⊥) → (number : ℕ) → IsFirstAccepted seeds released firsts (k + 1) number → IsFirstAccepted seeds released firsts k number
   first-skip not number f = elim (cases_lt f.node k) [
     | inl l ↦ record { node = f.node; below = l; had = f.had; first = f.first }
-    | inr l ↦ let e : f.node ≡ k = omega (arith, l, f.below) in absurd (not (subst (IsHadNode seeds released) e f.had))
+    | inr l ↦ let e : f.node ≡ k = omega (arith, l, f.below) in absurd (not (subst (IsAcceptedNode seeds released) e f.had))
   ]
 
-  pub first-more : (nodes : List ℕ) → nodes ≡ k ∷ [] → IsHadNode seeds released k → (old new : List Bool) → Raises firsts nodes old new
-      → ((number : ℕ) → (is_raised old number ≡ true) ↔ IsFirstHad seeds released firsts k number)
-      → (number : ℕ) → (is_raised new number ≡ true) ↔ IsFirstHad seeds released firsts (k + 1) number
+  pub first-more : (nodes : List ℕ) → nodes ≡ k ∷ [] → IsAcceptedNode seeds released k → (old new : List Bool) → Raises firsts nodes old new
+      → ((number : ℕ) → (is_raised old number ≡ true) ↔ IsFirstAccepted seeds released firsts k number)
+      → (number : ℕ) → (is_raised new number ≡ true) ↔ IsFirstAccepted seeds released firsts (k + 1) number
   first-more nodes is had old new raises before number = (
     λ e. elim ((raises.each number).0 e) [
       | inl a ↦ first-later number ((before number).0 a)
@@ -188,7 +188,7 @@ module _ (seeds : ℕ) (released : List Bool) (firsts : List ℕ) (k : ℕ) wher
       only n c = elim (contains_cases k [] n c) [ inl e ↦ sym e | inr none ↦ absurd (contains_none n none) ]
 
 module _ (h : Hoard) (p : Paired) (seed_offers : List Triple) (released : List Bool) (i : HasPlainFlags h p seed_offers released) where
-  had-member : (node : ℕ) (q : Pair) → IsHadNode (length h.config.seeds) released node
+  had-member : (node : ℕ) (q : Pair) → IsAcceptedNode (length h.config.seeds) released node
       → slice_get (pairs_of h.config.seeds h.arrived) node ≡ Some q → IsMember (meaning_of h) q
   had-member node q had at = elim (slice_get-append_cases (map pair_of_seed h.config.seeds) (map pair_of h.arrived) node q at) [
     | inl a ↦
@@ -208,7 +208,7 @@ module _ (h : Hoard) (p : Paired) (seed_offers : List Triple) (released : List B
   -- the accepted document has a node
   pub record IsAt (q : Pair) : Type 0 where
     pub node : ℕ
-    pub had : IsHadNode (length h.config.seeds) released node
+    pub had : IsAcceptedNode (length h.config.seeds) released node
     pub at : slice_get (pairs_of h.config.seeds h.arrived) node ≡ Some q
 
   member-had : (q : Pair) → IsMember (meaning_of h) q → IsAt q

@@ -55,16 +55,16 @@ AreReleased m arrived released = (place : ℕ) (r : Receipt) → slice_get arriv
     → (is_raised released place ≡ true) ↔ IsReleased m r
 
 -- The node is that of a configured document, or of a receipt whose flag is raised.
-abbrev pub IsHadNode : ℕ → List Bool → ℕ → Type 0
-IsHadNode seeds released node = (node < seeds)
+abbrev pub IsAcceptedNode : ℕ → List Bool → ℕ → Type 0
+IsAcceptedNode seeds released node = (node < seeds)
     ⊎ ((place : ℕ) × (node ≡ seeds + place) × (is_raised released place ≡ true))
 
 -- The number is that of the first node with the document of such a node before this one.
-pub record IsFirstHad (seeds : ℕ) (released : List Bool) (firsts : List ℕ)
+pub record IsFirstAccepted (seeds : ℕ) (released : List Bool) (firsts : List ℕ)
     (bound number : ℕ) : Type 0 where
   pub node : ℕ
   pub below : node < bound
-  pub had : IsHadNode seeds released node
+  pub had : IsAcceptedNode seeds released node
   pub first : slice_get firsts node ≡ Some number
 
 -- What is held, and what the configured documents offer; each different document has its number,
@@ -84,7 +84,7 @@ pub record HasPlainFlags (h : Hoard) (p : Paired) (seed_offers : List Triple)
   pub set : IsSet h p seed_offers released
   pub settled : AreReleased (meaning_of h) h.arrived released
   pub flags : (number : ℕ) → (is_raised (flags_of p.counts) number ≡ true)
-      ↔ IsFirstHad (length h.config.seeds) released p.firsts (length p.firsts) number
+      ↔ IsFirstAccepted (length h.config.seeds) released p.firsts (length p.firsts) number
 
 -- The flags are still those of what was held before these records were.
 pub record WasSettled (new : Hoard) (p : Paired) (seed_offers : List Triple)

@@ -158,7 +158,7 @@ pub record IsFallen (net : Net) (closing : List ℕ) (node : ℕ) : Type 0 where
   pub awaits : (i : ℕ) × (label : ℕ) × IsEdge net.waits i label node × IsTakenBack net closing label
 
 -- The list has each node that falls once. First of the marked nodes, as many as `kept`, are the
--- reached ones that do not fall, and behind them those that fell and were marked again.
+-- reached ones that do not fall, and after them those that fell and were marked again.
 pub record TellsFallen (net : Net) (closing fallen : List ℕ) (kept : ℕ)
     (marked : List ℕ) : Type 0 where
   pub fell : (node : ℕ) → Contains fallen node ↔ IsFallen net closing node

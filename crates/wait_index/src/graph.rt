@@ -58,7 +58,7 @@ impl Graph {
         Ok(())
     }
 
-    /// Two passes over all edges, so many more included, are to fit a word: past that it asks for a
+    /// Two passes over all edges, with this many more, have to fit a word: past that it asks for a
     /// growth that is always refused.
     fn try_reserve_turns(&mut self, edges: usize) -> Result<(), AllocError>
         requires { length self.old.offers.edges.items + length self.old.waits.edges.items < 2 ^ 63 }

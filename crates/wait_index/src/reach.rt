@@ -222,7 +222,7 @@ impl Reach {
     /// each edge that rests on the labels, taken back, and one for each that is followed again,
     /// since it is reached otherwise. Where none of them was open that is 0, and the marked nodes
     /// stay as they are. Else their order may change. The labels may repeat, and may be closed
-    /// already. [`fallen`](Reach::fallen) and [`kept`](Reach::kept) then tell what fell.
+    /// already. [`fallen`](Reach::fallen) and [`kept`](Reach::kept) then say what fell.
     ///
     /// First all that rests on the labels is deleted, and then all that is reached otherwise is
     /// derived again, once for all the labels: this is DRed, of A. Gupta, I. S. Mumick and V. S.
@@ -243,7 +243,7 @@ impl Reach {
         ensures shut { ((label : ℕ) → Contains labels.now label → IsOpen self.old.net label → ⊥)
             → (result ≡ 0) × (self.new.marked ≡ self.old.marked) }
 
-        // Which nodes fell, and which of them were marked again: those behind the first `kept`.
+        // Which nodes fell, and which of them were marked again: those after the first `kept`.
         ensures fallen { TellsFallen self.old.net labels.now self.new.last.fallen
             self.new.last.kept self.new.marked }
         ensures many { length self.new.last.fallen + self.new.last.kept ≡ length self.old.marked }
@@ -321,7 +321,7 @@ impl Reach {
     }
 
     /// How many marked nodes the last close left marked: they are the first ones of `marked`, and
-    /// right after that close those behind them are the ones that it marked again.
+    /// right after that close those after them are the ones that it marked again.
     pub fn kept(&self) -> usize
         ensures { result ≡ self.now.last.kept }
     {

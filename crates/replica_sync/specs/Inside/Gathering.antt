@@ -1,4 +1,4 @@
--- How the lines behind an answer's first are read, one by one.
+-- How the lines after an answer's first are read, one by one.
 use Rattle.std.specs.Prelude.{◌≡◌, ℕ, List, [], ◌∷◌, ◌++◌, length, Bool, true, false, Option}
 use Rattle.std.specs.Io.KnownBytes.{Consumes}
 use Rattle.byte_lines.specs.Lines.{HasLine}
@@ -68,7 +68,7 @@ pub record GathersAll (count distrusts : ℕ) (stream : Option (List ℕ)) (cont
   pub gathers : Gathers count distrusts stream content left
   pub whole : IsWhole count distrusts content
 
--- A good beginning, and behind it this fault.
+-- A good beginning, and after it this fault.
 pub record StopsGathering (count distrusts : ℕ) (old new : Option (List ℕ))
     (e : SyncError) : Type 0 where
   pub content : State

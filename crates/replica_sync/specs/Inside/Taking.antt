@@ -105,7 +105,7 @@ pub record TakesLines (old : Meaning) (stream : Option (List ℕ)) (count distru
   pub records : length content.records ≡ distrusts
   pub read_is : read ≡ first + length content.records + length content.held
 
--- So much is taken, and behind it is this fault.
+-- So much is taken, and after it is this fault.
 pub record StopsWithin (old : Meaning) (stream : Option (List ℕ)) (count distrusts first : ℕ)
     (new : Meaning) (e : SyncError) : Type 0 where
   pub content : State

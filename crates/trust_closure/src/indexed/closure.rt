@@ -108,7 +108,7 @@ impl IndexedClosure {
     }
 
     /// Distrusts a key in a domain: it vouches for nothing there any more. It takes no memory. All
-    /// labels of the key are closed at once, and [`turns`](IndexedClosure::turns) tells how many
+    /// labels of the key are closed at once, and [`turns`](IndexedClosure::turns) says how many
     /// edges that looked at.
     pub fn distrust(&mut self, domain: &TrustDomain, key: KeyId) -> Result<Distrusted, TakeError>
         ensures meaning { TakesDistrust self.old.state.meaning

@@ -30,7 +30,7 @@ pub(crate) fn recount(pairs: &mut Pairs, reach: &Reach) -> usize
     fell - back
 }
 
-/// The nodes behind this many first ones.
+/// The nodes after this many first ones.
 fn behind(nodes: &[NodeNo], count: usize) -> &[NodeNo]
     requires { count ≤ length nodes.now }
     ensures { result.now ≡ drop count nodes.now }

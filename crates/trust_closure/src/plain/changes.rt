@@ -15,7 +15,7 @@ ghost use Rattle.trust_closure.specs.Plain.{AreSound, AreReleased, HasSpare, IsP
 ghost use Rattle.trust_closure.specs.Plain.{plain_state, IsRoomierPaired};
 
 use crate::plain::flags::lower_all;
-use crate::plain::rounds::{raise_had, spread};
+use crate::plain::rounds::{count_accepted, spread};
 use crate::shared::held::{Held, Standing};
 use crate::shared::merge::hold_all;
 use crate::shared::pairs::Pairs;
@@ -117,7 +117,7 @@ pub(crate) fn add(
     let _valid = held.config();
     settle(held, seed_offers, released);
     let before = pairs.clear();
-    let after = raise_had(pairs, held.config().seeds().len(), released);
+    let after = count_accepted(pairs, held.config().seeds().len(), released);
     after - before
 }
 
@@ -230,7 +230,7 @@ fn fall(held: &Held, pairs: &mut Pairs, seed_offers: &[Triple], released: &mut V
     lower(released);
     settle(held, seed_offers, released);
     let before = pairs.clear();
-    let after = raise_had(pairs, held.config().seeds().len(), released);
+    let after = count_accepted(pairs, held.config().seeds().len(), released);
     before - after
 }
 

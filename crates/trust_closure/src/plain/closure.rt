@@ -1,6 +1,6 @@
 //! The closure that anybody can read.
 use crate::plain::changes::{lose, lose_all, reserve, take_into};
-use crate::plain::rounds::{count_raised, raise_had};
+use crate::plain::rounds::{count_raised, count_accepted};
 use crate::plain::seeds::sow_all;
 use crate::shared::held::Held;
 use crate::shared::merge::{Mergeable, merge_into};
@@ -51,7 +51,7 @@ impl Closure for PlainClosure {
         let _domains = held.config().domains();
         let seeds = held.config().seeds();
         sow_all(alloc, &held, &mut pairs, &mut seed_offers, seeds)?;
-        raise_had(&mut pairs, seeds.len(), &released);
+        count_accepted(&mut pairs, seeds.len(), &released);
         Ok(PlainClosure {
             held,
             pairs,

@@ -1,4 +1,4 @@
-//! Rounds over all receipts: what a document that is had vouches for is had too.
+//! Rounds over all receipts: what an accepted document vouches for is accepted too.
 ghost use Rattle.std.specs.Prelude.{◌≡◌, ℕ, ◌+◌, ◌^◌, ◌<◌, ◌≤◌, ◌↔◌, true, false, length, Contains};
 ghost use Rattle.std.specs.Prelude.{IsTrue, Some, slice_get, slice_set};
 ghost use Rattle.std.specs.List.{All};
@@ -8,8 +8,8 @@ ghost use Rattle.closure_core.specs.Inside.Nodes.{is_raised, flags_of, count_at}
 ghost use Rattle.closure_core.specs.Inside.Flags.{raised_count};
 ghost use Rattle.trust_closure.specs.Held.{meaning_of};
 ghost use Rattle.trust_closure.specs.Plain.{AreSeedOffers, IsOffered, IsOfferedBelow, IsVouched};
-ghost use Rattle.trust_closure.specs.Plain.{AreSound, AreQuietBelow, AreReleased, IsHadNode};
-ghost use Rattle.trust_closure.specs.Plain.{IsFirstHad};
+ghost use Rattle.trust_closure.specs.Plain.{AreSound, AreQuietBelow, AreReleased, IsAcceptedNode};
+ghost use Rattle.trust_closure.specs.Plain.{IsFirstAccepted};
 
 use crate::shared::held::Held;
 use crate::shared::pairs::Pairs;
@@ -30,7 +30,7 @@ pub(crate) fn spread(held: &Held, seed_offers: &[Triple], released: &mut [bool])
     while round(held, seed_offers, released) > 0 {}
 }
 
-/// Raises the flags of receipts for which a document that is had vouches, in order of arrival, and
+/// Raises the flags of receipts for which an accepted document vouches, in order of arrival, and
 /// returns how many.
 fn round(held: &Held, seed_offers: &[Triple], released: &mut [bool]) -> usize
     requires offers { AreSeedOffers held.now.config.seeds seed_offers.now }
@@ -55,7 +55,7 @@ fn round(held: &Held, seed_offers: &[Triple], released: &mut [bool]) -> usize
     count
 }
 
-/// Whether the receipt's flag is not raised, and a document that is had vouches for it.
+/// Whether the receipt's flag is not raised, and an accepted document vouches for it.
 fn is_due(held: &Held, seed_offers: &[Triple], released: &[bool], place: usize) -> bool
     requires size { length released.now ≡ length held.now.arrived }
     requires within { place < length released.now }
@@ -66,7 +66,7 @@ fn is_due(held: &Held, seed_offers: &[Triple], released: &[bool], place: usize) 
     !released[place] && is_vouched(held, seed_offers, released, &held.arrived()[place])
 }
 
-/// Whether a document that is had vouches for the receipt.
+/// Whether an accepted document vouches for the receipt.
 fn is_vouched(held: &Held, seed_offers: &[Triple], released: &[bool], receipt: &Receipt) -> bool
     requires { length released.now ≡ length held.now.arrived }
     ensures { IsTrue result
@@ -77,7 +77,7 @@ fn is_vouched(held: &Held, seed_offers: &[Triple], released: &[bool], receipt: &
         && is_offered(seed_offers, held.arrived(), released, need)
 }
 
-/// Whether a document that is had offers what is needed.
+/// Whether an accepted document offers what is needed.
 fn is_offered(
     seed_offers: &[Triple],
     receipts: &[Receipt],
@@ -109,9 +109,9 @@ fn has_triple(triples: &[Triple], sought: &Triple) -> bool
     triples.contains(sought)
 }
 
-/// Adds one for each document that is had to its count, and returns how many different ones those
+/// Adds one for each accepted document to its count, and returns how many different ones those
 /// are. All counts were 0.
-pub(crate) fn raise_had(pairs: &mut Pairs, seeds: usize, released: &[bool]) -> usize
+pub(crate) fn count_accepted(pairs: &mut Pairs, seeds: usize, released: &[bool]) -> usize
     requires size { length pairs.old.firsts ≡ seeds + length released.now }
     requires counted { length pairs.old.counts ≡ length pairs.old.firsts }
     requires firsts { All (λ f. f < length pairs.old.counts) pairs.old.firsts }
@@ -121,13 +121,13 @@ pub(crate) fn raise_had(pairs: &mut Pairs, seeds: usize, released: &[bool]) -> u
     ensures firsts { pairs.new.firsts ≡ pairs.old.firsts }
     ensures size { length pairs.new.counts ≡ length pairs.old.counts }
     ensures raised { (number : ℕ) → (is_raised (flags_of pairs.new.counts) number ≡ true)
-        ↔ IsFirstHad seeds released.now pairs.old.firsts (length pairs.old.firsts) number }
+        ↔ IsFirstAccepted seeds released.now pairs.old.firsts (length pairs.old.firsts) number }
     ensures count { raised_count (flags_of pairs.new.counts) ≡ result }
     ensures capacity { pairs.new.capacity ≡ pairs.old.capacity }
 {
     let mut count = 0;
     for node in 0..pairs.len() {
-        if is_had(seeds, released, node) {
+        if is_accepted_node(seeds, released, node) {
             count += pairs.raise(&[NodeNo::new(node)]);
         }
     }
@@ -135,9 +135,9 @@ pub(crate) fn raise_had(pairs: &mut Pairs, seeds: usize, released: &[bool]) -> u
 }
 
 /// Whether the node is that of a configured document, or of a receipt whose flag is raised.
-fn is_had(seeds: usize, released: &[bool], node: usize) -> bool
+fn is_accepted_node(seeds: usize, released: &[bool], node: usize) -> bool
     requires { node < seeds + length released.now }
-    ensures { IsTrue result ↔ IsHadNode seeds released.now node }
+    ensures { IsTrue result ↔ IsAcceptedNode seeds released.now node }
 {
     node < seeds || released[node - seeds]
 }

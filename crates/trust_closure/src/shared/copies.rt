@@ -27,7 +27,7 @@ pub(crate) struct Share {
 /// Copies what the one does not hold of the receipts that the other holds.
 ///
 /// # Errors
-/// As [`crate::Closure::merge`] tells. No receipt is copied before all causes but lack of memory
+/// As [`crate::Closure::merge`] says. No receipt is copied before all causes but lack of memory
 /// are ruled out.
 pub(crate) fn share_of(held: &Held, other: &Held) -> Result<Share, TakeError>
     ensures { MatchResult result (IsShare (meaning_of held.now) (meaning_of other.now))

@@ -64,7 +64,7 @@ pub(crate) trait Mergeable {
 /// receipts were not held. All memory is there before the first of them is taken.
 ///
 /// # Errors
-/// As [`crate::Closure::merge`] tells.
+/// As [`crate::Closure::merge`] says.
 pub(crate) fn merge_into<C: Mergeable>(closure: &mut C, other: &C) -> Result<usize, TakeError>
     ensures merges { Merges (C.state closure.old) (C.state other.now).meaning (C.state closure.new)
         result }

@@ -212,7 +212,7 @@ fn add_label(reach: &mut Reach, closed: bool) -> LabelNo
     }
 }
 
-/// Makes room in the list for this many labels and so many more, and forgets what it had.
+/// Makes room in the list for this many labels and `more` of them, and forgets what it had.
 fn reserve_list(list: &mut Vec<LabelNo>, labels: usize, more: usize) -> Result<(), AllocError>
     ensures grows { vec_capacity list.old ≤ vec_capacity list.new }
     ensures ok { OnOk result (labels + more ≤ vec_capacity list.new) }

@@ -10,8 +10,8 @@ use Rattle.trust_closure.proofs.Carrying.{firsts-lowered, raised-as, settled-fro
 use Rattle.trust_closure.proofs.NodeCountFacts.{flags-push}
 use Rattle.trust_closure.proofs.plain.changes.add.Goals as goal
 
-pub raise_had-after-requires-clause-firsts : goal.raise_had-after-requires-clause-firsts
-raise_had-after-requires-clause-firsts c =
+pub count_accepted-after-requires-clause-firsts : goal.count_accepted-after-requires-clause-firsts
+count_accepted-after-requires-clause-firsts c =
     let h = c.args.held.now in
     let new = c.place_receipt.new.held in
     let p = c.args.pairs.now in
@@ -33,17 +33,17 @@ overflow_sub-result c =
     let offers = c.args.seed_offers.now in
     let old = c.args.released.now.items in
     let rel1 = c.place_receipt.new.released.items in
-    let q = c.raise_had-after.new.pairs in
+    let q = c.count_accepted-after.new.pairs in
     let rel = c.settle.new.released.items in
-    let list = c.raise_had-after.ensures.firsts ∙ c.clear-before.ensures.firsts in
-    let size = c.raise_had-after.ensures.size ∙ c.clear-before.ensures.size in
+    let list = c.count_accepted-after.ensures.firsts ∙ c.clear-before.ensures.firsts in
+    let size = c.count_accepted-after.ensures.size ∙ c.clear-before.ensures.size in
     let raised = raised-as (flags_of q.counts) (length c.seeds.result.now) (length new.config.seeds)
     c.deref.result.now rel low.firsts p1.firsts
     (ap length (c.seeds.ensures ∙ ap (λ (a : Configuration). a.seeds) c.config.ensures.config))
-    c.deref.ensures.value c.clear-before.ensures.firsts c.raise_had-after.ensures.raised in
+    c.deref.ensures.value c.clear-before.ensures.firsts c.count_accepted-after.ensures.raised in
     let settled : HasPlainFlags new q offers rel = settled-from new p1 q offers rel1 rel
     c.place_receipt.ensures.set c.settle.ensures.size c.settle.ensures.released
-    (c.raise_had-after.ensures.numbers ∙ c.clear-before.ensures.numbers) list size raised in
+    (c.count_accepted-after.ensures.numbers ∙ c.clear-before.ensures.numbers) list size raised in
     let gain = gain-added h new p q offers old rel c.args.receipt c.place_receipt.ensures.firsts.0 c.requires.settled
         c.requires.absent.is c.place_receipt.ensures.held settled
     (list ∙ c.place_receipt.ensures.firsts.1)
@@ -52,7 +52,7 @@ overflow_sub-result c =
     c.clear-before.ensures.count ∙ ap raised_count
     (flags-push p.counts p1.counts c.place_receipt.ensures.counts)
     ∙ count-push (flags_of p.counts) in
-    omega (arith, gain.0, before, c.raise_had-after.ensures.count)
+    omega (arith, gain.0, before, c.count_accepted-after.ensures.count)
 
 pub returns-clause-settled : goal.returns-clause-settled
 returns-clause-settled c =
@@ -64,17 +64,17 @@ returns-clause-settled c =
     let offers = c.args.seed_offers.now in
     let old = c.args.released.now.items in
     let rel1 = c.place_receipt.new.released.items in
-    let q = c.raise_had-after.new.pairs in
+    let q = c.count_accepted-after.new.pairs in
     let rel = c.settle.new.released.items in
-    let list = c.raise_had-after.ensures.firsts ∙ c.clear-before.ensures.firsts in
-    let size = c.raise_had-after.ensures.size ∙ c.clear-before.ensures.size in
+    let list = c.count_accepted-after.ensures.firsts ∙ c.clear-before.ensures.firsts in
+    let size = c.count_accepted-after.ensures.size ∙ c.clear-before.ensures.size in
     let raised = raised-as (flags_of q.counts) (length c.seeds.result.now) (length new.config.seeds)
     c.deref.result.now rel low.firsts p1.firsts
     (ap length (c.seeds.ensures ∙ ap (λ (a : Configuration). a.seeds) c.config.ensures.config))
-    c.deref.ensures.value c.clear-before.ensures.firsts c.raise_had-after.ensures.raised in
+    c.deref.ensures.value c.clear-before.ensures.firsts c.count_accepted-after.ensures.raised in
     let settled : HasPlainFlags new q offers rel = settled-from new p1 q offers rel1 rel
     c.place_receipt.ensures.set c.settle.ensures.size c.settle.ensures.released
-    (c.raise_had-after.ensures.numbers ∙ c.clear-before.ensures.numbers) list size raised in
+    (c.count_accepted-after.ensures.numbers ∙ c.clear-before.ensures.numbers) list size raised in
     settled
 
 pub returns-clause-gain : goal.returns-clause-gain
@@ -87,17 +87,17 @@ returns-clause-gain c =
     let offers = c.args.seed_offers.now in
     let old = c.args.released.now.items in
     let rel1 = c.place_receipt.new.released.items in
-    let q = c.raise_had-after.new.pairs in
+    let q = c.count_accepted-after.new.pairs in
     let rel = c.settle.new.released.items in
-    let list = c.raise_had-after.ensures.firsts ∙ c.clear-before.ensures.firsts in
-    let size = c.raise_had-after.ensures.size ∙ c.clear-before.ensures.size in
+    let list = c.count_accepted-after.ensures.firsts ∙ c.clear-before.ensures.firsts in
+    let size = c.count_accepted-after.ensures.size ∙ c.clear-before.ensures.size in
     let raised = raised-as (flags_of q.counts) (length c.seeds.result.now) (length new.config.seeds)
     c.deref.result.now rel low.firsts p1.firsts
     (ap length (c.seeds.ensures ∙ ap (λ (a : Configuration). a.seeds) c.config.ensures.config))
-    c.deref.ensures.value c.clear-before.ensures.firsts c.raise_had-after.ensures.raised in
+    c.deref.ensures.value c.clear-before.ensures.firsts c.count_accepted-after.ensures.raised in
     let settled : HasPlainFlags new q offers rel = settled-from new p1 q offers rel1 rel
     c.place_receipt.ensures.set c.settle.ensures.size c.settle.ensures.released
-    (c.raise_had-after.ensures.numbers ∙ c.clear-before.ensures.numbers) list size raised in
+    (c.count_accepted-after.ensures.numbers ∙ c.clear-before.ensures.numbers) list size raised in
     let gain = gain-added h new p q offers old rel c.args.receipt c.place_receipt.ensures.firsts.0 c.requires.settled
         c.requires.absent.is c.place_receipt.ensures.held settled
     (list ∙ c.place_receipt.ensures.firsts.1)
@@ -106,5 +106,5 @@ returns-clause-gain c =
     c.clear-before.ensures.count ∙ ap raised_count
     (flags-push p.counts p1.counts c.place_receipt.ensures.counts)
     ∙ count-push (flags_of p.counts) in
-    gain.1 (c.raise_had-after.result - c.clear-before.result)
-    (omega (arith, gain.0, before, c.raise_had-after.ensures.count))
+    gain.1 (c.count_accepted-after.result - c.clear-before.result)
+    (omega (arith, gain.0, before, c.count_accepted-after.ensures.count))

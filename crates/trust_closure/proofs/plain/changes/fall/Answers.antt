@@ -22,8 +22,8 @@ settle-requires-clause-same c =
     c.config-valid.ensures.valid c.lower.ensures.size in
     set.same
 
-pub raise_had-after-requires-clause-firsts : goal.raise_had-after-requires-clause-firsts
-raise_had-after-requires-clause-firsts c =
+pub count_accepted-after-requires-clause-firsts : goal.count_accepted-after-requires-clause-firsts
+count_accepted-after-requires-clause-firsts c =
     let new = c.args.held.now in
     let p = c.args.pairs.now in
     let low = c.clear-before.new.self in
@@ -47,20 +47,20 @@ overflow_sub-result c =
     let rel1 = c.lower.new.released.items in
     let set = set-closed b.old new b.more p offers old rel1 b.settled.set b.before
     c.config-valid.ensures.valid c.lower.ensures.size in
-    let q = c.raise_had-after.new.pairs in
+    let q = c.count_accepted-after.new.pairs in
     let rel = c.settle.new.released.items in
-    let list = c.raise_had-after.ensures.firsts ∙ c.clear-before.ensures.firsts in
-    let size = c.raise_had-after.ensures.size ∙ c.clear-before.ensures.size in
+    let list = c.count_accepted-after.ensures.firsts ∙ c.clear-before.ensures.firsts in
+    let size = c.count_accepted-after.ensures.size ∙ c.clear-before.ensures.size in
     let raised = raised-as (flags_of q.counts) (length c.seeds.result.now) (length new.config.seeds)
     c.deref.result.now rel low.firsts p.firsts
     (ap length (c.seeds.ensures ∙ ap (λ (a : Configuration). a.seeds) c.config.ensures.config))
-    c.deref.ensures.value c.clear-before.ensures.firsts c.raise_had-after.ensures.raised in
+    c.deref.ensures.value c.clear-before.ensures.firsts c.count_accepted-after.ensures.raised in
     let settled : HasPlainFlags new q offers rel = settled-from new p q offers rel1 rel set
     c.settle.ensures.size c.settle.ensures.released
-    (c.raise_had-after.ensures.numbers ∙ c.clear-before.ensures.numbers) list size raised in
+    (c.count_accepted-after.ensures.numbers ∙ c.clear-before.ensures.numbers) list size raised in
     let loss = loss-fallen b.old new b.more p q offers old rel b.settled b.before settled list
     size in
-    omega (arith, loss.0, c.clear-before.ensures.count, c.raise_had-after.ensures.count)
+    omega (arith, loss.0, c.clear-before.ensures.count, c.count_accepted-after.ensures.count)
 
 pub returns-clause-settled : goal.returns-clause-settled
 returns-clause-settled c =
@@ -73,17 +73,17 @@ returns-clause-settled c =
     let rel1 = c.lower.new.released.items in
     let set = set-closed b.old new b.more p offers old rel1 b.settled.set b.before
     c.config-valid.ensures.valid c.lower.ensures.size in
-    let q = c.raise_had-after.new.pairs in
+    let q = c.count_accepted-after.new.pairs in
     let rel = c.settle.new.released.items in
-    let list = c.raise_had-after.ensures.firsts ∙ c.clear-before.ensures.firsts in
-    let size = c.raise_had-after.ensures.size ∙ c.clear-before.ensures.size in
+    let list = c.count_accepted-after.ensures.firsts ∙ c.clear-before.ensures.firsts in
+    let size = c.count_accepted-after.ensures.size ∙ c.clear-before.ensures.size in
     let raised = raised-as (flags_of q.counts) (length c.seeds.result.now) (length new.config.seeds)
     c.deref.result.now rel low.firsts p.firsts
     (ap length (c.seeds.ensures ∙ ap (λ (a : Configuration). a.seeds) c.config.ensures.config))
-    c.deref.ensures.value c.clear-before.ensures.firsts c.raise_had-after.ensures.raised in
+    c.deref.ensures.value c.clear-before.ensures.firsts c.count_accepted-after.ensures.raised in
     let settled : HasPlainFlags new q offers rel = settled-from new p q offers rel1 rel set
     c.settle.ensures.size c.settle.ensures.released
-    (c.raise_had-after.ensures.numbers ∙ c.clear-before.ensures.numbers) list size raised in
+    (c.count_accepted-after.ensures.numbers ∙ c.clear-before.ensures.numbers) list size raised in
     settled
 
 pub returns-clause-loss : goal.returns-clause-loss
@@ -97,17 +97,17 @@ returns-clause-loss c was xs before is =
     let rel1 = c.lower.new.released.items in
     let set = set-closed b.old new b.more p offers old rel1 b.settled.set b.before
     c.config-valid.ensures.valid c.lower.ensures.size in
-    let q = c.raise_had-after.new.pairs in
+    let q = c.count_accepted-after.new.pairs in
     let rel = c.settle.new.released.items in
-    let list = c.raise_had-after.ensures.firsts ∙ c.clear-before.ensures.firsts in
-    let size = c.raise_had-after.ensures.size ∙ c.clear-before.ensures.size in
+    let list = c.count_accepted-after.ensures.firsts ∙ c.clear-before.ensures.firsts in
+    let size = c.count_accepted-after.ensures.size ∙ c.clear-before.ensures.size in
     let raised = raised-as (flags_of q.counts) (length c.seeds.result.now) (length new.config.seeds)
     c.deref.result.now rel low.firsts p.firsts
     (ap length (c.seeds.ensures ∙ ap (λ (a : Configuration). a.seeds) c.config.ensures.config))
-    c.deref.ensures.value c.clear-before.ensures.firsts c.raise_had-after.ensures.raised in
+    c.deref.ensures.value c.clear-before.ensures.firsts c.count_accepted-after.ensures.raised in
     let settled : HasPlainFlags new q offers rel = settled-from new p q offers rel1 rel set
     c.settle.ensures.size c.settle.ensures.released
-    (c.raise_had-after.ensures.numbers ∙ c.clear-before.ensures.numbers) list size raised in
+    (c.count_accepted-after.ensures.numbers ∙ c.clear-before.ensures.numbers) list size raised in
     let loss = loss-fallen was new xs p q offers old rel is before settled list size in
-    loss.1 (c.clear-before.result - c.raise_had-after.result)
-    (omega (arith, loss.0, c.clear-before.ensures.count, c.raise_had-after.ensures.count))
+    loss.1 (c.clear-before.result - c.count_accepted-after.result)
+    (omega (arith, loss.0, c.clear-before.ensures.count, c.count_accepted-after.ensures.count))

@@ -8,8 +8,8 @@ use Rattle.trust_closure.proofs.Carrying.{firsts-within, raised-as, settled-from
 use Rattle.trust_closure.proofs.SownFacts.{sown-set, none-released}
 use Rattle.trust_closure.proofs.plain.closure.PlainClosureClosure.new.Goals as goal
 
-pub raise_had-requires-clause-firsts : goal.raise_had-requires-clause-firsts
-raise_had-requires-clause-firsts c =
+pub count_accepted-requires-clause-firsts : goal.count_accepted-requires-clause-firsts
+count_accepted-requires-clause-firsts c =
     let h = c.in_ok-held.held in
     let p = c.sow_all.new.pairs in
     let offers = c.sow_all.new.seed_offers.items in
@@ -21,7 +21,7 @@ pub invariant_of-result : goal.invariant_of-result
 invariant_of-result c =
     let h = c.in_ok-held.held in
     let p = c.sow_all.new.pairs in
-    let q = c.raise_had.new.pairs in
+    let q = c.count_accepted.new.pairs in
     let offers = c.sow_all.new.seed_offers.items in
     let seeds : c.seeds-seeds.result.now ≡ h.config.seeds = c.seeds-seeds.ensures ∙ ap (λ (a : Configuration). a.seeds) c.config-2.ensures.config in
     let arrived = c.in_ok-held.ensures.1 in
@@ -29,14 +29,14 @@ invariant_of-result c =
         (ap (λ (m : Meaning). m.held) c.in_ok-held.ensures.0) arrived c.in_ok-sow_all.ensures in
     let raised = raised-as (flags_of q.counts) (length c.seeds-seeds.result.now)
     (length h.config.seeds) c.deref.result.now [] p.firsts p.firsts (ap length seeds)
-    (c.deref.ensures.value ∙ c.new-released.ensures.items) refl c.raise_had.ensures.raised in
+    (c.deref.ensures.value ∙ c.new-released.ensures.items) refl c.count_accepted.ensures.raised in
     record {
       settled = subst (λ (fs : List Bool). HasPlainFlags h q offers fs) (sym c.new-released.ensures.items)
-          (settled-from h p q offers [] [] set refl (none-released h [] arrived) c.raise_had.ensures.numbers
-              c.raise_had.ensures.firsts c.raise_had.ensures.size raised);
+          (settled-from h p q offers [] [] set refl (none-released h [] arrived) c.count_accepted.ensures.numbers
+              c.count_accepted.ensures.firsts c.count_accepted.ensures.size raised);
       room = record {
         held = omega (arith, ap length arrived);
-        pairs = omega (arith, c.in_ok-sow_all.ensures.room, ap length c.raise_had.ensures.firsts, c.raise_had.ensures.capacity);
+        pairs = omega (arith, c.in_ok-sow_all.ensures.room, ap length c.count_accepted.ensures.firsts, c.count_accepted.ensures.capacity);
         released = omega (arith, ap length c.new-released.ensures.items);
         few = omega (
           arith,
@@ -45,7 +45,7 @@ invariant_of-result c =
           ap (λ (a : Configuration). length a.seeds) c.config-2.ensures.config,
           ap (λ (a : Configuration). length a.seeds) c.config.ensures.config,
           c.in_ok-sow_all.ensures.firsts,
-          ap length c.raise_had.ensures.firsts,
+          ap length c.count_accepted.ensures.firsts,
         );
       };
     }

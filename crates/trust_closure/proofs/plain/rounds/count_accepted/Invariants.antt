@@ -3,8 +3,8 @@ use Rattle.std.proofs.Common.{◌≡◌, ◌≤◌, ℕ, true, length}
 use Rattle.std.specs.Prelude.{◌↔◌}
 use Rattle.closure_core.specs.Inside.Nodes.{is_raised, flags_of, count_at}
 use Rattle.closure_core.specs.Inside.Flags.{raised_count}
-use Rattle.trust_closure.specs.Plain.{IsFirstHad}
-use Rattle.trust_closure.proofs.plain.rounds.raise_had.Given as goal
+use Rattle.trust_closure.specs.Plain.{IsFirstAccepted}
+use Rattle.trust_closure.proofs.plain.rounds.count_accepted.Given as goal
 
 abbrev pub invariant-loop-node : goal.invariant-loop-node
 invariant-loop-node l = record {
@@ -12,7 +12,7 @@ invariant-loop-node l = record {
   firsts : l.pairs.firsts ≡ l.initial.pairs.firsts;
   size : length l.pairs.counts ≡ length l.initial.pairs.counts;
   few : (number : ℕ) → count_at l.pairs.counts number ≤ l.node;
-  raised : (number : ℕ) → (is_raised (flags_of l.pairs.counts) number ≡ true) ↔ IsFirstHad l.seeds
+  raised : (number : ℕ) → (is_raised (flags_of l.pairs.counts) number ≡ true) ↔ IsFirstAccepted l.seeds
       l.released l.initial.pairs.firsts l.node number;
   count : raised_count (flags_of l.pairs.counts) ≡ l.count;
   capacity : l.pairs.capacity ≡ l.initial.pairs.capacity;

@@ -7,13 +7,13 @@ use Rattle.std.proofs.lemmas.List.Sums.{count_by-le-length}
 use Rattle.closure_core.specs.Inside.Nodes.{is_raised, flags_of, count_at}
 use Rattle.trust_closure.specs.NodeCounts.{AddsNodes}
 use Rattle.closure_core.specs.Inside.Flags.{raised_count}
-use Rattle.trust_closure.specs.Plain.{IsFirstHad}
+use Rattle.trust_closure.specs.Plain.{IsFirstAccepted}
 use Rattle.closure_core.proofs.FlagFacts.{count-lowered}
 use Rattle.closure_core.proofs.NodeFacts.{length-flags, zero-lowered}
 use Rattle.trust_closure.proofs.NodeCountFacts.{flags-raised, nodes_with-few}
 use Rattle.trust_closure.proofs.PlainFacts.{first-none, first-skip, first-later, first-more}
-use Rattle.trust_closure.proofs.plain.rounds.raise_had.Goals.{then-is_had, else-is_had}
-use Rattle.trust_closure.proofs.plain.rounds.raise_had.Goals as goal
+use Rattle.trust_closure.proofs.plain.rounds.count_accepted.Goals.{then-is_accepted_node, else-is_accepted_node}
+use Rattle.trust_closure.proofs.plain.rounds.count_accepted.Goals as goal
 
 pub loop-node-init : goal.loop-node-init
 loop-node-init c =
@@ -56,8 +56,8 @@ loop-node-preserved c =
     let released = c.args.released.now in
     let firsts = c.args.pairs.now.firsts in
     let k = c.loop-node.node in
-    elim c.if-is_had.branch [
-      | then-is_had w ↦
+    elim c.if-is_accepted_node.branch [
+      | then-is_accepted_node w ↦
           let q = w.raise-count.new.self in
           let adds : AddsNodes firsts (k ∷ []) c.loop-node.pairs.counts q.counts =
           subst (λ (fs : List ℕ). AddsNodes fs (k ∷ []) c.loop-node.pairs.counts q.counts) i.firsts
@@ -69,10 +69,10 @@ loop-node-preserved c =
             size = ap (λ p. length p.counts) w.pairs-is ∙ w.raise-count.ensures.adds.size ∙ i.size;
             few = λ n. subst (λ p. count_at p.counts n ≤ k + 1) (sym w.pairs-is)
                 (omega (arith, adds.each n, i.few n, nodes_with-few firsts (k ∷ []) n));
-            raised = λ n. subst (λ p. (is_raised (flags_of p.counts) n ≡ true) ↔ IsFirstHad seeds
+            raised = λ n. subst (λ p. (is_raised (flags_of p.counts) n ≡ true) ↔ IsFirstAccepted seeds
                 released firsts (k + 1) n) (sym w.pairs-is)
                 (first-more seeds released firsts k (k ∷ []) refl
-                (c.is_had.ensures.0 w.if-is_had.true) (flags_of c.loop-node.pairs.counts)
+                (c.is_accepted_node.ensures.0 w.if-is_accepted_node.true) (flags_of c.loop-node.pairs.counts)
                 (flags_of q.counts)
                 (flags-raised firsts (k ∷ []) c.loop-node.pairs.counts q.counts
                 (All-cons (λ n. n < length firsts) k []
@@ -88,17 +88,17 @@ loop-node-preserved c =
             );
             capacity = ap (λ p. p.capacity) w.pairs-is ∙ w.raise-count.ensures.capacity ∙ i.capacity;
           }
-      | else-is_had w ↦
+      | else-is_accepted_node w ↦
           record {
             numbers = ap (λ p. p.numbers) w.pairs-is ∙ i.numbers;
             firsts = ap (λ p. p.firsts) w.pairs-is ∙ i.firsts;
             size = ap (λ p. length p.counts) w.pairs-is ∙ i.size;
             few = λ n. subst (λ p. count_at p.counts n ≤ k + 1) (sym w.pairs-is)
                 (omega (arith, i.few n));
-            raised = λ n. subst (λ p. (is_raised (flags_of p.counts) n ≡ true) ↔ IsFirstHad seeds
+            raised = λ n. subst (λ p. (is_raised (flags_of p.counts) n ≡ true) ↔ IsFirstAccepted seeds
                 released firsts (k + 1) n) (sym w.pairs-is) (
                   λ e. first-later seeds released firsts k n ((i.raised n).0 e),
-                  λ f. (i.raised n).1 (first-skip seeds released firsts k (λ had. both_ways c.is_had.result w.if-is_had.false (c.is_had.ensures.1 had)) n f),
+                  λ f. (i.raised n).1 (first-skip seeds released firsts k (λ had. both_ways c.is_accepted_node.result w.if-is_accepted_node.false (c.is_accepted_node.ensures.1 had)) n f),
                 );
             count = omega (
               arith,
