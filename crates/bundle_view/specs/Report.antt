@@ -1,7 +1,7 @@
 -- What a replica reports: a text that its configuration, its receipts and its records of distrust
 -- determine
 use Rattle.std.specs.Prelude.{◌≡◌, ℕ, List, ◌++◌, map, filter, flat_map, length, codes, decimal}
-use Rattle.std.specs.Prelude.{Bool, Contains, Option, Some, None}
+use Rattle.std.specs.Prelude.{Bool, true, false, Contains, Option, Some, None, Result, Ok, Err}
 use Rattle.std.specs.Str.{bytes_eq}
 use Rattle.std.specs.Io.KnownBytes.{Appends}
 use Rattle.hex.specs.Hex.{encode_lower}
@@ -16,6 +16,8 @@ use Rattle.bundle_view.specs.Current.{IsCurrent}
 use Rattle.bundle_view.specs.Conflicts.{Clash, AreConflicts, ReportedConflict, reported_conflict}
 use Rattle.bundle_view.specs.declared.conflict.ConflictKind.{ConflictKind}
 use Rattle.bundle_view.specs.declared.conflict.ConflictKind.TheVariants.{Keys, HintOnly}
+use Rattle.bundle_view.specs.declared.error.ReportError.{ReportError}
+use Rattle.bundle_view.specs.declared.error.ReportError.TheVariants.{Io, NoMemory}
 
 -- ---- lines
 
@@ -112,3 +114,9 @@ pub record BeginsReport (m : Meaning) (old new : Option (List ℕ)) : Type 0 whe
   pub text : List ℕ
   pub report : IsReport m text
   pub begun : AppendsBeginning old new text
+
+-- the report's sink was at fault
+abbrev pub is_report_fault : {T : Type 0} → Result T ReportError → Bool
+is_report_fault (Ok value) = false
+is_report_fault (Err Io) = true
+is_report_fault (Err NoMemory) = false

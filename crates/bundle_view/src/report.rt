@@ -1,11 +1,11 @@
 //! The report: what a replica accepts, as a text.
-ghost use Rattle.std.specs.Prelude.{◌≡◌, ◌++◌, true, List, map, length, IfOk, OnOk, Err, codes};
-ghost use Rattle.std.specs.Prelude.{flat_map, option_copied};
+ghost use Rattle.std.specs.Prelude.{◌≡◌, ◌++◌, ◌||◌, true, List, map, length, IfOk, OnOk, Err};
+ghost use Rattle.std.specs.Prelude.{codes, flat_map, option_copied};
 ghost use Rattle.bundle_view.specs.Conflicts.{reported_by};
 ghost use Rattle.bundle_view.specs.Report.{IsReport, WritesReport, BeginsReport, accepted_line};
 ghost use Rattle.bundle_view.specs.Report.{conflict_line, current_line, distrust_line};
 ghost use Rattle.bundle_view.specs.Report.{document_text, head_text, id_text, kind_text};
-ghost use Rattle.bundle_view.specs.Report.{records_of, sequence_text};
+ghost use Rattle.bundle_view.specs.Report.{is_report_fault, records_of, sequence_text};
 ghost use Rattle.bundle_view.specs.Sections.{AddsSection, HasReportHead};
 ghost use Rattle.bundle_view.specs.declared.error.ReportError.TheVariants.{Io, NoMemory};
 
@@ -41,6 +41,7 @@ pub fn write_report<C: Closure, W: Sink>(
         → (W.has_failed sink.new ≡ true)
         × BeginsReport (C.state closure.now).meaning (W.contents sink.old) (W.contents sink.new) }
     ensures memory { result ≡ Err NoMemory → sink.new ≡ sink.old }
+    ensures fault { W.has_failed sink.new ≡ (is_report_fault result || W.has_failed sink.old) }
 {
     let text = render(alloc, closure)?;
     write_all(sink, text.as_slice())?;

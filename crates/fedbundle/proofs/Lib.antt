@@ -5,3 +5,4 @@ mod RunFacts
 mod OrderedFacts
 mod PollsFacts
 mod SessionsFacts
+mod DeviceFacts

@@ -42,6 +42,10 @@ pub fn run_canon<R: Source, W: Sink>(
         (W.contents sink.old) (W.contents sink.new) (R.has_failed source.new)
         (W.has_failed sink.new) }
     ensures memory { IsErrOf result NoMemory → W.contents sink.new ≡ W.contents sink.old }
+
+    // No fault of a device is passed over, or reported as another error.
+    ensures sound { (IsErrOf result Io → ⊥) → (R.has_failed source.new ≡ R.has_failed source.old)
+        × (W.has_failed sink.new ≡ W.has_failed sink.old) }
 {
     let bytes = read_up_to(alloc, source, MAX_DOCUMENT_BYTES + 1)?;
     let document = Document::read(alloc, bytes.as_slice())?;

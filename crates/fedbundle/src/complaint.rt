@@ -1,5 +1,5 @@
 //! What is reported of a line without a receipt that fits.
-ghost use Rattle.std.specs.Prelude.{◌≡◌, true, OnOk, IsErr};
+ghost use Rattle.std.specs.Prelude.{◌≡◌, ◌||◌, true, OnOk, IsErr, is_err};
 ghost use Rattle.std.specs.Io.KnownBytes.{Appends};
 ghost use Rattle.byte_lines.specs.Device.{AppendsBeginning};
 ghost use Rattle.fedbundle.specs.Stream.{complaint_text, why_text};
@@ -33,6 +33,7 @@ pub(crate) fn complain<E: Sink>(sink: &mut E, number: u64, why: LineFault) -> Re
     ensures beginning { AppendsBeginning (E.contents sink.old) (E.contents sink.new)
         (complaint_text (record { number = number; why = why })) }
     ensures io { IsErr result → E.has_failed sink.new ≡ true }
+    ensures fault { E.has_failed sink.new ≡ (is_err result || E.has_failed sink.old) }
 {
     byte_lines::laws::pieces();
     let mut digits = Buffer::new();

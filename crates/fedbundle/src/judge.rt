@@ -36,6 +36,9 @@ pub(crate) fn take_lines<C: Closure, R: Source, E: Sink>(
         (E.contents complaints.old) (E.contents complaints.new) e)) }
     ensures io { IsErrOf result Io
         → (R.has_failed source.new ≡ true) ⊎ (E.has_failed complaints.new ≡ true) }
+    ensures sound { (IsErrOf result Io → ⊥)
+        → (R.has_failed source.new ≡ R.has_failed source.old)
+        × (E.has_failed complaints.new ≡ E.has_failed complaints.old) }
 {
     let mut lines = LineBuf::new(alloc);
     let mut number = 0u64;
@@ -68,9 +71,11 @@ fn take_text<C: Closure, E: Sink>(
     number: u64,
     text: &[u8],
 ) -> Result<u64, RunError>
-    ensures { TriesText (C.state closure.old) text.now number (C.state closure.new)
+    ensures tries { TriesText (C.state closure.old) text.now number (C.state closure.new)
         (E.contents complaints.old) (E.contents complaints.new) (E.has_failed complaints.new)
         result }
+    ensures sound { (IsErrOf result Io → ⊥)
+        → E.has_failed complaints.new ≡ E.has_failed complaints.old }
 {
     match judge(alloc, closure, text)? {
         Some(why) => {

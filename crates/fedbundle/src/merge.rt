@@ -2,7 +2,8 @@
 ghost use Rattle.std.specs.Prelude.{◌≡◌, true, IfErr, IsErrOf, OnOk};
 ghost use Rattle.std.specs.Io.KnownBytes.{IsAtEnd};
 ghost use Rattle.fedbundle.specs.Merge.{BeginsMerged, Merged, RefusesMergeRun};
-ghost use Rattle.fedbundle.specs.declared.error.CommandError.TheVariants.{Io};
+ghost use Rattle.fedbundle.specs.declared.error.CommandError.TheVariants.{Io, Sync};
+ghost use Rattle.replica_core.specs.declared.error.SyncError.TheVariants.{Io as DeviceFailed};
 
 use crate::counts::write_counted;
 use crate::error::CommandError;
@@ -35,6 +36,12 @@ pub fn run_merge<C: Closure, R: Source, W: Sink>(
     ensures io { IsErrOf result Io → (W.has_failed sink.new ≡ true)
         × BeginsMerged (R.remaining source.old) (C.state closure.old).meaning
         (C.state closure.new).meaning (W.contents sink.old) (W.contents sink.new) }
+
+    // A fault of a device is reported, and where none failed none is.
+    ensures device { IsErrOf result (Sync DeviceFailed) → R.has_failed source.new ≡ true }
+    ensures source { (IsErrOf result (Sync DeviceFailed) → ⊥)
+        → R.has_failed source.new ≡ R.has_failed source.old }
+    ensures sink { (IsErrOf result Io → ⊥) → W.has_failed sink.new ≡ W.has_failed sink.old }
 {
     let other: C = read_snapshot(alloc, closure.config(), source)?;
     let count = closure.merge(&other)?;

@@ -60,6 +60,12 @@ pub fn run_report<R: Source, W: Sink, E: Sink>(
         → FailsReport config.now (R.remaining source.old) (W.contents sink.old)
         (W.contents sink.new) (R.has_failed source.new) (W.has_failed sink.new)
         (E.has_failed complaints.new) }
+
+    // No fault of a device is passed over, or reported as another error.
+    ensures sound { (IsErrOf result Io → ⊥)
+        → (R.has_failed source.new ≡ R.has_failed source.old)
+        × (W.has_failed sink.new ≡ W.has_failed sink.old)
+        × (E.has_failed complaints.new ≡ E.has_failed complaints.old) }
     ensures told { OnErr result (IfSome (R.remaining source.old) (λ bytes.
         BeginsTelling config.now (lines_of bytes) (E.contents complaints.old)
         (E.contents complaints.new))) }
@@ -90,6 +96,12 @@ pub fn run_report_with<C: Closure, R: Source, W: Sink, E: Sink>(
         → FailsReport config.now (R.remaining source.old) (W.contents sink.old)
         (W.contents sink.new) (R.has_failed source.new) (W.has_failed sink.new)
         (E.has_failed complaints.new) }
+
+    // No fault of a device is passed over, or reported as another error.
+    ensures sound { (IsErrOf result Io → ⊥)
+        → (R.has_failed source.new ≡ R.has_failed source.old)
+        × (W.has_failed sink.new ≡ W.has_failed sink.old)
+        × (E.has_failed complaints.new ≡ E.has_failed complaints.old) }
     ensures told { OnErr result (IfSome (R.remaining source.old) (λ bytes.
         BeginsTelling config.now (lines_of bytes) (E.contents complaints.old)
         (E.contents complaints.new))) }

@@ -1,8 +1,10 @@
-use Rattle.std.proofs.Common.{◌+◌, length, arith, ap, refl}
+use Rattle.std.proofs.Common.{◌+◌, ◌∙◌, length, arith, ap, refl, sym, Err}
 use Rattle.std.proofs.lemmas.Result.{err_from_is_err_and}
+use Rattle.byte_lines.specs.declared.line_buf.Line.{Line}
 use Rattle.fedbundle.specs.declared.complaint.LineFault.TheVariants.{TooLong}
 use Rattle.fedbundle.proofs.RunFacts.{so_far_none, so_far_text, so_far_told, at_most_one, stops_line, stops_text}
 use Rattle.fedbundle.proofs.RunFacts.{stops_io, begun_so_far, begun_line, begun_rest, judged_rest, end_of}
+use Rattle.fedbundle.proofs.DeviceFacts.{line_sound}
 use Rattle.fedbundle.proofs.judge.take_lines.Goals as goal
 
 pub lines-init : goal.lines-init
@@ -15,6 +17,8 @@ lines-init g c =
           (g.E.Sink.contents c.args.complaints.now) c.new-lines.ensures refl c.requires.receipts c.requires.records;
       below = omega (arith, few, empty);
       few = omega arith;
+      source_sound = refl;
+      told_sound = refl;
     }
 
 pub returns-in_err-text-clause-stops : goal.returns-in_err-text-clause-stops
@@ -30,7 +34,13 @@ returns-in_err-count-in-Text-clause-stops g c =
         (g.C.Closure.state c.take_text.new.closure) _ (g.E.Sink.contents c.lines.complaints)
         (g.E.Sink.contents c.take_text.new.complaints)
     c.lines.number c.lines.count c.in-Text.text.now (g.E.Sink.has_failed c.take_text.new.complaints)
-        c.in_err-count-in-Text.field-0.0 c.lines.invariant.so_far taken.finds.0 c.in_err-count-in-Text.ensures)
+        c.in_err-count-in-Text.field-0.0 c.lines.invariant.so_far taken.finds.0 c.in_err-count-in-Text.ensures.tries)
+
+pub returns-in_err-text-clause-sound : goal.returns-in_err-text-clause-sound
+returns-in_err-text-clause-sound g c =
+    let exit = err_from_is_err_and c.from_residual.result c.from_residual.ensures.1 in
+    λ unless. (line_sound Line c.in_err-text.field-0.0 _ _ (λ io. unless (exit.1 ∙ ap Err (exit.2 ∙ io)))
+        c.in_err-text.ensures.fault ∙ c.lines.invariant.source_sound, c.lines.invariant.told_sound)
 
 pub lines-preserved-in-Text : goal.lines-preserved-in-Text
 lines-preserved-in-Text g c =
@@ -39,15 +49,17 @@ lines-preserved-in-Text g c =
     let one = at_most_one (g.C.Closure.state c.lines.closure) (g.C.Closure.state c.take_text.new.closure)
         c.in-Text.text.now (c.lines.number + 1) (g.E.Sink.contents c.lines.complaints)
         (g.E.Sink.contents c.take_text.new.complaints)
-    (g.E.Sink.has_failed c.take_text.new.complaints) c.in_ok-count-in-Text.field-0 c.in_ok-count-in-Text.ensures in
+    (g.E.Sink.has_failed c.take_text.new.complaints) c.in_ok-count-in-Text.field-0 c.in_ok-count-in-Text.ensures.tries in
     record {
       so_far = so_far_text _ _ _ _ (g.C.Closure.state c.lines.closure) (g.C.Closure.state c.take_text.new.closure) _
           (g.E.Sink.contents c.lines.complaints) (g.E.Sink.contents c.take_text.new.complaints)
           c.lines.number c.lines.count c.in-Text.text.now (g.E.Sink.has_failed c.take_text.new.complaints)
               c.in_ok-count-in-Text.field-0 c.requires.config c.lines.invariant.so_far taken.finds.0
-              c.in_ok-count-in-Text.ensures;
+              c.in_ok-count-in-Text.ensures.tries;
       below = omega (arith, less);
       few = omega (arith, one);
+      source_sound = c.in_ok-text.ensures.fault ∙ c.lines.invariant.source_sound;
+      told_sound = c.in_ok-count-in-Text.ensures.sound (λ bad. cc) ∙ c.lines.invariant.told_sound;
     }
 
 pub returns-in_err-complain-in-TooLong-clause-stops : goal.returns-in_err-complain-in-TooLong-clause-stops
@@ -66,6 +78,8 @@ lines-preserved g c =
       so_far = so_far_told _ _ _ _ _ _ _ _ _ _ _ text TooLong c.requires.config c.lines.invariant.so_far line long refl c.in_ok-complain-in-TooLong.ensures.ok;
       below = omega (arith, less);
       few = omega arith;
+      source_sound = c.in_ok-text.ensures.fault ∙ c.lines.invariant.source_sound;
+      told_sound = c.in_ok-complain-in-TooLong.ensures.fault ∙ c.lines.invariant.told_sound;
     }
 
 pub returns-in_err-complain-in-Cut-clause-stops : goal.returns-in_err-complain-in-Cut-clause-stops

@@ -1,5 +1,5 @@
--- What was read is judged, each line took at least one byte, and at most one complaint comes of a line.
-use Rattle.std.proofs.Common.{◌+◌, ◌^◌, ◌<◌, ◌≤◌}
+-- What was read is judged, each line took at least one byte, and at most one complaint comes of a line. The devices are as sound as they were.
+use Rattle.std.proofs.Common.{◌≡◌, ◌+◌, ◌^◌, ◌<◌, ◌≤◌}
 use Rattle.byte_lines.specs.Streams.{stream_of, left_of}
 use Rattle.fedbundle.proofs.RunFacts.{SoFar}
 use Rattle.fedbundle.proofs.judge.take_lines.Given as goal
@@ -10,6 +10,8 @@ invariant-lines g l = record {
       (g.C.Closure.state l.closure).meaning (g.E.Sink.contents l.fn.complaints) (g.E.Sink.contents l.complaints) l.number l.count;
   below : l.number + left_of g.R.Source.budget l.lines l.source < 2 ^ 64;
   few : l.count ≤ l.number;
+  source_sound : g.R.Source.has_failed l.source ≡ g.R.Source.has_failed l.fn.source;
+  told_sound : g.E.Sink.has_failed l.complaints ≡ g.E.Sink.has_failed l.fn.complaints;
 }
 
 abbrev pub decreases-lines : goal.decreases-lines

@@ -1,0 +1,26 @@
+-- Lemmas on devices: where an error is not told as a failed device, the device is as sound as it was.
+use Rattle.std.proofs.Common.{◌≡◌, ◌||◌, Bool, Err, refl}
+use Rattle.byte_lines.specs.Device.{is_source_fault}
+use Rattle.byte_lines.specs.declared.error.DeviceError.{DeviceError}
+use Rattle.byte_lines.specs.declared.error.DeviceError.TheVariants.{Io as SourceFailed}
+use Rattle.byte_lines.specs.declared.error.DeviceError.TheVariants.{NoMemory as NoMemoryForBytes}
+use Rattle.bundle_view.specs.Report.{is_report_fault}
+use Rattle.bundle_view.specs.declared.error.ReportError.{ReportError}
+use Rattle.bundle_view.specs.declared.error.ReportError.TheVariants.{Io as SinkFailed}
+use Rattle.bundle_view.specs.declared.error.ReportError.TheVariants.{NoMemory as NoMemoryForReport}
+use Rattle.fedbundle.specs.Run.{of_line, of_report}
+use Rattle.fedbundle.specs.Status.{of_read}
+use Rattle.fedbundle.specs.declared.error.CommandError.TheVariants.{Io}
+use Rattle.fedbundle.specs.declared.run_error.RunError.TheVariants.{Io as RunIo}
+
+pub read_sound : (T : Type 0) (e : DeviceError) (new old : Bool) → (of_read e ≡ Io → ⊥) → new ≡ (is_source_fault {T = T} (Err e) || old) → new ≡ old
+read_sound T SourceFailed new old unless fault = absurd (unless refl)
+read_sound T NoMemoryForBytes new old unless fault = fault
+
+pub line_sound : (T : Type 0) (e : DeviceError) (new old : Bool) → (of_line e ≡ RunIo → ⊥) → new ≡ (is_source_fault {T = T} (Err e) || old) → new ≡ old
+line_sound T SourceFailed new old unless fault = absurd (unless refl)
+line_sound T NoMemoryForBytes new old unless fault = fault
+
+pub report_sound : (T : Type 0) (e : ReportError) (new old : Bool) → (of_report e ≡ RunIo → ⊥) → new ≡ (is_report_fault {T = T} (Err e) || old) → new ≡ old
+report_sound T SinkFailed new old unless fault = absurd (unless refl)
+report_sound T NoMemoryForReport new old unless fault = fault
