@@ -9,8 +9,7 @@ use Rattle.fed_config.specs.declared.relationship.Relationship.{Relationship}
 use Rattle.fed_config.specs.declared.seed.Seed.{Seed}
 use Rattle.receipt_core.specs.Receipt.{Receipt}
 use Rattle.replica_core.specs.State.{State, no_state, joined, is_within_limits, ids_held}
-use Rattle.replica_core.specs.State.{meaning_of_state}
-use Rattle.replica_core.specs.State.{receipts_lacking, first_of}
+use Rattle.replica_core.specs.State.{meaning_of_state, receipts_lacking, first_of}
 use Rattle.replica_core.specs.declared.event.Event.{Event}
 use Rattle.replica_core.specs.declared.event.Event.TheVariants.{Take, Revoke, Ask, Answer, Absorb}
 use Rattle.replica_core.specs.declared.event.Event.TheVariants.{Part, Join, Save, Restart}

@@ -24,26 +24,30 @@ pub(crate) enum Message {
     Answer {
         answerer: usize,
         question: usize,
-        content: Content,
+        content: StoredReply,
     },
 }
 
 /// The records and receipts of an answer, each in their order.
 #[derive(Debug, Drop)]
-pub(crate) struct Content {
+pub(crate) struct StoredReply {
     pub(crate) records: Vec<Distrust>,
     pub(crate) receipts: Vec<Receipt>,
 }
 
 /// What the closure answers to the question, copied.
-pub(crate) fn told<C: Closure>(alloc: Global, closure: &C, have: &Have) -> Result<Content, NoMemory>
+pub(crate) fn copy_answer<C: Closure>(
+    alloc: Global,
+    closure: &C,
+    have: &Have,
+) -> Result<StoredReply, NoMemory>
     ensures copies { IfOk result
         (λ c. content_of c ≡ (reply_of (C.state closure.now).meaning have.now).content) }
     ensures valid { IsMeaning (C.state closure.now).meaning }
 {
     let _config = closure.config();
     let (records, receipts) = answer(closure, have).into_parts();
-    Ok(Content {
+    Ok(StoredReply {
         records: copied_records(alloc, records)?,
         receipts: copied_receipts(alloc, receipts)?,
     })
@@ -84,7 +88,7 @@ pub(crate) fn question_at(sent: &[Message], place: usize) -> Option<&Have>
 }
 
 /// The content of the answer at the place, if one is there.
-pub(crate) fn answer_at(sent: &[Message], place: usize) -> Option<&Content>
+pub(crate) fn answer_at(sent: &[Message], place: usize) -> Option<&StoredReply>
     ensures { option_map (λ c. content_of c.now) result
         ≡ answered (slice_get (map message_of sent.now) place) }
 {

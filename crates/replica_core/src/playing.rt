@@ -10,7 +10,7 @@ ghost use Rattle.replica_core.specs.declared.event.Event.{Event};
 
 use crate::asking::have;
 use crate::gathering::{copied, gathered, grow, offer_receipt, offer_record};
-use crate::message::{Message, answer_at, first, question_at, told};
+use crate::message::{Message, answer_at, copy_answer, first, question_at};
 use crate::question::Have;
 use closure_core::{Closure, NoMemory};
 use fed_config::Config;
@@ -132,7 +132,7 @@ pub(crate) fn answer<C: Closure>(
     let Some(have) = question_at(playing.sent.as_slice(), question) else {
         return Ok(());
     };
-    let content = told(alloc, closure, have)?;
+    let content = copy_answer(alloc, closure, have)?;
     playing.sent.push(Message::Answer {
         answerer: replica,
         question,

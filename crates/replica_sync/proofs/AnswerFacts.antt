@@ -76,7 +76,7 @@ answer_stops m config bucket first h stream middle new e same head stops =
         after = stops.after;
         begins = record {
           first = head.text;
-          heads = record { told = told_by_head h; tells = tells.tells; own = tells.own; spoken = (refl, refl); receipts = refl; records = refl };
+          heads = record { told = told_by_head h; tells = tells.tells; own = tells.own; supported = (refl, refl); receipts = refl; records = refl };
           begun = stops.taken.begun;
           text = consumes_both stream middle stops.left (ended head.text) (text_of_lines (content_lines stops.content)) head.is.1 stops.taken.text;
         };

@@ -9,7 +9,7 @@ use Rattle.replica_core.specs.declared.error.SyncError.{SyncError}
 use Rattle.replica_core.specs.declared.error.SyncError.TheVariants.{BadHeader, ConfigDiffers, VersionDiffers, NotCanonical, NotRising, BadCount, Truncated}
 use Rattle.replica_core.specs.declared.error.SyncError.TheVariants.{Refused, Io, NoMemory}
 use Rattle.replica_sync.specs.Messages.{Asked, asked_of, asked_text, question_text}
-use Rattle.replica_sync.specs.FirstLines.{HasBadFirstLine, IsAskedLine, IsOther, IsOwn, RefusesAsked}
+use Rattle.replica_sync.specs.FirstLines.{HasBadFirstLine, IsAskedLine, HasOtherDigest, HasDigestOf, RefusesAsked}
 use Rattle.replica_sync.specs.Questions.{IsAskable, RefusesQuestion}
 use Rattle.replica_sync.proofs.FeedlessFacts.{is-first, no-first, plain-asked, same-line}
 use Rattle.replica_sync.proofs.FirstLineFacts.{one-asked}
@@ -51,11 +51,11 @@ pub first-cause : (refuses : List ℕ → SyncError → Type 0) (bytes text afte
 first-cause refuses bytes text after new e plain is h =
     subst (λ t. ((e ≡ BadHeader) × (8388608 < length t)) ⊎ refuses t e) (is-first bytes text after h.text new plain is h.is).0 h.cause
 
-pub no-other : (config : Option Configuration) (digest other : List ℕ) → IsOwn config digest → other ≡ digest → IsOther config other → ⊥
+pub no-other : (config : Option Configuration) (digest other : List ℕ) → HasDigestOf config digest → other ≡ digest → HasOtherDigest config other → ⊥
 no-other None digest other own e h = h
 no-other (Some config) digest other own e h = h (e ∙ own)
 
-no-bad-question : (config : Option Configuration) (q : Question) (e : SyncError) → IsAskable q → IsOwn config q.config → e ≢ NoMemory
+no-bad-question : (config : Option Configuration) (q : Question) (e : SyncError) → IsAskable q → HasDigestOf config q.config → e ≢ NoMemory
     → ((e ≡ BadHeader) × (8388608 < length (asked_text (asked_of q)))) ⊎ RefusesAsked config (asked_text (asked_of q)) e → ⊥
 no-bad-question config q e is own ample (inl long) = let more = long.1 in let short = is.short in omega (arith, more, short)
 no-bad-question config q BadHeader is own ample (inr none) = none (asked_of q) (asked-line q is)
@@ -64,7 +64,7 @@ no-bad-question config q ConfigDiffers is own ample (inr h) =
     no-other config q.config h.asked.question.config own (ap (λ (a : Asked). a.question.config) same) h.other
 no-bad-question config q VersionDiffers is own ample (inr h) =
     let same = one-asked (asked_text (asked_of q)) h.asked (asked_of q) h.line (asked-line q is) in
-    h.unspoken (ap (λ (a : Asked). a.format) same, ap (λ (a : Asked). a.buckets) same)
+    h.unsupported (ap (λ (a : Asked). a.format) same, ap (λ (a : Asked). a.buckets) same)
 no-bad-question config q (NotCanonical n) is own ample (inr h) = h
 no-bad-question config q (NotRising n) is own ample (inr h) = h
 no-bad-question config q BadCount is own ample (inr h) = h
@@ -74,7 +74,7 @@ no-bad-question config q Io is own ample (inr h) = h
 no-bad-question config q NoMemory is own ample (inr h) = ample refl
 
 module _ (config : Option Configuration) (bytes : List ℕ) (q : Question) (left : List ℕ) (is : IsAskable q)
-    (own : IsOwn config q.config) (begins : bytes ≡ question_text q ++ left) where
+    (own : HasDigestOf config q.config) (begins : bytes ≡ question_text q ++ left) where
   bad-first : (new : Option (List ℕ)) (e : SyncError) → e ≢ NoMemory → HasBadFirstLine (RefusesAsked config) (Some bytes) new e → ⊥
   bad-first new e ample h =
       no-bad-question config q e is own ample
@@ -94,7 +94,7 @@ module _ (config : Option Configuration) (bytes : List ℕ) (q : Question) (left
   no-question-fault new NoMemory calm ample h = ample refl
 
 pub question-read : (config : Option Configuration) (bytes : List ℕ) (q : Question) (left new : Option (List ℕ))
-    (e : SyncError) → IsAskable q → IsOwn config q.config → e ≢ Io → e ≢ NoMemory
+    (e : SyncError) → IsAskable q → HasDigestOf config q.config → e ≢ Io → e ≢ NoMemory
     → Consumes (Some bytes) left (question_text q) → RefusesQuestion config (Some bytes) new e → ⊥
 question-read config bytes q None new e is own calm ample begins h = begins
 question-read config bytes q (Some left) new e is own calm ample begins h = no-question-fault config bytes q left is own begins new e calm ample h

@@ -221,7 +221,7 @@ whole-answer old middle new h content head all = record {
 }
 
 pub heads-told : (expected : Option Expected) (text : List ℕ) (h : Head) → TellsHead expected text h → Heads expected text h.count h.distrusts
-heads-told expected text h t = record { told = told_by_head h; tells = t.tells; own = t.own; spoken = (refl, refl); receipts = refl; records = refl }
+heads-told expected text h t = record { told = told_by_head h; tells = t.tells; own = t.own; supported = (refl, refl); receipts = refl; records = refl }
 
 pub fails-behind : (old middle new : Option (List ℕ)) (h : Head) (e : SyncError) → HasHead None old middle h
     → StopsGathering h.count h.distrusts middle new e → RefusesGive old new e

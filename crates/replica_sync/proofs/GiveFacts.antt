@@ -1,7 +1,6 @@
 -- A stream begins with one answer at most, and one that begins with a whole answer has no fault before its end.
-use Rattle.std.proofs.Common.{◌≡◌, ◌≢◌, ℕ, ◌+◌, ◌<◌, ◌≤◌, ◌^◌, ◌⊎◌, inl, inr, List, [], ◌∷◌, ◌++◌, codes, decimal}
-use Rattle.std.proofs.Common.{length, length-append, map, fold, Option, None, Some, refl, ap, sym, ◌∙◌, subst, arith}
-use Rattle.std.proofs.Common.{append_assoc, append-nil}
+use Rattle.std.proofs.Common.{◌≡◌, ◌≢◌, ℕ, ◌+◌, ◌<◌, ◌≤◌, ◌^◌, ◌⊎◌, inl, inr, List, [], ◌∷◌, ◌++◌, codes, decimal, length, length-append, map, fold, Option}
+use Rattle.std.proofs.Common.{None, Some, refl, ap, sym, ◌∙◌, subst, arith, append_assoc, append-nil}
 use Rattle.std.proofs.lemmas.Fmt.{length-decimal-le}
 use Rattle.std.proofs.lemmas.List.{append_cancel_left, length-map}
 use Rattle.std.specs.Io.KnownBytes.{Consumes}
@@ -29,7 +28,7 @@ use Rattle.replica_core.proofs.RisingLists.{all_back, rising_head, rising_tail}
 use Rattle.replica_sync.proofs.HeldFacts.{text_cmp}
 use Rattle.replica_sync.proofs.OneFacts.{held_back, lines_back}
 use Rattle.replica_sync.specs.Messages.{GiveHeader, distrusts_part, reply_text, told_of, told_text}
-use Rattle.replica_sync.specs.FirstLines.{Expected, HasBadFirstLine, IsAbout, IsOwn, IsRecordCount, IsGiveHeader, IsToldLine, RefusesTold, config_of}
+use Rattle.replica_sync.specs.FirstLines.{Expected, HasBadFirstLine, IsAbout, HasDigestOf, IsRecordCount, IsGiveHeader, IsToldLine, RefusesTold, config_of}
 use Rattle.replica_sync.specs.Answers.{AnswerBegins, IsAnswer, IsBegun, IsContent, HasBadNext, RefusesGive, RefusesHead, RefusesNextEntry, Wants, content_lines}
 use Rattle.replica_sync.specs.Answers.{refused_text}
 use Rattle.replica_sync.proofs.AskableFacts.{first-cause, no-other}
@@ -73,7 +72,7 @@ short-told t is =
     omega (arith, whole, bucket, config, count, part, format, buckets)
 
 no-bad-told : (expected : Option Expected) (r : Reply) (e : SyncError) → IsAnswer r → IsAbout expected r.bucket
-    → IsOwn (config_of expected) r.config → e ≢ NoMemory
+    → HasDigestOf (config_of expected) r.config → e ≢ NoMemory
     → ((e ≡ BadHeader) × (8388608 < length (told_text (told_of r)))) ⊎ RefusesTold expected (told_text (told_of r)) e → ⊥
 no-bad-told expected r e is about own ample (inl long) = let more = long.1 in let short = short-told (told_of r) is.told in omega (arith, more, short)
 no-bad-told expected r BadHeader is about own ample (inr none) = none (told_of r) (record { line = told-line r is; about = about })
@@ -82,7 +81,7 @@ no-bad-told expected r ConfigDiffers is about own ample (inr h) =
     no-other (config_of expected) r.config h.told.config own (ap (λ (t : GiveHeader). t.config) same) h.other
 no-bad-told expected r VersionDiffers is about own ample (inr h) =
     let same = one-told (told_text (told_of r)) h.told (told_of r) h.tells.line (told-line r is) in
-    h.unspoken (ap (λ (t : GiveHeader). t.format) same, ap (λ (t : GiveHeader). t.buckets) same)
+    h.unsupported (ap (λ (t : GiveHeader). t.format) same, ap (λ (t : GiveHeader). t.buckets) same)
 no-bad-told expected r (NotCanonical n) is about own ample (inr h) = h
 no-bad-told expected r (NotRising n) is about own ample (inr h) = h
 no-bad-told expected r BadCount is about own ample (inr h) = h
@@ -339,7 +338,7 @@ module _ (whole content : State) (count distrusts : ℕ) (rest after : List ℕ)
 -- ---- no fault
 
 module _ (expected : Option Expected) (bytes : List ℕ) (r : Reply) (after : List ℕ) (is : IsAnswer r)
-    (about : IsAbout expected r.bucket) (own : IsOwn (config_of expected) r.config)
+    (about : IsAbout expected r.bucket) (own : HasDigestOf (config_of expected) r.config)
     (begins : bytes ≡ reply_text r ++ after) where
   bad-first : (new : Option (List ℕ)) (e : SyncError) → e ≢ NoMemory → HasBadFirstLine (RefusesTold expected) (Some bytes) new e → ⊥
   bad-first new e ample h =

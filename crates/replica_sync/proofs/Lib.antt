@@ -1,13 +1,13 @@
-pub mod HeaderFacts
-pub mod HeldFacts
-pub mod SnapshotFacts
-pub mod WritingFacts
-pub mod FeedFacts
-pub mod OneFacts
+mod HeaderFacts
+mod HeldFacts
+mod SnapshotFacts
+mod WritingFacts
+mod FeedFacts
+mod OneFacts
 mod DigestFacts
 mod CountFacts
 mod NextFacts
-pub mod ApartFacts
+mod ApartFacts
 mod Glue
 mod PieceFacts
 mod ScanFacts

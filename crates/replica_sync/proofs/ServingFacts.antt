@@ -1,6 +1,5 @@
 -- Questions that are read, and sessions that are served.
-use Rattle.std.proofs.Common.{◌≡◌, ℕ, ◌+◌, ◌⊎◌, inl, inr, List, [], ◌∷◌, ◌++◌, length, Option, ap, sym, ◌∙◌}
-use Rattle.std.proofs.Common.{subst, arith, length-append, append-nil}
+use Rattle.std.proofs.Common.{◌≡◌, ℕ, ◌+◌, ◌⊎◌, inl, inr, List, [], ◌∷◌, ◌++◌, length, Option, ap, sym, ◌∙◌, subst, arith, length-append, append-nil}
 use Rattle.std.specs.List.{AllByRecursion, flat_map}
 use Rattle.std.specs.Io.KnownBytes.{Appends, Consumes}
 use Rattle.std.proofs.KnownBytes.{Appends-trans, Consumes-trans}
@@ -16,7 +15,7 @@ use Rattle.replica_core.specs.declared.error.SyncError.TheVariants.{BadHeader, C
 use Rattle.replica_core.specs.declared.error.SyncError.TheVariants.{Refused, Io, NoMemory}
 use Rattle.replica_sync.specs.Messages.{question_text, reply_text}
 use Rattle.replica_sync.specs.Questions.{Asks, IsQuestionOf, IsWritten, RefusesFurther, ServesUpTo, replies_text}
-use Rattle.replica_sync.specs.Inside.Asking.{HasAsked, IsNoneAsked, RefusesHaveLine, RefusesSpoken, asking_by}
+use Rattle.replica_sync.specs.Inside.Asking.{HasAsked, IsNoneAsked, RefusesHaveLine, RefusesVersionedHave, asking_by}
 use Rattle.replica_sync.specs.Inside.Serving.{FailsReading, FailsWriting, Served, ServesOne}
 use Rattle.replica_sync.specs.declared.have_fields.VersionedHave.{VersionedHave}
 use Rattle.replica_sync.proofs.Written.{begins-second}
@@ -39,21 +38,21 @@ refused-further config old new (Refused n why) h = h
 refused-further config old new Io h = tt
 refused-further config old new NoMemory h = tt
 
-pub unspoken-further : (config : Configuration) (old new : Option (List ℕ)) (a : VersionedHave) (e : SyncError)
-    → HasAsked old new a → RefusesSpoken config a e → RefusesFurther config old e
-unspoken-further config old new a BadHeader h r = absurd r
-unspoken-further config old new a ConfigDiffers h r =
+pub unsupported-further : (config : Configuration) (old new : Option (List ℕ)) (a : VersionedHave) (e : SyncError)
+    → HasAsked old new a → RefusesVersionedHave config a e → RefusesFurther config old e
+unsupported-further config old new a BadHeader h r = absurd r
+unsupported-further config old new a ConfigDiffers h r =
     (new, record { text = h.text; is = h.is; cause = inr (record { asked = asking_by a; line = h.line; other = r }) })
-unspoken-further config old new a VersionDiffers h r =
+unsupported-further config old new a VersionDiffers h r =
     (new, record { text = h.text; is = h.is; cause =
-    inr (record { asked = asking_by a; line = h.line; own = r.0; unspoken = r.1 }) })
-unspoken-further config old new a (NotCanonical n) h r = r
-unspoken-further config old new a (NotRising n) h r = r
-unspoken-further config old new a BadCount h r = r
-unspoken-further config old new a Truncated h r = absurd r
-unspoken-further config old new a (Refused n why) h r = r
-unspoken-further config old new a Io h r = tt
-unspoken-further config old new a NoMemory h r = tt
+    inr (record { asked = asking_by a; line = h.line; own = r.0; unsupported = r.1 }) })
+unsupported-further config old new a (NotCanonical n) h r = r
+unsupported-further config old new a (NotRising n) h r = r
+unsupported-further config old new a BadCount h r = r
+unsupported-further config old new a Truncated h r = absurd r
+unsupported-further config old new a (Refused n why) h r = r
+unsupported-further config old new a Io h r = tt
+unsupported-further config old new a NoMemory h r = tt
 
 -- ---- a session
 

@@ -15,8 +15,8 @@ use Rattle.replica_sync.specs.Entries.{RefusesEntryText}
 use Rattle.replica_sync.specs.declared.entry_line.Wanted.{Wanted}
 use Rattle.replica_sync.specs.declared.entry_line.Wanted.TheVariants.{Records, Receipts, Either}
 use Rattle.replica_sync.specs.Messages.{GiveHeader, told_of}
-use Rattle.replica_sync.specs.FirstLines.{Expected, TellsOf, IsOwn, IsSpoken, IsGiveHeader}
-use Rattle.replica_sync.specs.FirstLines.{config_of, HasBadFirstLine, RefusesTold}
+use Rattle.replica_sync.specs.FirstLines.{Expected, TellsOf, HasDigestOf, IsSupportedVersion}
+use Rattle.replica_sync.specs.FirstLines.{IsGiveHeader, config_of, HasBadFirstLine, RefusesTold}
 use Rattle.replica_core.specs.declared.error.SyncError.{SyncError}
 use Rattle.replica_core.specs.declared.error.SyncError.TheVariants.{BadHeader, ConfigDiffers}
 use Rattle.replica_core.specs.declared.error.SyncError.TheVariants.{VersionDiffers, NotCanonical}
@@ -28,12 +28,12 @@ abbrev pub content_lines : State → List (List ℕ)
 content_lines content = map distrust_line content.records ++ map line content.held
 
 -- It is a first line that is read: about the bucket that is wanted, of this configuration, in the
--- one format that is spoken, with so many receipts and records.
+-- one format that is supported, with so many receipts and records.
 pub record Heads (expected : Option Expected) (text : List ℕ) (count distrusts : ℕ) : Type 0 where
   pub told : GiveHeader
   pub tells : TellsOf expected text told
-  pub own : IsOwn (config_of expected) told.config
-  pub spoken : IsSpoken told.format told.buckets
+  pub own : HasDigestOf (config_of expected) told.config
+  pub supported : IsSupportedVersion told.format told.buckets
   pub receipts : count ≡ told.count
   pub records : Some distrusts ≡ told.distrusts
 

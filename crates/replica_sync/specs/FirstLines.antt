@@ -12,19 +12,19 @@ use Rattle.replica_core.specs.declared.error.SyncError.TheVariants.{VersionDiffe
 use Rattle.replica_core.specs.declared.error.SyncError.TheVariants.{NotRising, BadCount, Truncated}
 use Rattle.replica_core.specs.declared.error.SyncError.TheVariants.{Refused, Io, NoMemory}
 
--- the one format and the one number of buckets that are spoken
-abbrev pub IsSpoken : ℕ → ℕ → Type 0
-IsSpoken format buckets = (format ≡ 2) × (buckets ≡ 256)
+-- the one format and the one number of buckets that are supported
+abbrev pub IsSupportedVersion : ℕ → ℕ → Type 0
+IsSupportedVersion format buckets = (format ≡ 2) × (buckets ≡ 256)
 
 -- where a configuration is known, the digest is its
-abbrev pub IsOwn : Option Configuration → List ℕ → Type 0
-IsOwn None digest = ⊤
-IsOwn (Some config) digest = digest ≡ config_id_of config
+abbrev pub HasDigestOf : Option Configuration → List ℕ → Type 0
+HasDigestOf None digest = ⊤
+HasDigestOf (Some config) digest = digest ≡ config_id_of config
 
 -- where a configuration is known, the digest is another one's
-abbrev pub IsOther : Option Configuration → List ℕ → Type 0
-IsOther None digest = ⊥
-IsOther (Some config) digest = digest ≢ config_id_of config
+abbrev pub HasOtherDigest : Option Configuration → List ℕ → Type 0
+HasOtherDigest None digest = ⊥
+HasOtherDigest (Some config) digest = digest ≢ config_id_of config
 
 -- ---- questions
 
@@ -46,20 +46,20 @@ pub record IsAskedLine (text : List ℕ) (a : Asked) : Type 0 where
 pub record AsksOther (config : Option Configuration) (text : List ℕ) : Type 0 where
   pub asked : Asked
   pub line : IsAskedLine text asked
-  pub other : IsOther config asked.question.config
+  pub other : HasOtherDigest config asked.question.config
 
 -- It is one of this configuration, of another format or number of buckets.
-pub record AsksUnspoken (config : Option Configuration) (text : List ℕ) : Type 0 where
+pub record AsksUnsupported (config : Option Configuration) (text : List ℕ) : Type 0 where
   pub asked : Asked
   pub line : IsAskedLine text asked
-  pub own : IsOwn config asked.question.config
-  pub unspoken : IsSpoken asked.format asked.buckets → ⊥
+  pub own : HasDigestOf config asked.question.config
+  pub unsupported : IsSupportedVersion asked.format asked.buckets → ⊥
 
 -- what is wrong with the line where a question's is wanted
 abbrev pub RefusesAsked : Option Configuration → List ℕ → SyncError → Type 0
 RefusesAsked config text BadHeader = (asked : Asked) → IsAskedLine text asked → ⊥
 RefusesAsked config text ConfigDiffers = AsksOther config text
-RefusesAsked config text VersionDiffers = AsksUnspoken config text
+RefusesAsked config text VersionDiffers = AsksUnsupported config text
 RefusesAsked config text (NotCanonical n) = ⊥
 RefusesAsked config text (NotRising n) = ⊥
 RefusesAsked config text BadCount = ⊥
@@ -111,20 +111,20 @@ pub record TellsOf (expected : Option Expected) (text : List ℕ) (t : GiveHeade
 pub record TellsOther (expected : Option Expected) (text : List ℕ) : Type 0 where
   pub told : GiveHeader
   pub tells : TellsOf expected text told
-  pub other : IsOther (config_of expected) told.config
+  pub other : HasOtherDigest (config_of expected) told.config
 
 -- It is one of this configuration, of another format or number of buckets.
-pub record TellsUnspoken (expected : Option Expected) (text : List ℕ) : Type 0 where
+pub record TellsUnsupported (expected : Option Expected) (text : List ℕ) : Type 0 where
   pub told : GiveHeader
   pub tells : TellsOf expected text told
-  pub own : IsOwn (config_of expected) told.config
-  pub unspoken : IsSpoken told.format told.buckets → ⊥
+  pub own : HasDigestOf (config_of expected) told.config
+  pub unsupported : IsSupportedVersion told.format told.buckets → ⊥
 
 -- what is wrong with the line where an answer's first is wanted
 abbrev pub RefusesTold : Option Expected → List ℕ → SyncError → Type 0
 RefusesTold expected text BadHeader = (told : GiveHeader) → TellsOf expected text told → ⊥
 RefusesTold expected text ConfigDiffers = TellsOther expected text
-RefusesTold expected text VersionDiffers = TellsUnspoken expected text
+RefusesTold expected text VersionDiffers = TellsUnsupported expected text
 RefusesTold expected text (NotCanonical n) = ⊥
 RefusesTold expected text (NotRising n) = ⊥
 RefusesTold expected text BadCount = ⊥

@@ -57,14 +57,14 @@ pub fn read_give<R: Source>(
 
 // What was read of an answer so far.
 #[derive(Drop)]
-struct Content {
+struct AnswerBody {
     distrusts: Vec<Distrust>,
     receipts: Vec<Receipt>,
     // The last line of it, and empty where there is none.
     last: Vec<u8>,
 }
 
-fn give_of(head: &Head, content: Content) -> Give
+fn give_of(head: &Head, content: AnswerBody) -> Give
     ensures { result ≡ record {
       bucket = head.now.bucket;
       config = head.now.config.0;
@@ -85,7 +85,7 @@ fn read_content<R: Source>(
     head: &Head,
     lines: &mut LineBuf,
     source: &mut R,
-) -> Result<Content, SyncError>
+) -> Result<AnswerBody, SyncError>
     ensures ok { IfOk result
         (λ content. GathersAll head.now.count head.now.distrusts
         (stream_of R.remaining lines.old source.old) (answer_content content)
@@ -95,7 +95,7 @@ fn read_content<R: Source>(
         (stream_of R.remaining lines.old source.old) (stream_of R.remaining lines.new source.new)) }
     ensures fault { R.has_failed source.new ≡ (is_io result || R.has_failed source.old) }
 {
-    let mut content = Content {
+    let mut content = AnswerBody {
         distrusts: Vec::new(alloc),
         receipts: Vec::new(alloc),
         last: Vec::new(alloc),
@@ -108,7 +108,7 @@ fn read_content<R: Source>(
 fn read_next<R: Source>(
     alloc: Global,
     head: &Head,
-    content: &mut Content,
+    content: &mut AnswerBody,
     lines: &mut LineBuf,
     source: &mut R,
 ) -> Result<bool, SyncError>
@@ -145,7 +145,7 @@ fn read_next<R: Source>(
 }
 
 // Which line should stand after what was read, where that is not all.
-fn next_wanted(head: &Head, content: &Content) -> Option<Wanted>
+fn next_wanted(head: &Head, content: &AnswerBody) -> Option<Wanted>
     requires { IsBegun head.now.count head.now.distrusts (answer_content content.now) }
     ensures { MatchOption result
         (IsWhole head.now.count head.now.distrusts (answer_content content.now))
@@ -162,7 +162,7 @@ fn next_wanted(head: &Head, content: &Content) -> Option<Wanted>
 
 // The number of the line after what was read. There is no memory for so many that it has more than
 // 64 bits.
-fn number_behind(content: &Content) -> Result<u64, AllocError>
+fn number_behind(content: &AnswerBody) -> Result<u64, AllocError>
     ensures { IfOk result (λ number. number ≡ next_entry_number 1 (answer_content content.now)) }
 {
     let count = content.distrusts.len() as u64 + content.receipts.len() as u64;
@@ -176,7 +176,7 @@ fn number_behind(content: &Content) -> Result<u64, AllocError>
 fn push_line(
     alloc: Global,
     wanted: Wanted,
-    content: &mut Content,
+    content: &mut AnswerBody,
     number: u64,
     text: &[u8],
 ) -> Result<(), SyncError>
@@ -195,7 +195,7 @@ fn push_line(
     Ok(())
 }
 
-fn push_entry(content: &mut Content, entry: Entry) -> Result<(), AllocError>
+fn push_entry(content: &mut AnswerBody, entry: Entry) -> Result<(), AllocError>
     ensures pushed { OnOk result
         (answer_content content.new ≡ pushed entry (answer_content content.old)) }
     ensures last { content.new.last ≡ content.old.last }

@@ -4,11 +4,12 @@ ghost use Rattle.std.specs.Prelude.{IfErr, IfSome, OnOk, MatchOption, codes};
 ghost use Rattle.byte_lines.specs.Streams.{stream_of, left_of};
 ghost use Rattle.replica_sync.specs.Snapshots.{is_io};
 ghost use Rattle.replica_sync.specs.Messages.{GiveHeader, distrusts_part, told_text};
-ghost use Rattle.replica_sync.specs.FirstLines.{IsAbout, IsOwn, IsRecordCount, IsGiveHeader};
+ghost use Rattle.replica_sync.specs.FirstLines.{IsAbout, HasDigestOf, IsRecordCount, IsGiveHeader};
 ghost use Rattle.replica_sync.specs.FirstLines.{IsToldLine, RefusesTold, config_of};
 ghost use Rattle.replica_sync.specs.Answers.{RefusesHead};
-ghost use Rattle.replica_sync.specs.Inside.Spelling.{HasHead, HasWords, IsHeadOf, RefusesSaid};
-ghost use Rattle.replica_sync.specs.Inside.Spelling.{TellsHead, expected_by, header_by};
+ghost use Rattle.replica_sync.specs.Inside.Spelling.{HasHead, HasWords, IsHeadOf};
+ghost use Rattle.replica_sync.specs.Inside.Spelling.{RefusesGiveHeader, TellsHead, expected_by};
+ghost use Rattle.replica_sync.specs.Inside.Spelling.{header_by};
 
 use crate::scanner::{after, digest_behind, id_of, number_behind};
 use crate::spelling::{GiveHeaderLine, push_give_header};
@@ -75,11 +76,12 @@ pub(crate) fn read_head(
     }
 }
 
-// What the line says, where it is wanted and of the one format that is spoken.
+// What the line says, where it is wanted and of the one format that is supported.
 fn head_of(expected: Option<Expected<'_>>, told: &GiveHeaderLine) -> Result<Head, SyncError>
     requires { IsGiveHeader (header_by told.now) }
     ensures ok { IfOk result (IsHeadOf (expected_by expected.entry) (header_by told.now)) }
-    ensures refused { IfErr result (RefusesSaid (expected_by expected.entry) (header_by told.now)) }
+    ensures refused { IfErr result
+        (RefusesGiveHeader (expected_by expected.entry) (header_by told.now)) }
 {
     if !is_about(expected, told.bucket) {
         return Err(SyncError::BadHeader);
@@ -111,7 +113,7 @@ fn is_about(expected: Option<Expected<'_>>, bucket: u64) -> bool
 }
 
 fn is_own(expected: Option<Expected<'_>>, config: &ConfigId) -> bool
-    ensures { IsTrue result ↔ IsOwn (config_of (expected_by expected.entry)) config.now.0 }
+    ensures { IsTrue result ↔ HasDigestOf (config_of (expected_by expected.entry)) config.now.0 }
 {
     match expected {
         Some(expected) => *config == expected.config.digest(),

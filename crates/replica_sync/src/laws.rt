@@ -9,7 +9,7 @@ ghost use Rattle.replica_core.specs.Session.{Question, Reply};
 ghost use Rattle.replica_core.specs.declared.error.SyncError.{SyncError};
 ghost use Rattle.replica_core.specs.declared.error.SyncError.TheVariants.{Io, NoMemory, Refused};
 ghost use Rattle.replica_sync.specs.Messages.{question_text, reply_text};
-ghost use Rattle.replica_sync.specs.FirstLines.{IsOwn};
+ghost use Rattle.replica_sync.specs.FirstLines.{HasDigestOf};
 ghost use Rattle.replica_sync.specs.Questions.{IsAskable, RefusesQuestion, ServesAll, ServesUpTo};
 ghost use Rattle.replica_sync.specs.Answers.{IsAnswer, RefusesGive};
 ghost use Rattle.replica_sync.specs.Pulling.{PullsAll, PullsUpTo};
@@ -45,7 +45,7 @@ pub fn questions()
         → (p ≡ q) × (left ≡ rest) }
     ensures read { (config : Option Configuration) (bytes : List ℕ) (q : Question)
         (left new : Option (List ℕ)) (e : SyncError)
-        → IsAskable q → IsOwn config q.config → e ≢ Io → e ≢ NoMemory
+        → IsAskable q → HasDigestOf config q.config → e ≢ Io → e ≢ NoMemory
         → Consumes (Some bytes) left (question_text q) → RefusesQuestion config (Some bytes) new e
         → ⊥ }
 {}

@@ -7,9 +7,10 @@ ghost use Rattle.replica_sync.specs.Snapshots.{is_io};
 ghost use Rattle.replica_sync.specs.Messages.{question_text};
 ghost use Rattle.replica_sync.specs.FirstLines.{IsAskedLine};
 ghost use Rattle.replica_sync.specs.Questions.{IsAskable, RefusesFurther, RefusesQuestion};
-ghost use Rattle.replica_sync.specs.Inside.Asking.{FindsAsked, FindsOwn, IsNoneAsked, IsSaid};
-ghost use Rattle.replica_sync.specs.Inside.Asking.{IsUnsaid};
-ghost use Rattle.replica_sync.specs.Inside.Asking.{RefusesHaveLine, RefusesSpoken, asking_by};
+ghost use Rattle.replica_sync.specs.Inside.Asking.{FindsAsked, FindsOwn, IsNoneAsked};
+ghost use Rattle.replica_sync.specs.Inside.Asking.{IsSupportedHave, IsUnsupportedHave};
+ghost use Rattle.replica_sync.specs.Inside.Asking.{RefusesHaveLine, RefusesVersionedHave};
+ghost use Rattle.replica_sync.specs.Inside.Asking.{asking_by};
 
 use crate::have_fields::VersionedHave;
 use crate::have_line_reader::read_have_line;
@@ -114,8 +115,9 @@ fn asked_line(alloc: Global, text: &[u8]) -> Result<VersionedHave, SyncError>
 }
 
 fn own_question(config: &Config, asking: VersionedHave) -> Result<Have, SyncError>
-    ensures { MatchResult result (λ h. (h.config ≡ config_id_of config.now) × IsSaid asking h)
-        (RefusesSpoken config.now asking) }
+    ensures { MatchResult result
+        (λ h. (h.config ≡ config_id_of config.now) × IsSupportedHave asking h)
+        (RefusesVersionedHave config.now asking) }
 {
     if asking.have.config() != config.digest() {
         return Err(SyncError::ConfigDiffers);
@@ -123,9 +125,9 @@ fn own_question(config: &Config, asking: VersionedHave) -> Result<Have, SyncErro
     question_of(asking)
 }
 
-// The question, where it is of the one format and number of buckets that are spoken.
+// The question, where it is of the one format and number of buckets that are supported.
 fn question_of(asking: VersionedHave) -> Result<Have, SyncError>
-    ensures { MatchResult result (IsSaid asking) (IsUnsaid asking) }
+    ensures { MatchResult result (IsSupportedHave asking) (IsUnsupportedHave asking) }
 {
     if asking.format == 2 && asking.buckets == 256 {
         Ok(asking.have)

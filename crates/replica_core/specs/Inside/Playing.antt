@@ -1,6 +1,5 @@
 -- Worlds whose replicas are closures in memory.
-use Rattle.std.specs.Prelude.{◌≡◌, ℕ, ◌≤◌, cond, List, length, map, Option}
-use Rattle.std.specs.Prelude.{Some, None, ⊤}
+use Rattle.std.specs.Prelude.{◌≡◌, ℕ, ◌≤◌, cond, List, length, map, Option, Some, None, ⊤}
 use Rattle.std.specs.List.{AllByRecursion}
 use Rattle.std.specs.List.Sorted.{IsStrictlySortedBy}
 use Rattle.fed_config.specs.Configuration.{Configuration, HasDomain}
@@ -10,7 +9,7 @@ use Rattle.receipt_core.specs.Acceptance.{Meaning, IsFitting}
 use Rattle.replica_core.specs.State.{State, joined, is_within_limits}
 use Rattle.replica_core.specs.World.{Message, question, answer, World, rules_of, happens, AreOf}
 use Rattle.replica_core.specs.declared.event.Event.{Event}
-use Rattle.replica_core.specs.declared.message.Content.{Content}
+use Rattle.replica_core.specs.declared.message.StoredReply.{StoredReply}
 use Rattle.replica_core.specs.declared.message.Message.{Message as Sent}
 use Rattle.replica_core.specs.declared.message.Message.TheVariants.{Question, Answer}
 use Rattle.replica_core.specs.declared.playing.Playing.{Playing}
@@ -21,7 +20,7 @@ grown state gain = cond (is_within_limits (joined state gain)) (joined state gai
 
 -- ---- messages
 
-abbrev pub content_of : Content → State
+abbrev pub content_of : StoredReply → State
 content_of c = record { held = c.receipts.items; records = c.records.items }
 
 abbrev pub message_of : Sent → Message

@@ -12,7 +12,8 @@ use Rattle.replica_core.specs.declared.error.SyncError.TheVariants.{VersionDiffe
 use Rattle.replica_core.specs.declared.error.SyncError.TheVariants.{NotRising, BadCount, Truncated}
 use Rattle.replica_core.specs.declared.error.SyncError.TheVariants.{Refused, Io, NoMemory}
 use Rattle.replica_sync.specs.Messages.{Asked, question_text, quoted}
-use Rattle.replica_sync.specs.FirstLines.{HasBadFirstLine, IsAskedLine, IsSpoken, RefusesAsked}
+use Rattle.replica_sync.specs.FirstLines.{HasBadFirstLine, IsAskedLine, IsSupportedVersion}
+use Rattle.replica_sync.specs.FirstLines.{RefusesAsked}
 use Rattle.replica_sync.specs.Questions.{IsQuestionOf}
 use Rattle.replica_sync.specs.declared.have_fields.VersionedHave.{VersionedHave}
 use Rattle.replica_sync.specs.declared.have_fields.HaveFields.{HaveFields}
@@ -73,29 +74,29 @@ RefusesHaveLine old new (Refused n why) = ⊥
 RefusesHaveLine old new Io = Unit {0}
 RefusesHaveLine old new NoMemory = Unit {0}
 
--- It is of the one format and number of buckets that are spoken.
-pub record IsSaid (a : VersionedHave) (q : Question) : Type 0 where
-  pub spoken : IsSpoken a.format a.buckets
+-- It is of the one format and number of buckets that are supported.
+pub record IsSupportedHave (a : VersionedHave) (q : Question) : Type 0 where
+  pub supported : IsSupportedVersion a.format a.buckets
   pub same : (asking_by a).question ≡ q
 
 -- It is of another format or number of buckets.
-pub record IsUnsaid (a : VersionedHave) (e : SyncError) : Type 0 where
+pub record IsUnsupportedHave (a : VersionedHave) (e : SyncError) : Type 0 where
   pub cause : e ≡ VersionDiffers
-  pub unspoken : IsSpoken a.format a.buckets → ⊥
+  pub unsupported : IsSupportedVersion a.format a.buckets → ⊥
 
 -- It is of another configuration, or of this one and of another format or number of buckets.
-abbrev pub RefusesSpoken : Configuration → VersionedHave → SyncError → Type 0
-RefusesSpoken config a BadHeader = ⊥
-RefusesSpoken config a ConfigDiffers = a.have.config ≢ config_id_of config
-RefusesSpoken config a VersionDiffers = (a.have.config ≡ config_id_of config)
-    × (IsSpoken a.format a.buckets → ⊥)
-RefusesSpoken config a (NotCanonical n) = ⊥
-RefusesSpoken config a (NotRising n) = ⊥
-RefusesSpoken config a BadCount = ⊥
-RefusesSpoken config a Truncated = ⊥
-RefusesSpoken config a (Refused n why) = ⊥
-RefusesSpoken config a Io = ⊥
-RefusesSpoken config a NoMemory = ⊥
+abbrev pub RefusesVersionedHave : Configuration → VersionedHave → SyncError → Type 0
+RefusesVersionedHave config a BadHeader = ⊥
+RefusesVersionedHave config a ConfigDiffers = a.have.config ≢ config_id_of config
+RefusesVersionedHave config a VersionDiffers = (a.have.config ≡ config_id_of config)
+    × (IsSupportedVersion a.format a.buckets → ⊥)
+RefusesVersionedHave config a (NotCanonical n) = ⊥
+RefusesVersionedHave config a (NotRising n) = ⊥
+RefusesVersionedHave config a BadCount = ⊥
+RefusesVersionedHave config a Truncated = ⊥
+RefusesVersionedHave config a (Refused n why) = ⊥
+RefusesVersionedHave config a Io = ⊥
+RefusesVersionedHave config a NoMemory = ⊥
 
 -- there is a question of the configuration, or the stream has come to its end
 abbrev pub FindsOwn : Configuration → Option (List ℕ) → Option (List ℕ) → Option Question → Type 0

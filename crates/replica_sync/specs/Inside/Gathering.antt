@@ -11,9 +11,9 @@ use Rattle.replica_sync.specs.declared.entry_line.Wanted.{Wanted}
 use Rattle.replica_core.specs.declared.error.SyncError.{SyncError}
 use Rattle.replica_sync.specs.Answers.{IsBegun, RefusesNextEntry, Wants, content_lines}
 use Rattle.replica_sync.specs.Answers.{refused_text}
-use Rattle.replica_sync.specs.declared.answer_reader.Content.{Content}
+use Rattle.replica_sync.specs.declared.answer_reader.AnswerBody.{AnswerBody}
 
-abbrev pub answer_content : Content → State
+abbrev pub answer_content : AnswerBody → State
 answer_content c = record { held = c.receipts.items; records = c.distrusts.items }
 
 -- with one more at the end of its list

@@ -5,8 +5,7 @@ use Rattle.fed_config.specs.Configuration.{Configuration}
 use Rattle.receipt_core.specs.Acceptance.{Meaning, IsMeaning}
 use Rattle.byte_lines.specs.Lines.{HasLine, HasMore}
 use Rattle.replica_sync.specs.Snapshots.{IsTold, RefusesNext, text_of_lines, held_lines, count_line}
-use Rattle.replica_sync.specs.Snapshots.{header_of}
-use Rattle.replica_sync.specs.Snapshots.{next_number, ended}
+use Rattle.replica_sync.specs.Snapshots.{header_of, next_number, ended}
 use Rattle.replica_sync.specs.declared.format.Format.{Format}
 use Rattle.replica_core.specs.declared.error.SyncError.{SyncError}
 use Rattle.replica_core.specs.declared.error.SyncError.TheVariants.{BadHeader, ConfigDiffers}

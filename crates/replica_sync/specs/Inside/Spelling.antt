@@ -8,8 +8,8 @@ use Rattle.replica_core.specs.declared.error.SyncError.TheVariants.{VersionDiffe
 use Rattle.replica_core.specs.declared.error.SyncError.TheVariants.{NotRising, BadCount, Truncated}
 use Rattle.replica_core.specs.declared.error.SyncError.TheVariants.{Refused, Io, NoMemory}
 use Rattle.replica_sync.specs.Messages.{Asked, GiveHeader}
-use Rattle.replica_sync.specs.FirstLines.{Expected, IsAbout, IsOwn, IsOther, IsSpoken, TellsOf}
-use Rattle.replica_sync.specs.FirstLines.{config_of}
+use Rattle.replica_sync.specs.FirstLines.{Expected, IsAbout, HasDigestOf, HasOtherDigest}
+use Rattle.replica_sync.specs.FirstLines.{IsSupportedVersion, TellsOf, config_of}
 use Rattle.replica_sync.specs.declared.spelling.HaveLine.{HaveLine}
 use Rattle.replica_sync.specs.declared.spelling.GiveHeaderLine.{GiveHeaderLine}
 use Rattle.replica_sync.specs.declared.give_header_reader.Expected.{Expected as Wish}
@@ -45,7 +45,7 @@ abbrev pub expected_by : Option Wish → Option Expected
 expected_by None = None
 expected_by (Some wish) = Some (record { config = wish.config.now; bucket = wish.bucket })
 
--- ---- the one format and number of buckets that are spoken
+-- ---- the one format and number of buckets that are supported
 
 abbrev pub told_by_head : Head → GiveHeader
 told_by_head h = record {
@@ -60,7 +60,7 @@ told_by_head h = record {
 -- It is a first line that is read, and says this.
 pub record TellsHead (expected : Option Expected) (text : List ℕ) (h : Head) : Type 0 where
   pub tells : TellsOf expected text (told_by_head h)
-  pub own : IsOwn (config_of expected) h.config.0
+  pub own : HasDigestOf (config_of expected) h.config.0
 
 -- The stream's first line is such a one. It is used up.
 pub record HasHead (expected : Option Expected) (old new : Option (List ℕ))
@@ -72,20 +72,20 @@ pub record HasHead (expected : Option Expected) (old new : Option (List ℕ))
 -- What is told is wanted, and is this.
 pub record IsHeadOf (expected : Option Expected) (t : GiveHeader) (h : Head) : Type 0 where
   pub about : IsAbout expected t.bucket
-  pub own : IsOwn (config_of expected) t.config
+  pub own : HasDigestOf (config_of expected) t.config
   pub same : t ≡ told_by_head h
 
 -- what is wrong with what is told
-abbrev pub RefusesSaid : Option Expected → GiveHeader → SyncError → Type 0
-RefusesSaid expected t BadHeader = IsAbout expected t.bucket → ⊥
-RefusesSaid expected t ConfigDiffers = IsAbout expected t.bucket
-    × IsOther (config_of expected) t.config
-RefusesSaid expected t VersionDiffers = IsAbout expected t.bucket
-    × IsOwn (config_of expected) t.config × (IsSpoken t.format t.buckets → ⊥)
-RefusesSaid expected t (NotCanonical n) = ⊥
-RefusesSaid expected t (NotRising n) = ⊥
-RefusesSaid expected t BadCount = ⊥
-RefusesSaid expected t Truncated = ⊥
-RefusesSaid expected t (Refused n why) = ⊥
-RefusesSaid expected t Io = ⊥
-RefusesSaid expected t NoMemory = ⊥
+abbrev pub RefusesGiveHeader : Option Expected → GiveHeader → SyncError → Type 0
+RefusesGiveHeader expected t BadHeader = IsAbout expected t.bucket → ⊥
+RefusesGiveHeader expected t ConfigDiffers = IsAbout expected t.bucket
+    × HasOtherDigest (config_of expected) t.config
+RefusesGiveHeader expected t VersionDiffers = IsAbout expected t.bucket
+    × HasDigestOf (config_of expected) t.config × (IsSupportedVersion t.format t.buckets → ⊥)
+RefusesGiveHeader expected t (NotCanonical n) = ⊥
+RefusesGiveHeader expected t (NotRising n) = ⊥
+RefusesGiveHeader expected t BadCount = ⊥
+RefusesGiveHeader expected t Truncated = ⊥
+RefusesGiveHeader expected t (Refused n why) = ⊥
+RefusesGiveHeader expected t Io = ⊥
+RefusesGiveHeader expected t NoMemory = ⊥

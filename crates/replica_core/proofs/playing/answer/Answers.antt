@@ -20,4 +20,4 @@ returns g c =
     (g.C.Closure.state c.in-Some.closure.now).meaning c.in-Some-question_at.have.now.bucket
         c.in-Some-question_at.have.now.ids (Answer c.args.replica c.args.question c.in_ok-content.content) found.0 p
         found.1
-    c.told.ensures.valid asking (ap (answer c.args.replica c.args.question) c.in_ok-content.ensures.copies) refl refl c.in_ok-push.ensures.items
+    c.copy_answer.ensures.valid asking (ap (answer c.args.replica c.args.question) c.in_ok-content.ensures.copies) refl refl c.in_ok-push.ensures.items

@@ -1,5 +1,5 @@
 use Rattle.std.proofs.lemmas.Result.{err_from_is_err_and}
-use Rattle.replica_sync.proofs.ServingFacts.{refused-further, unspoken-further}
+use Rattle.replica_sync.proofs.ServingFacts.{refused-further, unsupported-further}
 use Rattle.replica_sync.proofs.question_reader.next_own.Goals as goal
 
 pub returns-in_err-asking-clause-refused : goal.returns-in_err-asking-clause-refused
@@ -10,5 +10,5 @@ returns-in_err-asking-clause-refused g c =
 pub returns-in_err-own_question-in-Some-clause-refused : goal.returns-in_err-own_question-in-Some-clause-refused
 returns-in_err-own_question-in-Some-clause-refused g c =
     let p = err_from_is_err_and c.from_residual-in_err-own_question-in-Some.result c.from_residual-in_err-own_question-in-Some.ensures.1 in
-    rw (p.1, p.2) (unspoken-further c.args.config.now _ _ c.in-Some.asking _
+    rw (p.1, p.2) (unsupported-further c.args.config.now _ _ c.in-Some.asking _
         (rw c.in-Some.is at c.in_ok-asking.ensures.ok) c.in_err-own_question-in-Some.ensures)
