@@ -83,8 +83,8 @@ impl<'a> Receipts<'a> {
 }
 
 impl<'a> Accepted<'a> {
-    /// Of the configured documents and the receipts' those with these numbers whose counts are not
-    /// 0, for those who implement [`crate::Closure`].
+    /// The documents with these numbers whose counts are not 0, for those who implement
+    /// [`crate::Closure`].
     pub fn new(
         numbers: Numbers<'a>,
         counts: &'a [u32],

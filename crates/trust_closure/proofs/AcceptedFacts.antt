@@ -19,7 +19,7 @@ use Rattle.receipt_core.specs.Receipt.{Pair}
 use Rattle.receipt_core.specs.Acceptance.{Meaning, IsMember}
 use Rattle.fed_config.specs.Configuration.{domain_cmp}
 use Rattle.sorted_order.specs.Sought.{IsRising, is_equal}
-use Rattle.trust_closure.proofs.Arrows.{Contains-head, Contains-later, Contains-cons_cases}
+use Rattle.closure_core.proofs.ContainsFacts.{contains_first, contains_later, contains_cases}
 use Rattle.closure_core.specs.Inside.Flags.{TellsMembers}
 use Rattle.closure_core.specs.Inside.Nodes.{is_raised, raised_document, raised_documents, flags_of}
 use Rattle.trust_closure.specs.Pairs.{pair_cmp, no_pair, pair_at, Paired, AreRising, numbers_of, raised_of}
@@ -50,23 +50,23 @@ shown-document pairs flags n d e =
 
 onto-cases : {Y : Type 0} (o : Option Y) (ys : List Y) (y : Y) → Contains (cons_option o ys) y → (o ≡ Some y) ⊎ Contains ys y
 onto-cases None ys y c = inr c
-onto-cases (Some x) ys y c = elim (Contains-cons_cases x ys y c) [ inl e ↦ inl (ap (λ z. Some z) e) | inr later ↦ inr later ]
+onto-cases (Some x) ys y c = elim (contains_cases x ys y c) [ inl e ↦ inl (ap (λ z. Some z) e) | inr later ↦ inr later ]
 
 onto-later : {Y : Type 0} (o : Option Y) (ys : List Y) (y : Y) → Contains ys y → Contains (cons_option o ys) y
 onto-later None ys y c = c
-onto-later (Some x) ys y c = Contains-later x ys y c
+onto-later (Some x) ys y c = contains_later x ys y c
 
 from-filter_map : {X Y : Type 0} (h : X → Option Y) (xs : List X) (y : Y) → Contains (filter_map h xs) y → (x : X) × Contains xs x × (h x ≡ Some y)
 from-filter_map h [] y c = absurd (omega (arith, c.1))
 from-filter_map h (x ∷ xs) y c = elim (onto-cases (h x) (filter_map h xs) y c) [
-  | inl e ↦ (x, Contains-head x xs, e)
-  | inr later ↦ let f = from-filter_map h xs y later in (f.0, Contains-later x xs f.0 f.1, f.2)
+  | inl e ↦ (x, contains_first x xs, e)
+  | inr later ↦ let f = from-filter_map h xs y later in (f.0, contains_later x xs f.0 f.1, f.2)
 ]
 
 in-filter_map : {X Y : Type 0} (h : X → Option Y) (xs : List X) (x : X) (y : Y) → Contains xs x → h x ≡ Some y → Contains (filter_map h xs) y
 in-filter_map h [] x y c e = absurd (omega (arith, c.1))
-in-filter_map h (z ∷ xs) x y c e = elim (Contains-cons_cases z xs x c) [
-  | inl s ↦ subst (λ o. Contains (cons_option o (filter_map h xs)) y) (sym (ap h s ∙ e)) (Contains-head y (filter_map h xs))
+in-filter_map h (z ∷ xs) x y c e = elim (contains_cases z xs x c) [
+  | inl s ↦ subst (λ o. Contains (cons_option o (filter_map h xs)) y) (sym (ap h s ∙ e)) (contains_first y (filter_map h xs))
   | inr later ↦ onto-later (h z) (filter_map h xs) y (in-filter_map h xs x y later e)
 ]
 

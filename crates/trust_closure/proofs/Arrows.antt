@@ -1,39 +1,15 @@
 -- The arrows of spots
-use Rattle.std.proofs.Common.{◌≡◌, ℕ, zero, suc, ◌+◌, ◌<◌, ◌⊎◌, inl, inr, List, [], ◌∷◌, ◌++◌, length, get_or, map, Some, arith, refl, sym, ap, ◌∙◌, subst}
+use Rattle.std.proofs.Common.{◌≡◌, ℕ, zero, suc, ◌+◌, inl, inr, List, [], ◌∷◌, ◌++◌, length, map, Some, arith, refl, sym, ap, ◌∙◌, subst}
 use Rattle.std.specs.Prelude.{Contains, slice_get}
 use Rattle.std.proofs.lemmas.List.{append-nil, append_assoc}
 use Rattle.std.proofs.lemmas.List.Elements.{Contains-append_left, Contains-append_right, Contains-append_cases}
 use Rattle.std.proofs.lemmas.Option.{slice_get_within, same_Some}
 use Rattle.trust_closure.specs.Spots.{Spot, Arrow, arrow_at, arrows_from}
+use Rattle.closure_core.proofs.ContainsFacts.{contains_map, mapped}
 
-pub Contains-head : {X : Type 0} (x : X) (xs : List X) → Contains (x ∷ xs) x
-Contains-head x xs = (0, omega arith, refl)
-
-pub Contains-later : {X : Type 0} (y : X) (xs : List X) (x : X) → Contains xs x → Contains (y ∷ xs) x
-Contains-later y xs x c = (suc c.0, omega (arith, c.1), c.2)
-
-pub Contains-cons_cases : {X : Type 0} (y : X) (xs : List X) (x : X) → Contains (y ∷ xs) x → (y ≡ x) ⊎ Contains xs x
-Contains-cons_cases y xs x (k, l, e) = cases k l e
-  where
-    cases : (k : ℕ) → k < length (y ∷ xs) → get_or (y ∷ xs) k x ≡ x → (y ≡ x) ⊎ Contains xs x
-    cases zero l e = inl e
-    cases (suc k) l e = inr (k, omega (arith, l), e)
-
-pub Contains-map : {X Y : Type 0} (f : X → Y) (xs : List X) (x : X) → Contains xs x → Contains (map f xs) (f x)
-Contains-map f [] x c = absurd (omega (arith, c.1))
-Contains-map f (z ∷ xs) x c =
-    elim (Contains-cons_cases z xs x c) [
-      | inl e ↦ (0, omega arith, ap f e)
-      | inr d ↦ Contains-later (f z) (map f xs) (f x) (Contains-map f xs x d)
-    ]
-
-pub Contains-from_map : {X Y : Type 0} (f : X → Y) (xs : List X) (y : Y) → Contains (map f xs) y → (x : X) × Contains xs x × (f x ≡ y)
-Contains-from_map f [] y c = absurd (omega (arith, c.1))
-Contains-from_map f (z ∷ xs) y c =
-    elim (Contains-cons_cases (f z) (map f xs) y c) [
-      | inl e ↦ (z, Contains-head z xs, e)
-      | inr d ↦ let h = Contains-from_map f xs y d in (h.0, Contains-later z xs h.0 h.1, h.2)
-    ]
+pub Contains-from_map : {X Y : Type 0} (f : X → Y) (xs : List X) (y : Y) → Contains (map f xs) y
+    → (x : X) × Contains xs x × (f x ≡ y)
+Contains-from_map f xs y c = let h = mapped f xs y c in (h.item, h.has, h.is)
 
 -- the arrows are those of the spots
 
@@ -84,7 +60,7 @@ arrow-has {A = A} of node (other ∷ spots) zero spot label at has =
     let here : Contains (of other) label = subst (λ s. Contains (of s) label) (sym same) has in
     let e : node + 0 ≡ node = omega arith in
     Contains-append_left (map (arrow_at node) (of other)) (arrows_from of (node + 1) spots) (arrow_at (node + 0) label)
-    (subst (λ n. Contains (map (arrow_at node) (of other)) (arrow_at n label)) (sym e) (Contains-map (arrow_at node) (of other) label here))
+    (subst (λ n. Contains (map (arrow_at node) (of other)) (arrow_at n label)) (sym e) (contains_map (arrow_at node) (of other) label here))
 arrow-has of node (other ∷ spots) (suc place) spot label at has =
     let e : (node + 1) + place ≡ node + suc place = omega arith in
     Contains-append_right (map (arrow_at node) (of other)) (arrows_from of (node + 1) spots) (arrow_at (node + suc place) label)

@@ -232,7 +232,8 @@ firsts-lowered h p low offers released s firsts flags =
     (firsts-within h p offers released s))
 
 pub raised-as : (flags : List Bool) (a b : ℕ) (rs ss : List Bool) (fs gs : List ℕ) → a ≡ b → rs ≡ ss → fs ≡ gs
-    → ((n : ℕ) → (is_raised flags n ≡ true) ↔ IsFirstAccepted a rs fs (length fs) n) → (n : ℕ) → (is_raised flags n ≡ true) ↔ IsFirstAccepted b ss gs (length gs) n
+    → ((n : ℕ) → (is_raised flags n ≡ true) ↔ IsFirstAccepted a rs fs (length fs) n) → (n : ℕ)
+        → (is_raised flags n ≡ true) ↔ IsFirstAccepted b ss gs (length gs) n
 raised-as flags a b rs ss fs gs seeds released firsts raised n =
     subst (λ (k : ℕ). (is_raised flags n ≡ true) ↔ IsFirstAccepted k ss gs (length gs) n) seeds
     (subst (λ (bs : List Bool). (is_raised flags n ≡ true) ↔ IsFirstAccepted a bs gs (length gs) n) released

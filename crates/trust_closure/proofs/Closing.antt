@@ -21,7 +21,7 @@ use Rattle.wait_index.specs.Net.{Net, with_all_closed}
 use Rattle.wait_index.proofs.Least.{closed-all, length-all_set}
 use Rattle.trust_closure.specs.declared.indexed.labels.label.Label.{Label}
 use Rattle.trust_closure.specs.Labels.{label_cmp, cmp_to_key, IsInOrder, AreNumbersOf, IsOfKey, HasClosed}
-use Rattle.trust_closure.proofs.Arrows.{Contains-later, Contains-cons_cases}
+use Rattle.closure_core.proofs.ContainsFacts.{contains_later, contains_cases}
 use Rattle.trust_closure.proofs.InOrder.{then-first}
 
 -- ---- the labels of a key stand together
@@ -113,7 +113,7 @@ Contains-filter : {X : Type 0} (p : X → Bool) (xs : List X) (x : X) → Contai
     → Contains (filter p xs) x
 Contains-filter p [] x c t = absurd (omega (arith, c.1))
 Contains-filter p (y ∷ ys) x c t =
-    elim (Contains-cons_cases y ys x c) [
+    elim (contains_cases y ys x c) [
       | inl e ↦
           subst (λ b. Contains (cond b (y ∷ filter p ys) (filter p ys)) x) (sym (ap p e ∙ t))
           (0, omega arith, e)
@@ -122,7 +122,7 @@ Contains-filter p (y ∷ ys) x c t =
   where
     kept : (b : Bool) → Contains (filter p ys) x
         → Contains (cond b (y ∷ filter p ys) (filter p ys)) x
-    kept true h = Contains-later y (filter p ys) x h
+    kept true h = contains_later y (filter p ys) x h
     kept false h = h
 
 Contains-from_filter : {X : Type 0} (p : X → Bool) (xs : List X) (x : X) → Contains (filter p xs) x

@@ -10,7 +10,8 @@ use Rattle.wait_index.specs.declared.edges.Edge.{Edge}
 use Rattle.wait_index.specs.Edge.{edge_at, IsEdge}
 use Rattle.wait_index.specs.Net.{Net, is_root, is_closed, IsReached, step}
 use Rattle.trust_closure.specs.Spots.{Spot, Arrow, arrow_at, offered_at, awaited_at, offer_arrow, wait_arrow, Mirrors}
-use Rattle.trust_closure.proofs.Arrows.{Contains-head, Contains-cons_cases, Contains-map, Contains-from_map, arrow-cases, arrow-has}
+use Rattle.trust_closure.proofs.Arrows.{Contains-from_map, arrow-cases, arrow-has}
+use Rattle.closure_core.proofs.ContainsFacts.{contains_first, contains_cases, contains_map}
 
 -- ---- lists by places
 
@@ -76,7 +77,7 @@ edge-offer_arrow : {A : Type 0} (labels : List A) (edges : List Edge) (i m l : �
 edge-offer_arrow {A = A} labels edges i m l e =
     let edge : Edge = edge_at edges i in
     let has : Contains edges edge = (i, e.within, get_or_default edges i edge (record { from = 0; to = 0 }) e.within) in
-    let mapped : Contains (map (offer_arrow labels) edges) (offer_arrow labels edge) = Contains-map (offer_arrow labels) edges edge has in
+    let mapped : Contains (map (offer_arrow labels) edges) (offer_arrow labels edge) = contains_map (offer_arrow labels) edges edge has in
     let same : offer_arrow labels edge ≡ record { node = m; label = slice_get labels l } =
     ap (λ (n : ℕ). let a : Arrow A = record { node = n; label = slice_get labels edge.to } in a) e.from
     ∙ ap (λ (n : ℕ). let a : Arrow A = record { node = m; label = slice_get labels n } in a) e.to
@@ -88,7 +89,7 @@ edge-wait_arrow : {A : Type 0} (labels : List A) (edges : List Edge) (i l n : �
 edge-wait_arrow {A = A} labels edges i l n e =
     let edge : Edge = edge_at edges i in
     let has : Contains edges edge = (i, e.within, get_or_default edges i edge (record { from = 0; to = 0 }) e.within) in
-    let mapped : Contains (map (wait_arrow labels) edges) (wait_arrow labels edge) = Contains-map (wait_arrow labels) edges edge has in
+    let mapped : Contains (map (wait_arrow labels) edges) (wait_arrow labels edge) = contains_map (wait_arrow labels) edges edge has in
     let same : wait_arrow labels edge ≡ record { node = n; label = slice_get labels l } =
     ap (λ (k : ℕ). let a : Arrow A = record { node = k; label = slice_get labels edge.from } in a) e.to
     ∙ ap (λ (k : ℕ). let a : Arrow A = record { node = n; label = slice_get labels k } in a) e.from
@@ -131,7 +132,7 @@ pub record IsWaitOf {A : Type 0} (spots : List (Spot A)) (labels : List A) (node
 awaits-from_list : {A : Type 0} (o : Option A) (label : A) → Contains (option_to_list o) label → o ≡ Some label
 awaits-from_list None label c = absurd (omega (arith, c.1))
 awaits-from_list (Some x) label c =
-    elim (Contains-cons_cases x [] label c) [ inl e ↦ ap (λ y. Some y) e | inr d ↦ absurd (omega (arith, d.1)) ]
+    elim (contains_cases x [] label c) [ inl e ↦ ap (λ y. Some y) e | inr d ↦ absurd (omega (arith, d.1)) ]
 
 module _ {A : Type 0} (spots : List (Spot A)) (labels : List A) (IsShut : A → Type 0) (net : Net) (h : Mirrors spots labels IsShut net) where
   pub offer-of_edge : (i m l : ℕ) → IsEdge net.offers i m l → IsOfferOf spots labels m l
@@ -168,7 +169,7 @@ module _ {A : Type 0} (spots : List (Spot A)) (labels : List A) (IsShut : A → 
 
   pub edge-of_wait : (n : ℕ) (spot : Spot A) (label : A) → slice_get spots n ≡ Some spot → spot.awaits ≡ Some label → HasWaitEdge net labels n label
   edge-of_wait n spot label at awaits =
-      let has : Contains (awaited_at spot) label = subst (λ o. Contains (option_to_list o) label) (sym awaits) (Contains-head label []) in
+      let has : Contains (awaited_at spot) label = subst (λ o. Contains (option_to_list o) label) (sym awaits) (contains_first label []) in
       let c : Contains (map (wait_arrow labels) net.waits) (arrow_at (0 + n) label) =
           subst (λ arrows. Contains arrows (arrow_at (0 + n) label)) (sym h.waits)
           (arrow-has awaited_at 0 spots n spot label at has) in

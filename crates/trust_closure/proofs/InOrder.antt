@@ -18,7 +18,7 @@ use Rattle.sorted_order.specs.Sought.{IsRising, IsMissing}
 use Rattle.sorted_order.specs.Stock.{Stock, picked, in_order, Arranges}
 use Rattle.trust_closure.specs.declared.indexed.labels.label.Label.{Label}
 use Rattle.trust_closure.specs.Labels.{label_cmp, IsInOrder}
-use Rattle.trust_closure.proofs.Arrows.{Contains-head, Contains-later, Contains-cons_cases}
+use Rattle.closure_core.proofs.ContainsFacts.{contains_first, contains_later, contains_cases}
 
 pub label-total : IsTotalOrder label_cmp
 label-total =
@@ -130,11 +130,11 @@ in_order-insert labels place x h m i j d l within =
 
 Contains-cons_option_later : {A : Type 0} (o : Option A) (rest : List A) (x : A) → Contains rest x → Contains (cons_option o rest) x
 Contains-cons_option_later None rest x c = c
-Contains-cons_option_later (Some y) rest x c = Contains-later y rest x c
+Contains-cons_option_later (Some y) rest x c = contains_later y rest x c
 
 Contains-cons_option_here : {A : Type 0} (o : Option A) (rest : List A) (x : A) → o ≡ Some x → Contains (cons_option o rest) x
 Contains-cons_option_here None rest x e = absurd (none-some x e)
-Contains-cons_option_here (Some y) rest x e = subst (λ z. Contains (z ∷ rest) x) (sym (same_Some y x e)) (Contains-head x rest)
+Contains-cons_option_here (Some y) rest x e = subst (λ z. Contains (z ∷ rest) x) (sym (same_Some y x e)) (contains_first x rest)
 
 slice_get_none : {A : Type 0} (xs : List A) (i : ℕ) → slice_get xs i ≡ None → length xs ≤ i
 slice_get_none [] i e = omega arith
@@ -145,7 +145,7 @@ pub Contains-picked : {A : Type 0} (items : List A) (numbers : List ℕ) (number
     → slice_get items number ≡ Some x → Contains (picked items numbers) x
 Contains-picked items [] number x c e = absurd (omega (arith, c.1))
 Contains-picked items (n ∷ numbers) number x c e =
-    elim (Contains-cons_cases n numbers number c) [
+    elim (contains_cases n numbers number c) [
       | inl h ↦ Contains-cons_option_here (slice_get items n) (picked items numbers) x (ap (λ k. slice_get items k) h ∙ e)
       | inr h ↦ Contains-cons_option_later (slice_get items n) (picked items numbers) x (Contains-picked items numbers number x h e)
     ]

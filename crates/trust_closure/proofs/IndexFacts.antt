@@ -26,7 +26,8 @@ use Rattle.receipt_core.proofs.LineFacts.{one_receipt, one_distrust}
 use Rattle.receipt_core.proofs.RisingFacts.{AreSets-from_total}
 use Rattle.trust_closure.specs.declared.indexed.labels.label.Label.{Label}
 use Rattle.trust_closure.specs.Spots.{Spot, Mirrors, bare_spot}
-use Rattle.trust_closure.proofs.Arrows.{Contains-map, Contains-from_map}
+use Rattle.trust_closure.proofs.Arrows.{Contains-from_map}
+use Rattle.closure_core.proofs.ContainsFacts.{contains_first, contains_cases, contains_none, contains_map}
 use Rattle.std.proofs.lemmas.List.{length-map, length-append}
 use Rattle.closure_core.specs.AcceptedList.{IsPendingCount}
 use Rattle.receipt_core.specs.Acceptance.{Meaning, IsMeaning, IsMember, IsReleased, IsFitting, pair_of_seed}
@@ -51,7 +52,6 @@ use Rattle.std.proofs.lemmas.List.Folds.{Any-from_list_any, list_any_at}
 use Rattle.wait_index.specs.Net.{is_among}
 use Rattle.closure_core.specs.Count.{AreDifferent}
 use Rattle.closure_core.proofs.CountFacts.{no_longer}
-use Rattle.closure_core.proofs.ContainsFacts.{contains_first, contains_cases, contains_none}
 use Rattle.closure_core.proofs.NodeFacts.{length-flags}
 use Rattle.trust_closure.proofs.NodeCountFacts.{flags-counted, flags-kept, flags-push, count_at-push, counts-from_zero}
 use Rattle.closure_core.proofs.FlagFacts.{IsFirstOf, gain-from_flags, passing, passing-to, passing-from, passing-differ, only_wide, length-only_wide}
@@ -898,7 +898,7 @@ pending-count h p w none n b total =
             let is : at (seeds + place.0) ≡ r =
                 (let e : (seeds + place.0) - seeds ≡ place.0 = omega arith in ap (λ k. get_or h.arrived k none) e)
                 ∙ get_or_from_slice_get h.arrived place.0 r none place.1 in
-            subst (Contains (map at list)) is (Contains-map at list (seeds + place.0) c),
+            subst (Contains (map at list)) is (contains_map at list (seeds + place.0) c),
       );
       count = length-map list at ∙ (let e : length list ≡ n = omega (arith, length-unmarked w.marked count b.reached.once within, total) in e);
     }

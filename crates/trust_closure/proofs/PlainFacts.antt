@@ -160,7 +160,8 @@ module _ (seeds : ℕ) (released : List Bool) (firsts : List ℕ) (k : ℕ) wher
   pub first-later : (number : ℕ) → IsFirstAccepted seeds released firsts k number → IsFirstAccepted seeds released firsts (k + 1) number
   first-later number f = record { node = f.node; below = omega (arith, f.below); had = f.had; first = f.first }
 
-  pub first-skip : (IsAcceptedNode seeds released k → ⊥) → (number : ℕ) → IsFirstAccepted seeds released firsts (k + 1) number → IsFirstAccepted seeds released firsts k number
+  pub first-skip : (IsAcceptedNode seeds released k → ⊥) → (number : ℕ)
+      → IsFirstAccepted seeds released firsts (k + 1) number → IsFirstAccepted seeds released firsts k number
   first-skip not number f = elim (cases_lt f.node k) [
     | inl l ↦ record { node = f.node; below = l; had = f.had; first = f.first }
     | inr l ↦ let e : f.node ≡ k = omega (arith, l, f.below) in absurd (not (subst (IsAcceptedNode seeds released) e f.had))

@@ -10,7 +10,8 @@ use Rattle.fed_config.specs.declared.seed.Seed.{Seed}
 use Rattle.receipt_core.specs.declared.triple.Triple.{Triple}
 use Rattle.receipt_core.specs.Receipt.{Receipt, pair_of, offers_of}
 use Rattle.receipt_core.specs.Acceptance.{IsMeaning, pair_of_seed}
-use Rattle.trust_closure.proofs.Arrows.{Contains-map, Contains-from_map}
+use Rattle.trust_closure.proofs.Arrows.{Contains-from_map}
+use Rattle.closure_core.proofs.ContainsFacts.{contains_none, contains_map}
 use Rattle.trust_closure.proofs.Edges.{slice_get-Contains, Contains-slice_get, one_place}
 use Rattle.closure_core.specs.Inside.Nodes.{pairs_of, is_raised, count_at}
 use Rattle.closure_core.specs.Inside.Flags.{raised_count}
@@ -18,7 +19,6 @@ use Rattle.trust_closure.specs.Held.{Hoard, meaning_of}
 use Rattle.closure_core.specs.AcceptedList.{IsPendingCount}
 use Rattle.trust_closure.specs.Pairs.{Paired, IsPairing}
 use Rattle.trust_closure.specs.Plain.{AreSeedOffers, IsSet, HasPlainFlags, IsSown, AreReleased}
-use Rattle.closure_core.proofs.ContainsFacts.{contains_none}
 use Rattle.trust_closure.proofs.NodeCountFacts.{count_at-push}
 use Rattle.closure_core.proofs.FlagFacts.{passing, passing-to, passing-from, passing-differ, only_wide, length-only_wide, count-passing, different-map}
 
@@ -113,7 +113,7 @@ pending-plain h p offers released none n i total =
             let l : place.0 < count = slice_get_within h.arrived place.0 r place.1 in
             let off : raised place.0 ≡ false = false_from_ne_true (raised place.0) (λ t. pending.unreleased ((i.settled place.0 r place.1).0 t)) in
             let c : Contains list place.0 = passing-from (only_wide raised (λ j. true) (λ j e. refl)) count place.0 l (not_from_false (raised place.0) off) in
-            subst (Contains (map at list)) (get_or_from_slice_get h.arrived place.0 r none place.1) (Contains-map at list place.0 c),
+            subst (Contains (map at list)) (get_or_from_slice_get h.arrived place.0 r none place.1) (contains_map at list place.0 c),
       );
       count = length-map list at ∙ (let e : length list ≡ n =
           omega (arith, length-only_wide raised (λ k. true) (λ k e. refl) count, length-passing_every count,

@@ -15,34 +15,35 @@ use Rattle.receipt_core.specs.Rising.{placed, with_item}
 use Rattle.receipt_core.specs.Receipt.{Receipt, Pair, key_cmp, with_key_id, key_ids, offer_of, offers_of, need_of}
 use Rattle.receipt_core.specs.Acceptance.{Vouches}
 use Rattle.trust_closure.specs.NetOf.{IsShutBy}
-use Rattle.trust_closure.proofs.Arrows.{Contains-head, Contains-later, Contains-cons_cases, Contains-map, Contains-from_map}
+use Rattle.trust_closure.proofs.Arrows.{Contains-from_map}
+use Rattle.closure_core.proofs.ContainsFacts.{contains_first, contains_later, contains_cases, contains_map}
 
 -- ---- a set with one more item
 
 module _ {A : Type 0} (cmp : A → A → Ordering) (item : A) where
   placed-cases : (o : Ordering) (head : A) (rest longer : List A) (x : A) → Contains (placed o item head rest longer) x
       → ((y : A) → Contains longer y → (y ≡ item) ⊎ Contains rest y) → (x ≡ item) ⊎ Contains (head ∷ rest) x
-  placed-cases Less head rest longer x c more = elim (Contains-cons_cases item (head ∷ rest) x c) [ inl e ↦ inl (sym e) | inr d ↦ inr d ]
+  placed-cases Less head rest longer x c more = elim (contains_cases item (head ∷ rest) x c) [ inl e ↦ inl (sym e) | inr d ↦ inr d ]
   placed-cases Equal head rest longer x c more = inr c
   placed-cases Greater head rest longer x c more =
-      elim (Contains-cons_cases head longer x c) [
-        | inl e ↦ inr (subst (Contains (head ∷ rest)) e (Contains-head head rest))
-        | inr d ↦ elim (more x d) [ inl e ↦ inl e | inr b ↦ inr (Contains-later head rest x b) ]
+      elim (contains_cases head longer x c) [
+        | inl e ↦ inr (subst (Contains (head ∷ rest)) e (contains_first head rest))
+        | inr d ↦ elim (more x d) [ inl e ↦ inl e | inr b ↦ inr (contains_later head rest x b) ]
       ]
 
   pub with_item-cases : (set : List A) (x : A) → Contains (with_item cmp item set) x → (x ≡ item) ⊎ Contains set x
-  with_item-cases [] x c = elim (Contains-cons_cases item [] x c) [ inl e ↦ inl (sym e) | inr d ↦ inr d ]
+  with_item-cases [] x c = elim (contains_cases item [] x c) [ inl e ↦ inl (sym e) | inr d ↦ inr d ]
   with_item-cases (head ∷ rest) x c = placed-cases (cmp item head) head rest (with_item cmp item rest) x c (with_item-cases rest)
 
   placed-old : (o : Ordering) (head : A) (rest longer : List A) (x : A)
       → ((y : A) → Contains rest y → Contains longer y) → Contains (head ∷ rest) x
       → Contains (placed o item head rest longer) x
-  placed-old Less head rest longer x more c = Contains-later item (head ∷ rest) x c
+  placed-old Less head rest longer x more c = contains_later item (head ∷ rest) x c
   placed-old Equal head rest longer x more c = c
   placed-old Greater head rest longer x more c =
-      elim (Contains-cons_cases head rest x c) [
-        | inl e ↦ subst (Contains (head ∷ longer)) e (Contains-head head longer)
-        | inr d ↦ Contains-later head longer x (more x d)
+      elim (contains_cases head rest x c) [
+        | inl e ↦ subst (Contains (head ∷ longer)) e (contains_first head longer)
+        | inr d ↦ contains_later head longer x (more x d)
       ]
 
   pub with_item-old : (set : List A) (x : A) → Contains set x → Contains (with_item cmp item set) x
@@ -51,12 +52,12 @@ module _ {A : Type 0} (cmp : A → A → Ordering) (item : A) where
 
   placed-new : (o : Ordering) (head : A) (rest longer : List A) → (o ≡ Equal → item ≡ head) → Contains longer item
       → Contains (placed o item head rest longer) item
-  placed-new Less head rest longer exact c = Contains-head item (head ∷ rest)
-  placed-new Equal head rest longer exact c = subst (Contains (head ∷ rest)) (sym (exact refl)) (Contains-head head rest)
-  placed-new Greater head rest longer exact c = Contains-later head longer item c
+  placed-new Less head rest longer exact c = contains_first item (head ∷ rest)
+  placed-new Equal head rest longer exact c = subst (Contains (head ∷ rest)) (sym (exact refl)) (contains_first head rest)
+  placed-new Greater head rest longer exact c = contains_later head longer item c
 
   pub with_item-new : ((other : A) → cmp item other ≡ Equal → item ≡ other) → (set : List A) → Contains (with_item cmp item set) item
-  with_item-new exact [] = Contains-head item []
+  with_item-new exact [] = contains_first item []
   with_item-new exact (head ∷ rest) = placed-new (cmp item head) head rest (with_item cmp item rest) (exact head) (with_item-new exact rest)
 
 -- ---- key ids
@@ -88,7 +89,7 @@ Any-later P x xs a = (suc a.0, a.1, omega (arith, a.2), a.3, a.4)
 
 Any-cons_cases : {X : Type 0} (P : X → Type 0) (x : X) (xs : List X) → Any P (x ∷ xs) → P x ⊎ Any P xs
 Any-cons_cases {X = X} P x xs a =
-    elim (Contains-cons_cases x xs a.1 (a.0, a.2, a.3)) [
+    elim (contains_cases x xs a.1 (a.0, a.2, a.3)) [
       | inl e ↦ inl (subst P (sym e) a.4)
       | inr c ↦ inr (c.0, a.1, c.1, c.2, a.4)
     ]
@@ -140,7 +141,7 @@ vouches-from_offer records p r c open' =
 
 pub offer-from_vouches : (records : List Distrust) (p : Pair) (r : Receipt) → Vouches records p r → Contains (offers_of p) (need_of r)
 offer-from_vouches records p r v =
-    let has = Contains-map (offer_of p) (key_ids p.document.authorities) r.key (key_ids-from_has_key p.document.authorities r.key v.key) in
+    let has = contains_map (offer_of p) (key_ids p.document.authorities) r.key (key_ids-from_has_key p.document.authorities r.key v.key) in
     let same : offer_of p r.key ≡ need_of r =
     ap (λ (d : List ℕ). let t : Triple = record { domain = d; document = record { 0 = doc_id_of p.domain p.document }; key = r.key } in t) v.endpoint
     ∙ ap (λ (i : List ℕ). let t : Triple = record { domain = r.endpoint.domain; document = record { 0 = i }; key = r.key } in t) v.voucher

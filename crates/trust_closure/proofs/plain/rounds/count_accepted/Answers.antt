@@ -98,7 +98,10 @@ loop-node-preserved c =
             raised = λ n. subst (λ p. (is_raised (flags_of p.counts) n ≡ true) ↔ IsFirstAccepted seeds
                 released firsts (k + 1) n) (sym w.pairs-is) (
                   λ e. first-later seeds released firsts k n ((i.raised n).0 e),
-                  λ f. (i.raised n).1 (first-skip seeds released firsts k (λ had. both_ways c.is_accepted_node.result w.if-is_accepted_node.false (c.is_accepted_node.ensures.1 had)) n f),
+                  λ f. (i.raised n).1
+                      (first-skip seeds released firsts k
+                      (λ had. both_ways c.is_accepted_node.result w.if-is_accepted_node.false
+                      (c.is_accepted_node.ensures.1 had)) n f),
                 );
             count = omega (
               arith,
