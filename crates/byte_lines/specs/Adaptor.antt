@@ -19,6 +19,6 @@ reader_failed source = source.failed
 abbrev pub writer_of : {W : Type 0} → FromWrite W → W
 writer_of sink = sink.writer
 
--- whether a write or a flush failed
+-- whether a write failed
 abbrev pub writer_failed : {W : Type 0} → FromWrite W → Bool
 writer_failed sink = sink.failed

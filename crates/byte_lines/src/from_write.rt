@@ -1,6 +1,5 @@
 //! A sink made of a writer of std.
-ghost use Rattle.std.specs.Prelude.{◌≡◌, ◌<◌, false, is_err, IsErr, OnOk, OkIff, MatchResult};
-ghost use Rattle.std.specs.Io.KnownBytes.{Keeps};
+ghost use Rattle.std.specs.Prelude.{◌≡◌, ◌<◌, false, is_err, IsErr, OkIff, MatchResult};
 
 use crate::error::Fault;
 use crate::sink::Sink;
@@ -11,7 +10,7 @@ use std::io::Write;
 /// too, and so does a write of 0 bytes where there were bytes to write.
 ///
 /// Where the writer keeps bytes back, as a `BufWriter` does, a write may be Ok before the bytes are
-/// out: call `flush` at the end.
+/// out: take the writer back at the end with `into_inner`, and have it put them out.
 #[derive(Drop)]
 pub struct FromWrite<W> {
     writer: W,
@@ -30,19 +29,6 @@ impl<W: Write> FromWrite<W> {
             writer,
             failed: false,
         }
-    }
-
-    /// Has the writer put out what it keeps back. A fault is a failure of the sink.
-    pub fn flush(&mut self) -> Result<(), Fault>
-        ensures keeps { Keeps (W.contents (writer_of self.old)) (W.contents (writer_of self.new)) }
-        ensures fault { writer_failed self.new ≡ is_err result }
-        ensures lasting { OnOk result (writer_failed self.old ≡ false) }
-    {
-        if self.failed || self.writer.flush().is_err() {
-            self.failed = true;
-            return Err(Fault);
-        }
-        Ok(())
     }
 
     /// The writer, with what it was given.

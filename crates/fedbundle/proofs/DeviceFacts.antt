@@ -8,6 +8,13 @@ use Rattle.bundle_view.specs.Report.{is_report_fault}
 use Rattle.bundle_view.specs.declared.error.ReportError.{ReportError}
 use Rattle.bundle_view.specs.declared.error.ReportError.TheVariants.{Io as SinkFailed}
 use Rattle.bundle_view.specs.declared.error.ReportError.TheVariants.{NoMemory as NoMemoryForReport}
+use Rattle.replica_sync.specs.Snapshots.{is_io}
+use Rattle.replica_core.specs.declared.error.SyncError.{SyncError}
+use Rattle.replica_core.specs.declared.error.SyncError.TheVariants.{BadHeader, ConfigDiffers, VersionDiffers}
+use Rattle.replica_core.specs.declared.error.SyncError.TheVariants.{NotCanonical, NotRising, BadCount, Truncated}
+use Rattle.replica_core.specs.declared.error.SyncError.TheVariants.{Refused}
+use Rattle.replica_core.specs.declared.error.SyncError.TheVariants.{Io as StreamFailed}
+use Rattle.replica_core.specs.declared.error.SyncError.TheVariants.{NoMemory as NoMemoryForStream}
 use Rattle.fedbundle.specs.Run.{of_line, of_report}
 use Rattle.fedbundle.specs.Status.{of_read}
 use Rattle.fedbundle.specs.declared.error.CommandError.TheVariants.{Io}
@@ -24,3 +31,15 @@ line_sound T NoMemoryForBytes new old unless fault = fault
 pub report_sound : (T : Type 0) (e : ReportError) (new old : Bool) → (of_report e ≡ RunIo → ⊥) → new ≡ (is_report_fault {T = T} (Err e) || old) → new ≡ old
 report_sound T SinkFailed new old unless fault = absurd (unless refl)
 report_sound T NoMemoryForReport new old unless fault = fault
+
+pub stream_sound : (T : Type 0) (e : SyncError) (new old : Bool) → (e ≡ StreamFailed → ⊥) → new ≡ (is_io {T = T} (Err e) || old) → new ≡ old
+stream_sound T StreamFailed new old unless fault = absurd (unless refl)
+stream_sound T BadHeader new old unless fault = fault
+stream_sound T ConfigDiffers new old unless fault = fault
+stream_sound T VersionDiffers new old unless fault = fault
+stream_sound T (NotCanonical n) new old unless fault = fault
+stream_sound T (NotRising n) new old unless fault = fault
+stream_sound T BadCount new old unless fault = fault
+stream_sound T Truncated new old unless fault = fault
+stream_sound T (Refused n why) new old unless fault = fault
+stream_sound T NoMemoryForStream new old unless fault = fault

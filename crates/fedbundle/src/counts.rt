@@ -1,5 +1,5 @@
 //! Lines that say a number.
-ghost use Rattle.std.specs.Prelude.{◌≡◌, true, IsErr, OnOk};
+ghost use Rattle.std.specs.Prelude.{◌≡◌, ◌||◌, true, is_err, IsErr, OnOk};
 ghost use Rattle.std.specs.Io.KnownBytes.{Appends};
 ghost use Rattle.byte_lines.specs.Device.{AppendsBeginning};
 ghost use Rattle.fedbundle.specs.Counts.{counted};
@@ -14,6 +14,7 @@ pub(crate) fn write_counted<W: Sink>(label: &[u8], count: u64, sink: &mut W) -> 
     ensures beginning { AppendsBeginning (W.contents sink.old) (W.contents sink.new)
         (counted label.now count) }
     ensures io { IsErr result → W.has_failed sink.new ≡ true }
+    ensures fault { W.has_failed sink.new ≡ (is_err result || W.has_failed sink.old) }
 {
     byte_lines::laws::pieces();
     let mut buffer = Buffer::new();

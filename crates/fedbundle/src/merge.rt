@@ -39,9 +39,9 @@ pub fn run_merge<C: Closure, R: Source, W: Sink>(
 
     // A fault of a device is reported, and where none failed none is.
     ensures device { IsErrOf result (Sync DeviceFailed) → R.has_failed source.new ≡ true }
-    ensures source { (IsErrOf result (Sync DeviceFailed) → ⊥)
+    ensures source_sound { (IsErrOf result (Sync DeviceFailed) → ⊥)
         → R.has_failed source.new ≡ R.has_failed source.old }
-    ensures sink { (IsErrOf result Io → ⊥) → W.has_failed sink.new ≡ W.has_failed sink.old }
+    ensures sink_sound { (IsErrOf result Io → ⊥) → W.has_failed sink.new ≡ W.has_failed sink.old }
 {
     let other: C = read_snapshot(alloc, closure.config(), source)?;
     let count = closure.merge(&other)?;

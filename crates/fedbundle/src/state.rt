@@ -80,19 +80,16 @@ pub fn save_state<C: Closure, R: Files>(
     let buffer = told(BufWriter::with_capacity(alloc, BUFFER_BYTES, file))?;
     let mut sink = FromWrite::new(buffer);
     write_snapshot(alloc, closure, &mut sink)?;
-    let file = flushed(sink)?;
+    let file = written_out(sink.into_inner())?;
     told(file.sync_all())?;
     drop(file);
     told(fs::rename(files, name.as_str(), path))?;
     sync_folder(files, path)
 }
 
-// The file under the buffer, once the buffer has given it all.
-fn flushed<W: io::Write + Drop>(mut sink: FromWrite<BufWriter<W>>) -> Result<W, SyncError> {
-    if sink.flush().is_err() {
-        return Err(SyncError::Io);
-    }
-    match sink.into_inner().into_inner() {
+// The buffer's file, once the buffer has given it all.
+fn written_out<W: io::Write + Drop>(buffer: BufWriter<W>) -> Result<W, SyncError> {
+    match buffer.into_inner() {
         Ok(file) => Ok(file),
         Err(_) => Err(SyncError::Io),
     }

@@ -219,16 +219,24 @@ pub(crate) fn write_writer(
 ) -> Result<(), AllocError> {
     let mut sink = FromWrite::new(Vec::new(alloc));
     tell_written(&mut sink, bytes, answer)?;
-    tell_flush(&mut sink, answer)?;
     tell_write(&mut sink, b"", answer)?;
     let inner = sink.into_inner();
     show(script, "holds", inner.as_slice(), answer)
 }
 
-fn tell_flush<W: Write>(sink: &mut FromWrite<W>, answer: &mut String) -> Result<(), AllocError> {
-    tell_outcome("flush", sink.flush(), answer)?;
-    answer.push_str(", ")?;
-    tell_failed(sink.failed(), answer)
+/// Tells how many bytes one read of 65,536 gives, and how many one write takes, of a source and a
+/// sink over a reader and a writer of std.
+pub(crate) fn call_once(
+    alloc: Global,
+    bytes: &[u8],
+    answer: &mut String,
+) -> Result<(), AllocError> {
+    let mut chunk = vec![in alloc; 0u8; 65_536]?;
+    match FromRead::new(bytes).read(chunk.as_mut_slice()) {
+        Ok(count) => write!(answer, "read: {count}\n")?,
+        Err(error) => tell(&error, answer)?,
+    }
+    tell_write(&mut FromWrite::new(Vec::new(alloc)), bytes, answer)
 }
 
 /// Tells how the bytes are written to a sink over a slice of three bytes.
@@ -247,7 +255,5 @@ pub(crate) fn write_short(
 pub(crate) fn write_broken(bytes: &[u8], answer: &mut String) -> Result<(), AllocError> {
     let mut sink = FromWrite::new(Broken);
     tell_write(&mut sink, bytes, answer)?;
-    tell_write(&mut sink, b"", answer)?;
-    let mut stuck = FromWrite::new(Broken);
-    tell_flush(&mut stuck, answer)
+    tell_write(&mut sink, b"", answer)
 }

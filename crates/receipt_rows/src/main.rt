@@ -74,6 +74,7 @@ fn call_with_device(
         "room" => devices::fill(alloc, script, row.words, text, answer),
         "fuse_writes" => devices::fail_writes(alloc, script, row.words, answer),
         "writer" => devices::write_writer(alloc, script, text, answer),
+        "call_once" => devices::call_once(alloc, text, answer),
         "short_writer" => devices::write_short(script, text, answer),
         "broken_writer" => devices::write_broken(text, answer),
         _ => answer.push_str("unknown verb\n"),

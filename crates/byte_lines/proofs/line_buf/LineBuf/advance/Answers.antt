@@ -5,7 +5,8 @@ use Rattle.std.proofs.KnownBytes.{Keeps-trans}
 use Rattle.byte_lines.specs.Inside.Ahead.{ahead_of}
 use Rattle.byte_lines.specs.Streams.{stream_of, left_of}
 use Rattle.byte_lines.proofs.StreamFacts.{prepend_known-front}
-use Rattle.byte_lines.proofs.StepFacts.{spent_on, TakesFound-io, TakesFound-memory, length_line, taken_line, kept_none, long_line, long_cut, length_passed, unbroken_at_first, unbroken_skipped}
+use Rattle.byte_lines.proofs.StepFacts.{spent_on, TakesFound-io, TakesFound-memory, length_line, taken_line, kept_none}
+use Rattle.byte_lines.proofs.StepFacts.{long_line, long_cut, length_passed, unbroken_at_first, unbroken_skipped}
 use Rattle.byte_lines.proofs.line_buf.LineBuf.advance.Goals as goal
 
 pub returns-in_err-fill-clause-takes : goal.returns-in_err-fill-clause-takes
