@@ -41,7 +41,7 @@ module _ (es : List Entry) (rank hint : Option ℕ) (authorities : List Authorit
   pub text-built : out ≡ canonical_text (bundle_of authorities rank hint)
   text-built =
       b.out_is ∙ ap (λ k. k ++ numbers_text hint rank) (b.keys_are ∙ ap keys_text (sym b.authorities_are))
-          ∙ sym (canonical_text-parts (bundle_of authorities rank hint))
+      ∙ sym (canonical_text-parts (bundle_of authorities rank hint))
 
   pub fits-built : (n : ℕ) → n ≡ length out → n ≤ document_limit → Fits (bundle_of authorities rank hint)
   fits-built n len short = subst (λ t. length t ≤ document_limit) text-built (subst (λ k. k ≤ document_limit) len short)
@@ -50,9 +50,11 @@ module _ (es : List Entry) (rank hint : Option ℕ) (authorities : List Authorit
   IsKept-built n len short = record { is = IsBundle-built; text = text-built; fits = fits-built n len short }
 
   pub too_long-built : (n : ℕ) → n ≡ length out → document_limit < n → IsBuildFault es rank hint CanonicalTooLong
-  too_long-built n len long =
-      (bundle_of authorities rank hint, IsBundleOf-built,
-      subst (λ t. document_limit < length t) text-built (subst (λ k. document_limit < k) len long))
+  too_long-built n len long = (
+    bundle_of authorities rank hint,
+    IsBundleOf-built,
+    subst (λ t. document_limit < length t) text-built (subst (λ k. document_limit < k) len long),
+  )
 
 -- ---- from the contents of a value
 

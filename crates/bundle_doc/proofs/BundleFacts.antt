@@ -90,7 +90,7 @@ one_meaning tree b c p q =
     let keys : p.keys ≡ q.keys = one_array tree p.keys q.keys p.has_keys q.has_keys in
     let there : (a : Authority) → Has b.authorities a → Has c.authorities a = λ a h. (q.authorities a).1 (subst (λ k. Says k a) keys ((p.authorities a).0 h)) in
     let back : (a : Authority) → Has c.authorities a → Has b.authorities a =
-        λ a h. (p.authorities a).1 (subst (λ k. Says k a) (sym keys) ((q.authorities a).0 h)) in
+    λ a h. (p.authorities a).1 (subst (λ k. Says k a) (sym keys) ((q.authorities a).0 h)) in
     let authorities : b.authorities ≡ c.authorities = rising_same b.authorities c.authorities p.is.rising q.is.rising there back in
     let ranks : b.rank ≡ c.rank = one_number tree (codes "spiffe_sequence") b.rank c.rank p.rank q.rank in
     let hints : b.hint ≡ c.hint = one_number tree (codes "spiffe_refresh_hint") b.hint c.hint p.hint q.hint in
@@ -157,13 +157,16 @@ ascii = IsUtf8-are_ascii
 
 plain_members : (xs : List Authority) (rank hint : Option ℕ) → ArePlain (trees xs) → IfSome rank (λ n. n < 2 ^ 64) → IfSome hint (λ n. n < 2 ^ 64)
     → HasPlainMembers (member (codes "keys") (array (trees xs))
-        (with_number (codes "spiffe_refresh_hint") hint (with_number (codes "spiffe_sequence") rank no_members)))
+    (with_number (codes "spiffe_refresh_hint") hint (with_number (codes "spiffe_sequence") rank no_members)))
 plain_members xs None None h r k = (ascii (codes "keys") refl, h, tt, tt)
 plain_members xs (Some n) None h r k = (ascii (codes "keys") refl, h, (refl, tt), (ascii (codes "spiffe_sequence") refl, r, tt, tt))
 plain_members xs None (Some m) h r k = (ascii (codes "keys") refl, h, (refl, tt), (ascii (codes "spiffe_refresh_hint") refl, k, tt, tt))
-plain_members xs (Some n) (Some m) h r k =
-    (ascii (codes "keys") refl, h, (refl, (refl, tt)),
-        (ascii (codes "spiffe_refresh_hint") refl, k, (refl, tt), (ascii (codes "spiffe_sequence") refl, r, tt, tt)))
+plain_members xs (Some n) (Some m) h r k = (
+  ascii (codes "keys") refl,
+  h,
+  (refl, (refl, tt)),
+  (ascii (codes "spiffe_refresh_hint") refl, k, (refl, tt), (ascii (codes "spiffe_sequence") refl, r, tt, tt)),
+)
 
 pub IsPlain-document_tree : (b : Bundle) → IsBundle b → IsPlain (document_tree b)
 IsPlain-document_tree b h = plain_members b.authorities b.rank b.hint (ArePlain-trees b.authorities h.forms) h.rank h.hint
@@ -191,16 +194,22 @@ one_text b c p q e =
 
 -- a canonical text within the limit is a document of its bundle
 pub IsDocument-canonical_text : (b : Bundle) → IsBundle b → Fits b → IsDocument (canonical_text b) b
-IsDocument-canonical_text b h fits = record { tree = document_tree b; json = IsJson-canonical_text b h; means =
-    Means-document_tree b h; short = fits; fits = fits }
+IsDocument-canonical_text b h fits = record {
+  tree = document_tree b;
+  json = IsJson-canonical_text b h;
+  means =
+      Means-document_tree b h;
+  short = fits;
+  fits = fits;
+}
 
 -- authorities of one text are one
 pub one_authority_text : (a b : Authority) → IsAuthority a → IsAuthority b → authority_text a ≡ authority_text b → a ≡ b
 one_authority_text a b p q e =
     let deep : (x : Authority) → depth (tree_of x) ≤ max_depth = λ x. omega (arith, depth-tree_of x) in
     let trees_same : Some (tree_of a) ≡ Some (tree_of b) =
-        sym (read-compact_text (tree_of a) (IsPlain-tree_of a p) (deep a)) ∙ ap read e
-        ∙ read-compact_text (tree_of b) (IsPlain-tree_of b q) (deep b) in
+    sym (read-compact_text (tree_of a) (IsPlain-tree_of a p) (deep a)) ∙ ap read e
+    ∙ read-compact_text (tree_of b) (IsPlain-tree_of b q) (deep b) in
     let tree_same : tree_of a ≡ tree_of b = cc in
     one_authority (tree_of a) a b (IsElement-tree_of a p) (subst (λ t. IsElement t b) (sym tree_same) (IsElement-tree_of b q))
 

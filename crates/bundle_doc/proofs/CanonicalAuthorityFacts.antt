@@ -15,14 +15,14 @@ escape_der d der plain is = subst (λ t. escape t ≡ t) is plain
 
 x509_rsa : (e n rest : List ℕ) → escape e ≡ e → escape n ≡ n → (der : List ℕ) → escape (encode_of standard der) ≡ encode_of standard der
     → codes "{\"e\":\"" ++ (e ++ (codes "\",\"kty\":\"RSA\",\"n\":\"" ++ (n ++ (codes "\",\"use\":\"x509-svid\",\"x5c\":[\"" ++ (encode_of standard der ++ (codes "\"]}"
-        ++ rest))))))
+    ++ rest))))))
     ≡ authority_text (X509 (Rsa n e) der) ++ rest
 unfolding escape_byte
 x509_rsa e n rest p q der r = simp (p, q, r, append_assoc)
 
 x509_ec : (crv x y rest : List ℕ) → escape crv ≡ crv → escape x ≡ x → escape y ≡ y → (der : List ℕ) → escape (encode_of standard der) ≡ encode_of standard der
     → codes "{\"crv\":\"" ++ (crv ++ (codes "\",\"kty\":\"EC\",\"use\":\"x509-svid\",\"x\":\"" ++ (x ++ (codes "\",\"x5c\":[\"" ++ (encode_of standard der ++ (codes "\"],\"y\":\"" ++ (y ++ (codes "\"}"
-        ++ rest))))))))
+    ++ rest))))))))
     ≡ authority_text (X509 (Ec crv x y) der) ++ rest
 unfolding escape_byte
 x509_ec crv x y rest o p q der r = simp (o, p, q, r, append_assoc)
@@ -35,7 +35,7 @@ jwt_rsa e kid n rest p q r = simp (p, q, r, append_assoc)
 
 jwt_ec : (crv kid x y rest : List ℕ) → escape crv ≡ crv → escape kid ≡ kid → escape x ≡ x → escape y ≡ y
     → codes "{\"crv\":\"" ++ (crv ++ (codes "\",\"kid\":\"" ++ (kid ++ (codes "\",\"kty\":\"EC\",\"use\":\"jwt-svid\",\"x\":\"" ++ (x ++ (codes "\",\"y\":\"" ++ (y ++ (codes "\"}"
-        ++ rest))))))))
+    ++ rest))))))))
     ≡ authority_text (Jwt kid (Ec crv x y)) ++ rest
 unfolding escape_byte
 jwt_ec crv kid x y rest o p q r = simp (o, p, q, r, append_assoc)
@@ -55,8 +55,8 @@ pub ReadsAuthority-x509_ec : (text r1 r2 r3 r4 rest crv x y d c v w der : List �
     → text ≡ codes
     "{\"crv\":\"" ++ r1 → ReadsText r1 crv (codes "\",\"kty\":\"EC\",\"use\":\"x509-svid\",\"x\":\"") r2 → ReadsText r2 x (codes "\",\"x5c\":[\"") r3
     → ReadsText r3 d (codes "\"],\"y\":\"") r4
-        → ReadsText r4 y
-        (codes "\"}") rest → (c ≡ crv) × IsNonEmptyText c → (v ≡ x) × IsUrlText v → (w ≡ y) × IsUrlText w → (d ≡ encode_of standard der) × IsCertificate der
+    → ReadsText r4 y
+    (codes "\"}") rest → (c ≡ crv) × IsNonEmptyText c → (v ≡ x) × IsUrlText v → (w ≡ y) × IsUrlText w → (d ≡ encode_of standard der) × IsCertificate der
     → ReadsAuthority text (X509 (Ec c v w) der) rest
 ReadsAuthority-x509_ec text r1 r2 r3 r4 rest crv x y d c v w der head at_crv at_x at_d at_y is_crv is_x is_y is_d =
     let joined = x509_ec crv x y rest at_crv.plain at_x.plain at_y.plain der (escape_der d der at_d.plain is_d.0) in
@@ -75,8 +75,8 @@ pub ReadsAuthority-jwt_ec : (text r1 r2 r3 r4 rest crv kid x y c k v w : List �
     → text ≡ codes
     "{\"crv\":\"" ++ r1 → ReadsText r1 crv (codes "\",\"kid\":\"") r2 → ReadsText r2 kid (codes "\",\"kty\":\"EC\",\"use\":\"jwt-svid\",\"x\":\"") r3
     → ReadsText r3 x (codes "\",\"y\":\"") r4
-        → ReadsText r4 y
-        (codes "\"}") rest → (c ≡ crv) × IsNonEmptyText c → (k ≡ kid) × IsNonEmptyText k → (v ≡ x) × IsUrlText v → (w ≡ y) × IsUrlText w
+    → ReadsText r4 y
+    (codes "\"}") rest → (c ≡ crv) × IsNonEmptyText c → (k ≡ kid) × IsNonEmptyText k → (v ≡ x) × IsUrlText v → (w ≡ y) × IsUrlText w
     → ReadsAuthority text (Jwt k (Ec c v w)) rest
 ReadsAuthority-jwt_ec text r1 r2 r3 r4 rest crv kid x y c k v w head at_crv at_kid at_x at_y is_crv is_kid is_x is_y =
     let joined = jwt_ec crv kid x y rest at_crv.plain at_kid.plain at_x.plain at_y.plain in

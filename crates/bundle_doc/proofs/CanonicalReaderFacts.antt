@@ -77,7 +77,7 @@ pub Keeps-next : (text : List ℕ) (old new : List Authority) (n m : ℕ) (last 
     → Keeps text old n last rest → ReadsNext rest later last a own behind → later ≡ not (n == 0) → new ≡ old ++ a ∷ [] → m ≡ n + 1 → Keeps text new m own behind
 Keeps-next text old new n m last rest later a own behind k r is_later pushed count =
     let next : rest ≡ comma_if (not (n == 0)) ++ (authority_text a ++ behind) =
-        subst (λ b. rest ≡ comma_if b ++ (authority_text a ++ behind)) is_later r.whole in
+    subst (λ b. rest ≡ comma_if b ++ (authority_text a ++ behind)) is_later r.whole in
     let now_later : not (m == 0) ≡ true = ap (λ x. not (x == 0)) count ∙ counted n in
     rw pushed (record {
       joined = λ more end e.
@@ -88,7 +88,7 @@ Keeps-next text old new n m last rest later a own behind k r is_later pushed cou
       below = λ t less.
           let less_own : slice_cmp nat_cmp (authority_text a) t ≡ Less = subst (λ x. slice_cmp nat_cmp x t ≡ Less) r.own_is less in
           push_all (λ b. slice_cmp nat_cmp (authority_text b) t ≡ Less) old a
-              (k.below t (nat_list_cmp_total.trans last (authority_text a) t r.above less_own)) less_own;
+          (k.below t (nat_list_cmp_total.trans last (authority_text a) t r.above less_own)) less_own;
     })
 
 pub Keeps-end : (text : List ℕ) (authorities : List Authority) (n : ℕ) (last rest end : List ℕ)
@@ -110,7 +110,7 @@ some_text (Jwt kid (Ec crv x y)) = omega arith
 pub shorter : (text last own rest : List ℕ) (later : Bool) (a : Authority) → ReadsNext text later last a own rest → length rest < length text
 shorter text last own rest later a r =
     let long : length text ≡ length (comma_if later) + length (authority_text a ++ rest) =
-        ap length r.whole ∙ length-append (comma_if later) (authority_text a ++ rest) in
+    ap length r.whole ∙ length-append (comma_if later) (authority_text a ++ rest) in
     let some = some_text a in
     omega (arith, length-append (authority_text a) rest)
 

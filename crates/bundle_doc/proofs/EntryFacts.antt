@@ -85,8 +85,11 @@ pub Gathers-step : (old new : List Entry) (element : Data) (rest all : Items) �
     → AddsElement old new element → Gathers old (item element rest) all → Gathers new rest all
 Gathers-step old new element rest all entries adds had a = (
   λ h. (had a).0 (elim h [ inl x ↦ elim ((adds.authorities entries a).0 x) [ inl is ↦ inr (inl is) | inr y ↦ inl y ] | inr y ↦ inr (inr y) ]),
-  λ h. elim ((had a).1 h) [ inl x ↦ inl ((adds.authorities entries a).1 (inr x)) | inr y ↦ elim y
-      [ inl is ↦ inl ((adds.authorities entries a).1 (inl is)) | inr z ↦ inr z ] ],
+  λ h. elim ((had a).1 h) [
+    | inl x ↦ inl ((adds.authorities entries a).1 (inr x))
+    | inr y ↦ elim y
+        [ inl is ↦ inl ((adds.authorities entries a).1 (inl is)) | inr z ↦ inr z ]
+  ],
 )
 
 pub Gathers-next : (old new : List Entry) (vs : List Value) (i : ℕ) (v : Value) (all : Items) → i < length vs
@@ -148,11 +151,11 @@ pub canonical_text-parts : (b : Bundle) → canonical_text b ≡ keys_text b.aut
 canonical_text-parts b =
     let ts = items_text false (trees b.authorities) in
     ap (λ q. 123 ∷
-        (q ++ 58 ∷ ((91 ∷ ts) ++ members_text true
-        (with_number (codes "spiffe_refresh_hint") b.hint (with_number (codes "spiffe_sequence") b.rank no_members)))))
-        quoted_keys
+    (q ++ 58 ∷ ((91 ∷ ts) ++ members_text true
+    (with_number (codes "spiffe_refresh_hint") b.hint (with_number (codes "spiffe_sequence") b.rank no_members)))))
+    quoted_keys
     ∙ ap (λ t. codes "{\"keys\":[" ++ (ts ++ t)) (hint_text b.hint _
-        ∙ ap (λ t. number_part (codes ",\"spiffe_refresh_hint\":") b.hint ++ t) (sequence_text b.rank))
+    ∙ ap (λ t. number_part (codes ",\"spiffe_refresh_hint\":") b.hint ++ t) (sequence_text b.rank))
     ∙ sym (append_assoc (codes "{\"keys\":[") ts (numbers_text b.hint b.rank))
 
 -- ---- the loops' first and last turns
@@ -165,7 +168,7 @@ pub Gathers-end : (es : List Entry) (vs : List Value) (i : ℕ) (all : Items) �
 Gathers-end es vs i all past had a =
     let done : drop i vs ≡ [] = drop_all i vs past in
     let all_had : (Has (authorities_of es) a ⊎ Says no_items a) ↔ Says all a =
-        subst (λ l. (Has (authorities_of es) a ⊎ Says (items_view l) a) ↔ Says all a) done (had a) in
+    subst (λ l. (Has (authorities_of es) a ⊎ Says (items_view l) a) ↔ Says all a) done (had a) in
     (λ h. all_had.0 (inl h), λ h. elim (all_had.1 h) [ inl x ↦ x | inr y ↦ absurd y ])
 
 -- the authorities and the text so far, with what the entries that are left give, are all

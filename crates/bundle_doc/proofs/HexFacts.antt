@@ -16,18 +16,37 @@ small : (b : ℕ) → IsPlainByte b → b < 128
 small b h = let printable = h.0 in grind (arith, nat_tests)
 
 plain_digits : All IsPlainByte lower_digits
-plain_digits = All-from_recursion IsPlainByte lower_digits
-    ((refl, refl),
-        ((refl, refl),
-        ((refl, refl),
-        ((refl, refl),
-        ((refl, refl),
-        ((refl, refl),
-        ((refl, refl),
-        ((refl, refl),
-        ((refl, refl),
-        ((refl, refl),
-        ((refl, refl), ((refl, refl), ((refl, refl), ((refl, refl), ((refl, refl), ((refl, refl), tt))))))))))))))))
+plain_digits = All-from_recursion IsPlainByte lower_digits (
+  (refl, refl),
+  (
+    (refl, refl),
+    (
+      (refl, refl),
+      (
+        (refl, refl),
+        (
+          (refl, refl),
+          (
+            (refl, refl),
+            (
+              (refl, refl),
+              (
+                (refl, refl),
+                (
+                  (refl, refl),
+                  (
+                    (refl, refl),
+                    ((refl, refl), ((refl, refl), ((refl, refl), ((refl, refl), ((refl, refl), ((refl, refl), tt)))))),
+                  ),
+                ),
+              ),
+            ),
+          ),
+        ),
+      ),
+    ),
+  ),
+)
 
 plain_digit : (k : ℕ) → k < 16 → IsPlainByte (get_or lower_digits k 0)
 plain_digit k h = All-get_or IsPlainByte lower_digits k 0 h plain_digits
@@ -41,7 +60,7 @@ plain_hex (b ∷ rest) h =
     let low = get_or lower_digits (b % 16) 0 in
     let others = encode_with lower_digits rest in
     All-cons IsPlainByte high (low ∷ others) (plain_digit (b / 16) (omega arith))
-        (All-cons IsPlainByte low others (plain_digit (b % 16) (omega arith)) (plain_hex rest (λ i. h (suc i))))
+    (All-cons IsPlainByte low others (plain_digit (b % 16) (omega arith)) (plain_hex rest (λ i. h (suc i))))
 
 pub IsPlainText-hex : (bytes : List ℕ) → IsBytes bytes → IsPlainText (encode_lower bytes)
 IsPlainText-hex bytes h =

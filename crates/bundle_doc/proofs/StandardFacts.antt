@@ -27,9 +27,13 @@ unfolding escape_byte
 text_of_nothing = refl
 
 abbrev abc : Bundle
-abc = record { authorities =
-    X509 (Rsa (codes "AQAB") (codes "Ag")) (codes "abc") ∷ Jwt (codes "k") (Rsa (codes "AQ") (codes "Aw")) ∷ []; rank =
-    Some 7; hint = Some 600 }
+abc = record {
+  authorities =
+      X509 (Rsa (codes "AQAB") (codes "Ag")) (codes "abc") ∷ Jwt (codes "k") (Rsa (codes "AQ") (codes "Aw")) ∷ [];
+  rank =
+      Some 7;
+  hint = Some 600;
+}
 
 pub text_of_abc : canonical_text abc
     ≡ codes "{\"keys\":[{\"e\":\"Ag\",\"kty\":\"RSA\",\"n\":\"AQAB\",\"use\":\"x509-svid\",\"x5c\":[\"YWJj\"]},{\"e\":\"Aw\",\"kid\":\"k\",\"kty\":\"RSA\",\"n\":\"AQ\",\"use\":\"jwt-svid\"}],\"spiffe_refresh_hint\":600,\"spiffe_sequence\":7}"

@@ -47,7 +47,7 @@ rank_first d e h = elim (then_less _ _ h) [
 same_sequence_below : (s : ℕ) (a b : Option ℕ) → a ≡ Some s → b ≡ Some s → rank_cmp a b ≡ Less → ⊥
 same_sequence_below s a b p q less =
     let here : rank_cmp (Some s) (Some s) ≡ Less =
-        subst (λ (z : Option ℕ). rank_cmp (Some s) z ≡ Less) q (subst (λ (z : Option ℕ). rank_cmp z b ≡ Less) p less) in
+    subst (λ (z : Option ℕ). rank_cmp (Some s) z ≡ Less) q (subst (λ (z : Option ℕ). rank_cmp z b ≡ Less) p less) in
     let same : rank_cmp (Some s) (Some s) ≡ Equal = cmp_equal s s refl in
     cc
 
@@ -241,7 +241,7 @@ one_clash group s k rising ranks many kind =
 pub one_list : (P : Bundle → Type 0) (cs ds : List Clash) → AreClashes P cs → AreClashes P ds → cs ≡ ds
 one_list P cs ds p q =
     same_list clash_cmp (on_total (λ (c : Clash). c.sequence) nat_cmp_total) cs ds p.rising q.rising
-        (λ c h. q.complete c (p.sound c h)) (λ c h. p.complete c (q.sound c h))
+    (λ c h. q.complete c (p.sound c h)) (λ c h. p.complete c (q.sound c h))
 
 pub one_domains : (c : Configuration) (xs ys : List (List ℕ)) → AreDomains c xs → AreDomains c ys → xs ≡ ys
 one_domains c xs ys p q =

@@ -50,4 +50,4 @@ one_current m domain ds None (Some e) list p q = absurd (p e q.accepted)
 one_current m domain ds (Some d) None list p q = absurd (q d p.accepted)
 one_current m domain ds (Some d) (Some e) list p q =
     ap Some (only_one document_cmp ds d e list.rising (list.complete d p.accepted) (list.complete e q.accepted)
-        (p.greatest e q.accepted) (q.greatest d p.accepted))
+    (p.greatest e q.accepted) (q.greatest d p.accepted))

@@ -73,10 +73,11 @@ module _ (m : Meaning) (waiting : List Receipt) (valid : IsMeaning m) (trusted :
       record { seed = h.seed; configured = h.configured; held = (((trusted.exactly s.receipt).0 waits).0, rest.0); leads = (v.0, v.1, rest.1) }
   led s (Some place) chain waits h rest = λ t at.
       let same : h.previous ≡ t = same_Some h.previous t (sym h.at ∙ at) in
-      let v = vouched (pair_of h.previous.receipt) s.receipt waits h.offers in
-      ((((trusted.exactly s.receipt).0 waits).0, rest.0),
-          subst (λ (x : Stride). Leads m.config m.records (pair_of x.receipt) (s.receipt ∷ chain) p) same
-          (v.0, v.1, rest.1))
+      let v = vouched (pair_of h.previous.receipt) s.receipt waits h.offers in (
+        (((trusted.exactly s.receipt).0 waits).0, rest.0),
+        subst (λ (x : Stride). Leads m.config m.records (pair_of x.receipt) (s.receipt ∷ chain) p) same
+            (v.0, v.1, rest.1),
+      )
 
   -- the receipts back, last first, before a chain that leads on
   pub way_back : (at : Option ℕ) (back chain : List Receipt) → IsBackFrom strides at back → IsLeft at chain → LeadsTo m p (reverse back ++ chain)
@@ -87,8 +88,8 @@ module _ (m : Meaning) (waiting : List Receipt) (valid : IsMeaning m) (trusted :
       let s = is.0 in
       let next : IsLeft s.before (s.receipt ∷ chain) = led s s.before chain (stand.waits place s is.1) (stand.stands place s is.1) (left s is.1) in
       subst (λ xs. LeadsTo m p (xs ++ chain)) (sym (reverse-append (r ∷ []) back))
-          (subst (LeadsTo m p) (sym (append_assoc (reverse back) (r ∷ []) chain))
-          (way_back s.before back (r ∷ chain) is.3 (subst (λ x. IsLeft s.before (x ∷ chain)) is.2 next)))
+      (subst (LeadsTo m p) (sym (append_assoc (reverse back) (r ∷ []) chain))
+      (way_back s.before back (r ∷ chain) is.3 (subst (λ x. IsLeft s.before (x ∷ chain)) is.2 next)))
 
   pub length_back : (at : Option ℕ) (back : List Receipt) → IsBackFrom strides at back → length_of at (length back)
   length_back None [] is = refl
@@ -122,20 +123,23 @@ module _ (m : Meaning) (waiting : List Receipt) (trusted : AreTrusted m waiting)
   none_leads is a =
       let way : LeadsTo m p a.chain = record { seed = a.seed; configured = a.configured; held = a.held; leads = a.leads } in
       not_shorter m waiting trusted strides p (length strides) is (length a.chain + 1)
-          (λ i s at l. slice_get_within strides i s at) a.chain way (some_receipt m p unconfigured a.chain way)
-          (omega arith)
+      (λ i s at l. slice_get_within strides i s at) a.chain way (some_receipt m p unconfigured a.chain way)
+      (omega arith)
 
   pub shortest_found : IsMeaning m → (place : ℕ) (chain : List Receipt)
       → SearchFinds m.config.seeds waiting strides p place → IsBackFrom strides (Some place) (reverse chain)
       → IsShortest m p chain
   shortest_found valid place chain found back =
       let all = way_back m waiting valid trusted strides found.searched.stand p (Some place) (reverse chain) [] back
-          (λ s at. (tt, ap (λ (x : Stride). pair_of x.receipt) (same_Some s found.stride (sym at ∙ found.at))
-          ∙ found.is)) in
+      (λ s at. (
+        tt,
+        ap (λ (x : Stride). pair_of x.receipt) (same_Some s found.stride (sym at ∙ found.at))
+            ∙ found.is,
+      )) in
       let same : reverse (reverse chain) ++ [] ≡ chain = append-nil (reverse (reverse chain)) ∙ reverse-reverse chain in
       let long : found.stride.length ≡ length (reverse chain) =
-          length_back m waiting valid trusted strides found.searched.stand p (Some place) (reverse chain) back
-          found.stride found.at in
+      length_back m waiting valid trusted strides found.searched.stand p (Some place) (reverse chain) back
+      found.stride found.at in
       record {
         leads = subst (LeadsTo m p) same all;
         shortest = λ other way. elim (cases_lt (length other) found.stride.length) [
@@ -166,8 +170,13 @@ ends_in c records from [] to h = refl
 ends_in c records from (r ∷ chain) to h = (h.0, h.1, ends_in c records (pair_of r) chain to h.2)
 
 pub chain_of : (m : Meaning) (p : Pair) (chain : List Receipt) → IsShortest m p chain → 0 < length chain → IsChain m.config m.records chain
-chain_of m p chain is some = record { some = some; seed = is.leads.seed; configured = is.leads.configured; leads =
-    ends_in m.config m.records (pair_of_seed is.leads.seed) chain p is.leads.leads }
+chain_of m p chain is some = record {
+  some = some;
+  seed = is.leads.seed;
+  configured = is.leads.configured;
+  leads =
+      ends_in m.config m.records (pair_of_seed is.leads.seed) chain p is.leads.leads;
+}
 
 end_of : (c : Configuration) (records : List Distrust) (from : Pair) (front : List Receipt) (last : Receipt) (to : Pair)
     → Leads c records from (front ++ last ∷ []) to → pair_of last ≡ to

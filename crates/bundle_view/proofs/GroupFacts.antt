@@ -21,7 +21,7 @@ rising_parts : (documents : List Bundle) (start : ℕ) (rest : List Bundle) → 
 rising_parts documents start rest rising e =
     subst (IsStrictlySortedBy document_cmp) (sym e)
     (rising_right document_cmp (take start documents) (drop start documents)
-        (subst (IsStrictlySortedBy document_cmp) (sym (take-append-drop start documents)) rising))
+    (subst (IsStrictlySortedBy document_cmp) (sym (take-append-drop start documents)) rising))
 
 cut_at : (rest : List Bundle) (len : ℕ) → IsStrictlySortedBy document_cmp rest → IsStrictlySortedBy document_cmp (take len rest ++ drop len rest)
 cut_at rest len rising = subst (IsStrictlySortedBy document_cmp) (sym (take-append-drop len rest)) rising
@@ -52,7 +52,7 @@ group_first rest len cs ds rising is p q =
 pub so_far_step : (domain : List ℕ) (documents : List Bundle) (start len : ℕ) (rest : List Bundle)
     (old new more : List ReportedConflict) → IsStrictlySortedBy document_cmp documents → rest ≡ drop start documents
     → SoFar domain documents start old new → IsGroupLength rest len → AddsClashes domain (take len rest) new more
-        → SoFar domain documents (start + len) old more
+    → SoFar domain documents (start + len) old more
 so_far_step domain documents start len rest old new more rising e s is a =
     let rising_rest : IsStrictlySortedBy document_cmp rest = rising_parts documents start rest rising e in
     let behind : drop len rest ≡ drop (start + len) documents = ap (drop len) e ∙ drop-drop len start documents in
@@ -65,8 +65,8 @@ so_far_step domain documents start len rest old new more rising e s is a =
           ∙ ap (λ z. old ++ z) (sym (map-append (reported_conflict domain) s.clashes a.clashes));
       all = λ others are.
           let here : AreClashes (Contains rest) (a.clashes ++ others) =
-              group_first rest len a.clashes others rising_rest is a.are
-              (subst (λ (z : List Bundle). AreClashes (Contains z) others) (sym behind) are) in
+          group_first rest len a.clashes others rising_rest is a.are
+          (subst (λ (z : List Bundle). AreClashes (Contains z) others) (sym behind) are) in
           subst (AreClashes (Contains documents)) (sym (append_assoc s.clashes a.clashes others))
           (s.all (a.clashes ++ others) (subst (λ (z : List Bundle). AreClashes (Contains z) (a.clashes ++ others)) e here));
     }

@@ -37,7 +37,7 @@ pub same_list : {A : Type 0} (cmp : A → A → Ordering) → IsTotalOrder cmp �
     → ((a : A) → Contains xs a → Contains ys a) → ((a : A) → Contains ys a → Contains xs a) → xs ≡ ys
 same_list cmp t xs ys p q there back =
     same_members cmp t xs ys p q (λ a h. Has-from_contains ys a (there a (Contains-from_has xs a h)))
-        (λ a h. Has-from_contains xs a (back a (Contains-from_has ys a h)))
+    (λ a h. Has-from_contains xs a (back a (Contains-from_has ys a h)))
 
 module _ {A : Type 0} (cmp : A → A → Ordering) where
   pub rising_first : (x : A) (xs : List A) (y : A) → IsStrictlySortedBy cmp (x ∷ xs) → Contains xs y → cmp x y ≡ Less

@@ -74,8 +74,8 @@ module _ (m : Meaning) (domain bytes : List ℕ) (verdict : Verdict) (documents 
   two_endpoints : HasOtherEndpoint m.config domain verdict.endpoint → IsEndpointOf m.config domain verdict.endpoint → ⊥
   two_endpoints other is =
       let same : other.relationship ≡ is.relationship =
-          one_relationship m.config domain other.relationship is.relationship form other.found.0 is.found.0
-          other.found.1 is.found.1 in
+      one_relationship m.config domain other.relationship is.relationship form other.found.0 is.found.0
+      other.found.1 is.found.1 in
       other.other (ap (λ (x : Relationship). x.endpoint) same ∙ is.endpoint_is)
 
   one_voucher : (a b : Bundle) → IsCurrent m verdict.endpoint.domain (Some a) → IsCurrent m verdict.endpoint.domain (Some b) → a ≡ b

@@ -136,8 +136,8 @@ meaning_of_took old new r TakenAlready valid took =
 pub observed : (old new : HeldAndRoom) (domain bytes : List ℕ) (verdict : Verdict) (id : DocId) (document : Bundle)
     (copy : Receipt) → IsMeaning old.meaning → IsReceipt (observed_of domain verdict id document)
     → IsVoucher old.meaning domain verdict id → IsDocument bytes document
-        → HasKept old (observed_of domain verdict id document) new copy
-        → HasObserved old.meaning domain bytes verdict new.meaning copy
+    → HasKept old (observed_of domain verdict id document) new copy
+    → HasObserved old.meaning domain bytes verdict new.meaning copy
 observed old new domain bytes verdict id document copy valid form is read kept =
     let r : Receipt = observed_of domain verdict id document in
     let meaning : new.meaning ≡ holding old.meaning r = meaning_of_took old new r kept.taken valid kept.took in
@@ -175,8 +175,8 @@ other_endpoint : (m : Meaning) (domain : List ℕ) (verdict : Verdict) (r : Rece
     → IsOfWrongEndpoint m.config r → ⊥
 other_endpoint m domain verdict r form is e f wrong =
     let same : wrong.relationship ≡ is.relationship =
-        one_relationship m.config domain wrong.relationship is.relationship form wrong.has is.found.0 (wrong.domain ∙ e)
-        is.found.1 in
+    one_relationship m.config domain wrong.relationship is.relationship form wrong.has is.found.0 (wrong.domain ∙ e)
+    is.found.1 in
     wrong.other (ap (λ (x : Relationship). x.endpoint) same ∙ is.endpoint_is ∙ sym f)
 
 untaken : (m : Meaning) (room : Room) (domain bytes : List ℕ) (verdict : Verdict) (id : DocId) (document : Bundle)

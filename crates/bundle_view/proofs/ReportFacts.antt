@@ -73,21 +73,21 @@ pub accepted_made : (domain : List ℕ) (d : Bundle) (n : ℕ) (o x y z u v : Li
     → v ≡ o ++ accepted_line domain d
 accepted_made domain d n o x y z u v e p q r s t =
     joined o (codes "  accepted ") _ x v p
-        (joined x (document_text domain d) _ y v q
-        (joined y (codes " authorities ") _ z v r (joined z (decimal n) (codes "\n") u v s t)))
+    (joined x (document_text domain d) _ y v q
+    (joined y (codes " authorities ") _ z v r (joined z (decimal n) (codes "\n") u v s t)))
     ∙ (λ i. o ++ (codes "  accepted " ++ (document_text domain d ++ (codes " authorities " ++ (decimal (e i) ++ codes "\n")))))
 
 pub head_made : (m : Meaning) (pending : ℕ) (id : List ℕ) (n : ℕ) (o x y z u v w t : List ℕ) → id ≡ config_id_of m.config → n ≡ length m.held
     → x ≡ o ++ codes "config " → y ≡ x ++ encode_lower id → z ≡ y ++ codes "\nreceipts " → u ≡ z ++ decimal n
-        → v ≡ u ++ codes " pending " → w ≡ v ++ decimal pending → t ≡ w ++ codes "\n"
+    → v ≡ u ++ codes " pending " → w ≡ v ++ decimal pending → t ≡ w ++ codes "\n"
     → t ≡ o ++ head_text m pending
 head_made m pending id n o x y z u v w t e f p q r s a b k =
     joined o (codes "config ") _ x t p (joined x (encode_lower id) _ y t q (joined y (codes "\nreceipts ") _ z t r (joined z (decimal n) _ u t s
     (joined u (codes " pending ") _ v t a (joined v (decimal pending) (codes "\n") w t b k)))))
     ∙ (λ i. o ++
-        (codes "config " ++
-        (encode_lower (e i) ++ (codes "\nreceipts " ++
-        (decimal (f i) ++ (codes " pending " ++ (decimal pending ++ codes "\n")))))))
+    (codes "config " ++
+    (encode_lower (e i) ++ (codes "\nreceipts " ++
+    (decimal (f i) ++ (codes " pending " ++ (decimal pending ++ codes "\n")))))))
 
 next_at : {X : Type 0} (xs : List X) (k : ℕ) (x : X) → k < length xs → x ≡ get_or xs k x → drop k xs ≡ x ∷ drop (k + 1) xs
 next_at xs k x low is = drop-cons xs k x low ∙ (λ i. sym is i ∷ drop (sym (add-one k) i) xs)
@@ -96,28 +96,28 @@ pub lines_more : {X : Type 0} (f : X → List ℕ) (xs : List X) (k : ℕ) (x : 
     → n ++ flat_map f (drop (k + 1) xs) ≡ o ++ flat_map f (drop k xs)
 lines_more f xs k x low is o n e =
     ap (λ z. z ++ flat_map f (drop (k + 1) xs)) e ∙ append_assoc o (f x) (flat_map f (drop (k + 1) xs))
-        ∙ ap (λ ys. o ++ flat_map f ys) (sym (next_at xs k x low is))
+    ∙ ap (λ ys. o ++ flat_map f ys) (sym (next_at xs k x low is))
 
 pub told_more : {X Y : Type 0} (v : X → Y) (f : Y → List ℕ) (xs : List X) (k : ℕ) (x : X) → k < length xs
     → x ≡ get_or xs k x → (o n : List ℕ) → n ≡ o ++ f (v x)
     → n ++ flat_map f (map v (drop (k + 1) xs)) ≡ o ++ flat_map f (map v (drop k xs))
 told_more v f xs k x low is o n e =
     ap (λ z. z ++ flat_map f (map v (drop (k + 1) xs))) e
-        ∙ append_assoc o (f (v x)) (flat_map f (map v (drop (k + 1) xs)))
-        ∙ ap (λ ys. o ++ flat_map f (map v ys)) (sym (next_at xs k x low is))
+    ∙ append_assoc o (f (v x)) (flat_map f (map v (drop (k + 1) xs)))
+    ∙ ap (λ ys. o ++ flat_map f (map v ys)) (sym (next_at xs k x low is))
 
 -- ---- sections
 
 section_made : (records : List Distrust) (s : Section) (o x y z u v : List ℕ)
     → x ≡ o ++ (codes "domain " ++ (s.domain ++ codes "\n")) → y ≡ x ++ current_line s.domain s.current
     → z ≡ y ++ flat_map (accepted_line s.domain) s.accepted
-        → u ≡ z ++ flat_map conflict_line (map (reported_conflict s.domain) s.conflicts)
-        → v ≡ u ++ flat_map distrust_line (records_of s.domain records)
+    → u ≡ z ++ flat_map conflict_line (map (reported_conflict s.domain) s.conflicts)
+    → v ≡ u ++ flat_map distrust_line (records_of s.domain records)
     → v ≡ o ++ section_text records s
 section_made records s o x y z u v p q r a b =
     joined o (codes "domain " ++ (s.domain ++ codes "\n")) _ x v p
-        (joined x (current_line s.domain s.current) _ y v q
-        (joined y (flat_map (accepted_line s.domain) s.accepted) _ z v r
+    (joined x (current_line s.domain s.current) _ y v q
+    (joined y (flat_map (accepted_line s.domain) s.accepted) _ z v r
     (joined z (flat_map conflict_line (map (reported_conflict s.domain) s.conflicts)) (flat_map distrust_line (records_of s.domain records)) u v a b)))
     ∙ ap (λ t. o ++ t) (append_assoc (codes "domain ") (s.domain ++ codes "\n") _ ∙ ap (λ t. codes "domain " ++ t) (append_assoc s.domain (codes "\n") _))
 

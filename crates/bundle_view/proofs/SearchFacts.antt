@@ -62,8 +62,14 @@ pub more-HasStride : (old new : List Stride) (r : Receipt) (n k : ℕ)
     → ((i : ℕ) (s : Stride) → slice_get old i ≡ Some s → slice_get new i ≡ Some s) → n ≤ k → HasStride old r n
     → HasStride new r k
 more-HasStride old new r n k kept l h =
-    record { place = h.place; stride = h.stride; at = kept h.place h.stride h.at; is = h.is; short =
-    omega (arith, l, h.short) }
+    record {
+      place = h.place;
+      stride = h.stride;
+      at = kept h.place h.stride h.at;
+      is = h.is;
+      short =
+          omega (arith, l, h.short);
+    }
 
 pub more-AreFollowed : (waiting : List Receipt) (old new : List Stride) (offers : List Triple) (n : ℕ)
     → ((i : ℕ) (s : Stride) → slice_get old i ≡ Some s → slice_get new i ≡ Some s) → AreFollowed waiting old offers n
@@ -192,7 +198,7 @@ pub parted : (waiting : List Receipt) (offer : Triple) → IsSortedByKey need_of
     → IsPartitionedBy (λ r. is_lt (triple_cmp (need_of r) offer)) waiting
 parted waiting offer sorted i j d l below h =
     index_less (triple_cmp (need_of (get_or waiting i d)) offer) (triple_cmp (need_of (get_or waiting j d)) offer)
-        (searchable_from_sorted triple_total need_of waiting offer sorted i j d l below) h
+    (searchable_from_sorted triple_total need_of waiting offer sorted i j d l below) h
 
 -- no flag is raised
 pub visited_none : (waiting : List Receipt) (flags : List Bool) (strides : List Stride)
@@ -252,12 +258,16 @@ module _ (waiting : List Receipt) (offer : Triple) (before : Option ℕ) (most :
       let below : place < length waiting = slice_get_within waiting place r at in
       let needs : need_of r ≡ offer = ap need_of (same_Some r due.receipt (sym at ∙ due.at)) ∙ due.needs in
       let set_here : is_raised more place ≡ true =
-          ap (λ fs. is_raised fs place) is ∙ get_or-set_same visited place true false
-          (omega (arith, below, g.marks.size)) in
+      ap (λ fs. is_raised fs place) is ∙ get_or-set_same visited place true false
+      (omega (arith, below, g.marks.size)) in
       record {
         marks = marked_more waiting visited new most g.marks place s more is count at refl (omega (arith, early, g.adds.longer));
-        adds = adds_more waiting (offer ∷ []) before most old new s g.adds record { waits = has_at waiting place r at;
-            offered = subst (Contains (offer ∷ [])) (sym needs) (contains_first offer []); led = refl; long = refl };
+        adds = adds_more waiting (offer ∷ []) before most old new s g.adds record {
+          waits = has_at waiting place r at;
+          offered = subst (Contains (offer ∷ [])) (sym needs) (contains_first offer []);
+          led = refl;
+          long = refl;
+        };
         from = omega (arith, g.from);
         within = omega (arith, below);
         fresh = λ k q a b there. elim (cases_eq k place) [
@@ -269,7 +279,7 @@ module _ (waiting : List Receipt) (offer : Triple) (before : Option ℕ) (most :
         same = λ k h.
             let other : k ≡ place → ⊥ = λ e. elim h [ inl a ↦ omega (arith, a, e, g.from) | inr a ↦ omega (arith, a, e) ] in
             ap (λ fs. is_raised fs k) is ∙ get_or-set_other visited place k true false other
-                ∙ g.same k (elim h [ inl a ↦ inl a | inr a ↦ inr (omega (arith, a)) ]);
+            ∙ g.same k (elim h [ inl a ↦ inl a | inr a ↦ inr (omega (arith, a)) ]);
       }
 
   module _ (sorted : IsSortedByKey need_of triple_cmp waiting)
@@ -281,7 +291,7 @@ module _ (waiting : List Receipt) (offer : Triple) (before : Option ℕ) (most :
     needing k r at needs = elim (cases_lt k start) [
       | inl before_start ↦
           absurd (less_itself offer (subst (λ t. is_lt (triple_cmp t offer) ≡ true)
-              (ap need_of (get_or_from_slice_get waiting k r r at) ∙ needs) (point.0 k r (omega arith) before_start)))
+          (ap need_of (get_or_from_slice_get waiting k r r at) ∙ needs) (point.0 k r (omega arith) before_start)))
       | inr later ↦ elim (cases_lt k place) [
         | inl here ↦ (g.fresh k r later here at).0
         | inr past ↦
@@ -338,14 +348,18 @@ module _ (waiting : List Receipt) (offer : Triple) (before : Option ℕ) (most :
 pub follows_none : (waiting : List Receipt) (before : Option ℕ) (most : ℕ) (visited : List Bool) (strides : List Stride)
     → AreVisited waiting visited strides most → FollowsOffers waiting [] before most strides visited strides
 follows_none waiting before most visited strides v =
-    record { visits = v; adds = adds_none waiting [] before most strides; reached =
-    λ r waits has. absurd (contains_none (need_of r) has) }
+    record {
+      visits = v;
+      adds = adds_none waiting [] before most strides;
+      reached =
+          λ r waits has. absurd (contains_none (need_of r) has);
+    }
 
 pub follows_more : (waiting : List Receipt) (some : List Triple) (offer : Triple) (before : Option ℕ) (most : ℕ)
     (old mid : List Stride) (flags visited : List Bool) (new : List Stride)
     → FollowsOffers waiting some before most old flags mid
-        → FollowsOffers waiting (offer ∷ []) before most mid visited new
-        → FollowsOffers waiting (some ++ offer ∷ []) before most old visited new
+    → FollowsOffers waiting (offer ∷ []) before most mid visited new
+    → FollowsOffers waiting (some ++ offer ∷ []) before most old visited new
 follows_more waiting some offer before most old mid flags visited new a b = record {
   visits = b.visits;
   adds = adds_both waiting some (offer ∷ []) (some ++ offer ∷ []) before most old mid new

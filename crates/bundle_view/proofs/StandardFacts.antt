@@ -68,13 +68,23 @@ some_sequence n = refl
 abbrev id : ℕ → DocId
 id byte = record { 0 = byte ∷ [] }
 
-conflict_of_keys : conflict_line (record { domain = codes "a.example"; sequence = 7; kind = Keys; documents =
-    id 171 ∷ id 1 ∷ [] }) ≡ codes "  conflict " ++ (decimal 7 ++ codes " keys ab 01\n")
+conflict_of_keys : conflict_line (record {
+  domain = codes "a.example";
+  sequence = 7;
+  kind = Keys;
+  documents =
+      id 171 ∷ id 1 ∷ [];
+}) ≡ codes "  conflict " ++ (decimal 7 ++ codes " keys ab 01\n")
 unfolding encode_with
 conflict_of_keys = refl
 
-conflict_of_hints : conflict_line (record { domain = codes "a.example"; sequence = 10; kind = HintOnly; documents =
-    id 1 ∷ id 171 ∷ [] }) ≡ codes "  conflict " ++ (decimal 10 ++ codes " hint 01 ab\n")
+conflict_of_hints : conflict_line (record {
+  domain = codes "a.example";
+  sequence = 10;
+  kind = HintOnly;
+  documents =
+      id 1 ∷ id 171 ∷ [];
+}) ≡ codes "  conflict " ++ (decimal 10 ++ codes " hint 01 ab\n")
 unfolding encode_with
 conflict_of_hints = refl
 

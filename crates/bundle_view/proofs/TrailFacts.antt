@@ -25,8 +25,12 @@ kept_stride seeds old new s (Some place) kept h = record { previous = h.previous
 more_seeds : (seeds : List Seed) (x : Seed) (strides : List Stride) (s : Stride) (before : Option ℕ)
     → IsStride seeds strides s before → IsStride (seeds ++ x ∷ []) strides s before
 more_seeds seeds x strides s None h =
-    record { seed = h.seed; configured = Contains-append_left seeds (x ∷ []) h.seed h.configured; offers = h.offers;
-    first = h.first }
+    record {
+      seed = h.seed;
+      configured = Contains-append_left seeds (x ∷ []) h.seed h.configured;
+      offers = h.offers;
+      first = h.first;
+    }
 more_seeds seeds x strides s (Some place) h = h
 
 more_strides : (seeds : List Seed) (waiting : List Receipt) (offers : List Triple) (before : Option ℕ) (most : ℕ)
@@ -115,7 +119,7 @@ at_next seeds waiting p flags visited old new place s a at other f =
           | inr d ↦
               let before : i < place = omega (arith, l, d) in
               more-AreFollowed waiting old new (offers_of (pair_of t.receipt)) (t.length + 1) f.adds.kept
-                  (a.searched.followed i t before (earlier i t before there))
+              (a.searched.followed i t before (earlier i t before there))
         ];
         passed = λ i t l there e. elim (cases_eq i place) [
           | inl same ↦ other (ap (λ (x : Stride). pair_of x.receipt) (same_Some s t (sym here ∙ ap (slice_get new) (sym same) ∙ there)) ∙ e)

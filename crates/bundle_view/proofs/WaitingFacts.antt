@@ -127,7 +127,9 @@ sifted_all m records all taken rest e f none few s = record {
 
 pub trusted_moved : (m : Meaning) (xs ys : List Receipt) → IsPermutation xs ys → AreTrusted m xs → AreTrusted m ys
 trusted_moved m xs ys p t = record {
-  exactly = λ r. (λ has. (t.exactly r).0 (Contains-permutation ys xs r (IsPermutation-sym xs ys p) has),
-      λ h. Contains-permutation xs ys r p ((t.exactly r).1 h));
+  exactly = λ r. (
+    λ has. (t.exactly r).0 (Contains-permutation ys xs r (IsPermutation-sym xs ys p) has),
+    λ h. Contains-permutation xs ys r p ((t.exactly r).1 h),
+  );
   few = omega (arith, t.few, length_permutation xs ys p);
 }

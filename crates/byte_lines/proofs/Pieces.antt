@@ -49,7 +49,7 @@ unread-copied bytes shown rest buffer position end count room same is copied =
     ap (take count) (sym (take-append-drop (end - position) left)) ∙ take-append-le count piece (drop (end - position) left) within in
     let split : left ≡ take count buffer ++ drop (position + count) shown =
     sym (take-append-drop count left) ∙ ap (λ l. l ++ drop count left) (begins ∙ sym front)
-        ∙ ap (λ l. take count buffer ++ l) (drop-drop count position shown) in
+    ∙ ap (λ l. take count buffer ++ l) (drop-drop count position shown) in
     subst (λ l. drop position l ≡ take count buffer ++ drop (position + count) l) same split
 
 -- after a fault of the source it has failed, and after a want of memory it is as sound as it was

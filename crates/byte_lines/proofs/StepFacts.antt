@@ -88,7 +88,7 @@ passed s bytes ahead a keeps p = Consumes-from_kept s (prepend_known bytes a) (p
 pub long_line : (s : Option (List ℕ)) (bytes ahead rest left : List ℕ) (a b : Option (List ℕ))
     → Keeps s (prepend_known bytes a) → SkipsText bytes ahead → left ≡ rest
     → ((text : List ℕ) × HasLine (prepend_known ahead a) (prepend_known rest b) text)
-        → (text : List ℕ) × HasLine s (prepend_known left b) text × (8388608 < length text)
+    → (text : List ℕ) × HasLine s (prepend_known left b) text × (8388608 < length text)
 long_line s bytes ahead rest left a b keeps p same (text, line) =
     let whole = HasLine-after s (prepend_known ahead a) (prepend_known rest b) p.text text p.plain (passed s bytes ahead a keeps p) line in
     (p.text ++ text, subst (λ l. HasLine s (prepend_known l b) (p.text ++ text)) (sym same) whole, omega (arith, length-append p.text text, p.long))

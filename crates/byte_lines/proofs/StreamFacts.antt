@@ -111,9 +111,11 @@ pub went_to_feed : (a b : Option (List ℕ)) (bs : List ℕ) (place : ℕ) → W
     → (text : List ℕ) × HasLine a (prepend_known (drop (place + 1) bs) b) text
 went_to_feed a b bs place went feed =
     let front = take place bs in
-    let rest = drop (place + 1) bs in
-    (went.text ++ front, HasLine-after a (prepend_known bs b) (prepend_known rest b) went.text front went.plain
-        went.parts (feed.plain, Consumes-feed bs front rest b feed.parts))
+    let rest = drop (place + 1) bs in (
+      went.text ++ front,
+      HasLine-after a (prepend_known bs b) (prepend_known rest b) went.text front went.plain
+          went.parts (feed.plain, Consumes-feed bs front rest b feed.parts),
+    )
 
 pub HasNoLine-end : (a b : Option (List ℕ)) (text : List ℕ) → HasNoFeed text → Consumes a b text → IsAtEnd b → HasNoLine a
 HasNoLine-end None b text plain passed end = tt

@@ -85,8 +85,8 @@ length-passing_flags flags (suc n) l =
       | inl a ↦
           let more = count_by_more_yes (λ flag. flag) flags n false (omega (arith, l)) a in
           length-passing_yes (λ k. is_raised flags k) n (is_raised flags n) a ∙ ap suc before
-              ∙ (let s : suc (count_by (λ flag. flag) (take n flags)) ≡ count_by (λ flag. flag) (take n flags) + 1 =
-              omega arith in s) ∙ sym more ∙ ap (λ k. count_by (λ flag. flag) (take k flags)) (sym e)
+          ∙ (let s : suc (count_by (λ flag. flag) (take n flags)) ≡ count_by (λ flag. flag) (take n flags) + 1 =
+          omega arith in s) ∙ sym more ∙ ap (λ k. count_by (λ flag. flag) (take k flags)) (sym e)
       | inr a ↦
           let more = count_by_more_no (λ flag. flag) flags n false (omega (arith, l)) a in
           length-passing_no (λ k. is_raised flags k) n (is_raised flags n) a ∙ before ∙ sym more ∙ ap (λ k. count_by (λ flag. flag) (take k flags)) (sym e)
@@ -99,8 +99,8 @@ count-passing flags n l = more n (n - length flags) (omega (arith, l))
     more n zero e =
         let at : n ≡ length flags = omega (arith, e) in
         ap (λ k. length (passing (λ i. is_raised flags i) k)) at
-            ∙ length-passing_flags flags (length flags) (omega arith)
-            ∙ ap (count_by (λ flag. flag)) (take_all (length flags) flags (omega arith))
+        ∙ length-passing_flags flags (length flags) (omega arith)
+        ∙ ap (count_by (λ flag. flag)) (take_all (length flags) flags (omega arith))
     more zero (suc d) e = absurd (omega (arith, e))
     more (suc n) (suc d) e =
         length-passing_no (λ k. is_raised flags k) n (is_raised flags n) (get_or_past flags n false (omega (arith, e))) ∙ more n d (omega (arith, e))
@@ -123,12 +123,22 @@ module _ (narrow wide : ℕ → Bool) (within : (k : ℕ) → narrow k ≡ true 
             elim (cases_Bool (wide n)) [
               | inl w ↦
                   let o : only_wide n ≡ true = ap (λ b. wide n && not b) a ∙ ap (λ b. b && true) w in
-                  omega (arith, before, length-passing_no narrow n (narrow n) a, length-passing_yes wide n (wide n) w,
-                      length-passing_yes only_wide n (only_wide n) o)
+                  omega (
+                    arith,
+                    before,
+                    length-passing_no narrow n (narrow n) a,
+                    length-passing_yes wide n (wide n) w,
+                    length-passing_yes only_wide n (only_wide n) o,
+                  )
               | inr w ↦
                   let o : only_wide n ≡ false = ap (λ b. b && not (narrow n)) w in
-                  omega (arith, before, length-passing_no narrow n (narrow n) a, length-passing_no wide n (wide n) w,
-                      length-passing_no only_wide n (only_wide n) o)
+                  omega (
+                    arith,
+                    before,
+                    length-passing_no narrow n (narrow n) a,
+                    length-passing_no wide n (wide n) w,
+                    length-passing_no only_wide n (only_wide n) o,
+                  )
             ]
       ]
 
@@ -164,7 +174,7 @@ module _ (none : Pair) (fewer more : Meaning) (some_pairs pairs : List Pair) (so
         λ h.
             let g = here.all (get_or pairs n none) h in
             let is = there.once n g.0 (get_or pairs n none) (there.listed n e) (there.listed g.0 (kept g.0 g.1)) at.1
-                (agree g.0 (get_or pairs n none) (kept g.0 g.1) g.1 g.2) in
+            (agree g.0 (get_or pairs n none) (kept g.0 g.1) g.1 g.2) in
             both_ways (is_raised some_flags n) f (ap (λ k. is_raised some_flags k) is ∙ g.1),
       )
 
@@ -185,7 +195,7 @@ module _ (none : Pair) (fewer more : Meaning) (some_pairs pairs : List Pair) (so
             let a = parts x cx in
             let b = parts y cy in
             there.once x y (get_or pairs x none) (there.listed x a.1) (there.listed y b.1) (raised-pair x a.1).1
-                ((raised-pair y b.1).1 ∙ ap (λ (p : Pair). Some p) (sym s)));
+            ((raised-pair y b.1).1 ∙ ap (λ (p : Pair). Some p) (sym s)));
         exactly = λ p. (
           λ c.
               let h = mapped (λ k. get_or pairs k none) list p c in
@@ -198,22 +208,27 @@ module _ (none : Pair) (fewer more : Meaning) (some_pairs pairs : List Pair) (so
               let off : is_raised some_flags g.0 ≡ false = false_from_ne_true (is_raised some_flags g.0) (λ t.
               let q = slice_get-get_or some_pairs g.0 none (omega (arith, some_within g.0 t, here.size)) in
               h.1 (subst (IsMember fewer)
-                  (same_Some (get_or some_pairs g.0 none) p
-                  (sym (agree g.0 (get_or some_pairs g.0 none) g.1 t q) ∙ g.2))
-                  (here.sound g.0 (get_or some_pairs g.0 none) t q)))
+              (same_Some (get_or some_pairs g.0 none) p
+              (sym (agree g.0 (get_or some_pairs g.0 none) g.1 t q) ∙ g.2))
+              (here.sound g.0 (get_or some_pairs g.0 none) t q)))
               in
               let c : Contains list g.0 =
-                  passing-from (only_wide narrow wide kept) (length flags) g.0 at.0
-                  (and_from (is_raised flags g.0) (not (is_raised some_flags g.0)) g.1
-                  (not_from_false (is_raised some_flags g.0) off)) in
+              passing-from (only_wide narrow wide kept) (length flags) g.0 at.0
+              (and_from (is_raised flags g.0) (not (is_raised some_flags g.0)) g.1
+              (not_from_false (is_raised some_flags g.0) off)) in
               subst (Contains (map (λ k. get_or pairs k none) list)) (get_or_from_slice_get pairs g.0 p none g.2)
-                  (contains_map (λ k. get_or pairs k none) list g.0 c),
+              (contains_map (λ k. get_or pairs k none) list g.0 c),
         );
         count = length-map list (λ k. get_or pairs k none)
             ∙ (let s : length list ≡ n =
-                omega (arith, length-only_wide narrow wide kept (length flags),
-                count-passing flags (length flags) (omega arith), count-passing some_flags (length flags) sizes, e) in
-                s);
+            omega (
+              arith,
+              length-only_wide narrow wide kept (length flags),
+              count-passing flags (length flags) (omega arith),
+              count-passing some_flags (length flags) sizes,
+              e,
+            ) in
+            s);
       }
     where
       some_within : (k : ℕ) → is_raised some_flags k ≡ true → k < length some_flags
@@ -232,5 +247,9 @@ count-lowered flags h = sym (count-passing flags (length flags) (omega arith)) �
 pub count-fewer : (fewer more : List Bool) → length fewer ≤ length more
     → ((k : ℕ) → is_raised fewer k ≡ true → is_raised more k ≡ true) → raised_count fewer ≤ raised_count more
 count-fewer fewer more l h =
-    omega (arith, length-only_wide (λ k. is_raised fewer k) (λ k. is_raised more k) h (length more),
-        count-passing fewer (length more) l, count-passing more (length more) (omega arith))
+    omega (
+      arith,
+      length-only_wide (λ k. is_raised fewer k) (λ k. is_raised more k) h (length more),
+      count-passing fewer (length more) l,
+      count-passing more (length more) (omega arith),
+    )

@@ -17,8 +17,8 @@ pub next_skips : (pairs : List Pair) (flags : List Bool) (before after : List �
     → is_raised flags n ≡ false → raised_documents pairs flags after ≡ raised_documents pairs flags before
 next_skips pairs flags before after n e lowered =
     sym (ap (raised_documents pairs flags) e
-        ∙ ap (λ b. cons_option (cond b (option_map (λ p. p.document) (slice_get pairs n)) None)
-        (raised_documents pairs flags after)) lowered)
+    ∙ ap (λ b. cons_option (cond b (option_map (λ p. p.document) (slice_get pairs n)) None)
+    (raised_documents pairs flags after)) lowered)
 
 abbrev pub is_counted : ℕ → Bool
 is_counted count = not (count == 0)

@@ -153,8 +153,8 @@ module _ {X : Type 0} {R : X → X → Ordering} (o : IsTotalOrder R) where
   with_item_at x (h ∷ t) (suc n) within before after =
       let first : R x h ≡ Greater = turned_less h x (before 0 h (omega arith) (omega arith)) in
       let rest : with_item R x t ≡ insert t n x =
-          with_item_at x t n (omega arith) (λ k d low high. before (suc k) d (omega arith) (omega arith))
-          (λ k d low high. after (suc k) d (omega arith) (omega arith)) in
+      with_item_at x t n (omega arith) (λ k d low high. before (suc k) d (omega arith) (omega arith))
+      (λ k d low high. after (suc k) d (omega arith) (omega arith)) in
       gap_step x h t (with_item R x t) Greater first ∙ ap (λ ys. h ∷ ys) rest
 
   -- ---- a rising list is sorted

@@ -11,8 +11,12 @@ use trust_closure::IndexedClosure;
 pub(crate) fn tell_world(asked: Asked<'_>, answer: &mut String) -> Result<(), Stop> {
     let config = asked.config()?;
     let events = events_of(asked)?;
-    let replicas: Vec<IndexedClosure> =
-        run_world(asked.alloc, &config, asked.number(1)?, events.as_slice())?;
+    let replicas: Vec<IndexedClosure> = run_world(
+        asked.alloc,
+        &config,
+        asked.number(1)?,
+        events.as_slice(),
+    )?;
     tell_replicas(asked, &replicas, answer)
 }
 

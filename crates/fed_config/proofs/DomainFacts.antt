@@ -29,8 +29,8 @@ place_found c ds domain (Err i) are within position =
 
 pub relationship_not_found : (rs : List Relationship) (domain : List ℕ) (i : ℕ) → IsStrictlySortedBy relationship_cmp rs
     → (IsNonDecreasingBy (λ r. ordering_index (slice_cmp nat_cmp r.domain domain)) rs
-        → IsPartitionPoint (λ r. slice_cmp nat_cmp r.domain domain ≡ Less)
-        (λ r. slice_cmp nat_cmp r.domain domain ≡ Greater) rs i)
+    → IsPartitionPoint (λ r. slice_cmp nat_cmp r.domain domain ≡ Less)
+    (λ r. slice_cmp nat_cmp r.domain domain ≡ Greater) rs i)
     → (r : Relationship) → Contains rs r → r.domain ≡ domain → ⊥
 relationship_not_found rs domain i rising splits =
     not_found nat_list_cmp_total (λ r. r.domain) rs domain i (sorted (on_total (λ (r : Relationship). r.domain) nat_list_cmp_total) rs rising) splits

@@ -24,7 +24,7 @@ pub gathered_next : (rs : List Relationship) (seeds : List Seed) (i : ℕ) (r : 
 gathered_next rs seeds i r out below at =
     ap (λ l. out ++ gathered l seeds) (from_drop rs i r below at)
     ∙ sym (append_assoc (out ++ r.domain ∷ []) (r.endpoint.domain ∷ []) (gathered (drop (i + 1) rs) seeds)
-        ∙ append_assoc out (r.domain ∷ []) (r.endpoint.domain ∷ gathered (drop (i + 1) rs) seeds))
+    ∙ append_assoc out (r.domain ∷ []) (r.endpoint.domain ∷ gathered (drop (i + 1) rs) seeds))
 
 pub mapped_next : {X Y : Type 0} (f : X → Y) (xs : List X) (i : ℕ) (x : X) (out : List Y) → i < length xs
     → x ≡ get_or xs i x → out ++ map f (drop i xs) ≡ (out ++ f x ∷ []) ++ map f (drop (i + 1) xs)

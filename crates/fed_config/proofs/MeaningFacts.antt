@@ -60,11 +60,11 @@ one_written tree w v p q =
     let trees = one_array tree (codes "relationships") p.relationships q.relationships p.has_relationships q.has_relationships in
     let others = one_array tree (codes "seeds") p.seeds q.seeds p.has_seeds q.has_seeds in
     let a : w.relationships ≡ v.relationships =
-        zip_one SaysRelationshipText one_relationship_text q.relationships w.relationships v.relationships
-        (subst (λ l. AllZip SaysRelationshipText l w.relationships) trees p.each_relationship) q.each_relationship in
+    zip_one SaysRelationshipText one_relationship_text q.relationships w.relationships v.relationships
+    (subst (λ l. AllZip SaysRelationshipText l w.relationships) trees p.each_relationship) q.each_relationship in
     let b : w.seeds ≡ v.seeds =
-        zip_one SaysSeedText one_seed_text q.seeds w.seeds v.seeds
-        (subst (λ l. AllZip SaysSeedText l w.seeds) others p.each_seed) q.each_seed in
+    zip_one SaysSeedText one_seed_text q.seeds w.seeds v.seeds
+    (subst (λ l. AllZip SaysSeedText l w.seeds) others p.each_seed) q.each_seed in
     let same : written_of w.relationships w.seeds ≡ written_of v.relationships v.seeds = cc in same
 
 pub same_written : (bytes : List ℕ) (w v : Written) → IsText bytes w → IsText bytes v → w ≡ v
@@ -119,8 +119,8 @@ module _ (one_id : (one other : Id) → IsId one → IsId other → one.text ≡
       let rs = zip_one SaysRelationship one_relationship w.relationships p.relationships q.relationships p.each_relationship q.each_relationship in
       let ss = zip_one SaysSeed one_seed w.seeds p.seeds q.seeds p.each_seed q.each_seed in
       let a : b.relationships ≡ c.relationships =
-          same_set relationships_total p.relationships q.relationships b.relationships c.relationships rs
-          p.relationship_set q.relationship_set in
+      same_set relationships_total p.relationships q.relationships b.relationships c.relationships rs
+      p.relationship_set q.relationship_set in
       let d : b.seeds ≡ c.seeds = same_set seed_cmp_total p.seeds q.seeds b.seeds c.seeds ss p.seed_set q.seed_set in
       let same : configuration_of b.relationships b.seeds ≡ configuration_of c.relationships c.seeds = cc in same
 

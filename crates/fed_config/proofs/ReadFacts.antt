@@ -155,7 +155,7 @@ pub single_in : (ts : List RelationshipText) (seeds : List SeedText) (rs ys : Li
     → HasSingle (record { relationships = ts; seeds = seeds })
 single_in ts seeds rs ys zip moved rising d =
     let counts : count_by (λ t. bytes_eq t.domain d) ts ≡ count_by (λ r. bytes_eq r.domain d) ys =
-        count_written ts rs d zip ∙ sym (sum_by-IsPermutation (one_if d) rs ys moved) in
+    count_written ts rs d zip ∙ sym (sum_by-IsPermutation (one_if d) rs ys moved) in
     let few = strict_single ys rising d in subst (λ n. n ≤ 1) (sym counts) few
 
 -- sorted relationships with one a domain rise strictly
@@ -178,8 +178,8 @@ tail_sorted x rs sorted k d low below = let more : suc k + 1 ≡ suc (k + 1) = o
 next_below : (x y : Relationship) (rs : List Relationship) → IsSorted relationship_cmp (x ∷ y ∷ rs) → Single (x ∷ y ∷ rs) → relationship_cmp x y ≡ Less
 next_below x y rs sorted single =
     let differ : bytes_eq x.domain y.domain ≡ false =
-        elim (cases_Bool (bytes_eq x.domain y.domain))
-        [ inl same ↦ absurd (twice x y rs same single) | inr other ↦ other ] in
+    elim (cases_Bool (bytes_eq x.domain y.domain))
+    [ inl same ↦ absurd (twice x y rs same single) | inr other ↦ other ] in
     below_by x y (relationship_cmp x y) refl (sorted 0 x (omega arith) (omega arith)) differ
 
 sorted_strict : (rs : List Relationship) → IsSorted relationship_cmp rs → Single rs → IsStrictlySortedBy relationship_cmp rs

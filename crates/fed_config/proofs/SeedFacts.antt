@@ -34,16 +34,16 @@ one_seed one s t p q tied =
     let both = both_equal (domain_cmp s.domain t.domain) (slice_cmp nat_cmp (canonical_text s.document) (canonical_text t.document)) tied in
     let domains : s.domain ≡ t.domain = exact_bytes s.domain t.domain both.0 in
     let documents : s.document ≡ t.document =
-        one s.document t.document p.bundle q.bundle
-        (exact_bytes (canonical_text s.document) (canonical_text t.document) both.1) in
+    one s.document t.document p.bundle q.bundle
+    (exact_bytes (canonical_text s.document) (canonical_text t.document) both.1) in
     let same : seed s.domain s.document ≡ seed t.domain t.document = cc in same
 
 pub IsSetOf-dedup : OneText → (xs ys : List Seed) → AllByRecursion IsSeed xs → IsPermutation xs ys
     → IsSorted seed_cmp ys → IsSetOf seed_cmp xs (dedup same_seed ys)
 IsSetOf-dedup one xs ys each moved sorted =
     let is_seed : (x : Seed) → Contains ys x → IsSeed x =
-        λ x h. each_has IsSeed xs x each
-        (Has-Contains xs x (Contains-permutation ys xs x (IsPermutation-sym xs ys moved) h)) in
+    λ x h. each_has IsSeed xs x each
+    (Has-Contains xs x (Contains-permutation ys xs x (IsPermutation-sym xs ys moved) h)) in
     record {
       rising = IsStrictlySortedBy-dedup seed_cmp_total seeds_tie ys sorted;
       members = λ x. (
@@ -53,9 +53,9 @@ IsSetOf-dedup one xs ys each moved sorted =
             let found = Any-dedup same_seed_equiv ys x here in
             let kept : Contains (dedup same_seed ys) found.1 = (found.0, found.2, found.3) in
             let same : x ≡ found.1 =
-                one_seed one x found.1 (is_seed x here)
-                (is_seed found.1 (Contains-from_dedup same_seed ys found.1 kept))
-                ((Equal-is (seed_cmp x found.1)).0 found.4) in
+            one_seed one x found.1 (is_seed x here)
+            (is_seed found.1 (Contains-from_dedup same_seed ys found.1 kept))
+            ((Equal-is (seed_cmp x found.1)).0 found.4) in
             subst (Contains (dedup same_seed ys)) (sym same) kept,
       );
     }

@@ -114,8 +114,8 @@ module _ {X K : Type 0} {R : K → K → Ordering} (o : IsTotalOrder R) (key : X
   not_found xs x i rising splits y has same =
       let split = splits (searchable_from_sorted o key xs x rising) in
       let tied : R (key (get_or xs has.0 y)) x ≡ Equal =
-          subst (λ z. R (key z) x ≡ Equal) (sym has.2) (subst (λ k. R (key y) k ≡ Equal) same (tied_itself o (key y)))
-          in
+      subst (λ z. R (key z) x ≡ Equal) (sym has.2) (subst (λ k. R (key y) k ≡ Equal) same (tied_itself o (key y)))
+      in
       ⊎_elim
       (λ (before : has.0 < i). let less = split.0 has.0 y (omega arith) before in cc)
       (λ (behind : i ≤ has.0). let greater = split.1 has.0 y behind has.1 in cc)

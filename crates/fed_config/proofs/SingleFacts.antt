@@ -58,14 +58,14 @@ more_at rs n a b sorted below first second differ rises k d within =
     let step : suc n ≡ n + 1 = omega arith in
     let up : is_lt (relationship_cmp (get_or rs (n + 1) d) (get_or rs n d)) ≡ false = sorted n d (omega arith) (omega arith) in
     let up_there : is_lt (relationship_cmp b a) ≡ false =
-        subst (λ (x : Relationship). is_lt (relationship_cmp x a) ≡ false)
-        (ap (λ m. get_or rs m d) (sym step) ∙ at_next)
-        (subst (λ (x : Relationship). is_lt (relationship_cmp (get_or rs (n + 1) d) x) ≡ false) at_n up) in
+    subst (λ (x : Relationship). is_lt (relationship_cmp x a) ≡ false)
+    (ap (λ m. get_or rs m d) (sym step) ∙ at_next)
+    (subst (λ (x : Relationship). is_lt (relationship_cmp (get_or rs (n + 1) d) x) ≡ false) at_n up) in
     let less : relationship_cmp a b ≡ Less = below_by a b (relationship_cmp a b) refl up_there differ in
     let left : get_or rs k d ≡ a = ap (λ m. get_or rs m d) here ∙ at_n in
     let right : get_or rs (suc k) d ≡ b = ap (λ m. get_or rs (suc m) d) here ∙ at_next in
     subst (λ (x : Relationship). relationship_cmp x (get_or rs (suc k) d) ≡ Less) (sym left)
-        (subst (λ (x : Relationship). relationship_cmp a x ≡ Less) (sym right) less))
+    (subst (λ (x : Relationship). relationship_cmp a x ≡ Less) (sym right) less))
     (cases_lt (suc k) (suc n))
 
 pub single_more : (rs : List Relationship) (place : ℕ) (a b : Relationship) → IsSorted relationship_cmp rs → 1 ≤ place
@@ -85,9 +85,9 @@ not_single rs (suc n) a b rising some below first second same =
     let left : get_or rs n a ≡ a = sym (subst (λ m. a ≡ get_or rs m a) before first) in
     let right : get_or rs (suc n) a ≡ b = same_at rs (suc n) a b below ∙ sym second in
     let less : relationship_cmp a b ≡ Less =
-        subst (λ (x : Relationship). relationship_cmp a x ≡ Less) right
-        (subst (λ (x : Relationship). relationship_cmp x (get_or rs (suc n) a) ≡ Less) left
-        (less_at rs n a rising below)) in
+    subst (λ (x : Relationship). relationship_cmp a x ≡ Less) right
+    (subst (λ (x : Relationship). relationship_cmp x (get_or rs (suc n) a) ≡ Less) left
+    (less_at rs n a rising below)) in
     let domains : a.domain ≡ b.domain = (bytes_eq-Decides a.domain b.domain).0 same in
     let tied : relationship_cmp a b ≡ Equal = subst (λ d. slice_cmp nat_cmp a.domain d ≡ Equal) domains (tied_itself nat_list_cmp_total a.domain) in cc
 

@@ -12,8 +12,8 @@ use Rattle.fed_config.specs.declared.seed.Seed.{Seed}
 
 pub relationship_text : (r : Relationship) → compact_text (relationship_tree r)
     ≡ codes "{\"domain\":" ++
-        (quoted r.domain ++ (codes ",\"endpoint\":" ++
-        (quoted r.endpoint.text ++ (codes ",\"profile\":\"https_spiffe\",\"url\":" ++ (quoted r.url ++ codes "}")))))
+    (quoted r.domain ++ (codes ",\"endpoint\":" ++
+    (quoted r.endpoint.text ++ (codes ",\"profile\":\"https_spiffe\",\"url\":" ++ (quoted r.url ++ codes "}")))))
 unfolding escape_byte
 relationship_text r = refl
 
@@ -24,8 +24,8 @@ seed_text s = refl
 
 pub config_parts : (c : Configuration) → config_text c
     ≡ codes "{\"relationships\":[" ++
-        (items_text false (items_of (map relationship_tree c.relationships)) ++
-        (codes ",\"seeds\":[" ++ (items_text false (items_of (map seed_tree c.seeds)) ++ codes "}")))
+    (items_text false (items_of (map relationship_tree c.relationships)) ++
+    (codes ",\"seeds\":[" ++ (items_text false (items_of (map seed_tree c.seeds)) ++ codes "}")))
 unfolding config_text escape_byte
 config_parts c = refl
 
@@ -38,8 +38,8 @@ seven out a b c d e f g = simp append_assoc
 module _ {X : Type 0} (tree : X → Data) where
   pub items_next : (xs : List X) (i : ℕ) (x : X) (out : List ℕ) (later : Bool) → i < length xs → x ≡ get_or xs i x
       → out ++ items_text later (items_of (map tree (drop i xs)))
-          ≡ ((out ++ comma_if later) ++ compact_text (tree x)) ++ items_text true
-          (items_of (map tree (drop (i + 1) xs)))
+      ≡ ((out ++ comma_if later) ++ compact_text (tree x)) ++ items_text true
+      (items_of (map tree (drop (i + 1) xs)))
   items_next xs i x out later below at =
       let rest = items_text true (items_of (map tree (drop (i + 1) xs))) in
       ap (λ l. out ++ items_text later (items_of (map tree l))) (drop_more xs i x below ∙ ap (λ y. y ∷ drop (i + 1) xs) (sym at))

@@ -34,26 +34,30 @@ pub relationships_of : (tree : Data) (values : List Value) → HasArray tree (co
     → SomeWritten tree → (ts : List RelationshipText)
     × AllZip (λ value t. SaysRelationshipText (view value) t) values ts
 relationships_of tree values has h =
-    let w = h.0 in let says : SaysWritten tree w = h.1 in
-    (w.relationships, zip_unmap SaysRelationshipText view values w.relationships
-        (subst (λ l. AllZip SaysRelationshipText l w.relationships)
-        (one_array tree (codes "relationships") says.relationships (map view values) says.has_relationships has)
-        says.each_relationship))
+    let w = h.0 in let says : SaysWritten tree w = h.1 in (
+      w.relationships,
+      zip_unmap SaysRelationshipText view values w.relationships
+          (subst (λ l. AllZip SaysRelationshipText l w.relationships)
+          (one_array tree (codes "relationships") says.relationships (map view values) says.has_relationships has)
+          says.each_relationship),
+    )
 
 pub seeds_of : (tree : Data) (values : List Value) → HasArray tree (codes "seeds") (map view values) → SomeWritten tree
     → (ts : List SeedText) × AllZip (λ value t. SaysSeedText (view value) t) values ts
 seeds_of tree values has h =
-    let w = h.0 in let says : SaysWritten tree w = h.1 in
-    (w.seeds, zip_unmap SaysSeedText view values w.seeds
-        (subst (λ l. AllZip SaysSeedText l w.seeds)
-        (one_array tree (codes "seeds") says.seeds (map view values) says.has_seeds has) says.each_seed))
+    let w = h.0 in let says : SaysWritten tree w = h.1 in (
+      w.seeds,
+      zip_unmap SaysSeedText view values w.seeds
+          (subst (λ l. AllZip SaysSeedText l w.seeds)
+          (one_array tree (codes "seeds") says.seeds (map view values) says.has_seeds has) says.each_seed),
+    )
 
 pub says : (tree : Data) (values others : List Value) (ts : List RelationshipText) (es : List SeedEntry)
     → HasCount tree 2 → HasArray tree (codes "relationships") (map view values)
     → HasArray tree (codes "seeds") (map view others)
     → AllZip (λ value t. SaysRelationshipText (view value) t) values ts
-        → AllZip (λ value e. SaysSeedText (view value) (seed_text e)) others es
-        → SaysWritten tree (record { relationships = ts; seeds = map seed_text es })
+    → AllZip (λ value e. SaysSeedText (view value) (seed_text e)) others es
+    → SaysWritten tree (record { relationships = ts; seeds = map seed_text es })
 says tree values others ts es count has has_seeds zip zip_seeds = record {
   count = count;
   relationships = map view values;

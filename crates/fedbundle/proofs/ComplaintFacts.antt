@@ -43,9 +43,10 @@ rising_push : {A : Type 0} (cmp : A → A → Ordering) (xs : List A) (y : A) �
     → ((x : A) → Has xs x → cmp x y ≡ Less) → IsStrictlySortedBy cmp (xs ++ y ∷ [])
 unfolding IsStrictlySortedBy
 rising_push cmp [] y rising below = (tt, tt)
-rising_push cmp (x ∷ xs) y rising below =
-    (all_push (λ z. cmp x z ≡ Less) xs y rising.0 (below x (inl refl)),
-    rising_push cmp xs y rising.1 (λ z h. below z (inr h)))
+rising_push cmp (x ∷ xs) y rising below = (
+  all_push (λ z. cmp x z ≡ Less) xs y rising.0 (below x (inl refl)),
+  rising_push cmp xs y rising.1 (λ z h. below z (inr h)),
+)
 
 -- ---- complaints of whole lines
 
@@ -57,8 +58,14 @@ none_of_rest : (texts : List (List ℕ)) (x : Complaint) → IsOfRest (only text
 none_of_rest texts x is = let more = is.more in omega arith
 
 of_line_before : (c : Configuration) (texts more : List (List ℕ)) (x : Complaint) → IsOfLine c texts x → IsOfLine c (texts ++ more) x
-of_line_before c texts more x is = record { place = is.place; number = is.number; text = is.text; stands =
-    get_front texts more is.place is.text is.stands; refused = is.refused }
+of_line_before c texts more x is = record {
+  place = is.place;
+  number = is.number;
+  text = is.text;
+  stands =
+      get_front texts more is.place is.text is.stands;
+  refused = is.refused;
+}
 
 of_line_low : (c : Configuration) (texts : List (List ℕ)) (x : Complaint) → IsOfLine c texts x → x.number ≤ length texts
 of_line_low c texts x is = let low = slice_get_within texts is.place is.text is.stands in let at = is.number in omega arith
@@ -94,8 +101,14 @@ last_cases c texts text x is =
     let low = slice_get_within (texts ++ text ∷ []) is.place is.text is.stands in
     let size = length_push texts text in
     elim (below_or_last is.place (length texts) (omega arith)) [
-      | inl before ↦ inl (record { place = is.place; number = is.number; text = is.text; stands =
-          get_back texts (text ∷ []) is.place is.text before is.stands; refused = is.refused })
+      | inl before ↦ inl (record {
+        place = is.place;
+        number = is.number;
+        text = is.text;
+        stands =
+            get_back texts (text ∷ []) is.place is.text before is.stands;
+        refused = is.refused;
+      })
       | inr e ↦
           let here : Some is.text ≡ Some text = sym is.stands ∙ ap (slice_get (texts ++ text ∷ [])) e ∙ get_last texts text in
           let same : is.text ≡ text = cc in

@@ -94,12 +94,12 @@ first_telling c lines xs ys p q =
     is_beginning complaint_cmp complaint_total xs ys p.rising q.rising
     (λ x has. Has-from_contains ys x (q.complete x (p.sound x (Contains-from_has xs x has))))
     (λ x y has others below. Has-from_contains xs y
-        (p.before x y (Contains-from_has xs x has) (q.sound y (Contains-from_has ys y others))
-        (below_number y x below)))
+    (p.before x y (Contains-from_has xs x has) (q.sound y (Contains-from_has ys y others))
+    (below_number y x below)))
 
 pub too_many_for_all : (c : Configuration) (texts : List (List ℕ)) (rs : List Receipt) → OverfillStore c texts → AreTaken c texts rs → 65536 < length rs
 too_many_for_all c texts rs many taken =
     let fewer = no_longer receipt_cmp receipt_total many.some rs many.rising taken.rising
-        (λ r has. Has-from_contains rs r (taken.complete r (many.each r (Contains-from_has many.some r has)))) in
+    (λ r has. Has-from_contains rs r (taken.complete r (many.each r (Contains-from_has many.some r has)))) in
     let low = many.many in
     omega (arith, fewer)

@@ -71,7 +71,7 @@ concat_more (x ∷ ls) l = append_assoc x (concat ls) l ∙ ap (λ t. x ++ t) (c
 pub lines_more : (m : Meaning) (log : List Standing) (now : ℤ) (rs : List Relationship) (k : ℕ) (r : Relationship)
     (old new : List ℕ) → k < length rs → r ≡ get_or rs k r
     → ArePollLines m log now (map (λ r. r.domain) (take k rs)) old → AddsPollLine m log now r.domain old new
-        → ArePollLines m log now (map (λ r. r.domain) (take (k + 1) rs)) new
+    → ArePollLines m log now (map (λ r. r.domain) (take (k + 1) rs)) new
 lines_more m log now rs k r old new low is has adds =
     let domains : map (λ (r : Relationship). r.domain) (take (k + 1) rs) ≡ map (λ (r : Relationship). r.domain) (take k rs) ++ r.domain ∷ [] =
     ap (map (λ (r : Relationship). r.domain)) (taken_more rs k r low is) ∙ map-append (λ (r : Relationship). r.domain) (take k rs) (r ∷ []) in

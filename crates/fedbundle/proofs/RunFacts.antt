@@ -68,10 +68,12 @@ begun_more a b d xs x before (count, here) =
     let texts = flat_map complaint_text xs in
     let text = complaint_text x in
     let whole : flat_map complaint_text (xs ++ x ∷ []) ≡ texts ++ text =
-    flat_map-append complaint_text xs (x ∷ []) ∙ ap (λ t. texts ++ t) (append-nil text) in
-    (length texts + count, subst (Appends a d)
-        (sym (ap (take (length texts + count)) whole ∙ take-append-add texts text count))
-        (Appends-trans a b d texts (take count text) before here))
+    flat_map-append complaint_text xs (x ∷ []) ∙ ap (λ t. texts ++ t) (append-nil text) in (
+      length texts + count,
+      subst (Appends a d)
+          (sym (ap (take (length texts + count)) whole ∙ take-append-add texts text count))
+          (Appends-trans a b d texts (take count text) before here),
+    )
 
 begun_all : (a b : Option (List ℕ)) (text : List ℕ) → Appends a b text → AppendsBeginning a b text
 begun_all a b text all = (length text, subst (Appends a b) (sym (take-length text)) all)
@@ -109,7 +111,7 @@ taken_on : (c : Configuration) (read : List (List ℕ)) (text : List ℕ) (old n
     → old.meaning.config ≡ c → AreTaken c read old.meaning.held → length old.meaning.held ≤ 65536
     → TakesReceiptText old text new
     → (new.meaning.config ≡ old.meaning.config) × (new.meaning.records ≡ old.meaning.records)
-        × AreTaken c (read ++ text ∷ []) new.meaning.held × (length new.meaning.held ≤ 65536)
+    × AreTaken c (read ++ text ∷ []) new.meaning.held × (length new.meaning.held ≤ 65536)
     × ((why : LineFault) → IsRefusedLine c text why → ⊥)
 taken_on c read text old new valid config taken few takes = by_case takes.taken takes.took
   where
@@ -171,7 +173,7 @@ so_far_taken c stream left next old new told tells now number count text valid s
 pub so_far_told : (c : Configuration) (stream left next : Option (List ℕ)) (old new : Meaning)
     (told tells now : Option (List ℕ)) (number count : ℕ) (text : List ℕ) (why : LineFault)
     → IsConfiguration c → SoFar c stream left old told tells number count → HasLine left next text
-        → IsRefusedLine c text why → new ≡ old → Appends tells now (complaint_text (at_number (number + 1) why))
+    → IsRefusedLine c text why → new ≡ old → Appends tells now (complaint_text (at_number (number + 1) why))
     → SoFar c stream next new told now (number + 1) (count + 1)
 so_far_told c stream left next old new told tells now number count text why valid so has refused same here =
     let x = at_number (length so.read + 1) why in
@@ -207,7 +209,7 @@ rest_after xs ys read passed none =
 pub judged_rest : (c : Configuration) (stream left : Option (List ℕ)) (m : Meaning) (told tells now : Option (List ℕ))
     (number count : ℕ) → SoFar c stream left m told tells number count
     → HasNoLine left → HasMore left → Appends tells now (complaint_text (at_number (number + 1) Cut))
-        → IfSome stream (λ bytes. HasJudged c (lines_of bytes) m told now (count + 1))
+    → IfSome stream (λ bytes. HasJudged c (lines_of bytes) m told now (count + 1))
 judged_rest c None left m told tells now number count so none more here = tt
 judged_rest c (Some xs) None m told tells now number count so none more here = absurd so.passed
 judged_rest c (Some xs) (Some ys) m told tells now number count so none more here =
@@ -243,7 +245,7 @@ begun_so_far c (Some xs) (Some ys) m told tells now number count so kept = recor
 pub begun_line : (c : Configuration) (stream left next : Option (List ℕ)) (m : Meaning)
     (told tells now : Option (List ℕ)) (number count : ℕ) (text : List ℕ) (why : LineFault)
     → SoFar c stream left m told tells number count → HasLine left next text → IsRefusedLine c text why
-        → AppendsBeginning tells now (complaint_text (at_number (number + 1) why))
+    → AppendsBeginning tells now (complaint_text (at_number (number + 1) why))
     → IfSome stream (λ bytes. BeginsTelling c (lines_of bytes) told now)
 begun_line c None left next m told tells now number count text why so has refused here = tt
 begun_line c (Some xs) None next m told tells now number count text why so has refused here = absurd so.passed
@@ -251,26 +253,26 @@ begun_line c (Some xs) (Some ys) None m told tells now number count text why so 
 begun_line c (Some xs) (Some ys) (Some zs) m told tells now number count text why so has refused here =
     let x = at_number (length so.read + 1) why in
     let here_at : AppendsBeginning tells now (complaint_text x) =
-        subst (λ n. AppendsBeginning tells now (complaint_text (at_number (n + 1) why))) so.numbered here in
+    subst (λ n. AppendsBeginning tells now (complaint_text (at_number (n + 1) why))) so.numbered here in
     record {
       complaints = so.judged.complaints ++ x ∷ [];
       first = first_whole c (so.read ++ text ∷ []) (lines_of zs).whole (lines_of xs) (so.judged.complaints ++ x ∷ [])
           (whole_after xs zs (so.read ++ text ∷ [])
-              (passed_line (Some xs) (Some ys) (Some zs) so.read text so.passed has))
-              (complaints_more c so.read text why so.judged.complaints so.judged.all refused);
+          (passed_line (Some xs) (Some ys) (Some zs) so.read text so.passed has))
+          (complaints_more c so.read text why so.judged.complaints so.judged.all refused);
       begun = begun_more told tells now so.judged.complaints x so.judged.telling here_at;
     }
 
 pub begun_rest : (c : Configuration) (stream left : Option (List ℕ)) (m : Meaning) (told tells now : Option (List ℕ))
     (number count : ℕ) → SoFar c stream left m told tells number count
     → HasNoLine left → HasMore left → AppendsBeginning tells now (complaint_text (at_number (number + 1) Cut))
-        → IfSome stream (λ bytes. BeginsTelling c (lines_of bytes) told now)
+    → IfSome stream (λ bytes. BeginsTelling c (lines_of bytes) told now)
 begun_rest c None left m told tells now number count so none more here = tt
 begun_rest c (Some xs) None m told tells now number count so none more here = absurd so.passed
 begun_rest c (Some xs) (Some ys) m told tells now number count so none more here =
     let x = at_number (length so.read + 1) Cut in
     let here_at : AppendsBeginning tells now (complaint_text x) =
-        subst (λ n. AppendsBeginning tells now (complaint_text (at_number (n + 1) Cut))) so.numbered here in
+    subst (λ n. AppendsBeginning tells now (complaint_text (at_number (n + 1) Cut))) so.numbered here in
     subst (λ (l : Lines). BeginsTelling c l told now) (sym (rest_after xs ys so.read so.passed none)) (record {
       complaints = so.judged.complaints ++ x ∷ [];
       first = first_all c (record { whole = so.read; rest = ys }) (so.judged.complaints ++ x ∷ [])
@@ -280,7 +282,7 @@ begun_rest c (Some xs) (Some ys) m told tells now number count so none more here
 
 pub too_many : (c : Configuration) (stream left next : Option (List ℕ)) (old : HeldAndRoom) (told tells : Option (List ℕ)) (number count : ℕ) (text : List ℕ)
     → SoFar c stream left old.meaning told tells number count → HasLine left next text → IsTextTooMany old text
-        → IfSome stream (λ bytes. OverfillStore c (lines_of bytes).whole)
+    → IfSome stream (λ bytes. OverfillStore c (lines_of bytes).whole)
 too_many c None left next old told tells number count text so has full = tt
 too_many c (Some xs) None next old told tells number count text so has full = absurd so.passed
 too_many c (Some xs) (Some ys) None old told tells number count text so has full = absurd has.1
@@ -288,7 +290,7 @@ too_many c (Some xs) (Some ys) (Some zs) old told tells number count text so has
     let r = full.receipt in
     let fits : IsFitting c r = subst (λ (d : Configuration). IsFitting d r) so.judged.config full.full.fits in
     let taken : AreTaken c (so.read ++ text ∷ []) (with_receipt r old.meaning.held) =
-        taken_more c so.read text r old.meaning.held so.judged.taken full.is fits in
+    taken_more c so.read text r old.meaning.held so.judged.taken full.is fits in
     let whole = whole_after xs zs (so.read ++ text ∷ []) (passed_line (Some xs) (Some ys) (Some zs) so.read text so.passed has) in
     record {
       some = with_receipt r old.meaning.held;
@@ -307,13 +309,13 @@ refused_here c stream left old told tells number count text why so refused = sub
 pub so_far_text : (c : Configuration) (stream left next : Option (List ℕ)) (old new : HeldAndRoom)
     (told tells now : Option (List ℕ)) (number count : ℕ) (text : List ℕ) (failed : Bool) (n : ℕ)
     → IsConfiguration c → SoFar c stream left old.meaning told tells number count → HasLine left next text
-        → TriesText old text (number + 1) new tells now failed (Ok n)
+    → TriesText old text (number + 1) new tells now failed (Ok n)
     → SoFar c stream next new.meaning told now (number + 1) (count + n)
 so_far_text c stream left next old new told tells now number count text failed n valid so has tried = elim tried [
   | inl (takes, kept, none) ↦
       let same : count ≡ count + n = omega arith in
       subst (SoFar c stream next new.meaning told now (number + 1)) same
-          (so_far_taken c stream left next old new told tells now number count text valid so has takes kept)
+      (so_far_taken c stream left next old new told tells now number count text valid so has takes kept)
   | inr (tellings, one) ↦
       let same : count + 1 ≡ count + n = omega arith in
       subst (SoFar c stream next new.meaning told now (number + 1)) same
@@ -350,14 +352,14 @@ pub stops_text : (c : Configuration) (stream left next : Option (List ℕ)) (old
     → IfSome stream (λ bytes. StopsJudging c (lines_of bytes) told now e)
 stops_text c stream left next old new told tells now number count text failed Full so has (full, kept) =
     full_too c stream told now (too_many c stream left next old told tells number count text so has full)
-        (begun_so_far c stream left old.meaning told tells now number count so kept)
+    (begun_so_far c stream left old.meaning told tells now number count so kept)
 stops_text c None left next old new told tells now number count text failed NoMemory so has kept = tt
 stops_text c (Some xs) left next old new told tells now number count text failed NoMemory so has kept =
     begun_so_far c (Some xs) left old.meaning told tells now number count so kept
 stops_text c stream left next old new told tells now number count text failed Io so has (broken, begins) =
     stops_io c stream told now
     (begun_line c stream left next old.meaning told tells now number count text begins.why so has
-        (refused_here c stream left old told tells number count text begins.why so begins.refused) begins.begun)
+    (refused_here c stream left old told tells number count text begins.why so begins.refused) begins.begun)
 
 -- ---- the whole run
 
@@ -382,8 +384,12 @@ end_of (x ∷ kept) (Some xs) end = absurd (cc)
 pub begun_judged : (c : Configuration) (lines : Lines) (m : Meaning) (told tells : Option (List ℕ)) (n : ℕ)
     → HasJudged c lines m told tells n → BeginsTelling c lines told tells
 begun_judged c lines m told tells n judged =
-    record { complaints = judged.complaints; first = first_all c lines judged.complaints judged.all; begun =
-    begun_all told tells _ judged.telling }
+    record {
+      complaints = judged.complaints;
+      first = first_all c lines judged.complaints judged.all;
+      begun =
+          begun_all told tells _ judged.telling;
+    }
 
 meaning_is : (c : Configuration) (m : Meaning) → m.config ≡ c → m.records ≡ [] → m ≡ meaning_of_receipts c m.held
 meaning_is c m config records = λ i. record { config = config i; held = m.held; records = records i }

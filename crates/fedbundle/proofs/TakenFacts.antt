@@ -44,7 +44,7 @@ one_relationship : (c : Configuration) (a b : Relationship) → IsConfiguration 
     → Contains c.relationships b → a.domain ≡ b.domain → a ≡ b
 one_relationship c a b is p q same =
     elim (either_below relationship_cmp c.relationships a b is.rising_relationships
-        (Has-from_contains c.relationships a p) (Has-from_contains c.relationships b q)) [
+    (Has-from_contains c.relationships a p) (Has-from_contains c.relationships b q)) [
       | inl e ↦ e
       | inr apart ↦ elim apart [
         | inl below ↦ absurd (not_below_itself nat_list_cmp_total a.domain (subst (λ d. slice_cmp nat_cmp a.domain d ≡ Less) (sym same) below))
@@ -143,8 +143,12 @@ taken_more c texts text r receipts taken read fits =
       rising = sets.rises r receipts taken.rising;
       sound = λ s has. elim ((sets.members r s receipts read.is all).0 has) [
         | inl e ↦ subst (IsTaken c (texts ++ text ∷ [])) e
-            (record { is = read.is; fits = fits; stands =
-            subst (Contains (texts ++ text ∷ [])) read.text (Contains-push texts text) })
+            (record {
+              is = read.is;
+              fits = fits;
+              stands =
+                  subst (Contains (texts ++ text ∷ [])) read.text (Contains-push texts text);
+            })
         | inr before ↦ taken_before c texts (text ∷ []) s (taken.sound s before)
       ];
       complete = λ s is. (sets.members r s receipts read.is all).1 (elim (Contains-push_cases texts text (line s) is.stands) [

@@ -17,4 +17,4 @@ pub escape_itself : (text : List ℕ) → AllPass is_unescaped text → escape t
 escape_itself [] h = refl
 escape_itself (b ∷ text) h =
     ap₂ (λ (front rest : List ℕ). front ++ rest) (byte_itself b (All-head (λ x. is_unescaped x ≡ true) b text h))
-        (escape_itself text (All-tail (λ x. is_unescaped x ≡ true) b text h))
+    (escape_itself text (All-tail (λ x. is_unescaped x ≡ true) b text h))

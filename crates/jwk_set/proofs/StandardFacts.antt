@@ -73,7 +73,7 @@ base64_of_abc = refl
 abbrev rsa_element : Data
 rsa_element =
     element ((codes "kty", codes "RSA") ∷ (codes "alg", codes "RS256") ∷ (codes "n", codes "AQAB") ∷
-        (codes "use", codes "x509-svid") ∷ (codes "e", codes "AQAB") ∷ []) (chain (codes "YWJj"))
+    (codes "use", codes "x509-svid") ∷ (codes "e", codes "AQAB") ∷ []) (chain (codes "YWJj"))
 
 pub rsa_certificate : IsElement rsa_element (X509 (Rsa (codes "AQAB") (codes "AQAB")) (codes "abc"))
 unfolding base64_on_literals
@@ -83,13 +83,19 @@ rsa_certificate = (refl, (refl, refl, refl), refl, ((exponent, exponent), abc))
 abbrev ec_texts : List ℕ → List (List ℕ × List ℕ)
 ec_texts kty =
     (codes "kty", kty) ∷ (codes "crv", codes "P-256") ∷ (codes "x", codes "MKBCTNIcKUSDii11ySs3526iDZ8AiTo7Tu6KPAqv7D4")
-        ∷ (codes "y", codes "4Etl6SRW2YiLUrN5vfvVHuhp7x8PxltmWWlbbM4IFyM") ∷ (codes "use", codes "jwt-svid") ∷ []
+    ∷ (codes "y", codes "4Etl6SRW2YiLUrN5vfvVHuhp7x8PxltmWWlbbM4IFyM") ∷ (codes "use", codes "jwt-svid") ∷ []
 
 pub ec_key : IsElement (element ((codes "kid", codes "1") ∷ ec_texts (codes "EC")) no_members)
     (Jwt (codes "1") (Ec (codes "P-256") (codes "MKBCTNIcKUSDii11ySs3526iDZ8AiTo7Tu6KPAqv7D4") (codes "4Etl6SRW2YiLUrN5vfvVHuhp7x8PxltmWWlbbM4IFyM")))
-ec_key = (refl, (refl, refl, refl, refl), refl,
-    (record { some = λ e. cc; utf8 = IsUtf8-are_ascii (codes "1") refl },
-    (curve, url_text _ (λ e. cc) refl (λ e. cc), url_text _ (λ e. cc) refl (λ e. cc))))
+ec_key = (
+  refl,
+  (refl, refl, refl, refl),
+  refl,
+  (
+    record { some = λ e. cc; utf8 = IsUtf8-are_ascii (codes "1") refl },
+    (curve, url_text _ (λ e. cc) refl (λ e. cc), url_text _ (λ e. cc) refl (λ e. cc)),
+  ),
+)
 
 -- ---- elements that say nothing
 
@@ -112,8 +118,8 @@ no_key_id (Jwt kid key) h = let named = h.2 in cc
 
 pub two_certificates : (a : Authority)
     → IsElement (element ((codes "use", codes "x509-svid") ∷ [])
-        (member (codes "x5c") (array (item (string (codes "YWJj")) (item (string (codes "YWJj")) no_items)))
-        no_members)) a → ⊥
+    (member (codes "x5c") (array (item (string (codes "YWJj")) (item (string (codes "YWJj")) no_items)))
+    no_members)) a → ⊥
 two_certificates (X509 key der) h = let certificate = h.2 in cc
 two_certificates (Jwt kid key) h = let role = h.0 in cc
 

@@ -65,7 +65,7 @@ standing_of-same polls p =
 standing_of-other : (polls : List Poll) (p : Poll) (domain : List ℕ) → (p.domain ≡ domain → ⊥) → standing_of (polls ++ p ∷ []) domain ≡ standing_of polls domain
 standing_of-other polls p domain differ =
     let more : polls_of domain (polls ++ p ∷ []) ≡ polls_of domain polls =
-        polls_of-more domain polls p false (other_bytes p.domain domain differ) ∙ append-nil (polls_of domain polls) in
+    polls_of-more domain polls p false (other_bytes p.domain domain differ) ∙ append-nil (polls_of domain polls) in
     λ i. record { domain = domain; last = first_moment (reverse (more i)); failures = min 12 (suffix_len has_failed (more i)) }
 
 -- ---- a log
@@ -156,7 +156,7 @@ module _ {X : Type 0} (key : X → List ℕ) where
   sorted_by_key xs rising k d low below =
       let size : length (map key xs) ≡ length xs = length-map xs key in
       let less : domain_cmp (get_or (map key xs) k (key d)) (get_or (map key xs) (k + 1) (key d)) ≡ Less =
-          Less-from_sorted domain_cmp (map key xs) k (k + 1) (key d) rising (omega arith) (omega arith) in
+      Less-from_sorted domain_cmp (map key xs) k (k + 1) (key d) rising (omega arith) (omega arith) in
       falls_back (key (get_or xs k d)) (key (get_or xs (k + 1) d))
       (subst (λ y. domain_cmp (key (get_or xs k d)) y ≡ Less) (get_or-map key xs (k + 1) d (key d) (omega arith))
       (subst (λ x. domain_cmp x (get_or (map key xs) (k + 1) (key d)) ≡ Less) (get_or-map key xs k d (key d) (omega arith)) less))
@@ -172,14 +172,14 @@ module _ {X : Type 0} (key : X → List ℕ) where
   -- what a binary search does not find is no key
   not_found : (xs : List X) (x : List ℕ) (i : ℕ) → IsStrictlySortedBy domain_cmp (map key xs)
       → (IsNonDecreasingBy (λ y. ordering_index (domain_cmp (key y) x)) xs
-          → IsPartitionPoint (λ y. domain_cmp (key y) x ≡ Less) (λ y. domain_cmp (key y) x ≡ Greater) xs i)
+      → IsPartitionPoint (λ y. domain_cmp (key y) x ≡ Less) (λ y. domain_cmp (key y) x ≡ Greater) xs i)
       → Contains (map key xs) x → ⊥
   not_found xs x i rising splits inside =
       let split = splits (searchable_from_sorted nat_list_cmp_total key xs x (sorted_by_key xs rising)) in
       let (y, (has, same)) = from_map xs x inside in
       let tied : domain_cmp (key (get_or xs has.0 y)) x ≡ Equal =
-          subst (λ z. domain_cmp (key z) x ≡ Equal) (sym has.2)
-          (subst (λ k. domain_cmp (key y) k ≡ Equal) same (tied_itself nat_list_cmp_total (key y))) in
+      subst (λ z. domain_cmp (key z) x ≡ Equal) (sym has.2)
+      (subst (λ k. domain_cmp (key y) k ≡ Equal) same (tied_itself nat_list_cmp_total (key y))) in
       ⊎_elim
       (λ (before : has.0 < i). let less = split.0 has.0 y (omega arith) before in cc)
       (λ (behind : i ≤ has.0). let greater = split.1 has.0 y behind has.1 in cc)

@@ -22,9 +22,9 @@ one_outcome false false e = refl
 one_told : (domains : List (List ℕ)) (text : List ℕ) (s t : ToldPoll) → AreNames domains → Tells domains text s → Tells domains text t → s ≡ t
 one_told domains text s t names p q =
     let words = one_word s.domain t.domain _ _ (plain_name s.domain (names s.domain p.known))
-        (plain_name t.domain (names t.domain q.known)) (sym p.is ∙ q.is) in
+    (plain_name t.domain (names t.domain q.known)) (sym p.is ∙ q.is) in
     let parts = one_word (outcome_text s.ok) (outcome_text t.ok) (signed_decimal s.seconds) (signed_decimal t.seconds)
-        (plain_outcome s.ok) (plain_outcome t.ok) words.1 in
+    (plain_outcome s.ok) (plain_outcome t.ok) words.1 in
     let ok : s.ok ≡ t.ok = one_outcome s.ok t.ok parts.0 in
     let seconds : s.seconds ≡ t.seconds = one_text s.seconds t.seconds p.within q.within parts.1 in
     λ i. record { domain = words.0 i; ok = ok i; seconds = seconds i }
@@ -77,6 +77,6 @@ no_log c bytes (BadLine n) log form refused memory io is = elim refused [
 no_log c bytes (BadMoment n) log form refused memory io is =
     let said = found (polled c) bytes log n (TellsNoMoment (polled c)) refused is in
     let same : said.1.told ≡ refused.bad.told =
-        one_told (polled c) refused.text said.1.told refused.bad.told (names_in c form) said.1.tells refused.bad.tells
-        in
+    one_told (polled c) refused.text said.1.told refused.bad.told (names_in c form) said.1.tells refused.bad.tells
+    in
     refused.bad.past (subst HasMoment same said.1.moment)

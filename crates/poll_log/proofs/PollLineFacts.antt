@@ -74,7 +74,7 @@ module _ (domains : List (List ℕ)) (text word rest : List ℕ) (names : AreNam
   pub no_seconds : (ok : Bool) (seconds : List ℕ) → rest ≡ outcome_text ok ++ (32 ∷ seconds) → ReadsSeconds seconds None → TellsNothing domains text
   no_seconds ok seconds is none t tells =
       let both = one_word (outcome_text t.ok) (outcome_text ok) (signed_decimal t.seconds) seconds (plain_outcome t.ok)
-          (plain_outcome ok) ((told_words domains text word rest t names split tells).1 ∙ is) in
+      (plain_outcome ok) ((told_words domains text word rest t names split tells).1 ∙ is) in
       none t.seconds tells.within (sym both.1)
 
 contains_at : {X : Type 0} (xs : List X) (k : ℕ) (x : X) → slice_get xs k ≡ Some x → Contains xs x

@@ -116,9 +116,13 @@ too_long domains text names long t tells =
     let name = (names t.domain tells.known).limit in
     let seconds = length-seconds t.seconds tells.within in
     let outcome = length-outcome t.ok in
-    omega (arith, ap length tells.is, length-append t.domain
-        (32 ∷ (outcome_text t.ok ++ (32 ∷ signed_decimal t.seconds))),
-        length-append (outcome_text t.ok) (32 ∷ signed_decimal t.seconds))
+    omega (
+      arith,
+      ap length tells.is,
+      length-append t.domain
+          (32 ∷ (outcome_text t.ok ++ (32 ∷ signed_decimal t.seconds))),
+      length-append (outcome_text t.ok) (32 ∷ signed_decimal t.seconds),
+    )
 
 -- ---- the end
 
@@ -129,7 +133,7 @@ RefusesPolls-cut domains (Some xs) None log n read none more = absurd read.lines
 RefusesPolls-cut domains (Some xs) (Some ys) log n read none more =
     let rest : lines_of ys ≡ record { whole = []; rest = ys } = lines_of-rest ys none in
     let whole : (lines_of xs).whole ≡ read.lines.front =
-        read.lines.whole ∙ ap (λ (l : Lines). read.lines.front ++ l.whole) rest ∙ append-nil read.lines.front in
+    read.lines.whole ∙ ap (λ (l : Lines). read.lines.front ++ l.whole) rest ∙ append-nil read.lines.front in
     inr (record {
       polls = read.polls;
       say = subst (λ ls. AllZip (SaysPoll domains) ls read.polls) (sym whole) read.lines.say;
@@ -144,7 +148,7 @@ IsLogOf-end domains (Some xs) None log n read end = absurd read.lines
 IsLogOf-end domains (Some xs) (Some ys) log n read end =
     let rest : lines_of ys ≡ record { whole = []; rest = [] } = ap lines_of end in
     let whole : (lines_of xs).whole ≡ read.lines.front =
-        read.lines.whole ∙ ap (λ (l : Lines). read.lines.front ++ l.whole) rest ∙ append-nil read.lines.front in
+    read.lines.whole ∙ ap (λ (l : Lines). read.lines.front ++ l.whole) rest ∙ append-nil read.lines.front in
     record {
       polls = read.polls;
       say = subst (λ ls. AllZip (SaysPoll domains) ls read.polls) (sym whole) read.lines.say;

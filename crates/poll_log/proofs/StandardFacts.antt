@@ -33,14 +33,25 @@ thirteen_failures = refl
 
 -- ---- standings: the last poll of the domain counts, and the failures since its last success
 
-two_failures : standing_of (record { domain = codes "a"; moment = pos 9; ok = true } ∷ record { domain = codes "a";
-    moment = pos 7; ok = false } ∷ record { domain = codes "b"; moment = pos 8; ok = true } ∷ record { domain =
-    codes "a"; moment = pos 5; ok = false } ∷ []) (codes "a")
+two_failures : standing_of (record { domain = codes "a"; moment = pos 9; ok = true } ∷ record {
+  domain = codes "a";
+  moment = pos 7;
+  ok = false;
+} ∷ record { domain = codes "b"; moment = pos 8; ok = true } ∷ record {
+  domain =
+      codes "a";
+  moment = pos 5;
+  ok = false;
+} ∷ []) (codes "a")
     ≡ record { domain = codes "a"; last = Some (pos 5); failures = 2 }
 two_failures = refl
 
-then_ok : standing_of (record { domain = codes "a"; moment = pos 7; ok = false } ∷ record { domain = codes "a"; moment =
-    pos 9; ok = true } ∷ []) (codes "a") ≡ record { domain = codes "a"; last = Some (pos 9); failures = 0 }
+then_ok : standing_of (record { domain = codes "a"; moment = pos 7; ok = false } ∷ record {
+  domain = codes "a";
+  moment =
+      pos 9;
+  ok = true;
+} ∷ []) (codes "a") ≡ record { domain = codes "a"; last = Some (pos 9); failures = 0 }
 then_ok = refl
 
 never : standing_of [] (codes "a") ≡ record { domain = codes "a"; last = None; failures = 0 }

@@ -116,7 +116,7 @@ decimal_passes =
     decimal_by_steps (λ m ds. (n : ℕ) (rest : List ℕ) → outside n (ds ++ rest) ≡ outside n rest)
     (λ m h n rest. digit_passes m n rest h)
     (λ m ds h before n rest. ap (outside n) (append_assoc ds ((48 + m % 10) ∷ []) rest)
-        ∙ before n ((48 + m % 10) ∷ rest) ∙ digit_passes (m % 10) n rest (omega arith))
+    ∙ before n ((48 + m % 10) ∷ rest) ∙ digit_passes (m % 10) n rest (omega arith))
 
 comma_passes : (later : Bool) (n : ℕ) (rest : List ℕ) → outside n (comma_if later ++ rest) ≡ outside n rest
 comma_passes true n rest = refl
@@ -141,7 +141,7 @@ mutual
   items_close later no_items h (suc n) rest = refl
   items_close later (item d ds) h n rest =
       ap (outside n) (append_assoc (comma_if later) (compact_text d ++ items_text true ds) rest)
-          ∙ comma_passes later n ((compact_text d ++ items_text true ds) ++ rest)
+      ∙ comma_passes later n ((compact_text d ++ items_text true ds) ++ rest)
       ∙ ap (outside n) (append_assoc (compact_text d) (items_text true ds) rest) ∙ passes d h.0 n (items_text true ds ++ rest)
       ∙ items_close true ds h.1 n rest
 

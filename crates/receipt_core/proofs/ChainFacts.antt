@@ -39,8 +39,10 @@ fitting_told c rs r b e h =
 pub next_told : (records : List Distrust) (p : Pair) (r : Receipt) (b : Bool) → (Any (λ x. x ≡ distrust_of r.endpoint.domain r) records → ⊥)
     → (IsTrue b ↔ Any (λ t. t ≡ need_of r) (offers_of p)) → IsTrue b ↔ Vouches records p r
 next_told records p r b trusted h = (
-  λ t. (Vouches-by_offers records p r).1 (contains_from_any (offers_of p) (need_of r) (h.0 t),
-      λ k. trusted (any_from_contains records (distrust_of r.endpoint.domain r) k)),
+  λ t. (Vouches-by_offers records p r).1 (
+    contains_from_any (offers_of p) (need_of r) (h.0 t),
+    λ k. trusted (any_from_contains records (distrust_of r.endpoint.domain r) k),
+  ),
   λ v. h.1 (any_from_contains (offers_of p) (need_of r) ((Vouches-by_offers records p r).0 v).0),
 )
 

@@ -101,7 +101,7 @@ encode_lower-order [] (c ∷ b) p q = refl
 encode_lower-order (x ∷ a) [] p q = refl
 encode_lower-order (x ∷ a) (y ∷ b) p q =
     (λ i. ordering_then (same_order (x / 16) (y / 16) (omega (arith, p.0)) (omega (arith, q.0)) i)
-        (ordering_then (same_order (x % 16) (y % 16) (omega arith) (omega arith) i) (encode_lower-order a b p.1 q.1 i)))
+    (ordering_then (same_order (x % 16) (y % 16) (omega arith) (omega arith) i) (encode_lower-order a b p.1 q.1 i)))
     ∙ sym (then_assoc (nat_cmp (x / 16) (y / 16)) (nat_cmp (x % 16) (y % 16)) (slice_cmp nat_cmp a b))
     ∙ ap (λ o. ordering_then o (slice_cmp nat_cmp a b)) (byte_order x y p.0 q.0)
 

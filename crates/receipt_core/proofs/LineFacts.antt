@@ -48,9 +48,13 @@ all_segments (s ∷ segments) h =
     (all_segments segments h.1)
 
 all_scheme : All (λ b. 34 < b) scheme
-all_scheme = All-from_recursion (λ b. 34 < b) scheme (omega arith,
-    (omega arith,
-    (omega arith, (omega arith, (omega arith, (omega arith, (omega arith, (omega arith, (omega arith, tt)))))))))
+all_scheme = All-from_recursion (λ b. 34 < b) scheme (
+  omega arith,
+  (
+    omega arith,
+    (omega arith, (omega arith, (omega arith, (omega arith, (omega arith, (omega arith, (omega arith, tt))))))),
+  ),
+)
 
 by_recursion : (P : ℕ → Type 0) (xs : List ℕ) → All P xs → AllByRecursion P xs
 by_recursion P [] h = tt
@@ -70,10 +74,10 @@ Above-id id h =
 
 tree_text : (d : Data) (n e k v : List ℕ) → escape n ≡ n → escape e ≡ e → escape k ≡ k → escape v ≡ v
     → compact_text
-        (object (member (codes "doc") d
-        (member (codes "domain") (string n)
-        (member (codes "endpoint") (string e)
-        (member (codes "key") (string k) (member (codes "voucher") (string v) no_members))))))
+    (object (member (codes "doc") d
+    (member (codes "domain") (string n)
+    (member (codes "endpoint") (string e)
+    (member (codes "key") (string k) (member (codes "voucher") (string v) no_members))))))
     ≡ pieces (compact_text d) n e k v
 unfolding pieces escape_byte
 tree_text d n e k v p q r s = simp (p, q, r, s, append_assoc)
@@ -81,15 +85,15 @@ tree_text d n e k v p q r s = simp (p, q, r, s, append_assoc)
 -- the pieces, one after another
 pub pieces_grown : (d n e k v : List ℕ)
     → (((((((((([] ++ codes "{\"doc\":") ++ d) ++ codes
-        ",\"domain\":\"") ++ n) ++ codes "\",\"endpoint\":\"") ++ e) ++ codes "\",\"key\":\"") ++ k) ++ codes "\",\"voucher\":\"") ++ v) ++ codes "\"}"
-        ≡ pieces d n e k v
+    ",\"domain\":\"") ++ n) ++ codes "\",\"endpoint\":\"") ++ e) ++ codes "\",\"key\":\"") ++ k) ++ codes "\",\"voucher\":\"") ++ v) ++ codes "\"}"
+    ≡ pieces d n e k v
 unfolding pieces
 pieces_grown d n e k v = simp append_assoc
 
 pub pieces_pushed : (t0 t1 t2 t3 t4 t5 t6 t7 t8 t9 t10 t11 d n e k v : List ℕ) → t0 ≡ [] → t1 ≡ t0 ++ codes "{\"doc\":"
     → t2 ≡ t1 ++ d → t3 ≡ t2 ++ codes ",\"domain\":\"" → t4 ≡ t3 ++ n
     → t5 ≡ t4 ++ codes "\",\"endpoint\":\"" → t6 ≡ t5 ++ e → t7 ≡ t6 ++ codes "\",\"key\":\"" → t8 ≡ t7 ++ k
-        → t9 ≡ t8 ++ codes "\",\"voucher\":\"" → t10 ≡ t9 ++ v → t11 ≡ t10 ++ codes "\"}"
+    → t9 ≡ t8 ++ codes "\",\"voucher\":\"" → t10 ≡ t9 ++ v → t11 ≡ t10 ++ codes "\"}"
     → t11 ≡ pieces d n e k v
 pieces_pushed t0 t1 t2 t3 t4 t5 t6 t7 t8 t9 t10 t11 d n e k v e0 e1 e2 e3 e4 e5 e6 e7 e8 e9 e10 e11 =
     rw (e11, e10, e9, e8, e7, e6, e5, e4, e3, e2, e1, e0) (pieces_grown d n e k v)
@@ -107,7 +111,7 @@ unfolding pieces
 pieces_split t r1 r2 r3 r4 r5 d n e k v e1 e2 e3 e4 e5 e6 =
     rw (e1, e2, e3, e4, e5, e6)
     (regrouped (codes "{\"doc\":") d
-        (codes ",\"domain\":\"") n (codes "\",\"endpoint\":\"") e (codes "\",\"key\":\"") k (codes "\",\"voucher\":\"") v (codes "\"}"))
+    (codes ",\"domain\":\"") n (codes "\",\"endpoint\":\"") e (codes "\",\"key\":\"") k (codes "\",\"voucher\":\"") v (codes "\"}"))
 
 pub line_text : (r : Receipt) → IsReceipt r → line r ≡ written_receipt r
 unfolding line
@@ -159,8 +163,8 @@ pieces_order : (d n e k v d' n' e' k' v' : List ℕ) → Apart d d' → Above 34
     → Above 34 k → Above 34 k' → Above 34 v → Above 34 v'
     → slice_cmp nat_cmp (pieces d n e k v) (pieces d' n' e' k' v')
     ≡ ordering_then (slice_cmp nat_cmp d d')
-        (ordering_then (slice_cmp nat_cmp n n')
-        (ordering_then (slice_cmp nat_cmp e e') (ordering_then (slice_cmp nat_cmp k k') (slice_cmp nat_cmp v v'))))
+    (ordering_then (slice_cmp nat_cmp n n')
+    (ordering_then (slice_cmp nat_cmp e e') (ordering_then (slice_cmp nat_cmp k k') (slice_cmp nat_cmp v v'))))
 unfolding pieces
 pieces_order d n e k v d' n' e' k' v' apart pn pn' pe pe' pk pk' pv pv' =
     behind (codes "{\"doc\":") (d ++ behind_document n e k v) (d' ++ behind_document n' e' k' v')
@@ -194,13 +198,13 @@ receipt_order r s p q =
     (Above-encode_lower r.key.0 p.key.octets) (Above-encode_lower s.key.0 q.key.octets)
     (Above-encode_lower r.voucher.0 p.voucher.octets) (Above-encode_lower s.voucher.0 q.voucher.octets)
     ∙ regroup (slice_cmp nat_cmp (canonical_text r.document) (canonical_text s.document))
-        (slice_cmp nat_cmp r.domain s.domain) (slice_cmp nat_cmp r.endpoint.text s.endpoint.text)
-        (slice_cmp nat_cmp (encode_lower r.key.0) (encode_lower s.key.0))
-        (slice_cmp nat_cmp (encode_lower r.voucher.0) (encode_lower s.voucher.0))
+    (slice_cmp nat_cmp r.domain s.domain) (slice_cmp nat_cmp r.endpoint.text s.endpoint.text)
+    (slice_cmp nat_cmp (encode_lower r.key.0) (encode_lower s.key.0))
+    (slice_cmp nat_cmp (encode_lower r.voucher.0) (encode_lower s.voucher.0))
     ∙ (λ i. ordering_then (slice_cmp nat_cmp (canonical_text r.document) (canonical_text s.document))
     (ordering_then (ordering_then (slice_cmp nat_cmp r.domain s.domain) (slice_cmp nat_cmp r.endpoint.text s.endpoint.text))
     (ordering_then (encode_lower-order r.key.0 s.key.0 p.key.octets q.key.octets i)
-        (encode_lower-order r.voucher.0 s.voucher.0 p.voucher.octets q.voucher.octets i))))
+    (encode_lower-order r.voucher.0 s.voucher.0 p.voucher.octets q.voucher.octets i))))
 
 distrust_pieces_order : (k n k' n' : List ℕ) → Above 34 k → Above 34 k' → Above 34 n → Above 34 n'
     → slice_cmp nat_cmp (distrust_pieces k n) (distrust_pieces k' n') ≡ ordering_then (slice_cmp nat_cmp k k') (slice_cmp nat_cmp n n')

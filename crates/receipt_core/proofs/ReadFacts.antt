@@ -32,15 +32,15 @@ length-pieces d n e k v = simp length-append (omega arith)
 pub length-line : (r : Receipt) → IsReceipt r → length (line r) ≤ 1051063
 length-line r h =
     let whole = ap length (line_text r h) ∙ length-pieces (canonical_text r.document) r.domain r.endpoint.text
-        (encode_lower r.key.0) (encode_lower r.voucher.0) in
+    (encode_lower r.key.0) (encode_lower r.voucher.0) in
     let key = length-encode_lower r.key.0 h.key in
     let voucher = length-encode_lower r.voucher.0 h.voucher in
     let domain = h.domain.limit in
     let endpoint = h.endpoint.limit in
     let document : length (canonical_text r.document) ≤ 1048576 = h.fits in
     within (length (canonical_text r.document)) (length r.domain) (length r.endpoint.text)
-        (length (encode_lower r.key.0)) (length (encode_lower r.voucher.0)) (length (line r)) whole document domain
-        endpoint key voucher
+    (length (encode_lower r.key.0)) (length (encode_lower r.voucher.0)) (length (line r)) whole document domain
+    endpoint key voucher
   where
     within : (d n e k v w : ℕ) → w ≡ 56 + d + n + e + k + v → d ≤ 1048576 → n ≤ 255 → e ≤ 2048 → k ≡ 64 → v ≡ 64 → w ≤ 1051063
     within d n e k v w whole pd pn pe pk pv = omega arith
@@ -55,9 +55,9 @@ ascii = IsUtf8-are_ascii
 
 plain_tree : (d : Data) (n e k v : List ℕ) → IsPlain d → IsUtf8 n → IsUtf8 e → IsUtf8 k → IsUtf8 v
     → IsPlain (object (member (codes "doc") d
-        (member (codes "domain") (string n)
-        (member (codes "endpoint") (string e)
-        (member (codes "key") (string k) (member (codes "voucher") (string v) no_members))))))
+    (member (codes "domain") (string n)
+    (member (codes "endpoint") (string e)
+    (member (codes "key") (string k) (member (codes "voucher") (string v) no_members))))))
 plain_tree d n e k v pd pn pe pk pv = (
   ascii (codes "doc") refl,
   pd,
@@ -82,9 +82,9 @@ plain_tree d n e k v pd pn pe pk pv = (
 
 shallow_tree : (d : Data) (n e k v : List ℕ) → depth d ≤ 4
     → depth (object (member (codes "doc") d
-        (member (codes "domain") (string n)
-        (member (codes "endpoint") (string e)
-        (member (codes "key") (string k) (member (codes "voucher") (string v) no_members)))))) ≤ max_depth
+    (member (codes "domain") (string n)
+    (member (codes "endpoint") (string e)
+    (member (codes "key") (string k) (member (codes "voucher") (string v) no_members)))))) ≤ max_depth
 shallow_tree d n e k v h = omega arith
 
 pub IsJson-line : (r : Receipt) → IsReceipt r → IsJson (line r) (receipt_tree r)
@@ -127,7 +127,7 @@ one_said tree r s p q =
     let documents = one_document tree r.document s.document p.document q.document in
     let domains = one_text tree (codes "domain") r.domain s.domain p.domain q.domain in
     let endpoints = one_value r.endpoint s.endpoint p.is.endpoint q.is.endpoint
-        (one_text tree (codes "endpoint") r.endpoint.text s.endpoint.text p.endpoint q.endpoint) in
+    (one_text tree (codes "endpoint") r.endpoint.text s.endpoint.text p.endpoint q.endpoint) in
     let keys = one_digest tree (codes "key") r.key.0 s.key.0 p.key q.key p.is.key q.is.key in
     let vouchers = one_digest tree (codes "voucher") r.voucher.0 s.voucher.0 p.voucher q.voucher p.is.voucher q.is.voucher in
     λ i. record { domain = domains i; endpoint = endpoints i; document = documents i; voucher = record { 0 = vouchers i }; key = record { 0 = keys i } }

@@ -81,7 +81,7 @@ with_item-all Q cmp item (head ∷ rest) p h =
 
 placed_rises : {A : Type 0} (cmp : A → A → Ordering) → IsTotalOrder cmp → (o : Ordering) (item head : A) (rest longer : List A) → o ≡ cmp item head
     → AllByRecursion (λ y. cmp head y ≡ Less) rest → IsStrictlySortedBy cmp rest
-        → (cmp head item ≡ Less → AllByRecursion (λ y. cmp head y ≡ Less) longer) → IsStrictlySortedBy cmp longer
+    → (cmp head item ≡ Less → AllByRecursion (λ y. cmp head y ≡ Less) longer) → IsStrictlySortedBy cmp longer
     → IsStrictlySortedBy cmp (placed o item head rest longer)
 placed_rises cmp t Less item head rest longer e above rising above_longer longer_rises =
     rises cmp item (head ∷ rest) (sym e, below_all cmp t item head rest (sym e) above) (rises cmp head rest above rising)
@@ -159,7 +159,7 @@ pub with_item-present : {A : Type 0} (cmp : A → A → Ordering) → IsTotalOrd
 with_item-present cmp t item [] h k = absurd k
 with_item-present cmp t item (head ∷ rest) h k =
     placed_present cmp t (cmp item head) item head rest (with_item cmp item rest) refl (sorted_head cmp head rest h) k
-        (with_item-present cmp t item rest (sorted_tail cmp head rest h))
+    (with_item-present cmp t item rest (sorted_tail cmp head rest h))
 
 placed_length : {A : Type 0} (o : Ordering) (item head : A) (rest longer : List A) → (o ≡ Equal → ⊥)
     → length longer ≡ length rest + 1 → length (placed o item head rest longer) ≡ length (head ∷ rest) + 1

@@ -37,8 +37,11 @@ has_key_at (x ∷ xs) k (suc n) a lt e h = inr (has_key_at xs k n a (omega arith
 HasKeyId-from_recursion : (authorities : List Authority) (k : KeyId) → HasKey authorities k → HasKeyId authorities k
 HasKeyId-from_recursion [] k h = absurd h
 HasKeyId-from_recursion (x ∷ xs) k h =
-    elim h [ inl e ↦ (0, x, omega arith, refl, e) | inr later ↦ let rest = HasKeyId-from_recursion xs k later in
-        (suc rest.0, rest.1, omega arith, rest.3, rest.4) ]
+    elim h [
+      | inl e ↦ (0, x, omega arith, refl, e)
+      | inr later ↦ let rest = HasKeyId-from_recursion xs k later in
+          (suc rest.0, rest.1, omega arith, rest.3, rest.4)
+    ]
 
 abbrev more : List KeyId → Authority → List KeyId
 more keys authority = with_key_id (key_id_of authority) keys

@@ -60,7 +60,7 @@ first-back m xs ys number why front first =
 pub first-receipt : (m : Meaning) (xs : List Distrust) (rs : List Receipt) (records number : ℕ) (why : TakeError)
     → records ≡ length xs → AreWelcome m (of_records xs)
     → IsFirstRefused (record m { records = with_items distrust_cmp xs m.records }) (of_receipts rs) number why
-        → IsFirstRefused m (of_records xs ++ of_receipts rs) (records + number) why
+    → IsFirstRefused m (of_records xs ++ of_receipts rs) (records + number) why
 first-receipt m xs rs records number why size front first =
     let same : length (of_records xs) + number ≡ records + number = omega (arith, size, length-map xs Record) in
     subst (λ n. IsFirstRefused m (of_records xs ++ of_receipts rs) n why) same

@@ -106,20 +106,20 @@ held-end : (laws : Laws) (rules : Rules) (w : World) (since : List Event) → Se
     → IsKept (IsHeld w) (IsRecorded w) (length w.sent) ⊥ (run_from rules w since)
 held-end laws rules w since s =
     kept-run laws (IsHeld w) (IsRecorded w) (length w.sent) ⊥ rules since w (held-start w)
-        (λ event c. quiet-admits rules (IsHeld w) (IsRecorded w) (length w.sent) event (s.quiet event c))
+    (λ event c. quiet-admits rules (IsHeld w) (IsRecorded w) (length w.sent) event (s.quiet event c))
 
 -- ---- what one replica has from another
 
 -- all that is held at the answer and at the taking is well formed
 pub course-forms : (laws : Laws) (rules : Rules) (i j b : ℕ) (events : List Event) (w : World) (c : Course i j b events) → IsKept IsReceipt IsDistrust 0 ⊤ w
     → ((event : Event) → Contains events event → Admits rules IsReceipt IsDistrust 0 ⊤ event)
-        → IsKept IsReceipt IsDistrust 0 ⊤ (at_answer rules w c) × IsKept IsReceipt IsDistrust 0 ⊤ (at_taking rules w c)
+    → IsKept IsReceipt IsDistrust 0 ⊤ (at_answer rules w c) × IsKept IsReceipt IsDistrust 0 ⊤ (at_taking rules w c)
 course-forms laws rules i j b events w c h a =
     let answering : IsKept IsReceipt IsDistrust 0 ⊤ (at_answer rules w c) =
     kept-run laws IsReceipt IsDistrust 0 ⊤ rules c.asked (happens rules (at_question rules w c) (Ask i b))
     (kept-event laws IsReceipt IsDistrust 0 ⊤ rules (at_question rules w c) (Ask i b)
-        (kept-run laws IsReceipt IsDistrust 0 ⊤ rules c.before w h
-        (λ event d. a event (in-course i j b events c event (inl d)))) tt)
+    (kept-run laws IsReceipt IsDistrust 0 ⊤ rules c.before w h
+    (λ event d. a event (in-course i j b events c event (inl d)))) tt)
     (λ event d. a event (in-course i j b events c event (inr (inl d))))
     in (
       answering,
@@ -135,12 +135,12 @@ from-other laws rules w since i j b start s l m d n =
     let x = s.exchanges i j b l m d n in
     let c = x.course in
     let quiet : (event : Event)
-        → (Contains c.before event ⊎ (Contains c.asked event ⊎ (Contains c.answered event ⊎ Contains c.after event)))
-        → IsQuiet (length w.sent) event = λ event h. s.quiet event (in-course i j b since c event h) in
+    → (Contains c.before event ⊎ (Contains c.asked event ⊎ (Contains c.answered event ⊎ Contains c.after event)))
+    → IsQuiet (length w.sent) event = λ event h. s.quiet event (in-course i j b since c event h) in
     let v = at_answer rules w c in
     let u = at_taking rules w c in
     let formed = course-forms laws rules i j b since w c start.forms
-        (λ event h. quiet-admits_all rules IsReceipt IsDistrust (length w.sent) event (s.quiet event h)) in
+    (λ event h. quiet-admits_all rules IsReceipt IsDistrust (length w.sent) event (s.quiet event h)) in
     let given : IsPartOf (w.now j) (v.now j) =
     part-trans (w.now j) ((at_question rules w c).now j) (v.now j) (part-run laws rules j c.before w (λ h. quiet (Restart j) (inl h)))
     (part-trans ((at_question rules w c).now j) ((happens rules (at_question rules w c) (Ask i b)).now j) (v.now j)
@@ -192,13 +192,17 @@ agree laws rules w since i j start tidy s l m =
     let receipts : (end.now i).held ≡ (end.now j).held =
     laws.receipts.one (end.now i).held (end.now j).held
     (tidy.now i).rising (tidy.now j).rising
-    (λ r. (λ c. all-receipts laws rules w since j start s m r ((had.now i).receipts r c),
-        λ c. all-receipts laws rules w since i start s l r ((had.now j).receipts r c)))
+    (λ r. (
+      λ c. all-receipts laws rules w since j start s m r ((had.now i).receipts r c),
+      λ c. all-receipts laws rules w since i start s l r ((had.now j).receipts r c),
+    ))
     in
     let records : (end.now i).records ≡ (end.now j).records =
     laws.records.one (end.now i).records (end.now j).records
     (tidy.now i).records_rising (tidy.now j).records_rising
-    (λ x. (λ c. all-records laws rules w since j start s m x ((had.now i).records x c),
-        λ c. all-records laws rules w since i start s l x ((had.now j).records x c)))
+    (λ x. (
+      λ c. all-records laws rules w since j start s m x ((had.now i).records x c),
+      λ c. all-records laws rules w since i start s l x ((had.now j).records x c),
+    ))
     in
     ap₂ (λ h x. record { held = h; records = x }) receipts records

@@ -20,7 +20,7 @@ asked-here : (rules : Rules) (w : World) (i b : ℕ) → i < rules.replicas → 
 asked-here rules w i b l m =
     let e : (is_replica rules i && nat_le b 255) ≡ true = and_from (is_replica rules i) (nat_le b 255) (replica-true rules i l) (le-leb b 255 m) in
     ap (λ t. slice_get (apply w (where_so t (sends (question i b (ids_held (w.now i) b))))).sent (length w.sent)) e
-        ∙ get-new w.sent (question i b (ids_held (w.now i) b))
+    ∙ get-new w.sent (question i b (ids_held (w.now i) b))
 
 abbrev content_of : State → ℕ → List (List ℕ) → State
 content_of state b ids = record { held = receipts_lacking state b ids; records = state.records }
@@ -67,12 +67,12 @@ gives laws i b asking given before part forms own = record {
             (s.0, laws.receipts.old (receipts_lacking given b (ids_held asking b)) before.held s.0 (part.receipts s.0 s.1), s.2)
         | inr unnamed ↦
             let sent : Contains (receipts_lacking given b (ids_held asking b)) r =
-                filter-to (lacking asking b) given.held r c
-                (and_from (is_of_bucket b r) (not (is_named (ids_held asking b) r)) (eq-eqb (bucket_of_id r) b e)
-                (ap not unnamed)) in
+            filter-to (lacking asking b) given.held r c
+            (and_from (is_of_bucket b r) (not (is_named (ids_held asking b) r)) (eq-eqb (bucket_of_id r) b e)
+            (ap not unnamed)) in
             let each : AllByRecursion IsReceipt (receipts_lacking given b (ids_held asking b)) =
-                each-to IsReceipt (receipts_lacking given b (ids_held asking b))
-                (λ s d. forms.receipts s (filter-from (lacking asking b) given.held s d).0) in
+            each-to IsReceipt (receipts_lacking given b (ids_held asking b))
+            (λ s d. forms.receipts s (filter-from (lacking asking b) given.held s d).0) in
             (r, laws.receipts.new (receipts_lacking given b (ids_held asking b)) before.held r each (each-to IsReceipt before.held own.receipts) sent, refl)
       ];
   distrusts = λ x c. laws.records.new given.records before.records x (each-to IsDistrust given.records forms.records)
@@ -82,7 +82,7 @@ gives laws i b asking given before part forms own = record {
 -- The asker has then what the answerer held.
 pub exchange-gives : (laws : Laws) (rules : Rules) (start : World) (i j b : ℕ) (events : List Event) → i < rules.replicas → j < rules.replicas → b ≤ 255
     → (x : Exchange rules start i j b events) → Keeps IsReceipt IsDistrust ((at_answer rules start x.course).now j)
-        → Keeps IsReceipt IsDistrust ((at_taking rules start x.course).now i)
+    → Keeps IsReceipt IsDistrust ((at_taking rules start x.course).now i)
     → HasAll b ((at_answer rules start x.course).now j) ((after_taking rules start x.course).now i)
 exchange-gives laws rules start i j b events l m n x forms own =
     let w = at_question rules start x.course in
@@ -94,21 +94,21 @@ exchange-gives laws rules start i j b events l m n x forms own =
     in
     let a : slice_get u.sent x.course.answer_place ≡ Some (answer j x.course.question_place (content_of (v.now j) b (ids_held (w.now i) b))) =
     sent-stays rules x.course.answered (happens rules v (Answer j x.course.question_place)) x.course.answer_place
-        (answer j x.course.question_place (content_of (v.now j) b (ids_held (w.now i) b)))
+    (answer j x.course.question_place (content_of (v.now j) b (ids_held (w.now i) b)))
     (subst (λ k. slice_get (happens rules v (Answer j x.course.question_place)).sent k
-        ≡ Some (answer j x.course.question_place (content_of (v.now j) b (ids_held (w.now i) b)))) (sym x.answered_at)
+    ≡ Some (answer j x.course.question_place (content_of (v.now j) b (ids_held (w.now i) b)))) (sym x.answered_at)
     (answered-here rules v i j b x.course.question_place (ids_held (w.now i) b) m q))
     in
     let part : IsPartOf (w.now i) (u.now i) =
     part-trans (w.now i) (v.now i) (u.now i)
     (part-trans (w.now i) ((happens rules w (Ask i b)).now i) (v.now i) (part-event laws rules w i (Ask i b) (λ e. cc))
-        (part-run laws rules i x.course.asked (happens rules w (Ask i b)) x.no_restart))
+    (part-run laws rules i x.course.asked (happens rules w (Ask i b)) x.no_restart))
     (part-trans (v.now i) ((happens rules v (Answer j x.course.question_place)).now i) (u.now i)
-        (part-event laws rules v i (Answer j x.course.question_place) (λ e. cc))
-        (part-run laws rules i x.course.answered (happens rules v (Answer j x.course.question_place)) x.none_later))
+    (part-event laws rules v i (Answer j x.course.question_place) (λ e. cc))
+    (part-run laws rules i x.course.answered (happens rules v (Answer j x.course.question_place)) x.none_later))
     in
     subst (HasAll b (v.now j))
-        (sym (absorbed-here rules u i j x.course.answer_place x.course.question_place
-        (content_of (v.now j) b (ids_held (w.now i) b)) l a
-        (x.whole (content_of (v.now j) b (ids_held (w.now i) b)) a)))
+    (sym (absorbed-here rules u i j x.course.answer_place x.course.question_place
+    (content_of (v.now j) b (ids_held (w.now i) b)) l a
+    (x.whole (content_of (v.now j) b (ids_held (w.now i) b)) a)))
     (gives laws i b (w.now i) (v.now j) (u.now i) part forms own)

@@ -18,25 +18,25 @@ same_relationship : (xs : List Relationship) (a b : Relationship) → IsStrictly
 same_relationship [] a b rising has holds e = absurd (contains-none a has)
 same_relationship (x ∷ xs) a b rising has holds e =
     let tied : relationship_cmp a b ≡ Equal =
-        ap (λ d. relationship_cmp a (record b { domain = d })) (sym e)
-        ∙ tied_itself (on_texts (λ (r : Relationship). r.domain)) a in
+    ap (λ d. relationship_cmp a (record b { domain = d })) (sym e)
+    ∙ tied_itself (on_texts (λ (r : Relationship). r.domain)) a in
     let back : relationship_cmp b a ≡ Equal =
-        ap (λ d. relationship_cmp b (record a { domain = d })) e
-        ∙ tied_itself (on_texts (λ (r : Relationship). r.domain)) b in
+    ap (λ d. relationship_cmp b (record a { domain = d })) e
+    ∙ tied_itself (on_texts (λ (r : Relationship). r.domain)) b in
     elim (contains-cases x xs a has) [
       | inl first ↦ elim (contains-cases x xs b holds) [
         | inl here ↦ first ∙ sym here
         | inr later ↦
             let below : relationship_cmp a b ≡ Less =
-                subst (λ (r : Relationship). relationship_cmp r b ≡ Less) (sym first)
-                (each-from (λ y. relationship_cmp x y ≡ Less) xs (rising_head relationship_cmp x xs rising) b later) in
+            subst (λ (r : Relationship). relationship_cmp r b ≡ Less) (sym first)
+            (each-from (λ y. relationship_cmp x y ≡ Less) xs (rising_head relationship_cmp x xs rising) b later) in
             absurd (cc)
       ]
       | inr after ↦ elim (contains-cases x xs b holds) [
         | inl here ↦
             let below : relationship_cmp b a ≡ Less =
-                subst (λ (r : Relationship). relationship_cmp r a ≡ Less) (sym here)
-                (each-from (λ y. relationship_cmp x y ≡ Less) xs (rising_head relationship_cmp x xs rising) a after) in
+            subst (λ (r : Relationship). relationship_cmp r a ≡ Less) (sym here)
+            (each-from (λ y. relationship_cmp x y ≡ Less) xs (rising_head relationship_cmp x xs rising) a after) in
             absurd (cc)
         | inr later ↦ same_relationship xs a b (rising_tail relationship_cmp x xs rising) after later e
       ]
@@ -45,6 +45,6 @@ same_relationship (x ∷ xs) a b rising has holds e =
 pub fits_right : (c : Configuration) (r : Receipt) → IsConfiguration c → IsFitting c r → IsOfWrongEndpoint c r → ⊥
 fits_right c r is fits wrong =
     let one : fits.relationship ≡ wrong.relationship =
-        same_relationship c.relationships fits.relationship wrong.relationship is.rising_relationships fits.has
-        wrong.has (fits.domain ∙ sym wrong.domain) in
+    same_relationship c.relationships fits.relationship wrong.relationship is.rising_relationships fits.has
+    wrong.has (fits.domain ∙ sym wrong.domain) in
     wrong.other (sym (ap (λ (x : Relationship). x.endpoint) one) ∙ fits.endpoint)

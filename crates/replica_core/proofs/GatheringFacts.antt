@@ -55,16 +55,16 @@ same-id-to : (a b : Id) → a ≡ b → same_id a b ≡ true
 same-id-to a b e =
     and_from (bytes_eq a.text b.text && bytes_eq a.domain b.domain) (bytes_eq a.path b.path)
     (and_from (bytes_eq a.text b.text) (bytes_eq a.domain b.domain)
-        ((bytes_eq-Decides a.text b.text).1 (ap (λ (i : Id). i.text) e))
-        ((bytes_eq-Decides a.domain b.domain).1 (ap (λ (i : Id). i.domain) e)))
+    ((bytes_eq-Decides a.text b.text).1 (ap (λ (i : Id). i.text) e))
+    ((bytes_eq-Decides a.domain b.domain).1 (ap (λ (i : Id). i.domain) e)))
     ((bytes_eq-Decides a.path b.path).1 (ap (λ (i : Id). i.path) e))
 
 pub fits-to : (config : Configuration) (r : Receipt) → IsFitting config r → is_fitting config r ≡ true
 fits-to config r fits =
     any-to (λ (o : Relationship). bytes_eq o.domain r.domain && same_id o.endpoint r.endpoint) config.relationships fits.relationship fits.has
     (and_from (bytes_eq fits.relationship.domain r.domain) (same_id fits.relationship.endpoint r.endpoint)
-        ((bytes_eq-Decides fits.relationship.domain r.domain).1 fits.domain)
-        (same-id-to fits.relationship.endpoint r.endpoint fits.endpoint))
+    ((bytes_eq-Decides fits.relationship.domain r.domain).1 fits.domain)
+    (same-id-to fits.relationship.endpoint r.endpoint fits.endpoint))
 
 known-to : (a b c : Bool) → (a ≡ true) ⊎ ((b ≡ true) ⊎ (c ≡ true)) → cond a true (cond b true c) ≡ true
 known-to true b c h = refl
@@ -76,8 +76,8 @@ known-to false false c (inr (inr e)) = e
 pub knows-to : (config : Configuration) (domain : List ℕ) → HasDomain config domain → is_known config domain ≡ true
 knows-to config domain h =
     known-to (list_any (λ (r : Relationship). bytes_eq r.domain domain) config.relationships)
-        (list_any (λ (r : Relationship). bytes_eq r.endpoint.domain domain) config.relationships)
-        (list_any (λ (s : Seed). bytes_eq s.domain domain) config.seeds)
+    (list_any (λ (r : Relationship). bytes_eq r.endpoint.domain domain) config.relationships)
+    (list_any (λ (s : Seed). bytes_eq s.domain domain) config.seeds)
     (elim h [
       | inl k ↦ inl (any-to (λ (r : Relationship). bytes_eq r.domain domain) config.relationships k.0 k.1 ((bytes_eq-Decides k.0.domain domain).1 k.2))
       | inr k ↦ inr (elim k [
@@ -146,8 +146,8 @@ pub next-taken : (old new : Closed) (r s : Receipt) (taken : Taken) (later : Lis
     → new.meaning ≡ record old.meaning { held = old.meaning.held ++ r ∷ [] }
 next-taken old new r s (TakenNew n) later e h can =
     h.meaning ∙ ap (λ held. record old.meaning { held = held })
-        (ap (λ t. with_item receipt_cmp t old.meaning.held) e
-        ∙ next-one receipt_cmp receipt_total r old.meaning.held later can.rising)
+    (ap (λ t. with_item receipt_cmp t old.meaning.held) e
+    ∙ next-one receipt_cmp receipt_total r old.meaning.held later can.rising)
 next-taken old new r s TakenAlready later e h can =
     absurd (not-seen receipt_cmp receipt_total r old.meaning.held later can.rising (subst (Contains old.meaning.held) e h.held))
 
@@ -156,8 +156,8 @@ pub next-refused : (old new : Closed) (r s : Receipt) (refused : Refused) (later
     → CanHold old.meaning.config (old.meaning.held ++ r ∷ later) → ⊥
 next-refused old new r s refused later e is h other can =
     let fits : IsFitting old.meaning.config s =
-        subst (IsFitting old.meaning.config) (sym e)
-        (all_back (IsFitting old.meaning.config) old.meaning.held (r ∷ later) can.fitting).0 in
+    subst (IsFitting old.meaning.config) (sym e)
+    (all_back (IsFitting old.meaning.config) old.meaning.held (r ∷ later) can.fitting).0 in
     refusal-none old s refused.why is h.cause other fits (fewer old.meaning.held r later can.few)
 
 -- ---- one record
@@ -183,8 +183,8 @@ next-distrusted old new x (Ok (DistrustedNew n)) later h can =
 next-distrusted old new x (Ok DistrustedAlready) later h can = absurd (not-seen distrust_cmp distrust_total x old.records later can.rising h.held)
 next-distrusted old new x (Err why) later h can =
     absurd (record-refused old x why h.cause
-        (all_back (λ y. HasDomain old.config y.domain) old.records (x ∷ later) can.domains).0
-        (fewer old.records x later can.few))
+    (all_back (λ y. HasDomain old.config y.domain) old.records (x ∷ later) can.domains).0
+    (fewer old.records x later can.few))
 
 -- ---- all of another closure
 
@@ -218,7 +218,7 @@ pub grow-refused : (old new : Closed) (other : Meaning) (why : TakeError) → Is
     → new.meaning ≡ meaning_of_state old.meaning.config (grown (state_of old.meaning) (state_of other))
 grow-refused old new other why is valid h same n =
     let many = merge-refused old.meaning other why (subst IsConfiguration (sym same) is)
-        (subst (λ (c : Configuration). AllByRecursion (IsFitting c) other.held) (sym same) valid.fitting)
+    (subst (λ (c : Configuration). AllByRecursion (IsFitting c) other.held) (sym same) valid.fitting)
     (subst (λ (c : Configuration). AllByRecursion (λ x. HasDomain c x.domain) other.records) (sym same) valid.domains) (ap config_id_of same) h.cause n in
     h.unchanged.meaning
     ∙ ap (λ b. meaning_of_state old.meaning.config (cond b (joined (state_of old.meaning) (state_of other)) (state_of old.meaning)))
@@ -232,8 +232,8 @@ grown-nothing m valid =
     let records : with_items distrust_cmp m.records [] ≡ m.records = all-next distrust_cmp distrust_total m.records [] valid.records_rising in
     let same : joined no_state (state_of m) ≡ state_of m = (λ i. record { held = held i; records = records i }) in
     let within : is_within_limits (state_of m) ≡ true =
-        and_from (nat_le (length m.held) 65536) (nat_le (length m.records) 4096)
-        (le-leb (length m.held) 65536 valid.few) (le-leb (length m.records) 4096 valid.few_records) in
+    and_from (nat_le (length m.held) 65536) (nat_le (length m.records) 4096)
+    (le-leb (length m.held) 65536 valid.few) (le-leb (length m.records) 4096 valid.few_records) in
     ap (λ s. meaning_of_state m.config (cond (is_within_limits s) s no_state)) same ∙ ap (λ b. meaning_of_state m.config (cond b (state_of m) no_state)) within
 
 pub copy-same : (m copy new : Meaning) → IsMeaning m → copy ≡ empty_of m.config
@@ -256,7 +256,7 @@ pub record-passed : (first old new : Meaning) (xs : List Distrust) (k : ℕ) (x 
     → CanHoldRecords first.config xs → new ≡ record first { records = take (k + 1) xs }
 record-passed first old new xs k x l e so next can =
     subst (λ (m : Meaning). (later : List Distrust) → CanHoldRecords m.config (m.records ++ x ∷ later)
-        → new ≡ record m { records = m.records ++ x ∷ [] }) so next
+    → new ≡ record m { records = m.records ++ x ∷ [] }) so next
     (drop (suc k) xs) (subst (CanHoldRecords first.config) (sym (front-split xs k x l e)) can)
     ∙ ap (λ records. record first { records = records }) (sym (front-more xs k x l e))
 

@@ -64,16 +64,18 @@ pub record IsDistrusting (start now : ClosureState) (all : List Distrust) (i : �
 pub IsDistrusting-next : (start now new : ClosureState) (all : List Distrust) (i : ℕ) (x : Distrust)
     (result : Result Distrusted TakeError) → AreSets Always distrust_cmp → IsMeaning now.meaning
     → IsDistrusting start now all i → i < length all → get_or all i x ≡ x → new.room ≡ now.room
-        → TakesDistrust now.meaning x new.meaning result → IsDistrusting start new all (i + 1)
+    → TakesDistrust now.meaning x new.meaning result → IsDistrusting start new all (i + 1)
 IsDistrusting-next start now new all i x result sets is so l e room h =
     let welcome : AreWelcome now.meaning (of_records (x ∷ drop (i + 1) all)) =
-        subst (λ (xs : List Distrust). AreWelcome now.meaning (of_records xs)) (drop-next all i x l e) so.welcome in
+    subst (λ (xs : List Distrust). AreWelcome now.meaning (of_records xs)) (drop-next all i x l e) so.welcome in
     let held : new.meaning ≡ with_entry (Record x) now.meaning = distrusted now.meaning new.meaning x result sets is welcome.0 h in
     record {
       meaning = held ∙ ap (with_entry (Record x)) so.meaning
-          ∙ (λ j. record start.meaning { records =
-              sym (ap (λ (xs : List Distrust). with_items distrust_cmp xs start.meaning.records) (take-next all i x l e)
-              ∙ with_items-push distrust_cmp (take i all) start.meaning.records x) j });
+          ∙ (λ j. record start.meaning {
+            records =
+                sym (ap (λ (xs : List Distrust). with_items distrust_cmp xs start.meaning.records) (take-next all i x l e)
+                ∙ with_items-push distrust_cmp (take i all) start.meaning.records x) j;
+          });
       room = room ∙ so.room;
       welcome = subst (λ (m : Meaning). AreWelcome m (of_records (drop (i + 1) all))) (sym held) welcome.1;
     }

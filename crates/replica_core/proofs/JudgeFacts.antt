@@ -95,12 +95,12 @@ receipt-welcome m r form fits place OtherConfig ample h = h
 pub record-judged : (m : Meaning) (all : List Distrust) (i : ℕ) (x : Distrust) → i < length all → get_or all i x ≡ x
     → AreWelcome m (of_records (take i all)) → HasDomain m.config x.domain
     → Contains (with_items distrust_cmp (take i all) m.records) x
-        ⊎ (length (with_items distrust_cmp (take i all) m.records) < 4096)
-        → AreWelcome m (of_records (take (i + 1) all))
+    ⊎ (length (with_items distrust_cmp (take i all) m.records) < 4096)
+    → AreWelcome m (of_records (take (i + 1) all))
 record-judged m all i x l e welcome domain place =
     let set = with_items distrust_cmp (take i all) m.records in
     let pushed : of_records (take (i + 1) all) ≡ of_records (take i all) ++ Record x ∷ [] =
-        ap of_records (take-next all i x l e) ∙ map-append Record (take i all) (x ∷ []) in
+    ap of_records (take-next all i x l e) ∙ map-append Record (take i all) (x ∷ []) in
     subst (AreWelcome m) (sym pushed)
     (welcome-push m (of_records (take i all)) (Record x) welcome
     (subst (λ (k : Meaning). IsWelcome k (Record x)) (sym (with-records (take i all) m)) (record-welcome (record m { records = set }) x domain place)))
@@ -108,21 +108,21 @@ record-judged m all i x l e welcome domain place =
 pub receipt-judged : (m : Meaning) (all : List Receipt) (i : ℕ) (r : Receipt) → i < length all → get_or all i r ≡ r
     → AreWelcome m (of_receipts (take i all)) → IsConfiguration m.config → IsFitting m.config r
     → Contains (with_items receipt_cmp (take i all) m.held) r
-        ⊎ (length (with_items receipt_cmp (take i all) m.held) < 65536) → AreWelcome m (of_receipts (take (i + 1) all))
+    ⊎ (length (with_items receipt_cmp (take i all) m.held) < 65536) → AreWelcome m (of_receipts (take (i + 1) all))
 receipt-judged m all i r l e welcome form fits place =
     let set = with_items receipt_cmp (take i all) m.held in
     let pushed : of_receipts (take (i + 1) all) ≡ of_receipts (take i all) ++ AReceipt r ∷ [] =
-        ap of_receipts (take-next all i r l e) ∙ map-append AReceipt (take i all) (r ∷ []) in
+    ap of_receipts (take-next all i r l e) ∙ map-append AReceipt (take i all) (r ∷ []) in
     subst (AreWelcome m) (sym pushed)
     (welcome-push m (of_receipts (take i all)) (AReceipt r) welcome
     (subst (λ (k : Meaning). IsWelcome k (AReceipt r)) (sym (with-receipts (take i all) m)) (receipt-welcome (record m { held = set }) r form fits place)))
 
 pub places-next : {X : Type 0} (cmp : X → X → Ordering) (limit : ℕ) (all set : List X) (i more : ℕ) (x : X) → i < length all → get_or all i x ≡ x
     → HasPlaces limit (length (with_item cmp x (with_items cmp (take i all) set))) more (length all - i - 1)
-        → HasPlaces limit (length (with_items cmp (take (i + 1) all) set)) more (length all - (i + 1))
+    → HasPlaces limit (length (with_items cmp (take (i + 1) all) set)) more (length all - (i + 1))
 places-next {X} cmp limit all set i more x l e places =
     let grown : with_items cmp (take (i + 1) all) set ≡ with_item cmp x (with_items cmp (take i all) set) =
-        ap (λ (xs : List X). with_items cmp xs set) (take-next all i x l e) ∙ with_items-push cmp (take i all) set x in
+    ap (λ (xs : List X). with_items cmp xs set) (take-next all i x l e) ∙ with_items-push cmp (take i all) set x in
     let fewer : length all - i - 1 ≡ length all - (i + 1) = omega arith in
     subst (λ n. HasPlaces limit (length (with_items cmp (take (i + 1) all) set)) more n) fewer
     (subst (λ (xs : List X). HasPlaces limit (length xs) more (length all - i - 1)) (sym grown) places)
@@ -132,7 +132,7 @@ places-next {X} cmp limit all set i more x l e places =
 pub record-refused : (m : Meaning) (all : List Distrust) (i : ℕ) (x : Distrust) (why : TakeError) → i < length all
     → get_or all i x ≡ x → AreWelcome m (of_records (take i all))
     → RefusesEntry (record m { records = with_items distrust_cmp (take i all) m.records }) (Record x) why
-        → why ≢ NoTakeMemory → IsFirstRefused m (of_records all) (i + 2) why
+    → why ≢ NoTakeMemory → IsFirstRefused m (of_records all) (i + 2) why
 record-refused m all i x why l e welcome cause named =
     let size : length (of_records (take i all)) ≡ length (take i all) = length-map (take i all) Record in
     let front = length-take-le i all (omega (arith, l)) in
@@ -150,7 +150,7 @@ record-refused m all i x why l e welcome cause named =
 pub receipt-refused : (m : Meaning) (all : List Receipt) (i : ℕ) (r : Receipt) (why : TakeError) → i < length all
     → get_or all i r ≡ r → AreWelcome m (of_receipts (take i all))
     → RefusesEntry (record m { held = with_items receipt_cmp (take i all) m.held }) (AReceipt r) why
-        → why ≢ NoTakeMemory → IsFirstRefused m (of_receipts all) (i + 2) why
+    → why ≢ NoTakeMemory → IsFirstRefused m (of_receipts all) (i + 2) why
 receipt-refused m all i r why l e welcome cause named =
     let size : length (of_receipts (take i all)) ≡ length (take i all) = length-map (take i all) AReceipt in
     let front = length-take-le i all (omega (arith, l)) in

@@ -123,27 +123,27 @@ pub kept-event : (laws : Laws) (P : Receipt → Type 0) (Q : Distrust
     → Admits rules P Q place A event → IsKept P Q place A (happens rules w event)
 kept-event laws P Q place A rules w (Take i r) h a =
     kept-where P Q place A (is_replica rules i && rules.fits r) w (gains i (record { held = r ∷ []; records = [] })) h
-        (λ e. kept-gains laws P Q place A w i (record { held = r ∷ []; records = [] }) h
-        (one-receipt P Q r (a (and_parts (is_replica rules i) (rules.fits r) e).0
-        (and_parts (is_replica rules i) (rules.fits r) e).1)))
+    (λ e. kept-gains laws P Q place A w i (record { held = r ∷ []; records = [] }) h
+    (one-receipt P Q r (a (and_parts (is_replica rules i) (rules.fits r) e).0
+    (and_parts (is_replica rules i) (rules.fits r) e).1)))
 kept-event laws P Q place A rules w (Revoke i x) h a =
     kept-where P Q place A (is_replica rules i && rules.knows x.domain) w
-        (gains i (record { held = []; records = x ∷ [] })) h
-        (λ e. kept-gains laws P Q place A w i (record { held = []; records = x ∷ [] }) h
-        (one-record P Q x (a (and_parts (is_replica rules i) (rules.knows x.domain) e).0
-        (and_parts (is_replica rules i) (rules.knows x.domain) e).1)))
+    (gains i (record { held = []; records = x ∷ [] })) h
+    (λ e. kept-gains laws P Q place A w i (record { held = []; records = x ∷ [] }) h
+    (one-record P Q x (a (and_parts (is_replica rules i) (rules.knows x.domain) e).0
+    (and_parts (is_replica rules i) (rules.knows x.domain) e).1)))
 kept-event laws P Q place A rules w (Ask i b) h a =
     kept-where P Q place A (is_replica rules i && nat_le b 255) w (sends (question i b (ids_held (w.now i) b))) h
-        (λ e. kept-sends P Q place A w (question i b (ids_held (w.now i) b)) h tt)
+    (λ e. kept-sends P Q place A w (question i b (ids_held (w.now i) b)) h tt)
 kept-event laws P Q place A rules w (Answer j k) h a =
     kept-where P Q place A (is_replica rules j) w (replies (w.now j) j k (slice_get w.sent k)) h
-        (λ e. kept-replies P Q place A w (w.now j) j k (slice_get w.sent k) h (h.now j))
+    (λ e. kept-replies P Q place A w (w.now j) j k (slice_get w.sent k) h (h.now j))
 kept-event laws P Q place A rules w (Absorb i k) h a =
     kept-where P Q place A (is_replica rules i) w (takes_whole i (slice_get w.sent k)) h
-        (λ e. kept-whole laws P Q place A w i (slice_get w.sent k) h (λ m f. h.sent k m a f))
+    (λ e. kept-whole laws P Q place A w i (slice_get w.sent k) h (λ m f. h.sent k m a f))
 kept-event laws P Q place A rules w (Part i k m) h a =
     kept-where P Q place A (is_replica rules i) w (takes_part i m (slice_get w.sent k)) h
-        (λ e. kept-part laws P Q place A w i m (slice_get w.sent k) h (λ o f. h.sent k o a f))
+    (λ e. kept-part laws P Q place A w i m (slice_get w.sent k) h (λ o f. h.sent k o a f))
 kept-event laws P Q place A rules w (Join i j) h a =
     kept-where P Q place A (is_replica rules i && is_replica rules j) w (gains i (w.now j)) h (λ e. kept-gains laws P Q place A w i (w.now j) h (h.now j))
 kept-event laws P Q place A rules w (Save i) h a =
@@ -158,5 +158,5 @@ pub kept-run : (laws : Laws) (P : Receipt → Type 0) (Q : Distrust
 kept-run laws P Q place A rules [] w h a = h
 kept-run laws P Q place A rules (event ∷ events) w h a =
     kept-run laws P Q place A rules events (happens rules w event)
-        (kept-event laws P Q place A rules w event h (a event (contains-here event events)))
-        (λ other c. a other (contains-later event events other c))
+    (kept-event laws P Q place A rules w event h (a event (contains-here event events)))
+    (λ other c. a other (contains-later event events other c))

@@ -42,7 +42,7 @@ module _ {A : Type 0} (meaning : A → Meaning) (config : Configuration) (n : �
 
   pub plays-sends : (old new : Playing A) (w : World) (i : ℕ) (told : Sent) (message : Message) → i < n → Plays meaning config n old w
       → new.held.items ≡ old.held.items → new.saved.items ≡ old.saved.items
-          → new.sent.items ≡ old.sent.items ++ told ∷ [] → message_of told ≡ message → IsSound config message
+      → new.sent.items ≡ old.sent.items ++ told ∷ [] → message_of told ≡ message → IsSound config message
       → Plays meaning config n new (apply w (where_so (is_replica (rules_of config n) i) (sends message)))
   plays-sends old new w i told message l h held saved sent says sound =
       subst (λ b. Plays meaning config n new (apply w (where_so b (sends message)))) (sym (replica-true (rules_of config n) i l)) (record {
@@ -88,8 +88,8 @@ module _ {A : Type 0} (meaning : A → Meaning) (config : Configuration) (n : �
 
 pub on-all : {E : Type 0} {V : Type 0} {A : Type 0} (meaning : A → Meaning) (config : Configuration) (old new : Playing A) (event : Event) (result : Result V E)
     → ((n : ℕ) (w : World) → Plays meaning config n old w
-        → OnOk result (Plays meaning config n new (happens (rules_of config n) w event)))
-        → OnOk result (StandsForEvent meaning config old new event)
+    → OnOk result (Plays meaning config n new (happens (rules_of config n) w event)))
+    → OnOk result (StandsForEvent meaning config old new event)
 on-all meaning config old new event (Ok v) h = λ n w p. h n w p
 on-all meaning config old new event (Err e) h = tt
 
@@ -132,7 +132,7 @@ record-gains config n w i x fresh more e unfit next =
     let without : is_known config x.domain ≡ false → more ≡ empty_of config = subst (λ (m : Meaning). is_known m.config x.domain ≡ false → more ≡ m) e unfit in
     let follows : (later : List Distrust) → CanHoldRecords config (x ∷ later) → more ≡ record { config = config; held = []; records = x ∷ [] } =
     subst (λ (m : Meaning). (later : List Distrust) → CanHoldRecords m.config (m.records ++ x ∷ later)
-        → more ≡ record m { records = m.records ++ x ∷ [] }) e next in
+    → more ≡ record m { records = m.records ++ x ∷ [] }) e next in
     let with : is_known config x.domain ≡ true → more ≡ record { config = config; held = []; records = x ∷ [] } =
     (λ t. follows [] (record { domains = (knows-from config x.domain t, tt); rising = one-rising distrust_cmp x; few = omega arith })) in (
       elim (cases_Bool (is_known config x.domain)) [ inl t ↦ ap (λ (m : Meaning). m.config) (with t) | inr f ↦ ap (λ (m : Meaning). m.config) (without f) ],
@@ -145,12 +145,12 @@ pub gain-follows : {E : Type 0} {V : Type 0} {A : Type 0} (meaning : A
     → Meaning) (config : Configuration) (old new : Playing A) (event : Event) (i : ℕ) (more : Meaning)
     (result : Result V E)
     → ((n : ℕ) (w : World) (c : Configuration) → more.config ≡ c → Plays meaning c n old w
-        → OnOk result
-        (Plays meaning c n new (apply w (where_so (is_replica (rules_of c n) i) (gains i (state_of more))))))
+    → OnOk result
+    (Plays meaning c n new (apply w (where_so (is_replica (rules_of c n) i) (gains i (state_of more))))))
     → ((n : ℕ) (w : World) → Plays meaning config n old w
-        → (more.config ≡ config)
-        × (apply w (where_so (is_replica (rules_of config n) i) (gains i (state_of more)))
-        ≡ happens (rules_of config n) w event))
+    → (more.config ≡ config)
+    × (apply w (where_so (is_replica (rules_of config n) i) (gains i (state_of more)))
+    ≡ happens (rules_of config n) w event))
     → OnOk result (StandsForEvent meaning config old new event)
 gain-follows meaning config old new event i more result h same =
     on-all meaning config old new event result (λ n w p.
@@ -192,20 +192,20 @@ join-gains config n w i j found more l f m =
       ap (λ (m : Meaning). m.config) e,
       ap (λ (m : Meaning). apply w (where_so (is_replica (rules_of config n) i) (gains i (state_of m)))) e
           ∙ ap (λ b. apply w (where_so b (gains i (w.now j))))
-              (sym (and-right (is_replica (rules_of config n) i) (is_replica (rules_of config n) j)
-              (replica-true (rules_of config n) j l))),
+          (sym (and-right (is_replica (rules_of config n) i) (is_replica (rules_of config n) j)
+          (replica-true (rules_of config n) j l))),
     )
 
 pub absorb-gains : (config : Configuration) (n : ℕ) (w : World) (i k : ℕ) (content : State) (rs : List Receipt)
     (xs : List Distrust) (more : Meaning) → AllByRecursion (IsSound config) w.sent
     → answered (slice_get w.sent k) ≡ Some content → rs ≡ content.held → xs ≡ content.records
-        → (CanHold config rs → CanHoldRecords config xs → more ≡ record { config = config; held = rs; records = xs })
+    → (CanHold config rs → CanHoldRecords config xs → more ≡ record { config = config; held = rs; records = xs })
     → (more.config ≡ config) × (apply w (where_so (is_replica (rules_of config n) i) (gains i (state_of more))) ≡ happens (rules_of config n) w (Absorb i k))
 absorb-gains config n w i k content rs xs more sound a re xe built =
     let can = sound-at config w.sent k content sound a in
     let e : more ≡ meaning_of_state config content =
-        built (subst (CanHold config) (sym re) can.0) (subst (CanHoldRecords config) (sym xe) can.1)
-        ∙ (λ ι. record { config = config; held = re ι; records = xe ι }) in (
+    built (subst (CanHold config) (sym re) can.0) (subst (CanHoldRecords config) (sym xe) can.1)
+    ∙ (λ ι. record { config = config; held = re ι; records = xe ι }) in (
       ap (λ (m : Meaning). m.config) e,
       ap (λ (m : Meaning). apply w (where_so (is_replica (rules_of config n) i) (gains i (state_of m)))) e
           ∙ ap (λ (effect : Effect). apply w (where_so (is_replica (rules_of config n) i) effect)) (sym (some-taken i (slice_get w.sent k) content a)),
@@ -216,14 +216,14 @@ pub part-gains : (config : Configuration) (n : ℕ) (w : World) (i k count : ℕ
     → answered (slice_get w.sent k) ≡ Some content → rs ≡ take (count - length content.records) content.held → xs ≡ take count content.records
     → (CanHold config rs → CanHoldRecords config xs → more ≡ record { config = config; held = rs; records = xs })
     → (more.config ≡ config)
-        × (apply w (where_so (is_replica (rules_of config n) i) (gains i (state_of more)))
-        ≡ happens (rules_of config n) w (Part i k count))
+    × (apply w (where_so (is_replica (rules_of config n) i) (gains i (state_of more)))
+    ≡ happens (rules_of config n) w (Part i k count))
 part-gains config n w i k count content rs xs more sound a re xe built =
     let can = sound-at config w.sent k content sound a in
     let e : more ≡ meaning_of_state config (first_of count content) =
     built (subst (CanHold config) (sym re) (can-take config (count - length content.records) content.held can.0))
-        (subst (CanHoldRecords config) (sym xe) (knows-take config count content.records can.1))
-        ∙ (λ ι. record { config = config; held = re ι; records = xe ι }) in (
+    (subst (CanHoldRecords config) (sym xe) (knows-take config count content.records can.1))
+    ∙ (λ ι. record { config = config; held = re ι; records = xe ι }) in (
       ap (λ (m : Meaning). m.config) e,
       ap (λ (m : Meaning). apply w (where_so (is_replica (rules_of config n) i) (gains i (state_of m)))) e
           ∙ ap (λ (effect : Effect). apply w (where_so (is_replica (rules_of config n) i) effect)) (sym (some-parted i count (slice_get w.sent k) content a)),
@@ -236,14 +236,14 @@ pub answer-follows : {A : Type 0} (meaning : A → Meaning) (config : Configurat
     (w : World) (i k : ℕ) (m : Meaning) (bucket : ℕ) (ids : List (List ℕ)) (told : Sent) → i < n
     → Plays meaning config n old w
     → m ≡ meaning_of_state config (w.now i) → IsMeaning m → asked (slice_get w.sent k) ≡ Some (bucket, ids)
-        → message_of told ≡ answer i k (record { held = receipts_lacking (state_of m) bucket ids; records = m.records })
+    → message_of told ≡ answer i k (record { held = receipts_lacking (state_of m) bucket ids; records = m.records })
     → new.held.items ≡ old.held.items → new.saved.items ≡ old.saved.items → new.sent.items ≡ old.sent.items ++ told ∷ []
-        → Plays meaning config n new (happens (rules_of config n) w (Answer i k))
+    → Plays meaning config n new (happens (rules_of config n) w (Answer i k))
 answer-follows meaning config n old new w i k m bucket ids told l p e valid a says held saved sent =
     let same : state_of m ≡ w.now i = ap state_of e in
     subst (λ (effect : Effect). Plays meaning config n new
-        (apply w (where_so (is_replica (rules_of config n) i) effect)))
-        (sym (replied (w.now i) i k bucket ids (slice_get w.sent k) a))
+    (apply w (where_so (is_replica (rules_of config n) i) effect)))
+    (sym (replied (w.now i) i k bucket ids (slice_get w.sent k) a))
     (plays-sends meaning config n old new w i told (reply_to i k bucket ids (w.now i)) l p held saved sent (says ∙ ap (reply_to i k bucket ids) same)
     (subst (λ (s : State). IsSound config (reply_to i k bucket ids s)) same (sound-reply config m bucket ids (ap (λ (m : Meaning). m.config) e) valid)))
 

@@ -73,13 +73,15 @@ apart ids x place split item has same =
 pub id_found : (ids : List ReceiptId) (x : ReceiptId) (r : Result ℕ ℕ) → IsStrictlySortedBy id_cmp (map bytes_of ids)
     → IsSearchInRange r (length ids) → IsBinarySearchResult (λ y. named_cmp y x) ids r
     → IsTrue (is_ok r) ↔ Contains (map bytes_of ids) x.0
-id_found ids x (Ok k) rising range found =
-    (λ t. subst (Contains (map bytes_of ids)) (exact_bytes (get_or ids k x).0 x.0 (found x))
-        (map-to bytes_of ids (get_or ids k x) (k, range, get_or_default ids k (get_or ids k x) x range)), λ h. refl)
+id_found ids x (Ok k) rising range found = (
+  λ t. subst (Contains (map bytes_of ids)) (exact_bytes (get_or ids k x).0 x.0 (found x))
+      (map-to bytes_of ids (get_or ids k x) (k, range, get_or_default ids k (get_or ids k x) x range)),
+  λ h. refl,
+)
 id_found ids x (Err place) rising range found =
     let up = named-rising ids rising in
     let split : IsPartitionPoint (λ y. named_cmp y x ≡ Less) (λ y. named_cmp y x ≡ Greater) ids place =
-        found (searchable_from_sorted named_total (λ y. y) ids x (in-order ids up)) in
+    found (searchable_from_sorted named_total (λ y. y) ids x (in-order ids up)) in
     (λ t. absurd (cc), λ has. let m = map-from bytes_of ids x.0 has in absurd (apart ids x place split m.0 m.1 m.2))
 
 -- ids that are held rise
@@ -112,10 +114,11 @@ pub rising_told : (ids : List ReceiptId) (told : Bool) → IsAllAdjacentAnswer (
     → IsTrue told ↔ IsStrictlySortedBy id_cmp (map bytes_of ids)
 unfolding IsStrictlySortedBy
 rising_told [] true all = (λ t. bytes-rising [] tt, λ r. refl)
-rising_told (first ∷ others) true all =
-    (λ t. bytes-rising (first ∷ others)
-        (sorted_from_all_adjacent named_total (first ∷ others) first (λ k within. less _ (sym (all k first within)))),
-        λ r. refl)
+rising_told (first ∷ others) true all = (
+  λ t. bytes-rising (first ∷ others)
+      (sorted_from_all_adjacent named_total (first ∷ others) first (λ k within. less _ (sym (all k first within)))),
+  λ r. refl,
+)
 rising_told [] false (k, within, falls) = absurd (omega arith)
 rising_told (first ∷ others) false (k, within, falls) = (
   λ t. absurd (cc),

@@ -41,7 +41,7 @@ pub rising_append : {A : Type 0} (cmp : A → A → Ordering) (xs ys : List A) �
 rising_append cmp [] ys p q between = q
 rising_append cmp (x ∷ xs) ys p q between =
     rising_cons cmp x (xs ++ ys) (all_append (λ y. cmp x y ≡ Less) xs ys (rising_head cmp x xs p) between.0)
-        (rising_append cmp xs ys (rising_tail cmp x xs p) q between.1)
+    (rising_append cmp xs ys (rising_tail cmp x xs p) q between.1)
 
 -- ---- an item above all others
 

@@ -67,12 +67,20 @@ few-take : {X : Type 0} (k : ℕ) (xs : List X) (m : ℕ) → length xs ≤ m �
 few-take k xs m l = let e : length (take k xs) ≡ min k (length xs) = length-take k xs in omega (arith, e, l)
 
 pub can-take : (config : Configuration) (k : ℕ) (rs : List Receipt) → CanHold config rs → CanHold config (take k rs)
-can-take config k rs h = record { fitting = all-take (IsFitting config) k rs h.fitting; rising =
-    rising-take receipt_cmp k rs h.rising; few = few-take k rs 65536 h.few }
+can-take config k rs h = record {
+  fitting = all-take (IsFitting config) k rs h.fitting;
+  rising =
+      rising-take receipt_cmp k rs h.rising;
+  few = few-take k rs 65536 h.few;
+}
 
 pub knows-take : (config : Configuration) (k : ℕ) (xs : List Distrust) → CanHoldRecords config xs → CanHoldRecords config (take k xs)
-knows-take config k xs h = record { domains = all-take (λ x. HasDomain config x.domain) k xs h.domains; rising =
-    rising-take distrust_cmp k xs h.rising; few = few-take k xs 4096 h.few }
+knows-take config k xs h = record {
+  domains = all-take (λ x. HasDomain config x.domain) k xs h.domains;
+  rising =
+      rising-take distrust_cmp k xs h.rising;
+  few = few-take k xs 4096 h.few;
+}
 
 all-filter : {X : Type 0} (P : X → Type 0) (p : X → Bool) (xs : List X) → AllByRecursion P xs → AllByRecursion P (filter p xs)
 all-filter P p xs h = each-to P (filter p xs) (λ x c. each-from P xs h x (filter-from p xs x c).0)
@@ -94,6 +102,9 @@ sound-reply config m bucket ids e h = (
     rising = IsStrictlySortedBy-filter receipt_cmp (λ r. is_of_bucket bucket r && not (is_named ids r)) m.held h.rising;
     few = let fewer = fewer-filtered (λ r. is_of_bucket bucket r && not (is_named ids r)) m.held in let few = h.few in omega (arith, fewer, few);
   },
-  record { domains = subst (λ (c : Configuration). AllByRecursion (λ x. HasDomain c x.domain) m.records) e h.domains;
-      rising = h.records_rising; few = h.few_records },
+  record {
+    domains = subst (λ (c : Configuration). AllByRecursion (λ x. HasDomain c x.domain) m.records) e h.domains;
+    rising = h.records_rising;
+    few = h.few_records;
+  },
 )

@@ -74,14 +74,18 @@ same-ids a b e =
     let domain : a.domain ≡ b.domain = (bytes_eq-Decides a.domain b.domain).0 front.1 in
     let path : a.path ≡ b.path = (bytes_eq-Decides a.path b.path).0 parts.1 in
     ap (λ t. record a { text = t }) text ∙ ap (λ t. record { text = b.text; domain = t; path = a.path }) domain
-        ∙ ap (λ t. record { text = b.text; domain = b.domain; path = t }) path
+    ∙ ap (λ t. record { text = b.text; domain = b.domain; path = t }) path
 
 pub fits-from : (config : Configuration) (r : Receipt) → is_fitting config r ≡ true → IsFitting config r
 fits-from config r e =
     let found = any-from (λ (o : Relationship). bytes_eq o.domain r.domain && same_id o.endpoint r.endpoint) config.relationships e in
     let both = and_parts (bytes_eq found.0.domain r.domain) (same_id found.0.endpoint r.endpoint) found.2 in
-    record { relationship = found.0; has = found.1; domain = (bytes_eq-Decides found.0.domain r.domain).0 both.0;
-        endpoint = same-ids found.0.endpoint r.endpoint both.1 }
+    record {
+      relationship = found.0;
+      has = found.1;
+      domain = (bytes_eq-Decides found.0.domain r.domain).0 both.0;
+      endpoint = same-ids found.0.endpoint r.endpoint both.1;
+    }
 
 known-cases : (a b c : Bool) → cond a true (cond b true c) ≡ true → (a ≡ true) ⊎ ((b ≡ true) ⊎ (c ≡ true))
 known-cases true b c e = inl refl
@@ -91,8 +95,8 @@ known-cases false false c e = inr (inr e)
 pub knows-from : (config : Configuration) (domain : List ℕ) → is_known config domain ≡ true → HasDomain config domain
 knows-from config domain e =
     elim (known-cases (list_any (λ (r : Relationship). bytes_eq r.domain domain) config.relationships)
-        (list_any (λ (r : Relationship). bytes_eq r.endpoint.domain domain) config.relationships)
-        (list_any (λ (s : Seed). bytes_eq s.domain domain) config.seeds) e) [
+    (list_any (λ (r : Relationship). bytes_eq r.endpoint.domain domain) config.relationships)
+    (list_any (λ (s : Seed). bytes_eq s.domain domain) config.seeds) e) [
       | inl h ↦ let found = any-from (λ (r : Relationship). bytes_eq r.domain domain) config.relationships h in
           inl (found.0, found.1, (bytes_eq-Decides found.0.domain domain).0 found.2)
       | inr k ↦ elim k [
@@ -126,7 +130,7 @@ all-forms : (laws : Laws) (config : Configuration) (n : ℕ) (events : List Even
     → IsKept (IsReceiptOf config) (IsDistrustOf config) 0 ⊤ (run (rules_of config n) events)
 all-forms laws config n events h =
     kept-run laws (IsReceiptOf config) (IsDistrustOf config) 0 ⊤ (rules_of config n) events empty_world
-        (empty-kept (IsReceiptOf config) (IsDistrustOf config) 0 ⊤)
+    (empty-kept (IsReceiptOf config) (IsDistrustOf config) 0 ⊤)
     (λ event c. forms-admits config n event (each-from IsEvent events h event c))
 
 all-tidy : (laws : Laws) (rules : Rules) (events : List Event) → Throughout (λ i state. IsTidy state) (run rules events)
@@ -156,8 +160,8 @@ pub grows : (laws : Laws) (rules : Rules) (events : List Event) (event : Event) 
     → IsPartOf ((run rules events).now i) ((run rules (events ++ event ∷ [])).now i)
 grows laws rules events event i d =
     subst (λ (w : World). IsPartOf ((run rules events).now i) (w.now i))
-        (sym (fold-append (happens rules) empty_world events (event ∷ [])))
-        (part-event laws rules (run rules events) i event d)
+    (sym (fold-append (happens rules) empty_world events (event ∷ [])))
+    (part-event laws rules (run rules events) i event d)
 
 pub restarts-saved : (rules : Rules) (events : List Event) (i : ℕ) → i < rules.replicas
     → (run rules (events ++ Restart i ∷ [])).now i ≡ (run rules events).saved i
@@ -213,21 +217,21 @@ pub exchanged : (laws : Laws) (config : Configuration) (n : ℕ) (first since : 
     → AreEvents since → i < n → j < n → b ≤ 255
     → (x : Exchange (rules_of config n) (run (rules_of config n) first) i j b since)
     → HasAll b ((at_answer (rules_of config n) (run (rules_of config n) first) x.course).now j)
-        ((after_taking (rules_of config n) (run (rules_of config n) first) x.course).now i)
+    ((after_taking (rules_of config n) (run (rules_of config n) first) x.course).now i)
 exchanged laws config n first since i j b f s l m k x =
     let w = run (rules_of config n) first in
     let formed = course-forms laws (rules_of config n) i j b since w x.course (starts laws config n first f).forms
-        (λ event c. event-admits (rules_of config n) event (each-from IsEvent since s event c)) in
+    (λ event c. event-admits (rules_of config n) event (each-from IsEvent since s event c)) in
     exchange-gives laws (rules_of config n) w i j b since l m k x (formed.0.now j) (formed.1.now i)
 
 pub agreed : (laws : Laws) (config : Configuration) (n : ℕ) (first since : List Event) (i j : ℕ) → AreEvents first → i < n → j < n
     → Settles (rules_of config n) (run (rules_of config n) first) since
-        → (run (rules_of config n) (first ++ since)).now i ≡ (run (rules_of config n) (first ++ since)).now j
+    → (run (rules_of config n) (first ++ since)).now i ≡ (run (rules_of config n) (first ++ since)).now j
 agreed laws config n first since i j f l m s =
     let rules = rules_of config n in
     let same : run rules (first ++ since) ≡ run_from rules (run rules first) since = fold-append (happens rules) empty_world first since in
     let tidy : Throughout (λ k state. IsTidy state) (run_from rules (run rules first) since) =
-        subst (Throughout (λ k state. IsTidy state)) same (all-tidy laws rules (first ++ since)) in
+    subst (Throughout (λ k state. IsTidy state)) same (all-tidy laws rules (first ++ since)) in
     subst (λ (w : World). w.now i ≡ w.now j) (sym same) (agree laws rules (run rules first) since i j (starts laws config n first f) tidy s l m)
 
 -- ---- accepted is least

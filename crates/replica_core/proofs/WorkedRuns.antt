@@ -47,16 +47,55 @@ abbrev all_of : Receipt → Receipt → Distrust → State
 all_of a b x = record { held = a ∷ b ∷ []; records = x ∷ [] }
 
 same-zero : (a b : Receipt) (x : Distrust) → AreApart a b x → (run three (starts a b x ++ one_course)).now 0 ≡ all_of a b x
-same-zero a b x h = simp (h.bucket, h.other_bucket, h.less, h.greater, h.same, h.other_same, h.same_record, h.named,
-    h.other_named, h.apart, h.other_apart, h.ids_less, h.ids_greater)
+same-zero a b x h = simp (
+  h.bucket,
+  h.other_bucket,
+  h.less,
+  h.greater,
+  h.same,
+  h.other_same,
+  h.same_record,
+  h.named,
+  h.other_named,
+  h.apart,
+  h.other_apart,
+  h.ids_less,
+  h.ids_greater,
+)
 
 same-one : (a b : Receipt) (x : Distrust) → AreApart a b x → (run three (starts a b x ++ one_course)).now 1 ≡ all_of a b x
-same-one a b x h = simp (h.bucket, h.other_bucket, h.less, h.greater, h.same, h.other_same, h.same_record, h.named,
-    h.other_named, h.apart, h.other_apart, h.ids_less, h.ids_greater)
+same-one a b x h = simp (
+  h.bucket,
+  h.other_bucket,
+  h.less,
+  h.greater,
+  h.same,
+  h.other_same,
+  h.same_record,
+  h.named,
+  h.other_named,
+  h.apart,
+  h.other_apart,
+  h.ids_less,
+  h.ids_greater,
+)
 
 same-two : (a b : Receipt) (x : Distrust) → AreApart a b x → (run three (starts a b x ++ one_course)).now 2 ≡ all_of a b x
-same-two a b x h = simp (h.bucket, h.other_bucket, h.less, h.greater, h.same, h.other_same, h.same_record, h.named,
-    h.other_named, h.apart, h.other_apart, h.ids_less, h.ids_greater)
+same-two a b x h = simp (
+  h.bucket,
+  h.other_bucket,
+  h.less,
+  h.greater,
+  h.same,
+  h.other_same,
+  h.same_record,
+  h.named,
+  h.other_named,
+  h.apart,
+  h.other_apart,
+  h.ids_less,
+  h.ids_greater,
+)
 
 -- the world between the halves
 abbrev halfway : Receipt → Receipt → Distrust → World
@@ -70,8 +109,21 @@ halfway a b x = record {
 }
 
 half : (a b : Receipt) (x : Distrust) → AreApart a b x → run three (starts a b x ++ first_half) ≡ halfway a b x
-half a b x h = simp (h.bucket, h.other_bucket, h.less, h.greater, h.same, h.other_same, h.same_record, h.named,
-    h.other_named, h.apart, h.other_apart, h.ids_less, h.ids_greater)
+half a b x h = simp (
+  h.bucket,
+  h.other_bucket,
+  h.less,
+  h.greater,
+  h.same,
+  h.other_same,
+  h.same_record,
+  h.named,
+  h.other_named,
+  h.apart,
+  h.other_apart,
+  h.ids_less,
+  h.ids_greater,
+)
 
 again : (a b : Receipt) (x : Distrust) → AreApart a b x → (i : ℕ)
     → (run three ((starts a b x ++ first_half) ++ second_half)).now i
@@ -82,16 +134,55 @@ again a b x h i =
 
 again-zero : (a b : Receipt) (x : Distrust) → AreApart a b x → (run three ((starts a b x ++ first_half) ++ second_half)).now 0 ≡ all_of a b x
 again-zero a b x h =
-    again a b x h 0 ∙ simp (h.bucket, h.other_bucket, h.less, h.greater, h.same, h.other_same, h.same_record, h.named,
-    h.other_named, h.apart, h.other_apart, h.ids_less, h.ids_greater)
+    again a b x h 0 ∙ simp (
+      h.bucket,
+      h.other_bucket,
+      h.less,
+      h.greater,
+      h.same,
+      h.other_same,
+      h.same_record,
+      h.named,
+      h.other_named,
+      h.apart,
+      h.other_apart,
+      h.ids_less,
+      h.ids_greater,
+    )
 
 again-one : (a b : Receipt) (x : Distrust) → AreApart a b x → (run three ((starts a b x ++ first_half) ++ second_half)).now 1 ≡ all_of a b x
-again-one a b x h = again a b x h 1 ∙ simp (h.bucket, h.other_bucket, h.less, h.greater, h.same, h.other_same,
-    h.same_record, h.named, h.other_named, h.apart, h.other_apart, h.ids_less, h.ids_greater)
+again-one a b x h = again a b x h 1 ∙ simp (
+  h.bucket,
+  h.other_bucket,
+  h.less,
+  h.greater,
+  h.same,
+  h.other_same,
+  h.same_record,
+  h.named,
+  h.other_named,
+  h.apart,
+  h.other_apart,
+  h.ids_less,
+  h.ids_greater,
+)
 
 again-two : (a b : Receipt) (x : Distrust) → AreApart a b x → (run three ((starts a b x ++ first_half) ++ second_half)).now 2 ≡ all_of a b x
-again-two a b x h = again a b x h 2 ∙ simp (h.bucket, h.other_bucket, h.less, h.greater, h.same, h.other_same,
-    h.same_record, h.named, h.other_named, h.apart, h.other_apart, h.ids_less, h.ids_greater)
+again-two a b x h = again a b x h 2 ∙ simp (
+  h.bucket,
+  h.other_bucket,
+  h.less,
+  h.greater,
+  h.same,
+  h.other_same,
+  h.same_record,
+  h.named,
+  h.other_named,
+  h.apart,
+  h.other_apart,
+  h.ids_less,
+  h.ids_greater,
+)
 
 -- ---- what the premises of agreement are for
 

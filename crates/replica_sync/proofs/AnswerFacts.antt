@@ -35,7 +35,7 @@ reply_is : (config : Configuration) (bucket : ℕ) (text : List ℕ) (h : Head) 
     → ended text ++ text_of_lines (content_lines content) ≡ reply_text (reply_with config bucket content)
 reply_is config bucket text h content tells receipts records =
     ap (λ (t : List ℕ). ended t ++ text_of_lines (content_lines content))
-        (tells.tells.line.spelt ∙ ap told_text (told_is config bucket text h content tells receipts records))
+    (tells.tells.line.spelt ∙ ap told_text (told_is config bucket text h content tells receipts records))
     ∙ ap (λ (t : List ℕ). ended (told_text (told_of (reply_with config bucket content))) ++ t) (text_of_content content)
 
 pub answer_taken : (m : Meaning) (config : Configuration) (bucket before : ℕ) (h : Head)

@@ -81,7 +81,7 @@ one_first : (text other bytes after since : List ℕ) → HasNoFeed text → Has
     → bytes ≡ ended other ++ since → text ≡ other
 one_first text other bytes after since p q e f =
     let both : with_line text (lines_of after) ≡ with_line other (lines_of since) =
-        sym (first_of_lines text bytes after p e) ∙ first_of_lines other bytes since q f in
+    sym (first_of_lines text bytes after p e) ∙ first_of_lines other bytes since q f in
     let heads : text ∷ (lines_of after).whole ≡ other ∷ (lines_of since).whole = ap (λ (l : Lines). l.whole) both in
     cc
 
@@ -100,7 +100,7 @@ right_first format config text ConfigDiffers is (inr h) =
 right_first format config text VersionDiffers is (inr h) =
     let first = is_first_line format config in
     let same = one_header text (digits_of config) (digits_of config) h.version (version_of format) h.is
-        (record { form = first.form; few = first.few; spelt = is }) in
+    (record { form = first.form; few = first.few; spelt = is }) in
     h.other format same.1
 right_first format config text (NotCanonical n) is (inr h) = h
 right_first format config text (NotRising n) is (inr h) = h
@@ -118,8 +118,8 @@ bad_first format config bytes tail e whole h = by_rest h.after h.is
     by_rest None is = is.1
     by_rest (Some rest) is =
         right_first format config h.text e
-            (one_first h.text (header_line format config) bytes rest tail is.0
-            (fed (header_line format config) (feedless_first format config)) is.1 whole) h.cause
+        (one_first h.text (header_line format config) bytes rest tail is.0
+        (fed (header_line format config) (feedless_first format config)) is.1 whole) h.cause
 
 no_line : (format : Format) (config : Configuration) (bytes tail : List ℕ) → bytes ≡ ended (header_line format config) ++ tail → HasNoFeed bytes → ⊥
 no_line format config bytes tail whole none =
@@ -233,13 +233,13 @@ front_text : (format : Format) (config : Configuration) (m : Meaning) → m.conf
     → snapshot_text format m ≡ ended (header_line format config) ++ behind format m
 front_text format config m same =
     append_assoc (ended (header_line format m.config)) (text_of_lines (held_lines m)) (ended (count_line format m))
-        ∙ ap (λ c. ended (header_line format c) ++ behind format m) same
+    ∙ ap (λ c. ended (header_line format c) ++ behind format m) same
 
 begun_front : (format : Format) (config : Configuration) (k : Meaning) (rest : List ℕ) → k.config ≡ config
     → begun_text format k ++ rest ≡ ended (header_line format config) ++ (text_of_lines (held_lines k) ++ rest)
 begun_front format config k rest same =
     append_assoc (ended (header_line format k.config)) (text_of_lines (held_lines k)) rest
-        ∙ ap (λ c. ended (header_line format c) ++ (text_of_lines (held_lines k) ++ rest)) same
+    ∙ ap (λ c. ended (header_line format c) ++ (text_of_lines (held_lines k) ++ rest)) same
 
 one_format : (config : Configuration) (f g : Format) (rest other : List ℕ)
     → ended (header_line f config) ++ rest ≡ ended (header_line g config) ++ other → f ≡ g
@@ -274,18 +274,18 @@ tail_of config format m k rest is valid other p q told e =
 refused_behind : (config : Configuration) (f : Format) (bytes : List ℕ) (m : Meaning) (e : SyncError)
     → IsConfiguration config → e ≢ Io → e ≢ NoMemory → IsMeaning m → m.config ≡ config → IsTold f m
     → bytes ≡ ended (header_line f config) ++ behind f m → (g : Format) (k : Meaning) (left : Option (List ℕ))
-        → Begins config (Some bytes) g k left → RefusesNext g k left e → ⊥
+    → Begins config (Some bytes) g k left → RefusesNext g k left e → ⊥
 refused_behind config f bytes m e is calm ample valid same told whole g k None begins cause = begins.text
 refused_behind config f bytes m e is calm ample valid same told whole g k (Some rest) begins cause =
     let other : bytes ≡ ended (header_line g config) ++ (text_of_lines (held_lines k) ++ rest) = begins.text ∙ begun_front g config k rest begins.of_config in
     let formats : g ≡ f = sym (one_format config f g (behind f m) (text_of_lines (held_lines k) ++ rest) (sym whole ∙ other)) in
     let texts : behind f m ≡ text_of_lines (held_lines k) ++ rest =
     append_cancel_left (ended (header_line f config)) (behind f m) (text_of_lines (held_lines k) ++ rest)
-        (sym whole ∙ other ∙ ap (λ x. ended (header_line x config) ++ (text_of_lines (held_lines k) ++ rest)) formats)
-        in
+    (sym whole ∙ other ∙ ap (λ x. ended (header_line x config) ++ (text_of_lines (held_lines k) ++ rest)) formats)
+    in
     refused_next f m k rest e calm ample
-        (tail_of config f m k rest is valid begins.valid same begins.of_config told texts)
-        (subst (λ x. RefusesNext x k (Some rest) e) formats cause)
+    (tail_of config f m k rest is valid begins.valid same begins.of_config told texts)
+    (subst (λ x. RefusesNext x k (Some rest) e) formats cause)
 
 -- a stream that is read is not refused
 pub not_refused : (config : Configuration) (bytes : List ℕ) (m : Meaning) (e : SyncError) → IsConfiguration config
@@ -295,5 +295,5 @@ not_refused config bytes m e is calm ample read (inl first) =
     (read.text ∙ front_text read.format config m read.of_config) first
 not_refused config bytes m e is calm ample read (inr fault) =
     refused_behind config read.format bytes m e is calm ample read.valid read.of_config read.told
-        (read.text ∙ front_text read.format config m read.of_config) fault.format fault.m fault.left fault.begins
-        fault.cause
+    (read.text ∙ front_text read.format config m read.of_config) fault.format fault.m fault.left fault.begins
+    fault.cause

@@ -28,10 +28,10 @@ pub same-question : (bytes : List ℕ) (p q : Question) (left rest : List ℕ) �
     → bytes ≡ question_text p ++ left → bytes ≡ question_text q ++ rest → IsSameQuestion p q left rest
 same-question bytes p q left rest is valid e f =
     let line = same-line bytes (asked_text (asked_of p)) (asked_text (asked_of q)) left rest
-        (plain-asked (asked_of p) is.asked) (plain-asked (asked_of q) valid.asked) e f in
+    (plain-asked (asked_of p) is.asked) (plain-asked (asked_of q) valid.asked) e f in
     let asked : asked_of p ≡ asked_of q =
-        one-asked (asked_text (asked_of p)) (asked_of p) (asked_of q) (asked-line p is)
-        (record { is = valid.asked; spelt = line.line }) in
+    one-asked (asked_text (asked_of p)) (asked_of p) (asked_of q) (asked-line p is)
+    (record { is = valid.asked; spelt = line.line }) in
     record { question = ap (λ (a : Asked). a.question) asked; behind = line.rest }
 
 pub one-question : (bytes : List ℕ) (p q : Question) (left rest : Option (List ℕ)) → IsAskable p → IsAskable q
@@ -78,8 +78,8 @@ module _ (config : Option Configuration) (bytes : List ℕ) (q : Question) (left
   bad-first : (new : Option (List ℕ)) (e : SyncError) → e ≢ NoMemory → HasBadFirstLine (RefusesAsked config) (Some bytes) new e → ⊥
   bad-first new e ample h =
       no-bad-question config q e is own ample
-          (first-cause (RefusesAsked config) bytes (asked_text (asked_of q)) left new e
-          (plain-asked (asked_of q) is.asked) begins h)
+      (first-cause (RefusesAsked config) bytes (asked_text (asked_of q)) left new e
+      (plain-asked (asked_of q) is.asked) begins h)
 
   pub no-question-fault : (new : Option (List ℕ)) (e : SyncError) → e ≢ Io → e ≢ NoMemory → RefusesQuestion config (Some bytes) new e → ⊥
   no-question-fault new BadHeader calm ample h = bad-first new BadHeader ample h

@@ -105,8 +105,11 @@ pub gained_pushed : (old : Meaning) (content : State) (entry : Entry)
     → with_entry entry (meaning_gained old content) ≡ meaning_gained old (pushed entry content)
 gained_pushed old content (Record x) =
     ap (λ records. meaning_of_state old.config
-        (record { held = with_items receipt_cmp content.held old.held; records = records }))
-        (sym (joined_one distrust_cmp content.records old.records x))
+    (record { held = with_items receipt_cmp content.held old.held; records = records }))
+    (sym (joined_one distrust_cmp content.records old.records x))
 gained_pushed old content (AReceipt r) =
-    ap (λ held. meaning_of_state old.config (record { held = held; records =
-        with_items distrust_cmp content.records old.records })) (sym (joined_one receipt_cmp content.held old.held r))
+    ap (λ held. meaning_of_state old.config (record {
+      held = held;
+      records =
+          with_items distrust_cmp content.records old.records;
+    })) (sym (joined_one receipt_cmp content.held old.held r))

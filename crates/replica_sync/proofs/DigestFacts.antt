@@ -101,7 +101,7 @@ unfolding header_of
 feedless_first format c =
     let few = few_versions format in
     feedless_both (codes "{\"config\":\"") (digits_of c ++ (codes "\",\"format\":" ++
-        (decimal (version_of format) ++ codes "}"))) (feedless_by (codes "{\"config\":\"") refl)
+    (decimal (version_of format) ++ codes "}"))) (feedless_by (codes "{\"config\":\"") refl)
     (feedless_both (digits_of c) (codes "\",\"format\":" ++ (decimal (version_of format) ++ codes "}")) (feedless_digits (digits_of c) (each_of_config c))
     (feedless_both (codes "\",\"format\":") (decimal (version_of format) ++ codes "}") (feedless_by (codes "\",\"format\":") refl)
     (feedless_both (decimal (version_of format)) (codes "}") (feedless_decimal (version_of format) (omega (arith, few))) (feedless_by (codes "}") refl))))

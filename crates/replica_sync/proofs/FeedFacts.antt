@@ -48,8 +48,8 @@ unfolding escape_byte
 feedless_byte b =
     escaped_cases (nat_lt 0 (escape_letter b)) (nat_lt b 32) b (escape_letter b) (digit_char (b / 16)) (digit_char (b % 16))
     (letter_cases ((b == 34) || (b == 92)) (b == 8) (b == 12) (b == 10) (b == 13) (b == 9) b
-        (λ quote ten. let no : ((10 == 34) || (10 == 92)) ≡ true =
-        subst (λ x. ((x == 34) || (x == 92)) ≡ true) ten quote in cc))
+    (λ quote ten. let no : ((10 == 34) || (10 == 92)) ≡ true =
+    subst (λ x. ((x == 34) || (x == 92)) ≡ true) ten quote in cc))
     (digit_char_small (nat_lt (b / 16) 10) (b / 16)) (digit_char_small (nat_lt (b % 16) 10) (b % 16))
     (λ short control ten. let no : nat_lt 10 32 ≡ false = subst (λ x. nat_lt x 32 ≡ false) ten control in cc)
 

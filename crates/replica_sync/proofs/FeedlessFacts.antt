@@ -45,8 +45,8 @@ feedless-later : (ids : List (List ℕ)) → AllByRecursion IsDigest ids → Fee
 feedless-later [] h = tt
 feedless-later (id ∷ ids) h =
     feedless_both (codes "," ++ quoted id) (later_text ids)
-        (feedless_both (codes ",") (quoted id) (feedless-by (codes ",") refl) (feedless-quoted id h.0))
-        (feedless-later ids h.1)
+    (feedless_both (codes ",") (quoted id) (feedless-by (codes ",") refl) (feedless-quoted id h.0))
+    (feedless-later ids h.1)
 
 feedless-ids : (ids : List (List ℕ)) → AllByRecursion IsDigest ids → Feedless (join_by quoted (codes ",") ids)
 feedless-ids [] h = tt

@@ -53,8 +53,8 @@ one-quoted : (a b more rest : List ℕ) → IsDigest a → IsDigest b → quoted
 one-quoted a b more rest p q e =
     let inner : (encode_lower a ++ codes "\"") ++ more ≡ (encode_lower b ++ codes "\"") ++ rest = append_cancel_left (codes "\"") _ _ e in
     let parts = one-digest a b (codes "\"" ++ more) (codes "\"" ++ rest) p q
-        (sym (append_assoc (encode_lower a) (codes "\"") more) ∙ inner ∙ append_assoc (encode_lower b) (codes "\"")
-        rest) in
+    (sym (append_assoc (encode_lower a) (codes "\"") more) ∙ inner ∙ append_assoc (encode_lower b) (codes "\"")
+    rest) in
     (parts.0, append_cancel_left (codes "\"") more rest parts.1)
 
 one-later : (ids others : List (List ℕ)) (more rest : List ℕ) → AllByRecursion IsDigest ids
@@ -87,11 +87,11 @@ pub one-asked : (text : List ℕ) (a b : Asked) → IsAskedLine text a → IsAsk
 one-asked text a b p q =
     let whole = sym (whole-line text a p.spelt) ∙ whole-line text b q.spelt in
     let bucket = one-number a.question.bucket b.question.bucket 44 44 (behind_bucket a) (behind_bucket b)
-        (small-bucket a p.is) (small-bucket b q.is) refl refl (append_cancel_left (codes "{\"bucket\":") _ _ whole) in
+    (small-bucket a p.is) (small-bucket b q.is) refl refl (append_cancel_left (codes "{\"bucket\":") _ _ whole) in
     let config = one-digest a.question.config b.question.config (behind_config a) (behind_config b) p.is.config
-        q.is.config (append_cancel_left (codes ",\"config\":\"") _ _ bucket.1) in
+    q.is.config (append_cancel_left (codes ",\"config\":\"") _ _ bucket.1) in
     let format = one-number a.format b.format 44 44 (behind_format a) (behind_format b) p.is.format q.is.format refl
-        refl (append_cancel_left (codes "\",\"format\":") _ _ config.1) in
+    refl (append_cancel_left (codes "\",\"format\":") _ _ config.1) in
     let ids = one-list a.question.ids b.question.ids (behind_ids a) (behind_ids b) p.is.ids q.is.ids (append_cancel_left (codes ",\"have\":[") _ _ format.1) in
     let buckets = one-number a.buckets b.buckets 125 125 [] [] p.is.buckets q.is.buckets refl refl (append_cancel_left (codes ",\"of\":") _ _ ids.1) in
     λ i. record { question = record { bucket = bucket.0 i; config = config.0 i; ids = ids.0 i }; format = format.0 i; buckets = buckets.0 i }
@@ -103,14 +103,14 @@ one-part : (m n : Option ℕ) (more rest : List ℕ) → IfSome m (λ k. k < 2 ^
 one-part None None more rest p q e = (refl, append_cancel_left format_label more rest e)
 one-part None (Some n) more rest p q e =
     absurd (no-records (format_label ++ more) (decimal n ++ (format_label ++ rest)) more
-        (e ∙ append_assoc records_label (decimal n) (format_label ++ rest)) refl)
+    (e ∙ append_assoc records_label (decimal n) (format_label ++ rest)) refl)
 one-part (Some m) None more rest p q e =
     absurd (no-records (format_label ++ rest) (decimal m ++ (format_label ++ more)) rest
-        (sym e ∙ append_assoc records_label (decimal m) (format_label ++ more)) refl)
+    (sym e ∙ append_assoc records_label (decimal m) (format_label ++ more)) refl)
 one-part (Some m) (Some n) more rest p q e =
     let both = sym (append_assoc records_label (decimal m) (format_label ++ more)) ∙ e ∙ append_assoc records_label (decimal n) (format_label ++ rest) in
     let number = one-number m n 44 44 (drop 1 (format_label ++ more)) (drop 1 (format_label ++ rest)) p q refl refl
-        (append_cancel_left records_label _ _ both) in
+    (append_cancel_left records_label _ _ both) in
     (ap Some number.0, append_cancel_left format_label more rest number.1)
 
 pub one-told : (text : List ℕ) (a b : GiveHeader) → IsToldLine text a → IsToldLine text b → a ≡ b
@@ -124,15 +124,15 @@ one-told text a b p q =
     let few : a.bucket < 2 ^ 64 = let below = p.is.bucket in let many = p.is.buckets in omega (arith, below, many) in
     let few_too : b.bucket < 2 ^ 64 = let below = q.is.bucket in let many = q.is.buckets in omega (arith, below, many) in
     let whole : codes "{\"bucket\":" ++ (decimal a.bucket ++ configured a)
-        ≡ codes "{\"bucket\":" ++ (decimal b.bucket ++ configured b) = sym p.spelt ∙ q.spelt in
+    ≡ codes "{\"bucket\":" ++ (decimal b.bucket ++ configured b) = sym p.spelt ∙ q.spelt in
     let bucket = one-number a.bucket b.bucket 44 44 (drop 1 (configured a)) (drop 1 (configured b)) few few_too refl
-        refl (append_cancel_left (codes "{\"bucket\":") _ _ whole) in
+    refl (append_cancel_left (codes "{\"bucket\":") _ _ whole) in
     let config = one-digest a.config b.config (counted a) (counted b) p.is.config q.is.config (append_cancel_left (codes ",\"config\":\"") _ _ bucket.1) in
     let counts : decimal a.count ++ behind a ≡ decimal b.count ++ behind b = append_cancel_left (codes "\",\"count\":") _ _ config.1 in
     let count = one-number a.count b.count 44 44 (drop 1 (behind a)) (drop 1 (behind b)) p.is.count q.is.count refl refl
     (ap (λ t. decimal a.count ++ t) (sym (part-begins a.distrusts (later a))) ∙ counts ∙ ap (λ t. decimal b.count ++ t) (part-begins b.distrusts (later b))) in
     let records = one-part a.distrusts b.distrusts (later a) (later b) (few-records a.format a.distrusts p.is.records)
-        (few-records b.format b.distrusts q.is.records)
+    (few-records b.format b.distrusts q.is.records)
     (part-begins a.distrusts (later a) ∙ count.1 ∙ sym (part-begins b.distrusts (later b))) in
     let format = one-number a.format b.format 44 44 (drop 1 (last a)) (drop 1 (last b)) p.is.format q.is.format refl refl records.1 in
     let buckets = one-number a.buckets b.buckets 125 125 [] [] p.is.buckets q.is.buckets refl refl (append_cancel_left (codes ",\"of\":") _ _ format.1) in

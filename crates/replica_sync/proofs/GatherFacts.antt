@@ -68,7 +68,7 @@ rising-pushed : (lines : List (List ℕ)) (text : List ℕ) → IsStrictlySorted
 rising-pushed [] text rising below = rising-one text
 rising-pushed (x ∷ lines) text rising below =
     rising-more x (lines ++ text ∷ []) (above-pushed x text lines (rising_head text_cmp x lines rising) below.0)
-        (rising-pushed lines text (rising_tail text_cmp x lines rising) below.1)
+    (rising-pushed lines text (rising_tail text_cmp x lines rising) below.1)
 
 rising-none : IsStrictlySortedBy text_cmp []
 unfolding IsStrictlySortedBy
@@ -113,7 +113,7 @@ module _ (count distrusts : ℕ) (old : State) (begun : IsBegun count distrusts 
   grows-by-record text x more next =
       let longer : length (old.records ++ x ∷ []) ≡ length old.records + 1 = length-append old.records (x ∷ []) in
       let lines : content_lines (pushed (Record x) old) ≡ content_lines old ++ text ∷ [] =
-          lines-with-record old x (begun.order more) ∙ ap (λ t. content_lines old ++ t ∷ []) (sym next.is.spelt) in
+      lines-with-record old x (begun.order more) ∙ ap (λ t. content_lines old ++ t ∷ []) (sym next.is.spelt) in
       record {
         begun = record {
           valid = record { receipts = begun.valid.receipts; records = all-pushed _ old.records x begun.valid.records next.is.is };
@@ -131,7 +131,7 @@ module _ (count distrusts : ℕ) (old : State) (begun : IsBegun count distrusts 
   grows-by-receipt text r all more next =
       let longer : length (old.held ++ r ∷ []) ≡ length old.held + 1 = length-append old.held (r ∷ []) in
       let lines : content_lines (pushed (AReceipt r) old) ≡ content_lines old ++ text ∷ [] =
-          lines-with-receipt old r ∙ ap (λ t. content_lines old ++ t ∷ []) (sym next.is.spelt) in
+      lines-with-receipt old r ∙ ap (λ t. content_lines old ++ t ∷ []) (sym next.is.spelt) in
       record {
         begun = record {
           valid = record { receipts = all-pushed _ old.held r begun.valid.receipts next.is.is; records = begun.valid.records };
@@ -194,20 +194,26 @@ content-text : (content : State) → text_of_lines (content_lines content) ≡ f
 content-text content =
     lines-of distrust_line content.records (map line content.held)
     ∙ ap (λ t. flat_map record_text content.records ++ t)
-        (ap text_of_lines (sym (append-nil (map line content.held))) ∙ lines-of line content.held []
-        ∙ append-nil (flat_map receipt_text content.held))
+    (ap text_of_lines (sym (append-nil (map line content.held))) ∙ lines-of line content.held []
+    ∙ append-nil (flat_map receipt_text content.held))
 
 told-whole : (h : Head) (content : State) → IsWhole h.count h.distrusts content
     → told_by_head h ≡ told_of (record { bucket = h.bucket; config = h.config.0; content = content })
-told-whole h content whole = λ i. record { bucket = h.bucket; config = h.config.0; count = sym whole.receipts i;
-    distrusts = Some (sym whole.records i); format = 2; buckets = 256 }
+told-whole h content whole = λ i. record {
+  bucket = h.bucket;
+  config = h.config.0;
+  count = sym whole.receipts i;
+  distrusts = Some (sym whole.records i);
+  format = 2;
+  buckets = 256;
+}
 
 pub whole-reply : (old middle new : Option (List ℕ)) (h : Head) (content : State) → HasHead None old middle h
     → GathersAll h.count h.distrusts middle content new
     → Consumes old new (reply_text (record { bucket = h.bucket; config = h.config.0; content = content }))
 whole-reply old middle new h content head all =
     let first : head.text ≡ told_text (told_of (record { bucket = h.bucket; config = h.config.0; content = content })) =
-        head.tells.tells.line.spelt ∙ ap told_text (told-whole h content all.whole) in
+    head.tells.tells.line.spelt ∙ ap told_text (told-whole h content all.whole) in
     subst (Consumes old new) ((λ i. ended (first i) ++ content-text content i))
     (consumes_both old middle new (ended head.text) (text_of_lines (content_lines content)) head.is.1 all.gathers.text)
 

@@ -54,8 +54,8 @@ short-part t is = by-count t.distrusts is.records
 
 parts-length : (b c n d f k : List ℕ)
     → length (codes "{\"bucket\":" ++
-        (b ++ (codes ",\"config\":\"" ++ (c ++ (codes "\",\"count\":" ++
-        (n ++ (d ++ (codes ",\"format\":" ++ (f ++ (codes ",\"of\":" ++ (k ++ codes "}")))))))))))
+    (b ++ (codes ",\"config\":\"" ++ (c ++ (codes "\",\"count\":" ++
+    (n ++ (d ++ (codes ",\"format\":" ++ (f ++ (codes ",\"of\":" ++ (k ++ codes "}")))))))))))
     ≡ length b + length c + length n + length d + length f + length k + 48
 parts-length b c n d f k = simp length-append (omega arith)
 
@@ -121,7 +121,7 @@ same-lines : (m k : State) (rest after : List ℕ) → IsContent m → IsContent
     → content_lines m ++ (lines_of rest).whole ≡ content_lines k ++ (lines_of after).whole
 same-lines m k rest after is valid e =
     ap (λ (l : Lines). l.whole) (sym (lines_back (content_lines m) rest (feedless-content m is)) ∙ ap lines_of e
-        ∙ lines_back (content_lines k) after (feedless-content k valid))
+    ∙ lines_back (content_lines k) after (feedless-content k valid))
 
 -- ---- one answer
 
@@ -147,19 +147,19 @@ pub same-reply : (bytes : List ℕ) (a b : Reply) (left rest : List ℕ) → IsA
     → bytes ≡ reply_text a ++ left → bytes ≡ reply_text b ++ rest → IsSameReply a b left rest
 same-reply bytes a b left rest is valid e f =
     let first = same-line bytes (told_text (told_of a)) (told_text (told_of b)) _ _ (plain-told (told_of a) is.told)
-        (plain-told (told_of b) valid.told) (in-lines bytes a left e) (in-lines bytes b rest f) in
+    (plain-told (told_of b) valid.told) (in-lines bytes a left e) (in-lines bytes b rest f) in
     let told : told_of a ≡ told_of b =
-        one-told (told_text (told_of a)) (told_of a) (told_of b) (told-line a is)
-        (record { is = valid.told; spelt = first.line }) in
+    one-told (told_text (told_of a)) (told_of a) (told_of b) (told-line a is)
+    (record { is = valid.told; spelt = first.line }) in
     let receipts : length a.content.held ≡ length b.content.held = ap (λ (t : GiveHeader). t.count) told in
     let records : length a.content.records ≡ length b.content.records = some-once _ _ (ap (λ (t : GiveHeader). t.distrusts) told) in
     let many = count-lines a.content in
     let many_too = count-lines b.content in
     let lines = same-front (content_lines a.content) (content_lines b.content) _ _
-        (omega (arith, receipts, records, many, many_too))
-        (same-lines a.content b.content left rest is.valid valid.valid first.rest) in
+    (omega (arith, receipts, records, many, many_too))
+    (same-lines a.content b.content left rest is.valid valid.valid first.rest) in
     let sets = held_back a.content.records b.content.records a.content.held b.content.held is.valid.records
-        valid.valid.records is.valid.receipts valid.valid.receipts lines.0 in
+    valid.valid.records is.valid.receipts valid.valid.receipts lines.0 in
     record {
       reply = λ i. record { bucket = (told i).bucket; config = (told i).config; content = record { held = sets.receipts i; records = sets.records i } };
       behind = append_cancel_left (text_of_lines (content_lines b.content)) left rest
@@ -213,11 +213,11 @@ entry-at : (wanted : Wanted) (count distrusts : ℕ) (whole content : State) (te
     → Wants count distrusts content wanted → content_lines whole ≡ content_lines content ++ text ∷ later → (entry : Entry) × IsEntry wanted text entry
 entry-at Records count distrusts whole content text later is begun receipts records wants e =
     let none : content_lines content ≡ map distrust_line content.records =
-        ap (λ held. map distrust_line content.records ++ map line held) (begun.order wants)
-        ∙ append-nil (map distrust_line content.records) in
+    ap (λ held. map distrust_line content.records ++ map line held) (begun.order wants)
+    ∙ append-nil (map distrust_line content.records) in
     let few = length-map content.records distrust_line in
     let at = stands-at IsDistrust distrust_line whole.records (map line whole.held) (map distrust_line content.records)
-        later text is.records (e ∙ ap (λ ls. ls ++ text ∷ later) none) (omega (arith, few, records, wants)) in
+    later text is.records (e ∙ ap (λ ls. ls ++ text ∷ later) none) (omega (arith, few, records, wants)) in
     (Record at.it, record { is = at.is; spelt = at.spelt })
 entry-at Receipts count distrusts whole content text later is begun receipts records wants e =
     let all = wants.0 in
@@ -225,12 +225,12 @@ entry-at Receipts count distrusts whole content text later is begun receipts rec
     let many = length-map whole.records distrust_line in
     let many_too = length-map content.records distrust_line in
     let behind =
-        (same-front (map distrust_line whole.records) (map distrust_line content.records) (map line whole.held)
-        (map line content.held ++ text ∷ later) (omega (arith, many, many_too, all, records))
+    (same-front (map distrust_line whole.records) (map distrust_line content.records) (map line whole.held)
+    (map line content.held ++ text ∷ later) (omega (arith, many, many_too, all, records))
     (e ∙ append_assoc (map distrust_line content.records) (map line content.held) (text ∷ later))).1 in
     let few = length-map content.held line in
     let at = stands-at IsReceipt line whole.held [] (map line content.held) later text is.receipts
-        (append-nil (map line whole.held) ∙ behind) (omega (arith, few, receipts, more)) in
+    (append-nil (map line whole.held) ∙ behind) (omega (arith, few, receipts, more)) in
     (AReceipt at.it, record { is = at.is; spelt = at.spelt })
 entry-at Either count distrusts whole content text later is begun receipts records wants e = absurd wants
 
@@ -244,7 +244,7 @@ last-above : (before text : List ℕ) (xs later : List (List ℕ)) → text_cmp 
 last-above before text [] later h rising = h
 last-above before text (x ∷ xs) later h rising =
     last-above x text xs later (all_back (λ y. text_cmp x y ≡ Less) xs (text ∷ later)
-        (rising_head text_cmp x (xs ++ text ∷ later) rising)).0 (rising_tail text_cmp x (xs ++ text ∷ later) rising)
+    (rising_head text_cmp x (xs ++ text ∷ later) rising)).0 (rising_tail text_cmp x (xs ++ text ∷ later) rising)
 
 -- It is the line behind this beginning of the whole.
 pub record IsGood (whole content : State) (wanted : Wanted) (text : List ℕ) : Type 0 where
@@ -282,7 +282,7 @@ module _ (whole content : State) (count distrusts : ℕ) (rest after : List ℕ)
   next-line : (wanted : Wanted) → Wants count distrusts content wanted → HasFurther (content_lines content) (lines_of rest).whole (content_lines whole)
   next-line wanted wants =
       further (content_lines content) (lines_of rest).whole (content_lines whole) (lines_of after).whole part.lines
-          (fewer count distrusts whole content wanted part.begun part.receipts part.records wants)
+      (fewer count distrusts whole content wanted part.begun part.receipts part.records wants)
 
   good-line : (wanted : Wanted) (text : List ℕ) (later : List (List ℕ)) → Wants count distrusts content wanted
       → content_lines whole ≡ content_lines content ++ text ∷ later → IsGood whole content wanted text
@@ -363,7 +363,7 @@ module _ (expected : Option Expected) (bytes : List ℕ) (r : Reply) (after : Li
   is-part count distrusts content rest b =
       let line = b.heads.tells.line in
       let first = same-line bytes b.first (told_text (told_of r)) _ _
-          (subst HasNoFeed (sym line.spelt) (plain-told b.heads.told line.is)) (plain-told (told_of r) is.told)
+      (subst HasNoFeed (sym line.spelt) (plain-told b.heads.told line.is)) (plain-told (told_of r) is.told)
       (b.text ∙ append_assoc (ended b.first) (text_of_lines (content_lines content)) rest) (in-lines bytes r after begins) in
       let told : b.heads.told ≡ told_of r = one-told b.first b.heads.told (told_of r) line (record { is = is.told; spelt = first.line }) in
       record {
@@ -377,7 +377,7 @@ module _ (expected : Option Expected) (bytes : List ℕ) (r : Reply) (after : Li
       → Type 0) (count distrusts : ℕ) (content : State) (left new : Option (List ℕ)) (e : SyncError)
       → ((wanted : Wanted) (text : List ℕ) → IsGood r.content content wanted text → refuses wanted (last_of (content_lines content)) text e → ⊥)
       → e ≢ Io → e ≢ NoMemory → AnswerBegins expected (Some bytes) count distrusts content left
-          → RefusesNextEntry refuses count distrusts content left new e → ⊥
+      → RefusesNextEntry refuses count distrusts content left new e → ⊥
   no-fault-behind refuses count distrusts content None new e welcome calm ample b h = b.text
   no-fault-behind refuses count distrusts content (Some rest) new e welcome calm ample b h =
       no-next-fault r.content content count distrusts rest after is.valid is.rising (is-part count distrusts content rest b) refuses new e welcome calm ample h

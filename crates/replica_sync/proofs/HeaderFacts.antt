@@ -47,14 +47,14 @@ long_rest text rest digits number e l s =
 pub told_digits : (text rest digits number : List ℕ) → text ≡ first_label ++ rest → IsSplit text digits number → take 64 rest ≡ digits
 told_digits text rest digits number e s =
     ap (take 64) (behind_first text rest digits number e s)
-        ∙ ap (λ n. take n (digits ++ behind_digits number)) (sym s.size)
-        ∙ take-append_seam digits (behind_digits number)
+    ∙ ap (λ n. take n (digits ++ behind_digits number)) (sym s.size)
+    ∙ take-append_seam digits (behind_digits number)
 
 pub behind_second : (text rest digits number : List ℕ) → text ≡ first_label ++ rest → IsSplit text digits number → drop 64 rest ≡ behind_digits number
 behind_second text rest digits number e s =
     ap (drop 64) (behind_first text rest digits number e s)
-        ∙ ap (λ n. drop n (digits ++ behind_digits number)) (sym s.size)
-        ∙ drop-append_seam digits (behind_digits number)
+    ∙ ap (λ n. drop n (digits ++ behind_digits number)) (sym s.size)
+    ∙ drop-append_seam digits (behind_digits number)
 
 pub behind_third : (text rest last digits number : List ℕ) → text ≡ first_label ++ rest
     → drop 64 rest ≡ second_label ++ last → IsSplit text digits number → last ≡ number ++ codes "}"
@@ -75,7 +75,7 @@ one_split text d n d' n' s t =
     let e = has_first text d n s in
     let digits : d ≡ d' = sym (told_digits text (d ++ behind_digits n) d n e s) ∙ told_digits text (d ++ behind_digits n) d' n' e t in
     let tails : behind_digits n ≡ behind_digits n' =
-        sym (behind_second text (d ++ behind_digits n) d n e s) ∙ behind_second text (d ++ behind_digits n) d' n' e t in
+    sym (behind_second text (d ++ behind_digits n) d n e s) ∙ behind_second text (d ++ behind_digits n) d' n' e t in
     (digits, append_cancel_right n n' (codes "}") (append_cancel_left second_label (n ++ codes "}") (n' ++ codes "}") tails))
 
 pub header_split : (text digits : List ℕ) (version : ℕ) → IsHeader text digits version → IsSplit text digits (decimal version)

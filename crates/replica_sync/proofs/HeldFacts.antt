@@ -105,7 +105,7 @@ module _ (total : IsTotalOrder receipt_cmp) (records_total : IsTotalOrder distru
       at_end receipt_cmp r m.held
       (below_text IsReceipt receipt_cmp line same_line r m.held is valid.receipts total
       (all_back (λ y. text_cmp y (line r) ≡ Less) (map distrust_line m.records) (map line m.held)
-          (below_last (held_lines m) (line r) (lines_rise m valid) above)))
+      (below_last (held_lines m) (line r) (lines_rise m valid) above)))
 
   record_joins : (m : Meaning) (x : Distrust) → IsMeaning m → IsDistrust x → IsAbove (last_line m) (distrust_line x)
       → (with_item distrust_cmp x m.records ≡ m.records ++ x ∷ []) × (m.held ≡ [])
@@ -156,7 +156,7 @@ module _ (total : IsTotalOrder receipt_cmp) (records_total : IsTotalOrder distru
       → IsFurther Second m (distrust_line x) (with_entry (Record x) m)
   further_record m x valid is above =
       let longer : length (with_item distrust_cmp x m.records) ≡ length m.records + 1 =
-          ap length (record_joins m x valid is above).0 ∙ length-append m.records (x ∷ []) in
+      ap length (record_joins m x valid is above).0 ∙ length-append m.records (x ∷ []) in
       record {
         of_config = refl;
         told = tt;

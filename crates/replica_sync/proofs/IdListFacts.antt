@@ -36,8 +36,8 @@ not_behind front rest place first more =
     let within : place < length text = first.within in
     let size : length (take place text) ≡ place = length-take place text ∙ omega arith in
     bracket-fails (get_or (take place text) (length front) 0)
-        (get_or-take place text (length front) 0 more ∙ get_or-append_seam front 93 rest 0)
-        (first.before (length front) 0 (omega (arith, size)))
+    (get_or-take place text (length front) 0 more ∙ get_or-append_seam front 93 rest 0)
+    (first.before (length front) 0 (omega (arith, size)))
 
 seam : (text front rest : List ℕ) (place : ℕ) → AllPass is_inside front → text ≡ front ++ 93 ∷ rest → FirstFails is_inside text place → place ≡ length front
 seam text front rest place plain e first =
@@ -53,9 +53,11 @@ no_bracket text front rest e all =
 
 -- a text of two parts is parted where the first ends
 parted : (text front back : List ℕ) (place : ℕ) → text ≡ front ++ back → place ≡ length front → (take place text ≡ front) × (drop place text ≡ back)
-parted text front back place e p =
-    (ap (take place) e ∙ ap (λ n. take n (front ++ back)) p ∙ take-append_seam front back, ap (drop place) e
-        ∙ ap (λ n. drop n (front ++ back)) p ∙ drop-append_seam front back)
+parted text front back place e p = (
+  ap (take place) e ∙ ap (λ n. take n (front ++ back)) p ∙ take-append_seam front back,
+  ap (drop place) e
+      ∙ ap (λ n. drop n (front ++ back)) p ∙ drop-append_seam front back,
+)
 
 pub at_bracket : (text front rest : List ℕ) (place : ℕ) → AllPass is_inside front → text ≡ front ++ 93 ∷ rest
     → FirstFails is_inside text place → (take place text ≡ front) × (drop place text ≡ 93 ∷ rest)
@@ -137,8 +139,8 @@ without-comma (id ∷ ids) = refl
 pub some-first : (text first rest digest : List ℕ) (ids : List (List ℕ)) (found : ReceiptId) (back : Bor (List ℕ))
     → AllByRecursion IsDigest ids → text ≡ join_by quoted (codes ",") ids → 66 ≤ length text
     → first ≡ take 66 text → rest ≡ drop 66 text
-        → ((d behind : List ℕ) → IsDigest d
-        → first ≡ codes "\"" ++ (encode_lower d ++ behind) → digest ≡ d) → found.0 ≡ digest → back.now ≡ drop 1 rest
+    → ((d behind : List ℕ) → IsDigest d
+    → first ≡ codes "\"" ++ (encode_lower d ++ behind) → digest ≡ d) → found.0 ≡ digest → back.now ≡ drop 1 rest
     → TakesId ids (Some (found, back))
 some-first text first rest digest [] found back h e long f r told same b = absurd (omega (arith, long, ap length e))
 some-first text first rest digest (id ∷ ids) found back h e long f r told same b =

@@ -109,7 +109,7 @@ no_fault_of_good format m text Truncated good ample h = h
 no_fault_of_good format m text (Refused n why) good ample h =
     let refused = h.cause.2 in
     good.welcome why h.cause.1 (subst (λ (x : Entry). RefusesEntry m x why)
-        (one_entry format text refused.entry good.entry refused.next.is good.is) refused.cause)
+    (one_entry format text refused.entry good.entry refused.next.is good.is) refused.cause)
 no_fault_of_good format m text Io good ample h = h
 no_fault_of_good format m text NoMemory good ample h = ample refl
 
@@ -125,21 +125,21 @@ last_above : (before text : List ℕ) (xs later : List (List ℕ)) → text_cmp 
 last_above before text [] later h rising = h
 last_above before text (x ∷ xs) later h rising =
     last_above x text xs later (all_back (λ y. text_cmp x y ≡ Less) xs (text ∷ later)
-        (rising_head text_cmp x (xs ++ text ∷ later) rising)).0 (rising_tail text_cmp x (xs ++ text ∷ later) rising)
+    (rising_head text_cmp x (xs ++ text ∷ later) rising)).0 (rising_tail text_cmp x (xs ++ text ∷ later) rising)
 
 rises : (m k : Meaning) (text : List ℕ) (later : List (List ℕ)) → IsMeaning m
     → held_lines m ≡ held_lines k ++ text ∷ later → IsAbove [] text → IsAbove (last_line k) text
 rises m k text later valid e above =
     last_above [] text (held_lines k) later above
-        (subst (IsStrictlySortedBy text_cmp) e
-        (lines_rise receipt_total distrust_total distrust_order record_first m valid))
+    (subst (IsStrictlySortedBy text_cmp) e
+    (lines_rise receipt_total distrust_total distrust_order record_first m valid))
 
 welcome_record : (m k : Meaning) (x : Distrust) (later : List Distrust) (why : TakeError) → IsMeaning m
     → k.config ≡ m.config → m.records ≡ k.records ++ x ∷ later → RefusesEntry k (Record x) why → ⊥
 welcome_record m k x later UnknownDomain valid same more h =
     h (subst (λ c. HasDomain c x.domain) (sym same)
-        (all_back (λ (y : Distrust). HasDomain m.config y.domain) k.records (x ∷ later)
-        (subst (AllByRecursion (λ (y : Distrust). HasDomain m.config y.domain)) more valid.domains)).0)
+    (all_back (λ (y : Distrust). HasDomain m.config y.domain) k.records (x ∷ later)
+    (subst (AllByRecursion (λ (y : Distrust). HasDomain m.config y.domain)) more valid.domains)).0)
 welcome_record m k x later WrongEndpoint valid same more h = h
 welcome_record m k x later Full valid same more h =
     let longer : length m.records ≡ length k.records + length (x ∷ later) = ap length more ∙ length-append k.records (x ∷ later) in

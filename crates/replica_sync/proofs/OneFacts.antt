@@ -49,7 +49,7 @@ pub apart : (x : Distrust) (r : Receipt) → IsDistrust x → IsReceipt r → di
 apart x r p q e =
     let less : slice_cmp nat_cmp (distrust_line x) (line r) ≡ Less = record_first x r p q in
     let same : slice_cmp nat_cmp (distrust_line x) (line r) ≡ Equal =
-        ap (slice_cmp nat_cmp (distrust_line x)) (sym e) ∙ tied_itself nat_list_cmp_total (distrust_line x) in
+    ap (slice_cmp nat_cmp (distrust_line x)) (sym e) ∙ tied_itself nat_list_cmp_total (distrust_line x) in
     cc
 
 pub record Same (xs ys : List Distrust) (rs ss : List Receipt) : Type 0 where
@@ -100,28 +100,54 @@ feedless_records_part First records h = tt
 feedless_records_part Second records h = feedless_both (codes ",\"distrusts\":") (decimal records) (plain_label) (feedless_decimal records h)
   where
     plain_label : Feedless (codes ",\"distrusts\":")
-    plain_label =
-        ((λ e. omega arith),
-        ((λ e. omega arith),
-        ((λ e. omega arith),
-        ((λ e. omega arith),
-        ((λ e. omega arith),
-        ((λ e. omega arith),
-        ((λ e. omega arith),
-        ((λ e. omega arith),
-        ((λ e. omega arith),
-        ((λ e. omega arith), ((λ e. omega arith), ((λ e. omega arith), ((λ e. omega arith), tt)))))))))))))
+    plain_label = (
+      (λ e. omega arith),
+      (
+        (λ e. omega arith),
+        (
+          (λ e. omega arith),
+          (
+            (λ e. omega arith),
+            (
+              (λ e. omega arith),
+              (
+                (λ e. omega arith),
+                (
+                  (λ e. omega arith),
+                  (
+                    (λ e. omega arith),
+                    (
+                      (λ e. omega arith),
+                      ((λ e. omega arith), ((λ e. omega arith), ((λ e. omega arith), ((λ e. omega arith), tt)))),
+                    ),
+                  ),
+                ),
+              ),
+            ),
+          ),
+        ),
+      ),
+    )
 
 pub feedless_count : (format : Format) (receipts records : ℕ) → receipts < 2 ^ 64 → records < 2 ^ 64 → Feedless (count_of format receipts records)
 unfolding count_of
 feedless_count format receipts records h k =
-    feedless_both count_beginning (decimal receipts ++ (records_part format records ++ codes "}"))
-    ((λ e. omega arith),
-        ((λ e. omega arith),
-        ((λ e. omega arith),
-        ((λ e. omega arith),
-        ((λ e. omega arith),
-        ((λ e. omega arith), ((λ e. omega arith), ((λ e. omega arith), ((λ e. omega arith), tt)))))))))
+    feedless_both count_beginning (decimal receipts ++ (records_part format records ++ codes "}")) (
+      (λ e. omega arith),
+      (
+        (λ e. omega arith),
+        (
+          (λ e. omega arith),
+          (
+            (λ e. omega arith),
+            (
+              (λ e. omega arith),
+              ((λ e. omega arith), ((λ e. omega arith), ((λ e. omega arith), ((λ e. omega arith), tt)))),
+            ),
+          ),
+        ),
+      ),
+    )
     (feedless_both (decimal receipts) (records_part format records ++ codes "}") (feedless_decimal receipts h)
     (feedless_both (records_part format records) (codes "}") (feedless_records_part format records k) ((λ e. omega arith), tt)))
 
@@ -129,7 +155,7 @@ pub feedless_held : (m : Meaning) → IsMeaning m → AllByRecursion Feedless (h
 feedless_held m valid =
     all_both (map distrust_line m.records) (map line m.held)
     (feedless_all IsDistrust distrust_line (λ x h. feedless_record x) m.records valid.distrusts)
-        (feedless_all IsReceipt line feedless_line m.held valid.receipts)
+    (feedless_all IsReceipt line feedless_line m.held valid.receipts)
 
 pub feedless_behind : (format : Format) (m : Meaning) → IsMeaning m → AllByRecursion Feedless (held_lines m ++ count_line format m ∷ [])
 feedless_behind format m valid =
@@ -147,12 +173,12 @@ formats_apart digits rest other e =
     let tail : List ℕ → List ℕ = λ r. codes "}" ++ ((10 ∷ []) ++ r) in
     let both = sym (regrouped a digits b (decimal 1) (codes "}") rest) ∙ e ∙ regrouped a digits b (decimal 2) (codes "}") other in
     let behind = append_cancel_left digits (b ++ (decimal 1 ++ tail rest)) (b ++ (decimal 2 ++ tail other))
-        (append_cancel_left a (digits ++ (b ++ (decimal 1 ++ tail rest))) (digits ++ (b ++ (decimal 2 ++ tail other)))
-        both) in
+    (append_cancel_left a (digits ++ (b ++ (decimal 1 ++ tail rest))) (digits ++ (b ++ (decimal 2 ++ tail other)))
+    both) in
     let numbers : decimal 1 ++ tail rest ≡ decimal 2 ++ tail other = append_cancel_left b (decimal 1 ++ tail rest) (decimal 2 ++ tail other) behind in
     let heads : 49 ∷ tail rest ≡ 50 ∷ tail other =
-        ap (λ n. n ++ tail rest) (sym (decimal_digit 1 (omega arith))) ∙ numbers
-        ∙ ap (λ n. n ++ tail other) (decimal_digit 2 (omega arith)) in
+    ap (λ n. n ++ tail rest) (sym (decimal_digit 1 (omega arith))) ∙ numbers
+    ∙ ap (λ n. n ++ tail other) (decimal_digit 2 (omega arith)) in
     let no : 49 ≡ 50 = ap (λ (xs : List ℕ). get_or xs 0 0) heads in
     omega (arith, no)
 
@@ -179,17 +205,17 @@ one_format format m n same p q e =
     let texts : text_of_lines (all_lines format m) ≡ text_of_lines (all_lines format n) = sym (snapshot_lines format m) ∙ e ∙ snapshot_lines format n in
     let split : ended (header_line format n.config) ++ text_of_lines (behind m) ≡ ended (header_line format n.config) ++ text_of_lines (behind n) =
     ap (λ c. ended (header_line format c) ++ text_of_lines (behind m)) (sym same)
-        ∙ sym (flat_map-cons ended (header_line format m.config) (behind m)) ∙ texts
-        ∙ flat_map-cons ended (header_line format n.config) (behind n) in
+    ∙ sym (flat_map-cons ended (header_line format m.config) (behind m)) ∙ texts
+    ∙ flat_map-cons ended (header_line format n.config) (behind n) in
     let later : text_of_lines (behind m) ≡ text_of_lines (behind n) =
-        append_cancel_left (ended (header_line format n.config)) (text_of_lines (behind m)) (text_of_lines (behind n))
-        split in
+    append_cancel_left (ended (header_line format n.config)) (text_of_lines (behind m)) (text_of_lines (behind n))
+    split in
     let left = lines_back (behind m) [] (feedless_behind format m p) in
     let right = lines_back (behind n) [] (feedless_behind format n q) in
     let wholes : behind m ++ [] ≡ behind n ++ [] = ap (λ (l : Lines). l.whole) (sym left ∙ ap (λ t. lines_of (t ++ [])) later ∙ right) in
     let fronts : held_lines m ≡ held_lines n =
-        front_same (held_lines m) (held_lines n) (count_line format m) (count_line format n)
-        (sym (append-nil (behind m)) ∙ wholes ∙ append-nil (behind n)) in
+    front_same (held_lines m) (held_lines n) (count_line format m) (count_line format n)
+    (sym (append-nil (behind m)) ∙ wholes ∙ append-nil (behind n)) in
     let sets = held_back m.records n.records m.held n.held p.distrusts q.distrusts p.receipts q.receipts fronts in
     λ i. record { config = same i; held = sets.receipts i; records = sets.records i }
 
@@ -202,7 +228,7 @@ other_format : (config : Configuration) (m n : Meaning) → m.config ≡ config 
 other_format config m n p q e =
     formats_apart (digits_of config) _ _
     (ap (λ c. ended (header_line First c) ++ (text_of_lines (held_lines m) ++ ended (count_line First m))) (sym p)
-        ∙ sym (front_text First m) ∙ e ∙ front_text Second n
+    ∙ sym (front_text First m) ∙ e ∙ front_text Second n
     ∙ ap (λ c. ended (header_line Second c) ++ (text_of_lines (held_lines n) ++ ended (count_line Second n))) q)
 
 by_formats : (config : Configuration) (f k : Format) (m n : Meaning) → m.config ≡ config → n.config ≡ config

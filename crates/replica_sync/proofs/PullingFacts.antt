@@ -33,18 +33,20 @@ replies_more : (config : Configuration) (start bucket : ℕ) (replies : List Rep
     → bucket ≡ start + length replies → AreReplies config start replies → IsReply config bucket reply
     → AreReplies config start (replies ++ reply ∷ [])
 replies_more config start bucket [] reply e h one = let same : bucket ≡ start = omega (arith, e) in (subst (λ (b : ℕ). IsReply config b reply) same one, tt)
-replies_more config start bucket (first ∷ replies) reply e h one =
-    (h.0, replies_more config (start + 1) bucket replies reply
-    (let longer : length (first ∷ replies) ≡ length replies + 1 = omega arith in omega (arith, e, longer)) h.1 one)
+replies_more config start bucket (first ∷ replies) reply e h one = (
+  h.0,
+  replies_more config (start + 1) bucket replies reply
+      (let longer : length (first ∷ replies) ≡ length replies + 1 = omega arith in omega (arith, e, longer)) h.1 one,
+)
 
 questions_more : (config : Configuration) (start bucket : ℕ) (state : State) (replies : List Reply) (reply : Reply) → bucket ≡ start + length replies
     → questions_of config start state (replies ++ reply ∷ [])
-        ≡ questions_of config start state replies ++ question_in config (after_replies state replies) bucket ∷ []
+    ≡ questions_of config start state replies ++ question_in config (after_replies state replies) bucket ∷ []
 questions_more config start bucket state [] reply e = let same : start ≡ bucket = omega (arith, e) in ap (λ (b : ℕ). question_in config state b ∷ []) same
 questions_more config start bucket state (first ∷ replies) reply e =
     ap (λ (qs : List Question). question_in config state start ∷ qs)
     (questions_more config (start + 1) bucket (joined state first.content) replies reply
-        (let longer : length (first ∷ replies) ≡ length replies + 1 = omega arith in omega (arith, e, longer)))
+    (let longer : length (first ∷ replies) ≡ length replies + 1 = omega arith in omega (arith, e, longer)))
 
 lines_more : (replies : List Reply) (reply : Reply)
     → line_count (replies ++ reply ∷ []) ≡ line_count replies +
@@ -104,7 +106,7 @@ more_at old stream before bucket now left after read new left_then after_then re
 pub asked_more : (old : Meaning) (stream before : Option (List ℕ)) (bucket : ℕ) (now : Meaning)
     (left after : Option (List ℕ)) (read : ℕ) (new : Meaning) (left_then after_then : Option (List ℕ)) (read_then : ℕ)
     → AskedUpTo old stream before bucket now left after read → TakesReply now bucket left read new left_then read_then
-        → Appends after after_then (question_text (question_of now bucket))
+    → Appends after after_then (question_text (question_of now bucket))
     → AskedUpTo old stream before (bucket + 1) new left_then after_then read_then
 asked_more old stream before bucket now left after read new left_then after_then read_then so_far takes asks =
     more_at old stream before bucket now left after read new left_then after_then read_then so_far
@@ -171,8 +173,8 @@ pub asked_stops : (old : Meaning) (stream before : Option (List ℕ)) (bucket : 
     (left after : Option (List ℕ)) (read : ℕ) (new : Meaning) (after_then : Option (List ℕ)) (e : SyncError)
     → bucket < 256
     → AskedUpTo old stream before bucket now left after read → StopsReply now bucket (read + 1) left new e
-        → IsWritten e after after_then (question_text (question_of now bucket))
-        → PullsUpTo old stream before new after_then e
+    → IsWritten e after after_then (question_text (question_of now bucket))
+    → PullsUpTo old stream before new after_then e
 asked_stops old stream before bucket now left after read new after_then e few so_far stops asks =
     stops_at old stream before bucket now left after read new after_then e few so_far
     (subst (λ (m : Meaning). StopsReply m (length so_far.replies) (line_count so_far.replies + 1) left new e) so_far.meaning

@@ -43,9 +43,15 @@ pub unsupported-further : (config : Configuration) (old new : Option (List ℕ))
 unsupported-further config old new a BadHeader h r = absurd r
 unsupported-further config old new a ConfigDiffers h r =
     (new, record { text = h.text; is = h.is; cause = inr (record { asked = asking_by a; line = h.line; other = r }) })
-unsupported-further config old new a VersionDiffers h r =
-    (new, record { text = h.text; is = h.is; cause =
-    inr (record { asked = asking_by a; line = h.line; own = r.0; unsupported = r.1 }) })
+unsupported-further config old new a VersionDiffers h r = (
+  new,
+  record {
+    text = h.text;
+    is = h.is;
+    cause =
+        inr (record { asked = asking_by a; line = h.line; own = r.0; unsupported = r.1 });
+  },
+)
 unsupported-further config old new a (NotCanonical n) h r = r
 unsupported-further config old new a (NotRising n) h r = r
 unsupported-further config old new a BadCount h r = r
@@ -124,7 +130,7 @@ served-up-to m stream left next old now new count e s (inl fails) = record {
 }
 served-up-to m stream left next old now new count e s (inr fails) =
     served-fault m stream next old new e (s.questions ++ fails.question ∷ [])
-        (asks-more m stream left next s.questions fails.question s.asks fails.own fails.text)
+    (asks-more m stream left next s.questions fails.question s.asks fails.own fails.text)
     (subst (AppendsBeginning old new) (one-more (answered m) s.questions fails.question)
-        (begins-second old now new (replies_text m s.questions) (answered m fails.question) s.written fails.begun))
-        fails.cause
+    (begins-second old now new (replies_text m s.questions) (answered m fails.question) s.written fails.begun))
+    fails.cause

@@ -76,7 +76,7 @@ no-fault-of-asked config (q ∷ questions) [] left e is valid w calm ample h =
     no-question-fault (Some config) left q (asked_texts questions) is.0.askable is.0.own (sym w) found.0 e calm ample found.1
 no-fault-of-asked config (q ∷ questions) (o ∷ others) left e is valid w calm ample h =
     let same = same-question (question_text q ++ asked_texts questions) q o (asked_texts questions)
-        (asked_texts others ++ left) is.0.askable valid.0.askable refl
+    (asked_texts others ++ left) is.0.askable valid.0.askable refl
     (w ∙ append_assoc (question_text o) (asked_texts others) left) in
     no-fault-of-asked config questions others left e is.1 valid.1 same.behind calm ample h
 
@@ -143,7 +143,7 @@ no-fault-of-reply config state bucket first content r left rest e is begins calm
     no-head-fault (Some (record { config = config; bucket = bucket })) left r rest is.answer is.about is.own begins head.after e calm ample head.cause
 no-fault-of-reply config state bucket first content r left rest e is begins calm ample spelt (inr fault) =
     no-fault-behind (Some (record { config = config; bucket = bucket })) left r rest is.answer is.about is.own begins
-        (refused_line config state first content) fault.count fault.distrusts content fault.further fault.after e
+    (refused_line config state first content) fault.count fault.distrusts content fault.further fault.after e
     (λ wanted text. no-line-fault config state first r.content content wanted text e ample spelt) calm ample fault.begins fault.cause
 
 joined-texts : (r : Reply) (replies : List Reply) (rest : List ℕ) → told_texts (r ∷ replies) ++ rest ≡ reply_text r ++ (told_texts replies ++ rest)
@@ -153,23 +153,23 @@ no-fault-of-told : (config : Configuration) (state : State) (start bucket first 
     (replies others : List Reply) (rest left : List ℕ) (e : SyncError)
     → AreReplies config start replies → AreReplies config start others → length others < length replies → bucket ≡ start + length others
     → told_texts replies ++ rest ≡ told_texts others ++ left → e ≢ Io → e ≢ NoMemory → IsSpelling e
-        → RefusesAnswer config state bucket first content (Some left) e → ⊥
+    → RefusesAnswer config state bucket first content (Some left) e → ⊥
 no-fault-of-told config state start bucket first content [] others rest left e is valid few at w calm ample spelt h = omega (arith, few)
 no-fault-of-told config state start bucket first content (r ∷ replies) [] rest left e is valid few at w calm ample spelt h =
     let same : start ≡ bucket = omega (arith, at) in
     no-fault-of-reply config state bucket first content r left (told_texts replies ++ rest) e
-        (subst (λ (b : ℕ). IsReply config b r) same is.0) (sym w ∙ joined-texts r replies rest) calm ample spelt h
+    (subst (λ (b : ℕ). IsReply config b r) same is.0) (sym w ∙ joined-texts r replies rest) calm ample spelt h
 no-fault-of-told config state start bucket first content (r ∷ replies) (o ∷ others) rest left e is valid few at w calm ample spelt h =
     let same = same-reply (told_texts (r ∷ replies) ++ rest) r o (told_texts replies ++ rest)
-        (told_texts others ++ left) is.0.answer valid.0.answer (joined-texts r replies rest)
-        (w ∙ joined-texts o others left) in
+    (told_texts others ++ left) is.0.answer valid.0.answer (joined-texts r replies rest)
+    (w ∙ joined-texts o others left) in
     no-fault-of-told config state (start + 1) bucket first content replies others rest left e is.1 valid.1
-        (omega (arith, few)) (omega (arith, at)) same.behind calm ample spelt h
+    (omega (arith, few)) (omega (arith, at)) same.behind calm ample spelt h
 
 unpulled : (config : Configuration) (state : State) (bytes : List ℕ) (first : ℕ) (content : State)
     (replies others : List Reply) (rest left : Option (List ℕ)) (e : SyncError)
     → AreReplies config 0 replies → AreReplies config 0 others → length others < length replies
-        → Consumes (Some bytes) rest (told_texts replies) → Consumes (Some bytes) left (told_texts others)
+    → Consumes (Some bytes) rest (told_texts replies) → Consumes (Some bytes) left (told_texts others)
     → e ≢ Io → e ≢ NoMemory → IsSpelling e → RefusesAnswer config state (length others) first content left e → ⊥
 unpulled config state bytes first content replies others None left e is valid few whole begins calm ample spelt h = whole
 unpulled config state bytes first content replies others (Some rest) None e is valid few whole begins calm ample spelt h = begins
@@ -184,7 +184,7 @@ pulled-or-not old bytes before after since then new now e calm ample spelt all p
     let many = all.all in
     let few = part.few in
     unpulled old.config (after_replies (state_of old) part.replies) bytes (line_count part.replies + 1) part.content
-        all.replies part.replies all.left part.left e all.session.each part.session.each (omega (arith, many, few))
+    all.replies part.replies all.left part.left e all.session.each part.session.each (omega (arith, many, few))
     all.session.text part.session.text calm ample spelt part.cause
 
 same-replies : (config : Configuration) (start : ℕ) (replies others : List Reply) (rest left : List ℕ)
@@ -195,8 +195,8 @@ same-replies config start [] (o ∷ others) rest left is valid many w = absurd (
 same-replies config start (r ∷ replies) [] rest left is valid many w = absurd (omega (arith, many))
 same-replies config start (r ∷ replies) (o ∷ others) rest left is valid many w =
     let same = same-reply (told_texts (r ∷ replies) ++ rest) r o (told_texts replies ++ rest)
-        (told_texts others ++ left) is.0.answer valid.0.answer (joined-texts r replies rest)
-        (w ∙ joined-texts o others left) in
+    (told_texts others ++ left) is.0.answer valid.0.answer (joined-texts r replies rest)
+    (w ∙ joined-texts o others left) in
     let later = same-replies config (start + 1) replies others rest left is.1 valid.1 (omega (arith, many)) same.behind in
     (λ i. same.reply i ∷ later i)
 
@@ -213,5 +213,5 @@ pub pulled-once : (old : Meaning) (bytes : List ℕ) (before after since then : 
 pulled-once old bytes before after since then new now all other =
     let many : length all.replies ≡ length other.replies = all.all ∙ sym other.all in
     let same = both-replies old.config bytes all.replies other.replies all.left other.left all.session.each
-        other.session.each many all.session.text other.session.text in
+    other.session.each many all.session.text other.session.text in
     all.meaning ∙ ap (λ (rs : List Reply). meaning_of_state old.config (after_replies (state_of old) rs)) same ∙ sym other.meaning

@@ -50,7 +50,7 @@ begun : (config : Configuration) (format : Format) (m : Meaning) (a b c : Option
     → Consumes a c (begun_text format m)
 begun config format m a b c same first lines =
     consumes_both a b c (ended (header_line format m.config)) (text_of_lines (held_lines m))
-        (subst (λ k. Consumes a b (ended (header_line format k))) (sym same) first) lines
+    (subst (λ k. Consumes a b (ended (header_line format k))) (sym same) first) lines
 
 pub fault_behind : (config : Configuration) (format : Format) (a b : Option (List ℕ)) (e : SyncError)
     → Consumes a b (ended (header_line format config)) → FailsBehind config b format e → HasFaultBehind config a e
@@ -140,8 +140,8 @@ pub end_refused : (config own : Configuration) (format : Format) (m : Meaning) (
     → HoldsAll own b format m c number → RefusesEnd number c e → RefusesSnapshot config a e
 end_refused config own format m a s b c number e same same_config first all fault =
     subst (λ x. RefusesSnapshot config x e) same
-        (inr (fault_at_end config format m s b c number e first
-        (subst (λ k. HoldsAll k b format m c number) same_config all) fault))
+    (inr (fault_at_end config format m s b c number e first
+    (subst (λ k. HoldsAll k b format m c number) same_config all) fault))
 
 pub snapshot_read : (config own : Configuration) (format : Format) (m : Meaning) (a s b c : Option (List ℕ))
     (number : ℕ) → s ≡ a → own ≡ config → Consumes s b (ended (header_line format config))

@@ -139,8 +139,8 @@ counted Either entry content receipts records receipts_then records_then is h = 
 taken_pushed : (wanted : Wanted) (old : Meaning) (stream : Option (List ℕ)) (count distrusts : ℕ) (content : State)
     (now new : Meaning) (left after : Option (List ℕ)) (text : List ℕ) (number : ℕ)
     → HasTakenPart old stream count distrusts content now left → Wants count distrusts content wanted
-        → HasLine left after text
-        → (taken : TakesEntryText wanted now (last_of (content_lines content)) text new number)
+    → HasLine left after text
+    → (taken : TakesEntryText wanted now (last_of (content_lines content)) text new number)
     → HasTakenPart old stream count distrusts (pushed taken.entry content) new after
 taken_pushed wanted old stream count distrusts content now new left after text number so_far w is taken =
     let place = has_place wanted taken.entry count distrusts content taken.next.is.is so_far.begun w in
@@ -166,8 +166,8 @@ pub so_far_more : (wanted : Wanted) (old : Meaning) (stream : Option (List ℕ))
     (count distrusts first receipts records receipts_then records_then : ℕ) (now new : Meaning)
     (left after : Option (List ℕ)) (last text : List ℕ) (read then : ℕ)
     → SoFar old stream count distrusts first receipts records now left last read
-        → IsNextOf receipts records wanted receipts_then records_then → TakesNext wanted now last left new text after
-        → then ≡ read + 1
+    → IsNextOf receipts records wanted receipts_then records_then → TakesNext wanted now last left new text after
+    → then ≡ read + 1
     → SoFar old stream count distrusts first receipts_then records_then new after text then
 so_far_more wanted old stream count distrusts first receipts records receipts_then records_then now new left after last
     text read then so_far next takes is_then =
@@ -175,7 +175,7 @@ so_far_more wanted old stream count distrusts first receipts records receipts_th
     let w = wants wanted count distrusts content receipts records receipts_then records_then next so_far.receipts_due so_far.records_due in
     let number = takes.taken.0 in
     let taken : TakesEntryText wanted now (last_of (content_lines content)) text new number =
-        subst (λ (l : List ℕ). TakesEntryText wanted now l text new number) so_far.last_is takes.taken.1 in
+    subst (λ (l : List ℕ). TakesEntryText wanted now l text new number) so_far.last_is takes.taken.1 in
     let c = counted wanted taken.entry content receipts records receipts_then records_then taken.next.is.is next in
     let c_held = c.held in
     let c_records = c.records_held in
@@ -199,31 +199,49 @@ cause_at : (wanted : Wanted) (m now : Meaning) (before last : List ℕ) (next nu
     → RefusesEntryLine wanted m before next text e
 cause_at wanted m now before last next number text e p q r h =
     subst (λ (x : Meaning). RefusesEntryLine wanted x before next text e) p
-        (subst (λ (l : List ℕ). RefusesEntryLine wanted now l next text e) q
-        (subst (λ (n : ℕ). RefusesEntryLine wanted now last n text e) r h))
+    (subst (λ (l : List ℕ). RefusesEntryLine wanted now l next text e) q
+    (subst (λ (n : ℕ). RefusesEntryLine wanted now last n text e) r h))
 
 bad_next : (wanted : Wanted) (old : Meaning) (first count distrusts : ℕ) (content : State) (now : Meaning)
     (last : List ℕ) (number : ℕ) (left after : Option (List ℕ)) (e : SyncError) → Wants count distrusts content wanted
     → now ≡ meaning_gained old content → last ≡ last_of (content_lines content)
-        → number ≡ next_entry_number first content → RefusesTakingLine wanted now last number left after e
+    → number ≡ next_entry_number first content → RefusesTakingLine wanted now last number left after e
     → RefusesNextEntry (refused_line old.config (state_of old) first content) count distrusts content left after e
 bad_next wanted old first count distrusts content now last number left after BadHeader w m l n h = absurd h
 bad_next wanted old first count distrusts content now last number left after ConfigDiffers w m l n h = absurd h
 bad_next wanted old first count distrusts content now last number left after VersionDiffers w m l n h = absurd h
 bad_next wanted old first count distrusts content now last number left after (NotCanonical k) w m l n h =
-    record { wanted = wanted; wants = w; text = h.text; is = h.is; cause =
-        cause_at wanted (meaning_gained old content) now (last_of (content_lines content)) last
-        (next_entry_number first content) number h.text (NotCanonical k) m l n h.cause }
+    record {
+      wanted = wanted;
+      wants = w;
+      text = h.text;
+      is = h.is;
+      cause =
+          cause_at wanted (meaning_gained old content) now (last_of (content_lines content)) last
+          (next_entry_number first content) number h.text (NotCanonical k) m l n h.cause;
+    }
 bad_next wanted old first count distrusts content now last number left after (NotRising k) w m l n h =
-    record { wanted = wanted; wants = w; text = h.text; is = h.is; cause =
-        cause_at wanted (meaning_gained old content) now (last_of (content_lines content)) last
-        (next_entry_number first content) number h.text (NotRising k) m l n h.cause }
+    record {
+      wanted = wanted;
+      wants = w;
+      text = h.text;
+      is = h.is;
+      cause =
+          cause_at wanted (meaning_gained old content) now (last_of (content_lines content)) last
+          (next_entry_number first content) number h.text (NotRising k) m l n h.cause;
+    }
 bad_next wanted old first count distrusts content now last number left after BadCount w m l n h = absurd h
 bad_next wanted old first count distrusts content now last number left after Truncated w m l n h = record { wanted = wanted; wants = w; ends = h }
 bad_next wanted old first count distrusts content now last number left after (Refused k why) w m l n h =
-    record { wanted = wanted; wants = w; text = h.text; is = h.is; cause =
-        cause_at wanted (meaning_gained old content) now (last_of (content_lines content)) last
-        (next_entry_number first content) number h.text (Refused k why) m l n h.cause }
+    record {
+      wanted = wanted;
+      wants = w;
+      text = h.text;
+      is = h.is;
+      cause =
+          cause_at wanted (meaning_gained old content) now (last_of (content_lines content)) last
+          (next_entry_number first content) number h.text (Refused k why) m l n h.cause;
+    }
 bad_next wanted old first count distrusts content now last number left after Io w m l n h = tt
 bad_next wanted old first count distrusts content now last number left after NoMemory w m l n h = tt
 
@@ -231,8 +249,8 @@ pub so_far_fails : (wanted : Wanted) (old : Meaning) (stream : Option (List ℕ)
     (count distrusts first receipts records receipts_then records_then : ℕ) (now new : Meaning)
     (left after : Option (List ℕ)) (last : List ℕ) (read : ℕ) (e : SyncError)
     → SoFar old stream count distrusts first receipts records now left last read
-        → IsNextOf receipts records wanted receipts_then records_then
-        → HasNotTaken wanted now last (read + 1) left new after e
+    → IsNextOf receipts records wanted receipts_then records_then
+    → HasNotTaken wanted now last (read + 1) left new after e
     → StopsWithin old stream count distrusts first new e
 so_far_fails wanted old stream count distrusts first receipts records receipts_then records_then now new left after last read e so_far next fails =
     let content = so_far.content in

@@ -19,7 +19,7 @@ module _ (both : (old between new : Option (List ℕ)) (first second : List ℕ)
     → Appends between new second → Appends old new (first ++ second))
     (in_first : (old new : Option (List ℕ)) (first second : List ℕ) → AppendsBeginning old new first → AppendsBeginning old new (first ++ second))
     (in_second : (old between new : Option (List ℕ)) (first second : List ℕ) → Appends old between first
-        → AppendsBeginning between new second → AppendsBeginning old new (first ++ second)) where
+    → AppendsBeginning between new second → AppendsBeginning old new (first ++ second)) where
   -- one more piece
   pub one_more : (old now new : Option (List ℕ)) (piece rest before whole : List ℕ) → before ≡ piece ++ rest
       → WrittenSoFar old now before whole → Appends now new piece → WrittenSoFar old new rest whole
@@ -56,8 +56,8 @@ module _ (both : (old between new : Option (List ℕ)) (first second : List ℕ)
 pub begun_before : (in_second : (old between new : Option (List ℕ)) (first second : List ℕ) → Appends old between first
     → AppendsBeginning between new second → AppendsBeginning old new (first ++ second))
     (nothing : (now : Option (List ℕ)) (text : List ℕ)
-        → AppendsBeginning now now text) (old now : Option (List ℕ)) (rest whole : List ℕ)
-        → WrittenSoFar old now rest whole → AppendsBeginning old now whole
+    → AppendsBeginning now now text) (old now : Option (List ℕ)) (rest whole : List ℕ)
+    → WrittenSoFar old now rest whole → AppendsBeginning old now whole
 begun_before in_second nothing old now rest whole w =
     subst (AppendsBeginning old now) (sym w.parts) (in_second old now now w.done rest w.appended (nothing now rest))
 
@@ -83,8 +83,8 @@ lines_append (x ∷ xs) ys =
 
 pub parts_of_text : (m : Meaning)
     → ended (header_line Second m.config) ++
-        (text_of_lines (map distrust_line m.records) ++
-        (text_of_lines (map line m.held) ++ ended (count_line Second m))) ≡ snapshot_text Second m
+    (text_of_lines (map distrust_line m.records) ++
+    (text_of_lines (map line m.held) ++ ended (count_line Second m))) ≡ snapshot_text Second m
 parts_of_text m =
     let header = ended (header_line Second m.config) in
     let records = text_of_lines (map distrust_line m.records) in

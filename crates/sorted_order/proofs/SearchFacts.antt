@@ -30,7 +30,7 @@ edge_before compared bs i (suc w) filled block edge p =
     let last : length_before bs i + w ≡ length_before bs i + suc w - 1 = omega arith in
     let here : suc w - 1 ≡ w = omega arith in
     let less : compared (slice_index (block_at bs i) w) ≡ Less =
-        subst (λ n. compared (slice_index (block_at bs i) n) ≡ Less) here (edge.before (omega arith)) in
+    subst (λ n. compared (slice_index (block_at bs i) n) ≡ Less) here (edge.before (omega arith)) in
     rw (concat-at bs i w (length_before bs i + suc w - 1) block.within (omega (arith, edge.within)) last) less
 
 edge_after : (compared : ℕ → Ordering) (bs : List (List ℕ)) (i w : ℕ) → AreFilled bs → IsEdgeBlock compared bs i

@@ -51,9 +51,13 @@ no_rest (b ∷ rest) slash none = absurd (none rest (ap (λ x. x ∷ rest) slash
 
 -- where no slash follows, all is read
 pub IsPath-read : (path rest : List ℕ) → Reads path rest → ((more : List ℕ) → rest ≢ 47 ∷ more) → IsPath path
-IsPath-read path rest r none = record { segments = r.front; each = r.each; whole =
-    r.whole ∙ ap (λ x. path_of_segments r.front ++ x) (no_rest rest r.slash none)
-    ∙ append-nil (path_of_segments r.front) }
+IsPath-read path rest r none = record {
+  segments = r.front;
+  each = r.each;
+  whole =
+      r.whole ∙ ap (λ x. path_of_segments r.front ++ x) (no_rest rest r.slash none)
+      ∙ append-nil (path_of_segments r.front);
+}
 
 EmptyOrSlash-front : (segments : List (List ℕ)) (rest : List ℕ) → EmptyOrSlash rest → EmptyOrSlash (path_of_segments segments ++ rest)
 EmptyOrSlash-front [] rest h = h
@@ -84,8 +88,8 @@ faults_meet (s ∷ front) [] p q segment rest a b m f apart more c d n g e =
     absurd (no_segment_fault apart n (subst IsSegment same.0 p.0) g)
 faults_meet (s ∷ front) (t ∷ other) p q segment rest a b m f apart more c d n g e =
     let same = next_segment s front (47 ∷ (segment ++ rest)) t (path_of_segments other ++ (47 ∷ (apart ++ more)))
-        (no_slash_in_segment s p.0) refl (no_slash_in_segment t q.0)
-        (EmptyOrSlash-front other (47 ∷ (apart ++ more)) refl)
+    (no_slash_in_segment s p.0) refl (no_slash_in_segment t q.0)
+    (EmptyOrSlash-front other (47 ∷ (apart ++ more)) refl)
     (e ∙ append_assoc (47 ∷ t) (path_of_segments other) (47 ∷ (apart ++ more))) in
     let rests = faults_meet front other p.1 q.1 segment rest a b m f apart more c d n g same.1 in
     let fronts = ap length same.0 in
@@ -105,7 +109,7 @@ fault_within [] (t ∷ segments) p q segment rest a b m f e =
     no_segment_fault segment m (subst IsSegment (sym same.0) q.0) f
 fault_within (s ∷ front) (t ∷ segments) p q segment rest a b m f e =
     let same = next_segment s front (47 ∷ (segment ++ rest)) t (path_of_segments segments) (no_slash_in_segment s p.0)
-        refl (no_slash_in_segment t q.0) (EmptyOrSlash-joined segments) e in
+    refl (no_slash_in_segment t q.0) (EmptyOrSlash-joined segments) e in
     fault_within front segments p.1 q.1 segment rest a b m f same.1
 
 pub no_fault : (path : List ℕ) (n : ℕ) → IsPath path → FirstFault path n → ⊥

@@ -44,14 +44,18 @@ plain_segments [] h = All-nil IsPlainByte
 plain_segments (s ∷ segments) h =
     All-append IsPlainByte (47 ∷ s) (path_of_segments segments)
     (All-cons IsPlainByte 47 s (refl, refl)
-        (All-weaker (λ b. is_segment_byte b ≡ true) IsPlainByte (λ b p. (printable_segment b p, unescaped_segment b p))
-        s h.0.bytes))
+    (All-weaker (λ b. is_segment_byte b ≡ true) IsPlainByte (λ b p. (printable_segment b p, unescaped_segment b p))
+    s h.0.bytes))
     (plain_segments segments h.1)
 
 plain_scheme : All IsPlainByte scheme
-plain_scheme = All-from_recursion IsPlainByte scheme ((refl, refl),
-    ((refl, refl),
-    ((refl, refl), ((refl, refl), ((refl, refl), ((refl, refl), ((refl, refl), ((refl, refl), ((refl, refl), tt)))))))))
+plain_scheme = All-from_recursion IsPlainByte scheme (
+  (refl, refl),
+  (
+    (refl, refl),
+    ((refl, refl), ((refl, refl), ((refl, refl), ((refl, refl), ((refl, refl), ((refl, refl), ((refl, refl), tt))))))),
+  ),
+)
 
 pub IsPlainText-domain : (text : List ℕ) → IsDomainText text → IsPlainText text
 IsPlainText-domain text h = plain_text text (plain_domain text h)

@@ -53,4 +53,4 @@ pub IsCharBoundary-at_slash : (text front rest : List ℕ) → text ≡ front ++
 IsCharBoundary-at_slash text front [] e s = rw (e ∙ append-nil front) (IsCharBoundary-end front)
 IsCharBoundary-at_slash text front (b ∷ rest) e s =
     rw e (IsCharBoundary-before_ascii (front ++ b ∷ rest) (length front) (rw length-append (omega arith))
-        (rw (get_or_at front b rest 0 (length front) refl, s) (lit< tt)))
+    (rw (get_or_at front b rest 0 (length front) refl, s) (lit< tt)))

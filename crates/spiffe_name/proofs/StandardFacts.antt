@@ -64,12 +64,26 @@ empty_segment h = let named = h.named in cc
 parts_of : (text domain path : List ℕ) → text ≡ scheme ++ (domain ++ path) → length text ≤ 2048
     → list_all is_not_slash domain ≡ true → EmptyOrSlash path → HasParts text domain path
 parts_of text domain path whole limit no_slash slash =
-    record { limit = limit; whole = whole; no_slash = AllPass-from_list_all is_not_slash domain no_slash; slash =
-    slash }
+    record {
+      limit = limit;
+      whole = whole;
+      no_slash = AllPass-from_list_all is_not_slash domain no_slash;
+      slash =
+          slash;
+    }
 
 pub user : RefusesId (codes "spiffe://user@example.com/a") (BadDomainByte 13)
-user = (4, (refl, (codes "user@example.com", codes "/a",
-    (parts_of _ _ _ refl (lit≤ tt) refl refl, (lit≤ tt, fails_at is_domain_byte _ 4 (lit< tt) refl refl)))))
+user = (
+  4,
+  (
+    refl,
+    (
+      codes "user@example.com",
+      codes "/a",
+      (parts_of _ _ _ refl (lit≤ tt) refl refl, (lit≤ tt, fails_at is_domain_byte _ 4 (lit< tt) refl refl)),
+    ),
+  ),
+)
 
 pub no_domain : RefusesId (codes "spiffe:///x") Empty
 no_domain = inr (codes "", codes "/x", (parts_of _ _ _ refl (lit≤ tt) refl refl, refl))

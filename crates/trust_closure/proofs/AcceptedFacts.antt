@@ -90,7 +90,7 @@ module _ (pairs : List Pair) (flags : List Bool) where
   below d (n ∷ ns) all =
       onto-all (λ e. document_cmp d e ≡ Less) (raised_document pairs flags n) (raised_documents pairs flags ns)
       (λ e is. subst (λ x. document_cmp d x ≡ Less) (shown-document pairs flags n e is)
-          (All-head (λ k. document_cmp d (pair_at pairs k).document ≡ Less) n ns all))
+      (All-head (λ k. document_cmp d (pair_at pairs k).document ≡ Less) n ns all))
       (below d ns (All-tail (λ k. document_cmp d (pair_at pairs k).document ≡ Less) n ns all))
 
   sorted-empty : IsStrictlySortedBy document_cmp []
@@ -102,10 +102,10 @@ module _ (pairs : List Pair) (flags : List Bool) where
   sorted [] rise = sorted-empty
   sorted (n ∷ ns) rise =
       let head : All (λ k. document_cmp (pair_at pairs n).document (pair_at pairs k).document ≡ Less) ns =
-          λ k d l. rise zero (suc k) d (omega arith) (omega (arith, l)) in
+      λ k d l. rise zero (suc k) d (omega arith) (omega (arith, l)) in
       onto-sorted (raised_document pairs flags n) (raised_documents pairs flags ns)
       (λ d is. subst (λ x. AllByRecursion (λ e. document_cmp x e ≡ Less) (raised_documents pairs flags ns))
-          (shown-document pairs flags n d is) (below (pair_at pairs n).document ns head))
+      (shown-document pairs flags n d is) (below (pair_at pairs n).document ns head))
       (sorted ns (λ i j d l last. rise (suc i) (suc j) d (omega (arith, l)) (omega (arith, last))))
 
 -- ---- one domain
@@ -180,7 +180,7 @@ accepted-list m pairs p x t rise =
     record {
       rising = sorted pairs (flags_of p.counts) (numbers_of pairs p.numbers x)
           (documents-rise pairs x (numbers_of pairs p.numbers x) (filter_passes test p.numbers)
-              (AllPairs-filter (λ i j. pair_cmp (pair_at pairs i) (pair_at pairs j) ≡ Less) test p.numbers rise));
+          (AllPairs-filter (λ i j. pair_cmp (pair_at pairs i) (pair_at pairs j) ≡ Less) test p.numbers rise));
       sound = λ d c.
           let f = from-filter_map (raised_document pairs (flags_of p.counts))
           (numbers_of pairs p.numbers x) d c in

@@ -77,6 +77,6 @@ arrows-push of node [] spot =
 arrows-push of node (other ∷ spots) spot =
     let e : (node + 1) + length spots ≡ node + suc (length spots) = omega arith in
     ap (λ rest. map (arrow_at node) (of other) ++ rest)
-        (arrows-push of (node + 1) spots spot
-        ∙ ap (λ n. arrows_from of (node + 1) spots ++ map (arrow_at n) (of spot)) e)
+    (arrows-push of (node + 1) spots spot
+    ∙ ap (λ n. arrows_from of (node + 1) spots ++ map (arrow_at n) (of spot)) e)
     ∙ sym (append_assoc (map (arrow_at node) (of other)) (arrows_from of (node + 1) spots) (map (arrow_at (node + suc (length spots))) (of spot)))

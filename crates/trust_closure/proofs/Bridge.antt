@@ -74,8 +74,8 @@ module _ (seeds : List Seed) (arrivals : List Receipt) where
         | inr a ↦
             ap (λ (s : Spot Triple). s.offers) (sym a.is)
             ∙ ap offers_of (same_Some (pair_of a.receipt) p
-                (sym (pair-of_receipt_node a.place a.receipt a.at)
-                ∙ ap (λ k. slice_get (pairs_of seeds arrivals) k) (sym a.node_is) ∙ f))
+            (sym (pair-of_receipt_node a.place a.receipt a.at)
+            ∙ ap (λ k. slice_get (pairs_of seeds arrivals) k) (sym a.node_is) ∙ f))
       ]
 
   -- each node has a spot
@@ -132,8 +132,8 @@ module _ (m : Meaning) (arrivals : List Receipt) (same : (r : Receipt)
         }
         | inr a ↦
             absurd (both_ways (is_root net n)
-                (root-of_spot (spots_of m.config.seeds arrivals) labels (IsShutBy m.records) net h n spot.0 spot.1
-                ∙ ap (λ (s : Spot Triple). s.rooted) (sym a.is)) e)
+            (root-of_spot (spots_of m.config.seeds arrivals) labels (IsShutBy m.records) net h n spot.0 spot.1
+            ∙ ap (λ (s : Spot Triple). s.rooted) (sym a.is)) e)
       ]
   accepted-from_reached n (step {node = v} {label = l} {i = i} {j = j} r e c w) =
       let before = accepted-from_reached v r in
@@ -143,16 +143,16 @@ module _ (m : Meaning) (arrivals : List Receipt) (same : (r : Receipt)
         | inl b ↦ absurd (none-some a.label (ap (λ (s : Spot Triple). s.awaits) b.is ∙ a.awaits))
         | inr b ↦
             let need : need_of b.receipt ≡ o.label =
-                same_Some (need_of b.receipt) o.label
-                (ap (λ (s : Spot Triple). s.awaits) b.is ∙ a.awaits ∙ sym a.named ∙ o.named) in
+            same_Some (need_of b.receipt) o.label
+            (ap (λ (s : Spot Triple). s.awaits) b.is ∙ a.awaits ∙ sym a.named ∙ o.named) in
             let has : Contains (offers_of before.pair) (need_of b.receipt) =
             subst (λ offers. Contains offers (need_of b.receipt))
-                (offers-of_node m.config.seeds arrivals v o.spot before.pair o.at before.at)
-                (subst (Contains o.spot.offers) (sym need) o.has)
+            (offers-of_node m.config.seeds arrivals v o.spot before.pair o.at before.at)
+            (subst (Contains o.spot.offers) (sym need) o.has)
             in
             let open' : IsShutBy m.records (need_of b.receipt) → ⊥ =
-                λ x. both_ways (is_closed net l) c ((h.closed l o.label o.named).1 (subst (IsShutBy m.records) need x))
-                in
+            λ x. both_ways (is_closed net l) c ((h.closed l o.label o.named).1 (subst (IsShutBy m.records) need x))
+            in
             let vouches = vouches-from_offer m.records before.pair b.receipt has open' in
             let arrived : Contains arrivals b.receipt = slice_get-Contains arrivals b.place b.receipt b.at in
             let held : Contains m.held b.receipt = (same b.receipt).1 arrived in
@@ -176,10 +176,10 @@ module _ (m : Meaning) (arrivals : List Receipt) (same : (r : Receipt)
   reached-on_receipt v p k r reached at to vouches =
       let here = spot-of_pair m.config.seeds arrivals v p at in
       reached-on (spots_of m.config.seeds arrivals) labels (IsShutBy m.records) net h v (length m.config.seeds + k)
-          here.0 (spot_of_receipt r) (need_of r) reached here.1
+      here.0 (spot_of_receipt r) (need_of r) reached here.1
       (spot-of_receipt_node m.config.seeds arrivals k r to)
       (subst (λ offers. Contains offers (need_of r)) (sym (offers-of_node m.config.seeds arrivals v here.0 p here.1 at))
-          (offer-from_vouches m.records p r vouches))
+      (offer-from_vouches m.records p r vouches))
       refl
       (open-from_vouches m.records p r vouches)
 
@@ -196,8 +196,8 @@ module _ (m : Meaning) (arrivals : List Receipt) (same : (r : Receipt)
   reached-from_member p a =
       let place = Contains-slice_get m.config.seeds a.seed a.configured in
       let is : is_root net place.0 ≡ true =
-          root-of_spot (spots_of m.config.seeds arrivals) labels (IsShutBy m.records) net h place.0
-          (spot_of_seed a.seed) (spot-of_seed_node m.config.seeds arrivals place.0 a.seed place.1) in
+      root-of_spot (spots_of m.config.seeds arrivals) labels (IsShutBy m.records) net h place.0
+      (spot_of_seed a.seed) (spot-of_seed_node m.config.seeds arrivals place.0 a.seed place.1) in
       reached-along a.chain place.0 (pair_of_seed a.seed) p (root is) (pair-of_seed_node m.config.seeds arrivals place.0 a.seed place.1) a.held a.leads
 
   pub reached-from_released : (k : ℕ) (r : Receipt) → slice_get arrivals k ≡ Some r → IsReleased m r → IsReached net (length m.config.seeds + k)

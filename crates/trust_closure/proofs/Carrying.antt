@@ -61,8 +61,11 @@ module _ (h new : Hoard) (p q : Paired) (offers : List Triple) (released others 
     | inr f ↦
         let l : f.0 < length h.arrived = omega (arith, raised-within released f.0 f.2, i.set.size) in
         let r = item_at h.arrived f.0 l in
-        inr (f.0, subst (λ (c : Configuration). node ≡ length c.seeds + f.0) config f.1,
-            (j.settled f.0 r.0 (arrivals f.0 r.0 r.1)).1 (release r.0 ((i.settled f.0 r.0 r.1).0 f.2)))
+        inr (
+          f.0,
+          subst (λ (c : Configuration). node ≡ length c.seeds + f.0) config f.1,
+          (j.settled f.0 r.0 (arrivals f.0 r.0 r.1)).1 (release r.0 ((i.settled f.0 r.0 r.1).0 f.2)),
+        )
   ]
 
   kept-carry : (k : ℕ) → is_raised (flags_of p.counts) k ≡ true
@@ -81,8 +84,8 @@ module _ (h new : Hoard) (p q : Paired) (offers : List Triple) (released others 
         let e : n ≡ length h.config.seeds + a.place = omega (arith, a.is, length-map h.config.seeds pair_of_seed) in
         subst (λ (c : Configuration). slice_get (pairs_of c.seeds new.arrived) n ≡ Some x) config
         (ap (λ k. slice_get (pairs_of h.config.seeds new.arrived) k) e
-            ∙ pair-of_receipt_node h.config.seeds new.arrived a.place r.0 (arrivals a.place r.0 r.1)
-            ∙ ap (λ (y : Pair). Some y) r.2)
+        ∙ pair-of_receipt_node h.config.seeds new.arrived a.place r.0 (arrivals a.place r.0 r.1)
+        ∙ ap (λ (y : Pair). Some y) r.2)
   ]
 
   flag-sizes : length (flags_of p.counts) ≤ length (flags_of q.counts)
@@ -158,8 +161,8 @@ pub release-more : (h new : Hoard) (r : Receipt) → IsMeaning (meaning_of h) �
 release-more h new r valid form same is s released =
     subst (λ (x : Hoard). IsReleased (meaning_of x) s) (sym is)
     (released-more (meaning_of h) (meaning_of (with_arrival h r)) refl
-        (λ t c. (same-more h r valid form same t).1 (Contains-append_left h.arrived (r ∷ []) t ((same t).0 c)))
-        (λ x c. c) s released)
+    (λ t c. (same-more h r valid form same t).1 (Contains-append_left h.arrived (r ∷ []) t ((same t).0 c)))
+    (λ x c. c) s released)
 
 pub arrivals-more : (h new : Hoard) (r : Receipt) → new ≡ with_arrival h r → (place : ℕ) (s : Receipt)
     → slice_get h.arrived place ≡ Some s → slice_get new.arrived place ≡ Some s
@@ -186,8 +189,15 @@ set-closed old new xs p offers released lowered s before valid size =
     let valid' : IsMeaning (meaning_of (with_mistrust old xs new.capacity)) = subst
     (λ h. IsMeaning (meaning_of h)) is valid in
     subst (λ h. IsSet h p offers lowered) (sym is)
-        (record { valid = valid'; once = s.once; same = s.same; offers = s.offers; pairing = s.pairing; size =
-        size ∙ s.size })
+    (record {
+      valid = valid';
+      once = s.once;
+      same = s.same;
+      offers = s.offers;
+      pairing = s.pairing;
+      size =
+          size ∙ s.size;
+    })
 
 pub release-fewer : (old new : Hoard) (xs : List Distrust) → IsBefore old xs new → (s : Receipt)
     → IsReleased (meaning_of new) s → IsReleased (meaning_of old) s
@@ -233,7 +243,7 @@ firsts-lowered h p low offers released s firsts flags =
 
 pub raised-as : (flags : List Bool) (a b : ℕ) (rs ss : List Bool) (fs gs : List ℕ) → a ≡ b → rs ≡ ss → fs ≡ gs
     → ((n : ℕ) → (is_raised flags n ≡ true) ↔ IsFirstAccepted a rs fs (length fs) n) → (n : ℕ)
-        → (is_raised flags n ≡ true) ↔ IsFirstAccepted b ss gs (length gs) n
+    → (is_raised flags n ≡ true) ↔ IsFirstAccepted b ss gs (length gs) n
 raised-as flags a b rs ss fs gs seeds released firsts raised n =
     subst (λ (k : ℕ). (is_raised flags n ≡ true) ↔ IsFirstAccepted k ss gs (length gs) n) seeds
     (subst (λ (bs : List Bool). (is_raised flags n ≡ true) ↔ IsFirstAccepted a bs gs (length gs) n) released

@@ -66,17 +66,17 @@ name_has : (c : Configuration) (d : List ℕ) → HasDomain c d → Contains (na
 name_has c d has = elim has [
   | inl own ↦
       Contains-append_left (map (λ (r : Relationship). r.domain) c.relationships)
-          (map (λ (r : Relationship). r.endpoint.domain) c.relationships ++ map (λ (s : Seed). s.domain) c.seeds) d
+      (map (λ (r : Relationship). r.endpoint.domain) c.relationships ++ map (λ (s : Seed). s.domain) c.seeds) d
       (subst (Contains (map (λ (r : Relationship). r.domain) c.relationships)) own.2
-          (contains_map (λ (r : Relationship). r.domain) c.relationships own.0 own.1))
+      (contains_map (λ (r : Relationship). r.domain) c.relationships own.0 own.1))
   | inr more ↦
       Contains-append_right (map (λ (r : Relationship). r.domain) c.relationships)
-          (map (λ (r : Relationship). r.endpoint.domain) c.relationships ++ map (λ (s : Seed). s.domain) c.seeds) d
+      (map (λ (r : Relationship). r.endpoint.domain) c.relationships ++ map (λ (s : Seed). s.domain) c.seeds) d
       (elim more [
         | inl endpoint ↦
             Contains-append_left (map (λ (r : Relationship). r.endpoint.domain) c.relationships) (map (λ (s : Seed). s.domain) c.seeds) d
             (subst (Contains (map (λ (r : Relationship). r.endpoint.domain) c.relationships)) endpoint.2
-                (contains_map (λ (r : Relationship). r.endpoint.domain) c.relationships endpoint.0 endpoint.1))
+            (contains_map (λ (r : Relationship). r.endpoint.domain) c.relationships endpoint.0 endpoint.1))
         | inr seed ↦
             Contains-append_right (map (λ (r : Relationship). r.endpoint.domain) c.relationships) (map (λ (s : Seed). s.domain) c.seeds) d
             (subst (Contains (map (λ (s : Seed). s.domain) c.seeds)) seed.2 (contains_map (λ (s : Seed). s.domain) c.seeds seed.0 seed.1))
@@ -95,13 +95,13 @@ are_domains c = record {
   sound = λ d has. has_name c d (in_names c d has);
   complete = λ d has.
       with_items_gets nat_list_cmp_total (λ (x : List ℕ). Unit {0}) (λ x y p q e. exact_bytes x y e) (names_of c) []
-          (λ x h. tt) (λ x h. tt) d (name_has c d has);
+      (λ x h. tt) (λ x h. tt) d (name_has c d has);
 }
 
 pub one_domains : (c : Configuration) (ds : List (List ℕ)) → AreDomains c ds → ds ≡ domains_of c
 one_domains c ds are =
     rising_same nat_list_cmp_total ds (domains_of c) are.rising (are_domains c).rising
-        (λ d h. (are_domains c).complete d (are.sound d h)) (λ d h. are.complete d ((are_domains c).sound d h))
+    (λ d h. (are_domains c).complete d (are.sound d h)) (λ d h. are.complete d ((are_domains c).sound d h))
 
 -- ---- the place of a domain
 
@@ -280,9 +280,10 @@ told_adds c held old new x below within Added h =
 pub distrust_held : (c : Configuration) (records : List Record) (x : Record) (b : Bool)
     → x.domain < length (domains_of c) → AreWithin (length (domains_of c)) records → (IsTrue b ↔ Contains records x)
     → IsTrue b ↔ Contains (distrusts_of (domains_of c) records) (distrust_by (domains_of c) x)
-distrust_held c records x b below within holds =
-    (λ t. contains_map (distrust_by (domains_of c)) records x (holds.0 t),
-        λ has. holds.1 (record_of (domains_of c) x records (are_domains c).rising below within has))
+distrust_held c records x b below within holds = (
+  λ t. contains_map (distrust_by (domains_of c)) records x (holds.0 t),
+  λ has. holds.1 (record_of (domains_of c) x records (are_domains c).rising below within has),
+)
 
 pub distrust_lacks : (c : Configuration) (records : List Record) (d : Distrust)
     → AreWithin (length (domains_of c)) records → (HasDomain c d.domain → ⊥)

@@ -138,25 +138,31 @@ module _ {A : Type 0} (spots : List (Spot A)) (labels : List A) (IsShut : A → 
   pub offer-of_edge : (i m l : ℕ) → IsEdge net.offers i m l → IsOfferOf spots labels m l
   offer-of_edge i m l e =
       let r = arrow-cases offered_at 0 spots (record { node = m; label = slice_get labels l })
-          (subst (λ arrows. Contains arrows (record { node = m; label = slice_get labels l })) h.offers
-          (edge-offer_arrow labels net.offers i m l e)) in
+      (subst (λ arrows. Contains arrows (record { node = m; label = slice_get labels l })) h.offers
+      (edge-offer_arrow labels net.offers i m l e)) in
       let at : m ≡ r.place = omega (arith, r.node_is) in
       record { spot = r.spot; label = r.label; at = ap (λ n. slice_get spots n) at ∙ r.at; has = r.has; named = r.label_is }
 
   pub wait-of_edge : (j l n : ℕ) → IsEdge net.waits j l n → IsWaitOf spots labels n l
   wait-of_edge j l n e =
       let r = arrow-cases awaited_at 0 spots (record { node = n; label = slice_get labels l })
-          (subst (λ arrows. Contains arrows (record { node = n; label = slice_get labels l })) h.waits
-          (edge-wait_arrow labels net.waits j l n e)) in
+      (subst (λ arrows. Contains arrows (record { node = n; label = slice_get labels l })) h.waits
+      (edge-wait_arrow labels net.waits j l n e)) in
       let at : n ≡ r.place = omega (arith, r.node_is) in
-      record { spot = r.spot; label = r.label; at = ap (λ k. slice_get spots k) at ∙ r.at; awaits =
-          awaits-from_list r.spot.awaits r.label r.has; named = r.label_is }
+      record {
+        spot = r.spot;
+        label = r.label;
+        at = ap (λ k. slice_get spots k) at ∙ r.at;
+        awaits =
+            awaits-from_list r.spot.awaits r.label r.has;
+        named = r.label_is;
+      }
 
   pub edge-of_offer : (m : ℕ) (spot : Spot A) (label : A) → slice_get spots m ≡ Some spot → Contains spot.offers label → HasOfferEdge net labels m label
   edge-of_offer m spot label at has =
       let c : Contains (map (offer_arrow labels) net.offers) (arrow_at (0 + m) label) =
-          subst (λ arrows. Contains arrows (arrow_at (0 + m) label)) (sym h.offers)
-          (arrow-has offered_at 0 spots m spot label at has) in
+      subst (λ arrows. Contains arrows (arrow_at (0 + m) label)) (sym h.offers)
+      (arrow-has offered_at 0 spots m spot label at has) in
       let f = Contains-from_map (offer_arrow labels) net.offers (arrow_at (0 + m) label) c in
       let e = edge-from_contains net.offers f.0 f.1 in
       let node : f.0.from ≡ m = omega (arith, ap (λ (a : Arrow A). a.node) f.2) in
@@ -171,8 +177,8 @@ module _ {A : Type 0} (spots : List (Spot A)) (labels : List A) (IsShut : A → 
   edge-of_wait n spot label at awaits =
       let has : Contains (awaited_at spot) label = subst (λ o. Contains (option_to_list o) label) (sym awaits) (contains_first label []) in
       let c : Contains (map (wait_arrow labels) net.waits) (arrow_at (0 + n) label) =
-          subst (λ arrows. Contains arrows (arrow_at (0 + n) label)) (sym h.waits)
-          (arrow-has awaited_at 0 spots n spot label at has) in
+      subst (λ arrows. Contains arrows (arrow_at (0 + n) label)) (sym h.waits)
+      (arrow-has awaited_at 0 spots n spot label at has) in
       let f = Contains-from_map (wait_arrow labels) net.waits (arrow_at (0 + n) label) c in
       let e = edge-from_contains net.waits f.0 f.1 in
       let node : f.0.to ≡ n = omega (arith, ap (λ (a : Arrow A). a.node) f.2) in
@@ -186,7 +192,7 @@ module _ {A : Type 0} (spots : List (Spot A)) (labels : List A) (IsShut : A → 
   pub root-of_spot : (n : ℕ) (spot : Spot A) → slice_get spots n ≡ Some spot → is_root net n ≡ spot.rooted
   root-of_spot n spot at =
       ap (λ rs. get_or rs n false) h.roots ∙ get_or_from_slice_get (map (λ (s : Spot A). s.rooted) spots) n spot.rooted
-          false (slice_get-map_at (λ (s : Spot A). s.rooted) spots n spot at)
+      false (slice_get-map_at (λ (s : Spot A). s.rooted) spots n spot at)
 
   pub spot-of_root : (n : ℕ) → is_root net n ≡ true → (spot : Spot A) × (slice_get spots n ≡ Some spot)
   spot-of_root n e =

@@ -91,7 +91,7 @@ all_numbers P items order arranged all n d below =
     let inside : place.0 < length (picked items order) = omega (arith, place.1) in
     let here : P (get_or (picked items order) place.0 d) = All-from_recursion P (picked items order) all place.0 d inside in
     let found : slice_get items (slice_index order place.0) ≡ Some (get_or (picked items order) place.0 d) =
-        picked-at items order place.0 d arranged.within place.1 in
+    picked-at items order place.0 d arranged.within place.1 in
     let number : slice_index order place.0 ≡ n = get_or_default order place.0 0 n place.1 ∙ place.2 in
     let own : slice_get items n ≡ Some (get_or items n d) = slice_get_at items n d below in
     let same : Some (get_or (picked items order) place.0 d) ≡ Some (get_or items n d) = sym found ∙ ap (slice_get items) number ∙ own in
@@ -136,7 +136,7 @@ bucket_inserts items buckets r spot arranged other gap =
     let apart : AllByRecursion (IsOther r) (picked items buckets) = picked_all (IsOther r) items other buckets in
     with_item_at bucket_total r (picked items buckets) spot here.within here.before
     (λ k d low high. bucket_after (get_or (picked items buckets) k d) r
-        (All-from_recursion (IsOther r) (picked items buckets) apart k d high) (here.after k d low high) _ refl)
+    (All-from_recursion (IsOther r) (picked items buckets) apart k d high) (here.after k d low high) _ refl)
 
 -- ---- one receipt more
 
@@ -155,13 +155,13 @@ hoard_more c stock new buckets newer records r place spot hoard is fits few miss
     let gap_within = gap.within in
     let unheld : Contains (in_order stock) r → ⊥ = missing_lacks (in_order stock) r place missing in
     let other : AllByRecursion (IsOther r) stock.items =
-        all_items (IsOther r) stock.items stock.order hoard.arranged
-        (others (in_order stock) r is (picked_all IsReceipt stock.items hoard.receipts stock.order) unheld) in
+    all_items (IsOther r) stock.items stock.order hoard.arranged
+    (others (in_order stock) r is (picked_all IsReceipt stock.items hoard.receipts stock.order) unheld) in
     let place_within : place ≤ length stock.order = omega arith in
     let arranged : Arranges (insert stock.order place (length stock.items)) (length stock.items + 1) =
-        Arranges-insert stock.order (length stock.items) place hoard.arranged place_within in
+    Arranges-insert stock.order (length stock.items) place hoard.arranged place_within in
     let bucket_arranged : Arranges (insert buckets spot (length stock.items)) (length stock.items + 1) =
-        Arranges-insert buckets (length stock.items) spot hoard.buckets_arranged gap_within in
+    Arranges-insert buckets (length stock.items) spot hoard.buckets_arranged gap_within in
     let bucket_items : picked new.items newer ≡ with_item bucket_cmp r (picked stock.items buckets) =
     ap (λ xs. picked xs newer) items ∙ ap (picked (stock.items ++ r ∷ [])) bucketed ∙ picked-insert stock.items buckets spot r hoard.buckets_arranged.within
     ∙ sym (bucket_inserts stock.items buckets r spot hoard.buckets_arranged other gap) in
@@ -206,9 +206,9 @@ buckets_rise items lent buckets b c arranged rising same e =
     (rising_numbers (λ r. nat_cmp (bucket_of r) c) items buckets arranged.within record {
       rising = searchable_from_sorted nat_cmp_total bucket_of (picked items buckets) c
           (λ k d low high. then_not_less
-              (nat_cmp (bucket_of (get_or (picked items buckets) (k + 1) d))
-              (bucket_of (get_or (picked items buckets) k d)))
-              (receipt_cmp (get_or (picked items buckets) (k + 1) d) (get_or (picked items buckets) k d))
+          (nat_cmp (bucket_of (get_or (picked items buckets) (k + 1) d))
+          (bucket_of (get_or (picked items buckets) k d)))
+          (receipt_cmp (get_or (picked items buckets) (k + 1) d) (get_or (picked items buckets) k d))
           (sorted bucket_total (picked items buckets) rising k d low high));
     })
 
@@ -221,9 +221,11 @@ from_equal x y e = grind (arith, nat_tests)
 below_one : (b : ℕ) (x : Receipt) (xs : List Receipt) → bucket_of x ≡ b → AllByRecursion (λ r. bucket_of r ≡ b) xs
     → AllByRecursion (λ y. bucket_cmp x y ≡ Less) xs → AllByRecursion (λ y. receipt_cmp x y ≡ Less) xs
 below_one b x [] here all below = tt
-below_one b x (y ∷ ys) here all below =
-    (sym (ap (λ o. ordering_then o (receipt_cmp x y)) (cmp_equal (bucket_of x) (bucket_of y) (here ∙ sym all.0)))
-        ∙ below.0, below_one b x ys here all.1 below.1)
+below_one b x (y ∷ ys) here all below = (
+  sym (ap (λ o. ordering_then o (receipt_cmp x y)) (cmp_equal (bucket_of x) (bucket_of y) (here ∙ sym all.0)))
+      ∙ below.0,
+  below_one b x ys here all.1 below.1,
+)
 
 one_bucket : (b : ℕ) (xs : List Receipt) → AllByRecursion (λ r. bucket_of r ≡ b) xs → IsStrictlySortedBy bucket_cmp xs → IsStrictlySortedBy receipt_cmp xs
 unfolding IsStrictlySortedBy
@@ -258,15 +260,15 @@ picked_in items numbers y has =
 in_picked : (items : List Receipt) (order : List ℕ) (y : Receipt) → Arranges order (length items) → Contains items y → Contains (picked items order) y
 in_picked items order y arranged has =
     each_has (Contains (picked items order)) items y
-        (all_items (Contains (picked items order)) items order arranged
-        (recursion_from_All (Contains (picked items order)) (picked items order)
-        (All-contains_itself (picked items order)))) has
+    (all_items (Contains (picked items order)) items order arranged
+    (recursion_from_All (Contains (picked items order)) (picked items order)
+    (All-contains_itself (picked items order)))) has
 
 moved : (items : List Receipt) (from to : List ℕ) (b : ℕ) (y : Receipt) → Arranges to (length items)
     → Contains (filter (is_in_bucket b) (picked items from)) y → Contains (filter (is_in_bucket b) (picked items to)) y
 moved items from to b y arranged has =
     filter_gets (is_in_bucket b) (picked items to) y
-        (in_picked items to y arranged (picked_in items from y (filter_in (is_in_bucket b) (picked items from) y has)))
+    (in_picked items to y arranged (picked_in items from y (filter_in (is_in_bucket b) (picked items from) y has)))
     (filter_test (is_in_bucket b) (picked items from) y has)
 
 pub bucket_list : (stock : Stock Receipt) (buckets : List ℕ) (b : ℕ) → Arranges stock.order (length stock.items)
@@ -277,11 +279,11 @@ pub bucket_list : (stock : Stock Receipt) (buckets : List ℕ) (b : ℕ) → Arr
 bucket_list stock buckets b arranged bucketed rising bucket_rising =
     let all : AllByRecursion (λ r. bucket_of r ≡ b) (filter (is_in_bucket b) (picked stock.items buckets)) =
     each_from (λ r. bucket_of r ≡ b) (filter (is_in_bucket b) (picked stock.items buckets))
-        (λ r has. from_equal (bucket_of r) b (filter_test (is_in_bucket b) (picked stock.items buckets) r has)) in
+    (λ r has. from_equal (bucket_of r) b (filter_test (is_in_bucket b) (picked stock.items buckets) r has)) in
     filter-picked (λ r. nat_cmp (bucket_of r) b) stock.items buckets bucketed.within
     ∙ filter_agree (λ r. is_equal (nat_cmp (bucket_of r) b)) (is_in_bucket b) (λ r. equal_is (bucket_of r) b) (picked stock.items buckets)
     ∙ rising_same receipt_total (filter (is_in_bucket b) (picked stock.items buckets)) (filter (is_in_bucket b) (in_order stock))
     (one_bucket b (filter (is_in_bucket b) (picked stock.items buckets)) all
-        (IsStrictlySortedBy-filter bucket_cmp (is_in_bucket b) (picked stock.items buckets) bucket_rising))
+    (IsStrictlySortedBy-filter bucket_cmp (is_in_bucket b) (picked stock.items buckets) bucket_rising))
     (IsStrictlySortedBy-filter receipt_cmp (is_in_bucket b) (in_order stock) rising)
     (λ y has. moved stock.items buckets stock.order b y arranged has) (λ y has. moved stock.items stock.order buckets b y bucketed has)

@@ -100,16 +100,16 @@ in_order-insert labels place x h m i j d l within =
             | inr b ↦
                 let j_is : j ≡ (j - 1) + 1 = omega (arith, b) in
                 let second : get_or (insert labels place x) j d ≡ get_or labels (j - 1) d =
-                    ap (λ k. get_or (insert labels place x) k d) j_is
-                    ∙ get_or-insert_above labels place x d (j - 1) (omega (arith, b)) m.within in
+                ap (λ k. get_or (insert labels place x) k d) j_is
+                ∙ get_or-insert_above labels place x d (j - 1) (omega (arith, b)) m.within in
                 let last : j - 1 < length labels = omega (arith, within, size, b) in
                 subst (λ a. label_cmp (get_or (insert labels place x) i d) a ≡ Less) (sym second)
                 (elim (cases_order i place) [
                   | inl e ↦
                       let first : get_or (insert labels place x) i d ≡ x =
-                          ap (λ k. get_or (insert labels place x) k d) e ∙ get_or-insert_at labels place x d m.within in
+                      ap (λ k. get_or (insert labels place x) k d) e ∙ get_or-insert_at labels place x d m.within in
                       subst (λ a. label_cmp a (get_or labels (j - 1) d) ≡ Less) (sym first)
-                          (after-less (get_or labels (j - 1) d) x (m.after (j - 1) d (omega (arith, b)) last))
+                      (after-less (get_or labels (j - 1) d) x (m.after (j - 1) d (omega (arith, b)) last))
                   | inr f ↦
                       elim f [
                         | inl g ↦
@@ -118,8 +118,8 @@ in_order-insert labels place x h m i j d l within =
                         | inr g ↦
                             let i_is : i ≡ (i - 1) + 1 = omega (arith, g) in
                             let first : get_or (insert labels place x) i d ≡ get_or labels (i - 1) d =
-                                ap (λ k. get_or (insert labels place x) k d) i_is
-                                ∙ get_or-insert_above labels place x d (i - 1) (omega (arith, g)) m.within in
+                            ap (λ k. get_or (insert labels place x) k d) i_is
+                            ∙ get_or-insert_above labels place x d (i - 1) (omega (arith, g)) m.within in
                             subst (λ a. label_cmp a (get_or labels (j - 1) d) ≡ Less) (sym first) (h (i - 1) (j - 1) d (omega (arith, l, g)) last)
                       ]
                 ])

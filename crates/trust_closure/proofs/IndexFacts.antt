@@ -198,7 +198,7 @@ same-more h r valid form same s =
 pub built-more : (h new : Hoard) (p q : Paired) (w v : Wired) (r : Receipt) → IsBuilt h p w → IsReceipt r
     → (Contains h.held r → ⊥) → new ≡ with_arrival h r → IsMeaning (meaning_of new)
     → ((domains : List (List ℕ)) (spots : List (Spot Triple)) → AreDomains h.config domains
-        → IsWiringOf domains h.records spots w → IsWiringOf domains h.records (spots ++ spot_of_receipt r ∷ []) v)
+    → IsWiringOf domains h.records spots w → IsWiringOf domains h.records (spots ++ spot_of_receipt r ∷ []) v)
     → ListsReached v.net v.marked → IsPairing (pairs_of h.config.seeds h.arrived ++ pair_of r ∷ []) q → IsBuilt new q v
 built-more h new p q w v r b form unheld is valid wired reached pairing =
     let valid' : IsMeaning (meaning_of (with_arrival h r)) = subst (λ x. IsMeaning (meaning_of x)) is valid in
@@ -240,7 +240,7 @@ pub gain-more : (h new : Hoard) (p q : Paired) (w v : Wired) (r : Receipt) (node
     → IsGain (meaning_of h) (meaning_of new) n
 gain-more h new p q w v r nodes n i j is adds count =
     let prefix : pairs_of new.config.seeds new.arrived ≡ pairs_of h.config.seeds h.arrived ++ pair_of r ∷ [] =
-        ap (λ (x : Hoard). pairs_of x.config.seeds x.arrived) is ∙ pairs-push h.config.seeds h.arrived r in
+    ap (λ (x : Hoard). pairs_of x.config.seeds x.arrived) is ∙ pairs-push h.config.seeds h.arrived r in
     gain-from_flags no_pair (meaning_of h) (meaning_of new) (pairs_of h.config.seeds h.arrived)
     (pairs_of new.config.seeds new.arrived) p.numbers q.numbers (flags_of p.counts)
     (flags_of q.counts)
@@ -268,8 +268,8 @@ wiring-closed domains records more IsMeant spots old new turns h shuts c =
     h.mirrors (IsShutBy more) c.net.flags c.net.sizes (λ i t e.
     let f = slice_get-map_cases (triple_by domains) old.labels i t e in
     let l : f.0.domain < length domains =
-        All-contains (λ (a : Label). a.domain < length domains) old.labels f.0 h.within
-        (slice_get-Contains old.labels i f.0 f.1) in
+    All-contains (λ (a : Label). a.domain < length domains) old.labels f.0 h.within
+    (slice_get-Contains old.labels i f.0 f.1) in
     let before = h.mirrors.closed i t e in
     let is = c.net.closed i f.0 f.1 in
     let both = shuts f.0 l in (
@@ -466,8 +466,8 @@ kept-closed old new xs p q w v i j before numbers k e =
     in
     let f = more.all (get_or (pairs_of new.config.seeds new.arrived) k no_pair) less in
     let here = more.once k f.0 (get_or (pairs_of new.config.seeds new.arrived) k no_pair)
-        (subst (λ ns. Contains ns k) numbers (fewer.listed k e)) (more.listed f.0 f.1)
-        (ap (λ ps. slice_get ps k) (sym same) ∙ at) f.2 in
+    (subst (λ ns. Contains ns k) numbers (fewer.listed k e)) (more.listed f.0 f.1)
+    (ap (λ ps. slice_get ps k) (sym same) ∙ at) f.2 in
     ap (λ a. is_raised (flags_of p.counts) a) here ∙ f.1
   where
     within : k < length (flags_of q.counts)
@@ -498,8 +498,8 @@ loss-closed old new xs p q w v n i j before size numbers count =
 pub hoard-same : (old new : Hoard) → meaning_of new ≡ meaning_of old → new.arrived ≡ old.arrived → new.capacity ≡ old.capacity → new ≡ old
 hoard-same old new meaning arrived capacity =
     ap (λ (m : Meaning). let h : Hoard =
-        record { config = m.config; arrived = new.arrived; held = m.held; records = m.records; capacity = new.capacity }
-        in h) meaning
+    record { config = m.config; arrived = new.arrived; held = m.held; records = m.records; capacity = new.capacity }
+    in h) meaning
     ∙ ap (λ a. let h : Hoard = record { config = old.config; arrived = a; held = old.held; records = old.records; capacity = new.capacity } in h) arrived
     ∙ ap (λ n. let h : Hoard = record { config = old.config; arrived = old.arrived; held = old.held; records = old.records; capacity = n } in h) capacity
 
@@ -612,8 +612,8 @@ index-parts h p w b =
       (λ n l.
           let s = get_or_seed h.config.seeds n l in
           b.reached.all n
-              (root (root-of_spot (spots_of h.config.seeds h.arrived) labels (IsShutBy h.records) w.net b.wired.mirrors
-              n (spot_of_seed s.0) (spot-of_seed_node h.config.seeds h.arrived n s.0 s.1)))),
+          (root (root-of_spot (spots_of h.config.seeds h.arrived) labels (IsShutBy h.records) w.net b.wired.mirrors
+          n (spot_of_seed s.0) (spot-of_seed_node h.config.seeds h.arrived n s.0 s.1)))),
       (λ place r at. (
         λ c.
             let a = node-accepted h p w b (length h.config.seeds + place) (b.reached.reached (length h.config.seeds + place) c) in
@@ -714,8 +714,8 @@ pub wired-seed : (h : Hoard) (seeds : List Seed) (s : Seed) (w a b c d : Wired) 
     → ((domains : List (List ℕ)) → AreDomains h.config domains → IsWiringOf domains h.records (map spot_of_seed seeds) w)
     → IsRoomierWired w a → HasNode a b node → IsRooted b node c → triples ≡ offers_of (pair_of_seed s)
     → ((domains : List (List ℕ)) (spots : List (Spot Triple)) (spot : Spot Triple) → AreDomains h.config domains
-        → node ≡ length spots → IsWiringOf domains h.records (spots ++ spot ∷ []) c
-        → IsWiringOf domains h.records (spots ++ record spot { offers = spot.offers ++ triples } ∷ []) d)
+    → node ≡ length spots → IsWiringOf domains h.records (spots ++ spot ∷ []) c
+    → IsWiringOf domains h.records (spots ++ record spot { offers = spot.offers ++ triples } ∷ []) d)
     → (domains : List (List ℕ)) → AreDomains h.config domains → IsWiringOf domains h.records (map spot_of_seed (seeds ++ s ∷ [])) d
 wired-seed h seeds s w a b c d node triples wired room has rooted is offers domains are =
     let spots = map spot_of_seed seeds in
@@ -732,8 +732,8 @@ pub seeded-more : (h : Hoard) (seeds : List Seed) (s : Seed) (p a q : Paired) (w
     → a.firsts ≡ p.firsts → q.counts ≡ a.counts ++ 0 ∷ [] → q.firsts ≡ a.firsts ++ first ∷ []
     → length a.firsts + 1 ≤ a.capacity → q.capacity ≡ a.capacity
     → ((domains : List (List ℕ)) → AreDomains h.config domains
-        → IsWiringOf domains h.records (map spot_of_seed (seeds ++ s ∷ [])) d) → ListsReached d.net d.marked
-        → IsSeeded h (seeds ++ s ∷ []) q d
+    → IsWiringOf domains h.records (map spot_of_seed (seeds ++ s ∷ [])) d) → ListsReached d.net d.marked
+    → IsSeeded h (seeds ++ s ∷ []) q d
 seeded-more h seeds s p a q w d first none g pairing f1 f2 counts firsts room capacity wired
     reached =
     let pairs : pairs_of seeds h.arrived ++ pair_of_seed s ∷ [] ≡ pairs_of (seeds ++ s ∷ []) h.arrived =
@@ -763,7 +763,7 @@ built-seeded h domains p w seeds valid held arrived are is g =
     let both : h.held ≡ h.arrived = held ∙ sym arrived in
     let spots : map spot_of_seed seeds ≡ spots_of h.config.seeds h.arrived =
     ap (map spot_of_seed) is ∙ sym (append-nil (map spot_of_seed h.config.seeds))
-        ∙ ap (λ rs. map spot_of_seed h.config.seeds ++ map spot_of_receipt rs) (sym arrived)
+    ∙ ap (λ rs. map spot_of_seed h.config.seeds ++ map spot_of_receipt rs) (sym arrived)
     in
     record {
       valid = valid;
@@ -819,9 +819,10 @@ pairs-few h p pairing seeds arrived =
 
 pub different-from_pairs : {A : Type 0} (xs : List A) → AllPairs ◌≢◌ xs → AreDifferent xs
 different-from_pairs [] h = tt
-different-from_pairs (x ∷ xs) h =
-    (λ c. h 0 (suc c.0) x (omega arith) (omega (arith, c.1)) (sym c.2),
-        different-from_pairs xs (λ i j d l b. h (suc i) (suc j) d (omega (arith, l)) (omega (arith, b))))
+different-from_pairs (x ∷ xs) h = (
+  λ c. h 0 (suc c.0) x (omega arith) (omega (arith, c.1)) (sym c.2),
+  different-from_pairs xs (λ i j d l b. h (suc i) (suc j) d (omega (arith, l)) (omega (arith, b))),
+)
 
 length-passing_all : (n : ℕ) → length (passing (λ k. true) n) ≡ n
 length-passing_all zero = refl
@@ -844,11 +845,11 @@ pub length-unmarked : (marked : List ℕ) (count : ℕ) → AllPairs ◌≢◌ m
 length-unmarked marked count once within =
     let among = λ (k : ℕ). is_among marked k in
     let less : length (passing among count) ≤ length marked =
-        no_longer (passing among count) marked (passing-differ among count)
-        (λ k c. among-to marked k (passing-to among count k c).1) in
+    no_longer (passing among count) marked (passing-differ among count)
+    (λ k c. among-to marked k (passing-to among count k c).1) in
     let more : length marked ≤ length (passing among count) =
-        no_longer marked (passing among count) (different-from_pairs marked once)
-        (λ k c. passing-from among count k (All-contains (λ n. n < count) marked k within c) (among-from marked k c)) in
+    no_longer marked (passing among count) (different-from_pairs marked once)
+    (λ k c. passing-from among count k (All-contains (λ n. n < count) marked k within c) (among-from marked k c)) in
     omega (arith, length-only_wide among (λ k. true) (λ k e. refl) count, length-passing_all count, less, more)
 
 pub pending-count : (h : Hoard) (p : Paired) (w : Wired) (none : Receipt) (n : ℕ) → IsBuilt h p w
@@ -873,8 +874,8 @@ pending-count h p w none n b total =
           let a = parts x cx in
           let c = parts y cy in
           let one = one_place h.arrived b.once (x - seeds) (y - seeds) (at y)
-              (slice_get-get_or h.arrived (x - seeds) none a.1 ∙ ap (λ (r : Receipt). Some r) s)
-              (slice_get-get_or h.arrived (y - seeds) none c.1) in
+          (slice_get-get_or h.arrived (x - seeds) none a.1 ∙ ap (λ (r : Receipt). Some r) s)
+          (slice_get-get_or h.arrived (y - seeds) none c.1) in
           omega (arith, one, a.0, c.0));
       exactly = λ r. (
         λ c.
@@ -890,14 +891,14 @@ pending-count h p w none n b total =
             let place = Contains-slice_get h.arrived r ((b.same r).0 pending.held) in
             let l : place.0 < length h.arrived = slice_get_within h.arrived place.0 r place.1 in
             let off : is_among w.marked (seeds + place.0) ≡ false =
-                false_from_ne_true (is_among w.marked (seeds + place.0))
-                (λ t. pending.unreleased ((index.1 place.0 r place.1).0 (among-to w.marked (seeds + place.0) t))) in
+            false_from_ne_true (is_among w.marked (seeds + place.0))
+            (λ t. pending.unreleased ((index.1 place.0 r place.1).0 (among-to w.marked (seeds + place.0) t))) in
             let c : Contains list (seeds + place.0) =
-                passing-from (only_wide (λ j. is_among w.marked j) (λ j. true) (λ j e. refl)) count (seeds + place.0)
-                (omega (arith, l)) (not_from_false (is_among w.marked (seeds + place.0)) off) in
+            passing-from (only_wide (λ j. is_among w.marked j) (λ j. true) (λ j e. refl)) count (seeds + place.0)
+            (omega (arith, l)) (not_from_false (is_among w.marked (seeds + place.0)) off) in
             let is : at (seeds + place.0) ≡ r =
-                (let e : (seeds + place.0) - seeds ≡ place.0 = omega arith in ap (λ k. get_or h.arrived k none) e)
-                ∙ get_or_from_slice_get h.arrived place.0 r none place.1 in
+            (let e : (seeds + place.0) - seeds ≡ place.0 = omega arith in ap (λ k. get_or h.arrived k none) e)
+            ∙ get_or_from_slice_get h.arrived place.0 r none place.1 in
             subst (Contains (map at list)) is (contains_map at list (seeds + place.0) c),
       );
       count = length-map list at ∙ (let e : length list ≡ n = omega (arith, length-unmarked w.marked count b.reached.once within, total) in e);
@@ -906,8 +907,14 @@ pending-count h p w none n b total =
     within : All (λ k. k < length h.config.seeds + length h.arrived) w.marked
     within k d l =
         let small = marked-within h p w b k d l in
-        omega (arith, small, b.pairing.sizes, length-append (map pair_of_seed h.config.seeds) (map pair_of h.arrived),
-            length-map h.config.seeds pair_of_seed, length-map h.arrived pair_of)
+        omega (
+          arith,
+          small,
+          b.pairing.sizes,
+          length-append (map pair_of_seed h.config.seeds) (map pair_of h.arrived),
+          length-map h.config.seeds pair_of_seed,
+          length-map h.arrived pair_of,
+        )
 
 pub marked-few : (h : Hoard) (p : Paired) (w : Wired) → IsBuilt h p w → length w.marked ≤ length h.config.seeds + length h.arrived
 marked-few h p w b = omega (arith, length-unmarked w.marked (length h.config.seeds + length h.arrived) b.reached.once within)
@@ -915,5 +922,11 @@ marked-few h p w b = omega (arith, length-unmarked w.marked (length h.config.see
     within : All (λ k. k < length h.config.seeds + length h.arrived) w.marked
     within k d l =
         let small = marked-within h p w b k d l in
-        omega (arith, small, b.pairing.sizes, length-append (map pair_of_seed h.config.seeds) (map pair_of h.arrived),
-            length-map h.config.seeds pair_of_seed, length-map h.arrived pair_of)
+        omega (
+          arith,
+          small,
+          b.pairing.sizes,
+          length-append (map pair_of_seed h.config.seeds) (map pair_of h.arrived),
+          length-map h.config.seeds pair_of_seed,
+          length-map h.arrived pair_of,
+        )

@@ -40,25 +40,25 @@ same_relationship : (xs : List Relationship) (a b : Relationship) → IsStrictly
 same_relationship [] a b rising has holds e = absurd (contains_none a has)
 same_relationship (x ∷ xs) a b rising has holds e =
     let tied : relationship_cmp a b ≡ Equal =
-        ap (λ d. relationship_cmp a (record b { domain = d })) (sym e)
-        ∙ tied_itself (on_texts (λ (r : Relationship). r.domain)) a in
+    ap (λ d. relationship_cmp a (record b { domain = d })) (sym e)
+    ∙ tied_itself (on_texts (λ (r : Relationship). r.domain)) a in
     let back : relationship_cmp b a ≡ Equal =
-        ap (λ d. relationship_cmp b (record a { domain = d })) e
-        ∙ tied_itself (on_texts (λ (r : Relationship). r.domain)) b in
+    ap (λ d. relationship_cmp b (record a { domain = d })) e
+    ∙ tied_itself (on_texts (λ (r : Relationship). r.domain)) b in
     elim (contains_cases x xs a has) [
       | inl first ↦ elim (contains_cases x xs b holds) [
         | inl here ↦ sym first ∙ here
         | inr later ↦
             let below : relationship_cmp a b ≡ Less =
-                subst (λ (r : Relationship). relationship_cmp r b ≡ Less) first
-                (each_has (λ y. relationship_cmp x y ≡ Less) xs b (sorted_head relationship_cmp x xs rising) later) in
+            subst (λ (r : Relationship). relationship_cmp r b ≡ Less) first
+            (each_has (λ y. relationship_cmp x y ≡ Less) xs b (sorted_head relationship_cmp x xs rising) later) in
             absurd (cc)
       ]
       | inr after ↦ elim (contains_cases x xs b holds) [
         | inl here ↦
             let below : relationship_cmp b a ≡ Less =
-                subst (λ (r : Relationship). relationship_cmp r a ≡ Less) here
-                (each_has (λ y. relationship_cmp x y ≡ Less) xs a (sorted_head relationship_cmp x xs rising) after) in
+            subst (λ (r : Relationship). relationship_cmp r a ≡ Less) here
+            (each_has (λ y. relationship_cmp x y ≡ Less) xs a (sorted_head relationship_cmp x xs rising) after) in
             absurd (cc)
         | inr later ↦ same_relationship xs a b (sorted_tail relationship_cmp x xs rising) after later e
       ]
@@ -67,8 +67,8 @@ same_relationship (x ∷ xs) a b rising has holds e =
 fits_right : (c : Configuration) (r : Receipt) → IsConfiguration c → IsFitting c r → IsOfWrongEndpoint c r → ⊥
 fits_right c r is fits wrong =
     let one : fits.relationship ≡ wrong.relationship =
-        same_relationship c.relationships fits.relationship wrong.relationship is.rising_relationships fits.has
-        wrong.has (fits.domain ∙ sym wrong.domain) in
+    same_relationship c.relationships fits.relationship wrong.relationship is.rising_relationships fits.has
+    wrong.has (fits.domain ∙ sym wrong.domain) in
     wrong.other (sym (ap (λ (x : Relationship). x.endpoint) one) ∙ fits.endpoint)
 
 pub none_left : {X : Type 0} (xs : List X) → length xs ≡ 0 → xs ≡ []
@@ -114,8 +114,8 @@ took start now new all later r is joining (TakenNew accepted) h =
     let left = h.receipts in
     let left_offers = h.offers in
     let size : length new.meaning.held ≤ length now.meaning.held + 1 =
-        omega (arith, ap (λ (m : Meaning). length m.held) h.meaning, with_item_longer receipt_total r now.meaning.held)
-        in
+    omega (arith, ap (λ (m : Meaning). length m.held) h.meaning, with_item_longer receipt_total r now.meaning.held)
+    in
     record {
       config = ap (λ (m : Meaning). m.config) h.meaning ∙ joining.config;
       records = ap (λ (m : Meaning). m.records) h.meaning ∙ joining.records;
@@ -170,14 +170,14 @@ pub IsJoining-next : (start now new : HeldAndRoom) (m : Meaning) (all rest later
     → IsJoining start now all rest → rest ≡ r ∷ later → Takes now r new result → IsJoining start new all later
 IsJoining-next start now new m all rest later r result same is form joining e h =
     takes_next start now new all later r (subst IsMeaning same is)
-        (subst (λ (k : Meaning). IsConfiguration k.config) same form) (subst (IsJoining start now all) e joining) result
-        h
+    (subst (λ (k : Meaning). IsConfiguration k.config) same form) (subst (IsJoining start now all) e joining) result
+    h
 
 pub IsJoining-end : (start now : HeldAndRoom) (all rest : List Receipt) → IsJoining start now all rest → rest ≡ []
     → now.meaning ≡ record start.meaning { held = with_items receipt_cmp all start.meaning.held }
 IsJoining-end start now all rest joining e =
     let held : now.meaning.held ≡ with_items receipt_cmp all start.meaning.held =
-        sym (ap (λ xs. with_items receipt_cmp xs now.meaning.held) e) ∙ joining.held in
+    sym (ap (λ xs. with_items receipt_cmp xs now.meaning.held) e) ∙ joining.held in
     let config = joining.config in
     let records = joining.records in
     λ i. record { config = config i; held = held i; records = records i }
@@ -311,8 +311,11 @@ share_welcome m other roomy now share records is same e room roomier =
     record {
       fitting = λ r has. subst (λ (c : Configuration). IsFitting c r) (sym config) (is.mergeable.of_config.fitting r (is.copies.each r has));
       few = omega arith;
-      room = subst (λ (k : Room). IsRoomier (record { receipts = length share.copies.items; offers =
-          offers_count share.copies.items }) k) (sym room) (record { receipts = more; offers = omega arith });
+      room = subst (λ (k : Room). IsRoomier (record {
+        receipts = length share.copies.items;
+        offers =
+            offers_count share.copies.items;
+      }) k) (sym room) (record { receipts = more; offers = omega arith });
     }
 
 pub share_merged : (m other roomy less new : Meaning) (share : Share) (records : List Distrust) (n : ℕ)
@@ -361,8 +364,8 @@ pub share_wants : {T E : Type 0} (m other : Meaning) (share : Share) (room : Roo
     → (IsRoomier (record { receipts = n; offers = share.offers }) room → IsOk r) → WantsCopies m other
 share_wants m other share room n r is size err within =
     wants m other share room share.copies.items refl is
-        (λ roomier. no_ok r err
-        (within (subst (λ k. IsRoomier (record { receipts = k; offers = share.offers }) room) (sym size) roomier)))
+    (λ roomier. no_ok r err
+    (within (subst (λ k. IsRoomier (record { receipts = k; offers = share.offers }) room) (sym size) roomier)))
 
 pub on_ok : {T E : Type 0} (r : Result T E) (P : Type 0) → is_err r ≡ false → OnOk r P → P
 on_ok (Ok v) P e h = h

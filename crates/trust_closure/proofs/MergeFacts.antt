@@ -150,15 +150,15 @@ pub counted_receipts : (m other : Meaning) (rest : List Receipt) (count limit : 
     → IsCounted m.held other.held rest count limit → rest ≡ [] → length (all_receipts m other) ≡ length m.held + count
 counted_receipts m other rest count limit is was counted e =
     lacking_count IsReceipt receipt_cmp receipt_sets other.held m.held count was.receipts is.receipts was.rising
-        is.rising (IsCounted-end m.held other.held rest count limit counted e)
+    is.rising (IsCounted-end m.held other.held rest count limit counted e)
 
 pub counted_records : (m other : Meaning) (rest : List Distrust) (count limit : ℕ) → IsMeaning m → IsMeaning other
     → IsCounted m.records other.records rest count limit → rest ≡ []
     → length (all_records m other) ≡ length m.records + count
 counted_records m other rest count limit is was counted e =
     lacking_count Always distrust_cmp record_sets other.records m.records count (always other.records)
-        (always m.records) was.records_rising is.records_rising
-        (IsCounted-end m.records other.records rest count limit counted e)
+    (always m.records) was.records_rising is.records_rising
+    (IsCounted-end m.records other.records rest count limit counted e)
 
 -- ---- copies of what is not held
 
@@ -183,7 +183,7 @@ IsCopied-held held all rest later copies r rising copied e has =
     record {
       joined = with_items-append receipt_cmp copies later held ∙ sym (ap (with_items receipt_cmp later) same)
           ∙ sym (with_items-append receipt_cmp copies (r ∷ later) held)
-              ∙ sym (ap (λ (xs : List Receipt). with_items receipt_cmp (copies ++ xs) held) e) ∙ copied.joined;
+          ∙ sym (ap (λ (xs : List Receipt). with_items receipt_cmp (copies ++ xs) held) e) ∙ copied.joined;
       within = λ s more. copied.within s (subst (λ (xs : List Receipt). Contains xs s) (sym e) (contains_later r later s more));
       each = copied.each;
       unheld = copied.unheld;
@@ -262,9 +262,14 @@ wrong_known c r wrong unknown = unknown wrong.relationship wrong.has wrong.domai
 pub refuses_record : (m other : Meaning) (c : Configuration) (xs : List Distrust) → c ≡ m.config → xs ≡ other.records
     → IsAlike m other → ((x : Distrust) × Contains xs x × (HasDomain c x.domain → ⊥))
     → RefusesMerge m other UnknownDomain
-refuses_record m other c xs own its alike found =
-    (alike, inr (found.0, subst (λ (ys : List Distrust). Contains ys found.0) its found.1,
-        λ has. found.2 (subst (λ (k : Configuration). HasDomain k found.0.domain) (sym own) has)))
+refuses_record m other c xs own its alike found = (
+  alike,
+  inr (
+    found.0,
+    subst (λ (ys : List Distrust). Contains ys found.0) its found.1,
+    λ has. found.2 (subst (λ (k : Configuration). HasDomain k found.0.domain) (sym own) has),
+  ),
+)
 
 pub knows_records : (m other : Meaning) (c : Configuration) (xs : List Distrust) → c ≡ m.config → xs ≡ other.records
     → ((x : Distrust) → Contains xs x → HasDomain c x.domain) → (x : Distrust) → Contains other.records x
@@ -292,8 +297,8 @@ pub refuses_receipt : (m other : Meaning) (c : Configuration) (rs : List Receipt
     → MisfitsOne c rs why → RefusesMerge m other why
 refuses_receipt m other c rs own its alike known why h =
     refuses_at m other alike known why
-        (subst (λ (k : Configuration). MisfitsOne k other.held why) own
-        (subst (λ (ys : List Receipt). MisfitsOne c ys why) its h))
+    (subst (λ (k : Configuration). MisfitsOne k other.held why) own
+    (subst (λ (ys : List Receipt). MisfitsOne c ys why) its h))
 
 turned_not : (b : Bool) → false ≡ not b → true ≡ b
 turned_not true e = refl

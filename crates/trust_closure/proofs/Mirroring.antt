@@ -47,7 +47,7 @@ offers-named labels more [] a = refl
 offers-named {A = A} labels more (edge ∷ edges) a =
     let e : slice_get (labels ++ more) edge.to ≡ slice_get labels edge.to = slice_get-more labels more edge.to a.0.0 a.0.1 ∙ sym a.0.1 in
     let same : offer_arrow (labels ++ more) edge ≡ offer_arrow labels edge =
-        ap (λ (o : Option A). let arrow : Arrow A = record { node = edge.from; label = o } in arrow) e in
+    ap (λ (o : Option A). let arrow : Arrow A = record { node = edge.from; label = o } in arrow) e in
     ap (λ first. first ∷ map (offer_arrow (labels ++ more)) edges) same ∙ ap (λ rest. offer_arrow labels edge ∷ rest) (offers-named labels more edges a.1)
 
 waits-named : {A : Type 0} (labels more : List A) (edges : List Edge) → AreNamed (map (wait_arrow labels) edges)
@@ -56,7 +56,7 @@ waits-named labels more [] a = refl
 waits-named {A = A} labels more (edge ∷ edges) a =
     let e : slice_get (labels ++ more) edge.from ≡ slice_get labels edge.from = slice_get-more labels more edge.from a.0.0 a.0.1 ∙ sym a.0.1 in
     let same : wait_arrow (labels ++ more) edge ≡ wait_arrow labels edge =
-        ap (λ (o : Option A). let arrow : Arrow A = record { node = edge.to; label = o } in arrow) e in
+    ap (λ (o : Option A). let arrow : Arrow A = record { node = edge.to; label = o } in arrow) e in
     ap (λ first. first ∷ map (wait_arrow (labels ++ more)) edges) same ∙ ap (λ rest. wait_arrow labels edge ∷ rest) (waits-named labels more edges a.1)
 
 -- what is the label at a place when one more is added
@@ -158,7 +158,7 @@ module _ {A : Type 0} (spots : List (Spot A)) (labels : List A) (IsShut : A → 
           | inl a ↦
               let l : number < length net.closed = omega (arith, a.0, h.sizes) in
               let same : get_or (net.closed ++ closed ∷ []) number false ≡ get_or net.closed number false =
-                  get_or_append_left net.closed (closed ∷ []) false number l in
+              get_or_append_left net.closed (closed ∷ []) false number l in
               let old = h.closed number other a.1 in
               (λ t. old.0 (sym same ∙ t), λ s. same ∙ old.1 s)
           | inr a ↦

@@ -42,11 +42,11 @@ pub pair-exact : (p q : Pair) → IsBundle p.document → IsBundle q.document �
 pair-exact p q f g e =
     let first = then-first (domain_cmp p.domain q.domain) (document_cmp p.document q.document) e in
     let second = then-first (option_cmp nat_cmp p.document.rank q.document.rank)
-        (slice_cmp nat_cmp (canonical_text p.document) (canonical_text q.document)) first.1 in
+    (slice_cmp nat_cmp (canonical_text p.document) (canonical_text q.document)) first.1 in
     let domain : p.domain ≡ q.domain = exact_bytes p.domain q.domain first.0 in
     let document : p.document ≡ q.document =
-        one_text p.document q.document f g
-        (exact_bytes (canonical_text p.document) (canonical_text q.document) second.1) in
+    one_text p.document q.document f g
+    (exact_bytes (canonical_text p.document) (canonical_text q.document) second.1) in
     ap (λ (d : List ℕ). let x : Pair = record { domain = d; document = p.document } in x) domain
     ∙ ap (λ (b : Bundle). let x : Pair = record { domain = q.domain; document = b } in x) document
 
@@ -82,7 +82,7 @@ rising-sought pairs numbers x h = record {
 -- a place among numbers that rise under a test takes what fits there
 module _ (R : ℕ → ℕ → Type 0) (numbers : List ℕ) (place x : ℕ) (within : place ≤ length numbers)
     (before : (k : ℕ) → k < place → R (get_or numbers k 0) x) (after : (k : ℕ) → place ≤ k → k < length numbers
-        → R x (get_or numbers k 0)) (h : AllPairs R numbers) where
+    → R x (get_or numbers k 0)) (h : AllPairs R numbers) where
   at_zero : (k : ℕ) (d : ℕ) → k < length (insert numbers place x) → get_or (insert numbers place x) k d ≡ get_or (insert numbers place x) k 0
   at_zero k d l = get_or_default (insert numbers place x) k d 0 l
 
@@ -93,8 +93,8 @@ module _ (R : ℕ → ℕ → Type 0) (numbers : List ℕ) (place x : ℕ) (with
         | inl e ↦
             subst (λ a. R a (get_or (insert numbers place x) j 0)) (sym (get_or-insert_below numbers place x 0 i (omega (arith, l, e)) within))
             (subst (R (get_or numbers i 0))
-                (sym (ap (λ k. get_or (insert numbers place x) k 0) e ∙ get_or-insert_at numbers place x 0 within))
-                (before i (omega (arith, l, e))))
+            (sym (ap (λ k. get_or (insert numbers place x) k 0) e ∙ get_or-insert_at numbers place x 0 within))
+            (before i (omega (arith, l, e))))
         | inr c ↦
             elim c [
               | inl b ↦
@@ -103,15 +103,15 @@ module _ (R : ℕ → ℕ → Type 0) (numbers : List ℕ) (place x : ℕ) (with
               | inr b ↦
                   let j_is : j ≡ (j - 1) + 1 = omega (arith, b) in
                   let second : get_or (insert numbers place x) j 0 ≡ get_or numbers (j - 1) 0 =
-                      ap (λ k. get_or (insert numbers place x) k 0) j_is
-                      ∙ get_or-insert_above numbers place x 0 (j - 1) (omega (arith, b)) within in
+                  ap (λ k. get_or (insert numbers place x) k 0) j_is
+                  ∙ get_or-insert_above numbers place x 0 (j - 1) (omega (arith, b)) within in
                   let end : j - 1 < length numbers = omega (arith, last, size, b) in
                   subst (R (get_or (insert numbers place x) i 0)) (sym second)
                   (elim (cases_order i place) [
                     | inl e ↦
                         subst (λ a. R a (get_or numbers (j - 1) 0))
-                            (sym (ap (λ k. get_or (insert numbers place x) k 0) e
-                            ∙ get_or-insert_at numbers place x 0 within)) (after (j - 1) (omega (arith, b)) end)
+                        (sym (ap (λ k. get_or (insert numbers place x) k 0) e
+                        ∙ get_or-insert_at numbers place x 0 within)) (after (j - 1) (omega (arith, b)) end)
                     | inr f ↦
                         elim f [
                           | inl g ↦ subst (λ a. R a (get_or numbers (j - 1) 0))
@@ -120,8 +120,8 @@ module _ (R : ℕ → ℕ → Type 0) (numbers : List ℕ) (place x : ℕ) (with
                           | inr g ↦
                               let i_is : i ≡ (i - 1) + 1 = omega (arith, g) in
                               subst (λ a. R a (get_or numbers (j - 1) 0))
-                                  (sym (ap (λ k. get_or (insert numbers place x) k 0) i_is
-                                  ∙ get_or-insert_above numbers place x 0 (i - 1) (omega (arith, g)) within))
+                              (sym (ap (λ k. get_or (insert numbers place x) k 0) i_is
+                              ∙ get_or-insert_above numbers place x 0 (i - 1) (omega (arith, g)) within))
                               (h (i - 1) (j - 1) 0 (omega (arith, l, g)) end)
                         ]
                   ])
@@ -153,15 +153,15 @@ module _ (pairs : List Pair) (p : Paired) (h : IsPairing pairs p) where
               | inl l ↦
                   let less : pair_cmp q q ≡ Less =
                   subst (λ x. pair_cmp x q ≡ Less) (ap (pair_at pairs) na ∙ fa)
-                      (subst (λ x. pair_cmp (pair_at pairs (get_or p.numbers ca.0 0)) x ≡ Less)
-                      (ap (pair_at pairs) nb ∙ fb) (h.rising ca.0 cb.0 0 l cb.1))
+                  (subst (λ x. pair_cmp (pair_at pairs (get_or p.numbers ca.0 0)) x ≡ Less)
+                  (ap (pair_at pairs) nb ∙ fb) (h.rising ca.0 cb.0 0 l cb.1))
                   in
                   let both : Less ≡ Equal = sym less ∙ tied in absurd (cc)
               | inr l ↦
                   let less : pair_cmp q q ≡ Less =
                   subst (λ x. pair_cmp x q ≡ Less) (ap (pair_at pairs) nb ∙ fb)
-                      (subst (λ x. pair_cmp (pair_at pairs (get_or p.numbers cb.0 0)) x ≡ Less)
-                      (ap (pair_at pairs) na ∙ fa) (h.rising cb.0 ca.0 0 l ca.1))
+                  (subst (λ x. pair_cmp (pair_at pairs (get_or p.numbers cb.0 0)) x ≡ Less)
+                  (ap (pair_at pairs) na ∙ fa) (h.rising cb.0 ca.0 0 l ca.1))
                   in
                   let both : Less ≡ Equal = sym less ∙ tied in absurd (cc)
             ]
@@ -190,8 +190,8 @@ module _ (pairs : List Pair) (p : Paired) (h : IsPairing pairs p) where
   raised-missing place q m r =
       let tied : pair_cmp (pair_at pairs (get_or p.numbers r.has.0 r.number)) q ≡ Equal =
       subst (λ n. pair_cmp (pair_at pairs n) q ≡ Equal) (sym r.has.2)
-          (subst (λ x. pair_cmp x q ≡ Equal) (sym (get_or_from_slice_get pairs r.number q no_pair r.at))
-          (tied_itself pair-total q))
+      (subst (λ x. pair_cmp x q ≡ Equal) (sym (get_or_from_slice_get pairs r.number q no_pair r.at))
+      (tied_itself pair-total q))
       in
       elim (cases_lt r.has.0 place) [
         | inl l ↦ let f : Less ≡ Equal = sym (m.before r.has.0 r.number (omega arith) l) ∙ tied in absurd (cc)
@@ -220,7 +220,7 @@ module _ (pairs : List Pair) (q : Pair) where
   get-left : (n : ℕ) → n < length pairs → slice_get (pairs ++ q ∷ []) n ≡ slice_get pairs n
   get-left n l =
       slice_get-get_or (pairs ++ q ∷ []) n no_pair (omega (arith, l, length_push pairs q))
-          ∙ ap (λ (p : Pair). Some p) (at-left n l) ∙ sym (slice_get-get_or pairs n no_pair l)
+      ∙ ap (λ (p : Pair). Some p) (at-left n l) ∙ sym (slice_get-get_or pairs n no_pair l)
 
   at-last : (n : ℕ) → n ≡ length pairs → pair_at (pairs ++ q ∷ []) n ≡ q
   at-last n e = get_or_push pairs q no_pair n (sym e)

@@ -89,8 +89,14 @@ module _ (m : Meaning) (arrived : List Receipt) (seed_offers : List Triple) (off
       elim v.1 [
         | inl seeded ↦
             let s = (offers (need_of r)).0 seeded in
-            record { held = held; fits = fits; voucher = pair_of_seed s.0; accepted = member_seed m s.0 s.1; vouches =
-                vouches-from_offer m.records (pair_of_seed s.0) r s.2 v.0 }
+            record {
+              held = held;
+              fits = fits;
+              voucher = pair_of_seed s.0;
+              accepted = member_seed m s.0 s.1;
+              vouches =
+                  vouches-from_offer m.records (pair_of_seed s.0) r s.2 v.0;
+            }
         | inr o ↦
             record {
               held = held;
@@ -107,9 +113,10 @@ module _ (m : Meaning) (arrived : List Receipt) (seed_offers : List Triple) (off
     sound place r at,
     λ is. elim (cases_Bool (is_raised released place)) [
       | inl on ↦ on
-      | inr off ↦ absurd (quiet place r (slice_get_within arrived place r at) at off
-          (open-from_vouches m.records is.voucher r is.vouches,
-              all_offered is.voucher is.accepted (need_of r) (offer-from_vouches m.records is.voucher r is.vouches)))
+      | inr off ↦ absurd (quiet place r (slice_get_within arrived place r at) at off (
+        open-from_vouches m.records is.voucher r is.vouches,
+        all_offered is.voucher is.accepted (need_of r) (offer-from_vouches m.records is.voucher r is.vouches),
+      ))
     ],
   )
     where

@@ -107,9 +107,9 @@ pub distrusts_with : (domains : List (List ℕ)) (x : Record) (records : List Re
 distrusts_with domains x [] rising within all = refl
 distrusts_with domains x (h ∷ t) rising within all =
     placed_map domains (distrust_cmp (distrust_by domains x) (distrust_by domains h)) (record_cmp x h) x h t
-        (with_item record_cmp x t) (cmp_records domains x h rising within all.0)
+    (with_item record_cmp x t) (cmp_records domains x h rising within all.0)
     ∙ ap (λ longer. placed (distrust_cmp (distrust_by domains x) (distrust_by domains h)) (distrust_by domains x)
-        (distrust_by domains h) (distrusts_of domains t) longer) (distrusts_with domains x t rising within all.1)
+    (distrust_by domains h) (distrusts_of domains t) longer) (distrusts_with domains x t rising within all.1)
 
 below_map : (domains : List (List ℕ)) (x : Record) (records : List Record) → IsStrictlySortedBy domain_cmp domains
     → x.domain < length domains → AreWithin (length domains) records

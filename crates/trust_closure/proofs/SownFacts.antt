@@ -98,7 +98,7 @@ pending-plain h p offers released none n i total =
           let a = parts x cx in
           let c = parts y cy in
           one_place h.arrived i.set.once x y (at y) (slice_get-get_or h.arrived x none a.0
-              ∙ ap (λ (r : Receipt). Some r) s) (slice_get-get_or h.arrived y none c.0));
+          ∙ ap (λ (r : Receipt). Some r) s) (slice_get-get_or h.arrived y none c.0));
       exactly = λ r. (
         λ c.
             let f = Contains-from_map at list r c in
@@ -116,6 +116,12 @@ pending-plain h p offers released none n i total =
             subst (Contains (map at list)) (get_or_from_slice_get h.arrived place.0 r none place.1) (contains_map at list place.0 c),
       );
       count = length-map list at ∙ (let e : length list ≡ n =
-          omega (arith, length-only_wide raised (λ k. true) (λ k e. refl) count, length-passing_every count,
-          count-passing released count (omega (arith, i.set.size)), total, i.set.size) in e);
+          omega (
+            arith,
+            length-only_wide raised (λ k. true) (λ k e. refl) count,
+            length-passing_every count,
+            count-passing released count (omega (arith, i.set.size)),
+            total,
+            i.set.size,
+          ) in e);
     }

@@ -81,11 +81,11 @@ module _ (domains : List (List ℕ)) (rising : IsStrictlySortedBy domain_cmp dom
       (closed : Bool) (more : List Label) (wider : Net) (number : ℕ) (t : Triple)
       → All (λ (l : Label). l.domain < length domains) labels → Mirrors spots (map (triple_by domains) labels) (IsShutBy records) net
       → label.domain < length domains → triple_by domains label ≡ t → ((closed ≡ true) ↔ IsShutBy records t)
-          → HasNumber labels net label closed more wider number
+      → HasNumber labels net label closed more wider number
       → IsNumbered records spots more wider number t
   numbered records spots labels net label closed more wider number t within mirrors l is when h =
       let named : slice_get (map (triple_by domains) more) number ≡ Some t =
-          slice_get-map_at (triple_by domains) more number label h.named ∙ ap (λ (x : Triple). Some x) is in
+      slice_get-map_at (triple_by domains) more number label h.named ∙ ap (λ (x : Triple). Some x) is in
       elim h.grown [
         | inl same ↦ record {
           within = All-same (λ (x : Label). x.domain < length domains) more labels same.0 within;
@@ -101,15 +101,15 @@ module _ (domains : List (List ℕ)) (rising : IsStrictlySortedBy domain_cmp dom
             let fresh : Contains (map (triple_by domains) labels) (triple_by domains label) → ⊥ = λ c.
             let f = Contains-from_map (triple_by domains) labels (triple_by domains label) c in
             new.0 (subst (Contains labels)
-                (triple-one_label f.0 label
-                (All-contains (λ (x : Label). x.domain < length domains) labels f.0 within f.1) l f.2) f.1)
+            (triple-one_label f.0 label
+            (All-contains (λ (x : Label). x.domain < length domains) labels f.0 within f.1) l f.2) f.1)
             in
             let on = Mirrors-label spots (map (triple_by domains) labels) (IsShutBy records) net mirrors
-                (λ other. t ≡ other) (triple_by domains label) closed (sym is) fresh
+            (λ other. t ≡ other) (triple_by domains label) closed (sym is) fresh
             (λ e. subst (IsShutBy records) (sym is) (when.0 e), λ s. when.1 (subst (IsShutBy records) is s))
             in
             let lists : map (triple_by domains) more ≡ map (triple_by domains) labels ++ triple_by domains label ∷ [] =
-                ap (map (triple_by domains)) new.1 ∙ map_push (triple_by domains) labels label in
+            ap (map (triple_by domains)) new.1 ∙ map_push (triple_by domains) labels label in
             record {
               within = All-same (λ (x : Label). x.domain < length domains) more (labels ++ label ∷ []) new.1
                   (All-push (λ (x : Label). x.domain < length domains) labels label within l);
@@ -130,7 +130,7 @@ module _ (domains : List (List ℕ)) (rising : IsStrictlySortedBy domain_cmp dom
       within = All-same (λ (x : Label). x.domain < length domains) new.labels old.labels n.labels h.within;
       mirrors = subst (λ ls. Mirrors (spots ++ bare_spot ∷ []) (map (triple_by domains) ls) (IsShutBy records) new.net) (sym n.labels)
           (subst (Mirrors (spots ++ bare_spot ∷ []) (map (triple_by domains) old.labels) (IsShutBy records)) (sym n.net)
-              (Mirrors-node spots (map (triple_by domains) old.labels) (IsShutBy records) old.net h.mirrors));
+          (Mirrors-node spots (map (triple_by domains) old.labels) (IsShutBy records) old.net h.mirrors));
     }
 
     pub wiring-root : (spot : Spot Triple) (node : ℕ) → node ≡ length spots
@@ -179,7 +179,7 @@ pub label-triple : (c : Configuration) (domains : List (List ℕ)) (t : Triple) 
     → IsLabelOf c t label → triple_by domains label ≡ t
 label-triple c domains t label d h =
     ap (λ (n : List ℕ). let x : Triple = record { domain = n; document = label.document; key = label.key } in
-        x) (get_or_from_slice_get domains label.domain t.domain [] (h.domain domains d))
+    x) (get_or_from_slice_get domains label.domain t.domain [] (h.domain domains d))
     ∙ ap (λ i. let x : Triple = record { domain = t.domain; document = i; key = label.key } in x) h.document
     ∙ ap (λ k. let x : Triple = record { domain = t.domain; document = t.document; key = k } in x) h.key
 
@@ -206,7 +206,7 @@ module _ (c : Configuration) (records : List Distrust) (old new : Wired) (node :
       → IsWiringOf domains records (spots ++ offering_spot spot t ∷ []) new
   offer-mirrors o domains spots spot d at h =
       wiring-offer domains d.rising records spots old new spot node label closed t at
-          (label-within c domains t label d is) (label-triple c domains t label d is) when h o
+      (label-within c domains t label d is) (label-triple c domains t label d is) when h o
 
   pub wait-mirrors : Awaits old node label closed new
       → (domains : List (List ℕ)) (spots : List (Spot Triple)) (spot : Spot Triple) → AreDomains c domains
@@ -214,7 +214,7 @@ module _ (c : Configuration) (records : List Distrust) (old new : Wired) (node :
       → IsWiringOf domains records (spots ++ awaiting_spot spot t ∷ []) new
   wait-mirrors o domains spots spot d at none h =
       wiring-wait domains d.rising records spots old new spot node label closed t at none
-          (label-within c domains t label d is) (label-triple c domains t label d is) when h o
+      (label-within c domains t label d is) (label-triple c domains t label d is) when h o
 
 -- offers come one after another
 

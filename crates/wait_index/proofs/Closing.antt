@@ -32,7 +32,7 @@ before_all t h n =
           let place = placed-from_holds t.places n e in
           let last = h.placed_within n (get_or t.places n 0 - 1) (omega (arith, place)) in
           and_from (ltb 0 (get_or t.places n 0)) (leb (get_or t.places n 0) (length t.marked)) e
-              (le-leb (get_or t.places n 0) (length t.marked) (omega (arith, last))) ∙ sym e
+          (le-leb (get_or t.places n 0) (length t.marked) (omega (arith, last))) ∙ sym e
       | inr e ↦ and_left (ltb 0 (get_or t.places n 0)) (leb (get_or t.places n 0) (length t.marked)) e ∙ sym e
     ]
 
@@ -74,7 +74,7 @@ taken-few net closing taken labels a h =
       count_below-mono (λ i. falls_with net taken (from_at net.offers i)) (λ i. labels (to_at net.offers i)) (length net.offers)
           (λ i b e.
           let parts = and_parts (not (is_root net (from_at net.offers i)))
-              (list_any (λ (w : Edge). eqb w.to (from_at net.offers i) && taken w.from) net.waits) e in
+          (list_any (λ (w : Edge). eqb w.to (from_at net.offers i) && taken w.from) net.waits) e in
           let c = Any-from_list_any (λ (w : Edge). eqb w.to (from_at net.offers i) && taken w.from) net.waits parts.1 in
           let tests = and_parts (eqb c.1.to (from_at net.offers i)) (taken c.1.from) c.4 in
           let item : edge_at net.waits c.0 ≡ c.1 = get_or_default net.waits c.0 (record { from = 0; to = 0 }) c.1 c.2 ∙ c.3 in
@@ -124,7 +124,7 @@ module _ (net : Net) (closing : List ℕ) (now : Tally) (f : HasFallen net closi
       let at : get_or now.touched_places l 0 ≡ (get_or now.touched_places l 0 - 1) + 1 = omega (arith, place) in
       let within = f.queue.placed_within l (get_or now.touched_places l 0 - 1) at in
       both_ways (is_open_in now l) (ap (is_open_in now) (sym (f.queue.placed l (get_or now.touched_places l 0 - 1) at))
-          ∙ f.done (get_or now.touched_places l 0 - 1) within) o
+      ∙ f.done (get_or now.touched_places l 0 - 1) within) o
 
   supported-from_open : (l : ℕ) → is_open_in now l ≡ true → 0 < support_in now l
   supported-from_open l o = elim (f.open_supported l o) [ inl a ↦ a | inr a ↦ absurd (untouched-from_open l o a) ]
@@ -139,7 +139,7 @@ module _ (net : Net) (closing : List ℕ) (now : Tally) (f : HasFallen net closi
   offered_now : (l : ℕ) → is_open_in now l ≡ true → (i : ℕ) × (m : ℕ) × IsEdge net.offers i m l × (is_marked_in now m ≡ true)
   offered_now l o =
       let i = count_below-some (λ i. is_marked_in now (from_at net.offers i) && eqb (to_at net.offers i) l)
-          (length net.offers) (omega (arith, supported-from_open l o, f.counted.support l (open_within l o))) in
+      (length net.offers) (omega (arith, supported-from_open l o, f.counted.support l (open_within l o))) in
       let parts = and_parts (is_marked_in now (from_at net.offers i.0)) (eqb (to_at net.offers i.0) l) i.2 in
       (i.0, from_at net.offers i.0, record { within = i.1; from = refl; to = eqb-true (to_at net.offers i.0) l parts.1 }, parts.0)
 
@@ -189,12 +189,15 @@ module _ (net : Net) (t : Tally) (h : IsSettled net t) (queue : IsListing t.touc
       let marked : is_marked_in t (from_at net.offers i) ≡ true = ap (is_marked_in t) e.from ∙ a in
       let here : (is_before t (length t.marked) (from_at net.offers i) && eqb (to_at net.offers i) l) ≡ true =
       and_from (is_before t (length t.marked) (from_at net.offers i)) (eqb (to_at net.offers i) l)
-          (before_all t h.follows.steady.listing (from_at net.offers i) ∙ marked) (eq-eqb (to_at net.offers i) l e.to)
+      (before_all t h.follows.steady.listing (from_at net.offers i) ∙ marked) (eq-eqb (to_at net.offers i) l e.to)
       in
       let some : 0 < support_in t l =
-          omega (arith, h.follows.counted.support l b,
-          count_below-at (λ k. is_before t (length t.marked) (from_at net.offers k) && eqb (to_at net.offers k) l) i
-          (length net.offers) e.within here) in
+      omega (
+        arith,
+        h.follows.counted.support l b,
+        count_below-at (λ k. is_before t (length t.marked) (from_at net.offers k) && eqb (to_at net.offers k) l) i
+            (length net.offers) e.within here,
+      ) in
       elim (h.follows.opened.at l b some c) [ inl o ↦ o | inr o ↦ absurd (none_touched l o) ]
 
 -- ... whose edges lead to labels that are there
@@ -226,7 +229,7 @@ module _ (net : Net) (t : Tally) (h : IsSettled net t) (queue : IsListing t.touc
   pub open-from_shown : (l : ℕ) → IsOpen net l → is_open_in t l ≡ true
   open-from_shown l o =
       open-from_offer net t h queue o.offered.0 o.offered.1 l o.offered.2 (marked-from_reached o.offered.1 o.offered.3)
-          (label_in o.offered.0 o.offered.1 l o.offered.2) o.not_closed
+      (label_in o.offered.0 o.offered.1 l o.offered.2) o.not_closed
 
   -- open labels are touched: the fall begins
   pub IsFalling-touched : (closing : List ℕ) (new : Tally) → TouchesAll closing t new
@@ -235,7 +238,7 @@ module _ (net : Net) (t : Tally) (h : IsSettled net t) (queue : IsListing t.touc
       let steady = h.follows.steady in
       subst (λ x. TouchesAll closing t x → IsListing x.touched x.touched_places → IsFalling net x.touched x 0 0 0) (sym touches.same) (λ s queue_new.
       let opened : (k : ℕ) → holds new.touched_places k ≡ true → is_open_in t k ≡ true =
-          λ k a. elim (s.only k a) [ inl b ↦ absurd (none_touched net t h queue k b) | inr b ↦ b.1 ] in
+      λ k a. elim (s.only k a) [ inl b ↦ absurd (none_touched net t h queue k b) | inr b ↦ b.1 ] in
       record {
         sizes = record { places = steady.sizes.places; support = steady.sizes.support; opened = steady.sizes.opened; touched = s.size ∙ steady.sizes.touched };
         listing = steady.listing;
@@ -282,7 +285,7 @@ module _ (net : Net) (t : Tally) (h : IsSettled net t) (queue : IsListing t.touc
   HasFallen-listed closing new now touches queue_new =
       HasFallen-alike net new.touched closing now
       (λ l c o. elim (touches.only l (holds-from_contains new.touched new.touched_places queue_new l c))
-          [ inl a ↦ absurd (none_touched net t h queue l a) | inr a ↦ a.0 ])
+      [ inl a ↦ absurd (none_touched net t h queue l a) | inr a ↦ a.0 ])
       (λ l c o. contains-from_holds new.touched new.touched_places queue_new l (touches.all l c (open-from_shown l o)))
 
   -- Counts of nodes that are reached and labels that they open are not above those here.
@@ -290,7 +293,7 @@ module _ (net : Net) (t : Tally) (h : IsSettled net t) (queue : IsListing t.touc
       → ((l : ℕ) → is_open_in now l ≡ true → (i : ℕ) × (m : ℕ) × IsEdge net.offers i m l × IsReached net m
       × (is_closed net l ≡ false))
       → count_below (λ i. is_marked_in now (from_at net.offers i)) (length net.offers) + count_below
-          (λ i. is_open_in now (from_at net.waits i)) (length net.waits) ≤ t.visits
+      (λ i. is_open_in now (from_at net.waits i)) (length net.waits) ≤ t.visits
   visits_within now sound offered =
       omega (
         arith,
@@ -300,8 +303,8 @@ module _ (net : Net) (t : Tally) (h : IsSettled net t) (queue : IsListing t.touc
             (length net.offers) (λ i a b. marked-from_reached (from_at net.offers i) (sound (from_at net.offers i) b)),
         count_below-mono (λ i. is_open_in now (from_at net.waits i)) (λ i. is_open_in t (from_at net.waits i)) (length net.waits)
             (λ i a b. let o = offered (from_at net.waits i) b in
-                open-from_offer net t h queue o.0 o.1 (from_at net.waits i) o.2 (marked-from_reached o.1 o.3)
-                (label_in o.0 o.1 (from_at net.waits i) o.2) o.4),
+            open-from_offer net t h queue o.0 o.1 (from_at net.waits i) o.2 (marked-from_reached o.1 o.3)
+            (label_in o.0 o.1 (from_at net.waits i) o.2) o.4),
       )
 
   -- The fall is over.
@@ -321,8 +324,12 @@ module _ (net : Net) (t : Tally) (h : IsSettled net t) (queue : IsListing t.touc
         elim (cases_Bool (is_touched_in now l)) [
           | inl a ↦
               let shut : is_open_in now l ≡ false = false_from_ne_true (is_open_in now l) (λ o. untouched-from_open net closing now f l o a) in
-              omega (arith, bit-true (is_touched_in now l) a, bit-false (is_open_in now l) shut,
-                  bit-true (is_open_in t l) (open-from_shown l (taken-open net closing l (touched-taken l a))))
+              omega (
+                arith,
+                bit-true (is_touched_in now l) a,
+                bit-false (is_open_in now l) shut,
+                bit-true (is_open_in t l) (open-from_shown l (taken-open net closing l (touched-taken l a))),
+              )
           | inr a ↦
               elim (cases_Bool (is_open_in t l)) [
                 | inl o ↦
@@ -331,8 +338,12 @@ module _ (net : Net) (t : Tally) (h : IsSettled net t) (queue : IsListing t.touc
                     f.shut b.1 b.0 (h.follows.steady.sound b.1 b.3) b.2.within b.2.from (ap (is_closed net) b.2.to ∙ h.follows.steady.open_not_closed l o)
                     in
                     elim still [
-                      | inl d ↦ omega (arith, bit-false (is_touched_in now l) a, bit-true (is_open_in t l) o,
-                          bit-true (is_open_in now l) (ap (is_open_in now) (sym b.2.to) ∙ d))
+                      | inl d ↦ omega (
+                        arith,
+                        bit-false (is_touched_in now l) a,
+                        bit-true (is_open_in t l) o,
+                        bit-true (is_open_in now l) (ap (is_open_in now) (sym b.2.to) ∙ d),
+                      )
                       | inr d ↦ absurd (both_ways (is_touched_in now l) a (ap (is_touched_in now) (sym b.2.to) ∙ d))
                     ]
                 | inr o ↦
@@ -351,9 +362,9 @@ module _ (net : Net) (t : Tally) (h : IsSettled net t) (queue : IsListing t.touc
           and_from (not (is_root net (to_at net.waits i))) (list_any (λ (e : Edge). eqb e.to (to_at net.waits i) && is_touched_in now e.from) net.waits)
           (ap not r)
           (list_any_at (λ (e : Edge). eqb e.to (to_at net.waits i) && is_touched_in now e.from) net.waits i
-              (record { from = 0; to = 0 }) within
-              (and_from (eqb (to_at net.waits i) (to_at net.waits i)) (is_touched_in now (from_at net.waits i))
-              (eq-eqb (to_at net.waits i) (to_at net.waits i) refl) a))
+          (record { from = 0; to = 0 }) within
+          (and_from (eqb (to_at net.waits i) (to_at net.waits i)) (is_touched_in now (from_at net.waits i))
+          (eq-eqb (to_at net.waits i) (to_at net.waits i) refl) a))
 
       falls-wait : (n : ℕ) → falls_with net (is_touched_in now) n ≡ true
           → (is_root net n ≡ false) × ((i : ℕ) × (i < length net.waits) × (to_at net.waits i ≡ n)
@@ -389,21 +400,28 @@ module _ (net : Net) (t : Tally) (h : IsSettled net t) (queue : IsListing t.touc
                 in
                 let o = taken-open net closing (from_at net.waits w.0) (touched-taken (from_at net.waits w.0) w.3) in
                 let r : IsReached net n = step o.offered.3 o.offered.2 o.not_closed (record { within = w.1; from = refl; to = w.2 }) in
-                omega (arith, bit-true (falls_with net (is_touched_in now) n) e, bit-false (is_marked_in now n) out,
-                    bit-true (is_marked_in t n) (marked-from_reached n r))
+                omega (
+                  arith,
+                  bit-true (falls_with net (is_touched_in now) n) e,
+                  bit-false (is_marked_in now n) out,
+                  bit-true (is_marked_in t n) (marked-from_reached n r),
+                )
             | inr e ↦
                 elim (cases_Bool (is_marked_in now n)) [
-                  | inl m ↦ omega (arith, bit-false (falls_with net (is_touched_in now) n) e,
-                      bit-true (is_marked_in now n) m,
-                      bit-true (is_marked_in t n) (marked-from_reached n (f.sound n m)))
+                  | inl m ↦ omega (
+                    arith,
+                    bit-false (falls_with net (is_touched_in now) n) e,
+                    bit-true (is_marked_in now n) m,
+                    bit-true (is_marked_in t n) (marked-from_reached n (f.sound n m)),
+                  )
                   | inr m ↦
                       let out : is_marked_in t n ≡ false =
                       false_from_ne_true (is_marked_in t n) (λ a.
                       let w = f.lost n (h.follows.steady.sound n a) m in
                       let not_root : is_root net n ≡ false = false_from_ne_true (is_root net n) (λ r. both_ways (is_marked_in now n) m (f.roots n r)) in
                       both_ways (falls_with net (is_touched_in now) n) e
-                          (ap (falls_with net (is_touched_in now)) (sym w.2)
-                          ∙ falls-from w.0 w.1 (ap (is_root net) w.2 ∙ not_root) w.3))
+                      (ap (falls_with net (is_touched_in now)) (sym w.2)
+                      ∙ falls-from w.0 w.1 (ap (is_root net) w.2 ∙ not_root) w.3))
                       in
                       omega (arith, bit-false (falls_with net (is_touched_in now) n) e, bit-false (is_marked_in now n) m, bit-false (is_marked_in t n) out)
                 ]
@@ -439,9 +457,14 @@ module _ (net : Net) (t : Tally) (h : IsSettled net t) (queue : IsListing t.touc
           ap (falls_with net (is_touched_in now)) (sym w.to) ∙ falls-from i w.within (ap (is_root net) w.to ∙ r) (ap (is_touched_in now) w.from ∙ a)
           in
           let out : is_marked_in now node ≡ false =
-              false_from_ne_true (is_marked_in now node)
-              (λ m. omega (arith, marked_bit node, bit-le (is_marked_in t node), bit-true (is_marked_in now node) m,
-              bit-true (falls_with net (is_touched_in now) node) falls)) in
+          false_from_ne_true (is_marked_in now node)
+          (λ m. omega (
+            arith,
+            marked_bit node,
+            bit-le (is_marked_in t node),
+            bit-true (is_marked_in now node) m,
+            bit-true (falls_with net (is_touched_in now) node) falls,
+          )) in
           elim (f.shut node j reached e.within e.from (ap (is_closed net) e.to ∙ c)) [
             | inl d ↦ ap (is_touched_in now) (sym e.to) ∙ f.fallen node j reached out e.within e.from d
             | inr d ↦ ap (is_touched_in now) (sym e.to) ∙ d
@@ -485,8 +508,13 @@ module _ (net : Net) (t : Tally) (h : IsSettled net t) (queue : IsListing t.touc
       record {
         follows = record {
           steady = record {
-            sizes = record { places = steady.sizes.places; support = steady.sizes.support ∙ sym size; opened =
-                steady.sizes.opened ∙ sym size; touched = steady.sizes.touched ∙ sym size };
+            sizes = record {
+              places = steady.sizes.places;
+              support = steady.sizes.support ∙ sym size;
+              opened =
+                  steady.sizes.opened ∙ sym size;
+              touched = steady.sizes.touched ∙ sym size;
+            };
             listing = steady.listing;
             sound = λ n a. reached-without n (steady.sound n a);
             roots = steady.roots;
@@ -529,8 +557,13 @@ module _ (net : Net) (once : WaitsOnce net) (closing : List ℕ) (now : Tally) (
       let size = length-all_set closing net.closed in
       record {
         steady = record {
-          sizes = record { places = f.sizes.places; support = f.sizes.support ∙ sym size; opened =
-              f.sizes.opened ∙ sym size; touched = f.sizes.touched ∙ sym size };
+          sizes = record {
+            places = f.sizes.places;
+            support = f.sizes.support ∙ sym size;
+            opened =
+                f.sizes.opened ∙ sym size;
+            touched = f.sizes.touched ∙ sym size;
+          };
           listing = f.listing;
           sound = λ n a. reached-after n (f.sound n a) a;
           roots = f.roots;
@@ -577,9 +610,13 @@ visits_after net t h queue labels closing new k =
             | inr a ↦ absurd (both_ways (is_open_in new m) (get_or_past new.opened m false a) o)
           ]
           in
-          let b = Follows-offered (with_all_closed net closing) (length new.marked) new k.follows m within (k.follows.steady.open_supported m o) in
-          (b.0, b.1, b.2, reached-before net closing b.1 (k.follows.steady.sound b.1 b.3),
-              not_closed_before net closing m (k.follows.steady.open_not_closed m o))),
+          let b = Follows-offered (with_all_closed net closing) (length new.marked) new k.follows m within (k.follows.steady.open_supported m o) in (
+            b.0,
+            b.1,
+            b.2,
+            reached-before net closing b.1 (k.follows.steady.sound b.1 b.3),
+            not_closed_before net closing m (k.follows.steady.open_not_closed m o),
+          )),
     )
 
 -- How many turns a close takes

@@ -91,8 +91,12 @@ fallen-many net node now visits new fallen falls m listing listing_new =
       | inl a ↦
           omega (arith, ap (λ (t : Tally). length t.marked) a.1, ap (λ b. length (cond b fallen (fallen ++ node ∷ []))) a.0)
       | inr a ↦
-          omega (arith, one_less net node now visits a.1.0 new a.1.1 a.1.2 m listing listing_new,
-              ap (λ b. length (cond b fallen (fallen ++ node ∷ []))) a.0, length_push fallen node)
+          omega (
+            arith,
+            one_less net node now visits a.1.0 new a.1.1 a.1.2 m listing listing_new,
+            ap (λ b. length (cond b fallen (fallen ++ node ∷ []))) a.0,
+            length_push fallen node,
+          )
     ]
 
 pub ListsFallen-none : (net : Net) (t : Tally) → ((n : ℕ) → IsReached net n → is_marked_in t n ≡ true) → ListsFallen net t []

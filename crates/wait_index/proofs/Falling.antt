@@ -27,7 +27,7 @@ pub CanFall-marked : (net : Net) (closing : List ℕ) (t : Tally) (index label l
     → 0 < count_below (λ i. eqb (from_at net.waits i) label) link → CanFall net (record t { visits = visits }) node
 CanFall-marked net closing t index label link node h m visits e some =
     let same : (i : ℕ) → eqb (from_at net.offers i) node ≡ true → is_marked_in t (from_at net.offers i) ≡ true =
-        λ i a. ap (is_marked_in t) (eqb-true (from_at net.offers i) node a) ∙ m in
+    λ i a. ap (is_marked_in t) (eqb-true (from_at net.offers i) node a) ∙ m in
     record {
       sizes = record { places = h.sizes.places; support = h.sizes.support; opened = h.sizes.opened; touched = h.sizes.touched };
       visits = omega (
@@ -81,13 +81,16 @@ module _ (net : Net) (closing : List ℕ) (t : Tally) (index label link : ℕ) (
       count_below (λ i. eqb (from_at net.waits i) label) (length net.waits)
   fewer_open =
       count_below-add (λ i. is_open_in t (from_at net.waits i))
-          (λ i. get_or (set t.opened label false) (from_at net.waits i) false) (λ i. eqb (from_at net.waits i) label)
-          (length net.waits)
+      (λ i. get_or (set t.opened label false) (from_at net.waits i) false) (λ i. eqb (from_at net.waits i) label)
+      (length net.waits)
       (λ i a. elim (cases_eq (from_at net.waits i) label) [
-        | inl s ↦ omega (arith, bit-true (is_open_in t (from_at net.waits i)) (ap (is_open_in t) s ∙ was_open),
-            bit-false (get_or (set t.opened label false) (from_at net.waits i) false)
-            (ap (λ x. get_or (set t.opened label false) x false) s ∙ shut_here),
-            bit-true (eqb (from_at net.waits i) label) (eq-eqb (from_at net.waits i) label s))
+        | inl s ↦ omega (
+          arith,
+          bit-true (is_open_in t (from_at net.waits i)) (ap (is_open_in t) s ∙ was_open),
+          bit-false (get_or (set t.opened label false) (from_at net.waits i) false)
+              (ap (λ x. get_or (set t.opened label false) x false) s ∙ shut_here),
+          bit-true (eqb (from_at net.waits i) label) (eq-eqb (from_at net.waits i) label s),
+        )
         | inr s ↦ omega (arith, ap bit (shut_other (from_at net.waits i) s), bit-false (eqb (from_at net.waits i) label) (ne_eqb (from_at net.waits i) label s))
       ])
 
@@ -157,8 +160,13 @@ module _ (net : Net) (closing : List ℕ) (t : Tally) (index label link : ℕ) (
         ];
     todo = λ k a b.
         let apart : get_or t.touched k 0 ≢ label =
-            λ e. omega (arith, a, ap (λ x. get_or t.touched_places x 0) (e ∙ at), h.queue.listed k b,
-            h.queue.listed index l) in
+        λ e. omega (
+          arith,
+          a,
+          ap (λ x. get_or t.touched_places x 0) (e ∙ at),
+          h.queue.listed k b,
+          h.queue.listed index l,
+        ) in
         shut_other (get_or t.touched k 0) apart ∙ h.todo k (omega (arith, a)) b;
   }
 
@@ -308,8 +316,12 @@ module _ (net : Net) (once : WaitsOnce net) (closing : List ℕ) (index label ed
           | inl s ↦
               let test : eqb n (to_at net.waits edge) ≡ true = eq-eqb n (to_at net.waits edge) s in
               let out : is_marked_in new n ≡ false = held n ∙ ap (λ b. is_marked_in now n && not b) test ∙ and_no (is_marked_in now n) in
-              omega (arith, bit-true (is_marked_in now n) (ap (is_marked_in now) s ∙ node_marked),
-                  bit-false (is_marked_in new n) out, bit-true (eqb n (to_at net.waits edge)) test)
+              omega (
+                arith,
+                bit-true (is_marked_in now n) (ap (is_marked_in now) s ∙ node_marked),
+                bit-false (is_marked_in new n) out,
+                bit-true (eqb n (to_at net.waits edge)) test,
+              )
           | inr s ↦
               let test : eqb n (to_at net.waits edge) ≡ false = ne_eqb n (to_at net.waits edge) s in
               let same : is_marked_in new n ≡ is_marked_in now n = held n ∙ ap (λ b. is_marked_in now n && not b) test ∙ and_yes (is_marked_in now n) in
@@ -377,10 +389,10 @@ module _ (net : Net) (once : WaitsOnce net) (closing : List ℕ) (index label ed
                 | inl d ↦
                     let was = placed-from_holds now.touched_places (get_or new.touched k 0) d in
                     let kept = place_kept now.touched now.touched_places new.touched new.touched_places h.falling.queue
-                        queue touched_front (get_or new.touched k 0) was in
+                    queue touched_front (get_or new.touched k 0) was in
                     let before =
-                        h.falling.queue.placed_within (get_or new.touched k 0)
-                        (get_or now.touched_places (get_or new.touched k 0) 0 - 1) (omega (arith, was)) in
+                    h.falling.queue.placed_within (get_or new.touched k 0)
+                    (get_or now.touched_places (get_or new.touched k 0) 0 - 1) (omega (arith, was)) in
                     absurd (omega (arith, place, kept, before, c))
                 | inr d ↦ open_same (get_or new.touched k 0) ∙ d.0
               ]
@@ -409,8 +421,8 @@ module _ (net : Net) (once : WaitsOnce net) (closing : List ℕ) (index label ed
                       (λ i. eqb (from_at net.offers i) (to_at net.waits edge) && eqb (to_at net.offers i) l)
                       (length net.offers)
                       (λ i b. bit-and-add (is_marked_in now (from_at net.offers i))
-                          (is_marked_in new (from_at net.offers i)) (eqb (from_at net.offers i) (to_at net.waits edge))
-                          (eqb (to_at net.offers i) l) (held_bit (from_at net.offers i))),
+                      (is_marked_in new (from_at net.offers i)) (eqb (from_at net.offers i) (to_at net.waits edge))
+                      (eqb (to_at net.offers i) l) (held_bit (from_at net.offers i))),
                 );
             visits =
                 omega (
@@ -441,11 +453,14 @@ module _ (net : Net) (once : WaitsOnce net) (closing : List ℕ) (index label ed
               ];
           released = λ i a.
               let was : StillFollowed net now label next i =
-                  record { within = a.within; by =
-                  elim a.by [ inl o ↦ inl (sym (open_same (from_at net.waits i)) ∙ o) | inr o ↦ inr o ] } in
+              record {
+                within = a.within;
+                by =
+                    elim a.by [ inl o ↦ inl (sym (open_same (from_at net.waits i)) ∙ o) | inr o ↦ inr o ];
+              } in
               held_from (to_at net.waits i) (f.released i (wider i was))
-                  (λ s. no_longer (subst (λ k. StillFollowed net now label next k) (once i edge a.within edge_within s)
-                  was));
+              (λ s. no_longer (subst (λ k. StillFollowed net now label next k) (once i edge a.within edge_within s)
+              was));
           fallen = λ n i r m a b o.
               let was_open = sym (open_same (to_at net.offers i)) ∙ o in
               elim (fell_cases n m) [
@@ -460,13 +475,13 @@ module _ (net : Net) (once : WaitsOnce net) (closing : List ℕ) (index label ed
                     elim (cases_lt 0 (offers_between net (to_at net.waits edge) l)) [
                       | inl b ↦
                           let i = count_below-some
-                              (λ k. eqb (from_at net.offers k) (to_at net.waits edge) && eqb (to_at net.offers k) l)
-                              (length net.offers) b in
+                          (λ k. eqb (from_at net.offers k) (to_at net.waits edge) && eqb (to_at net.offers k) l)
+                          (length net.offers) b in
                           let parts = and_parts (eqb (from_at net.offers i.0) (to_at net.waits edge)) (eqb (to_at net.offers i.0) l) i.2 in
                           let there : to_at net.offers i.0 ≡ l = eqb-true (to_at net.offers i.0) l parts.1 in
                           inr (ap (is_touched_in new) (sym there)
-                              ∙ touched_all i.0 i.1 (eqb-true (from_at net.offers i.0) (to_at net.waits edge) parts.0)
-                              (ap (is_open_in now) there ∙ was_open))
+                          ∙ touched_all i.0 i.1 (eqb-true (from_at net.offers i.0) (to_at net.waits edge) parts.0)
+                          (ap (is_open_in now) there ∙ was_open))
                       | inr b ↦ inl (omega (arith, a, b, support_is l (open_within l was_open)))
                     ]
                 | inr a ↦ inr (touched_kept l a)

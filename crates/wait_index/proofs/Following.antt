@@ -43,7 +43,7 @@ module _ (items places newer_items newer_places : List ℕ) (a : IsListing items
             elim (cases_lt (get_or newer_places n 0 - 1) (length items)) [
               | inl l ↦
                   let item : get_or items (get_or newer_places n 0 - 1) 0 ≡ n =
-                      sym (item_kept (get_or newer_places n 0 - 1) l) ∙ b.placed n (get_or newer_places n 0 - 1) at in
+                  sym (item_kept (get_or newer_places n 0 - 1) l) ∙ b.placed n (get_or newer_places n 0 - 1) at in
                   absurd (omega (arith, e, ap (λ k. get_or places k 0) item, a.listed (get_or newer_places n 0 - 1) l))
               | inr l ↦ inr (omega (arith, at, l))
             ]
@@ -57,8 +57,8 @@ before_kept old new cursor a b front l n =
     elim (cases_eq (get_or old.places n 0) 0) [
       | inl z ↦
           let was : is_before old cursor n ≡ false =
-              and_left (ltb 0 (get_or old.places n 0)) (leb (get_or old.places n 0) cursor)
-              (le-ltb 0 (get_or old.places n 0) (omega (arith, z))) in
+          and_left (ltb 0 (get_or old.places n 0)) (leb (get_or old.places n 0) cursor)
+          (le-ltb 0 (get_or old.places n 0) (omega (arith, z))) in
           elim (place_later old.marked old.places new.marked new.places a b front n z) [
             | inl w ↦ and_left (ltb 0 (get_or new.places n 0)) (leb (get_or new.places n 0) cursor)
                 (le-ltb 0 (get_or new.places n 0) (omega (arith, w))) ∙ sym was
@@ -135,11 +135,14 @@ module _ (net : Net) (label : ℕ) (t new : Tally) (within : label < length net.
       ≡ count_below (λ i. is_open_in t (from_at net.waits i)) (length net.waits) + waits_of net label
   more_open =
       count_below-add (λ i. is_open_in new (from_at net.waits i)) (λ i. is_open_in t (from_at net.waits i))
-          (λ i. eqb (from_at net.waits i) label) (length net.waits)
+      (λ i. eqb (from_at net.waits i) label) (length net.waits)
       (λ i l. elim (cases_eq (from_at net.waits i) label) [
-        | inl s ↦ omega (arith, bit-true (is_open_in new (from_at net.waits i)) (ap (is_open_in new) s ∙ open_here),
-            bit-false (is_open_in t (from_at net.waits i)) (ap (is_open_in t) s ∙ o.shut),
-            bit-true (eqb (from_at net.waits i) label) (eq-eqb (from_at net.waits i) label s))
+        | inl s ↦ omega (
+          arith,
+          bit-true (is_open_in new (from_at net.waits i)) (ap (is_open_in new) s ∙ open_here),
+          bit-false (is_open_in t (from_at net.waits i)) (ap (is_open_in t) s ∙ o.shut),
+          bit-true (eqb (from_at net.waits i) label) (eq-eqb (from_at net.waits i) label s),
+        )
         | inr s ↦ omega (arith, ap bit (open_other (from_at net.waits i) s), bit-false (eqb (from_at net.waits i) label) (ne_eqb (from_at net.waits i) label s))
       ])
 
@@ -235,8 +238,13 @@ pub Settles-spreads : (net : Net) (label : ℕ) (t new : Tally) → SettlesLabel
 Settles-spreads net label t new s =
     elim s [
       | inl o ↦ subst (λ x. Spreads t x) (sym o.same) (Spreads-refl t)
-      | inr o ↦ record { front = o.releases.front; touched = o.releases.touched; touched_places =
-          o.releases.touched_places; visits = omega (arith, o.releases.visits) }
+      | inr o ↦ record {
+        front = o.releases.front;
+        touched = o.releases.touched;
+        touched_places =
+            o.releases.touched_places;
+        visits = omega (arith, o.releases.visits);
+      }
     ]
 
 pub Spreads-longer : (a b : Tally) → Spreads a b → length a.marked ≤ length b.marked
@@ -322,8 +330,8 @@ OffersFrom-start net cursor node link t h l e last =
                     (λ i. is_before t cursor (from_at net.offers i) && eqb (to_at net.offers i) k)
                     (λ i. eqb (from_at net.offers i) node && eqb (to_at net.offers i) k) (length net.offers)
                     (λ i b. bit-and-add (is_before t (cursor + 1) (from_at net.offers i))
-                        (is_before t cursor (from_at net.offers i)) (eqb (from_at net.offers i) node)
-                        (eqb (to_at net.offers i) k) (more (from_at net.offers i))),
+                    (is_before t cursor (from_at net.offers i)) (eqb (from_at net.offers i) node)
+                    (eqb (to_at net.offers i) k) (more (from_at net.offers i))),
               );
           visits =
               omega (
@@ -357,9 +365,14 @@ module _ (net : Net) (t : Tally) (label : ℕ) (within : label < length net.clos
 
   pub with_support-steady : IsSteady net (with_support t label)
   with_support-steady = record {
-    sizes = record { places = h.sizes.places; support =
-        length-set t.support label (support_in t label + 1) ∙ h.sizes.support; opened = h.sizes.opened; touched =
-        h.sizes.touched };
+    sizes = record {
+      places = h.sizes.places;
+      support =
+          length-set t.support label (support_in t label + 1) ∙ h.sizes.support;
+      opened = h.sizes.opened;
+      touched =
+          h.sizes.touched;
+    };
     listing = h.listing;
     sound = h.sound;
     roots = h.roots;
@@ -387,18 +400,29 @@ OffersFrom-step net cursor node edge link next old now new h e within last listi
           let step = count_owned_and-step net.offers node (λ i. eqb (to_at net.offers i) k) edge next owner last in
           let here = ap (count_below (λ i. eqb (from_at net.offers i) node && eqb (to_at net.offers i) k)) e in
           elim (cases_eq k (to_at net.offers edge)) [
-            | inl q ↦ omega (arith, c.support k a, step, here,
-                bit-true (eqb (to_at net.offers edge) k) (eq-eqb (to_at net.offers edge) k (sym q)),
-                ap (support_in (with_support now (to_at net.offers edge))) q, ap (support_in now) q,
-                with_support-here net now (to_at net.offers edge) within h.follows.steady)
-            | inr q ↦ omega (arith, c.support k a, step, here,
-                bit-false (eqb (to_at net.offers edge) k) (ne_eqb (to_at net.offers edge) k (λ r. q (sym r))),
-                with_support-other net now (to_at net.offers edge) within h.follows.steady k q)
+            | inl q ↦ omega (
+              arith,
+              c.support k a,
+              step,
+              here,
+              bit-true (eqb (to_at net.offers edge) k) (eq-eqb (to_at net.offers edge) k (sym q)),
+              ap (support_in (with_support now (to_at net.offers edge))) q,
+              ap (support_in now) q,
+              with_support-here net now (to_at net.offers edge) within h.follows.steady,
+            )
+            | inr q ↦ omega (
+              arith,
+              c.support k a,
+              step,
+              here,
+              bit-false (eqb (to_at net.offers edge) k) (ne_eqb (to_at net.offers edge) k (λ r. q (sym r))),
+              with_support-other net now (to_at net.offers edge) within h.follows.steady k q,
+            )
           ];
       visits = omega (arith, c.visits, count_owned-step net.offers node edge next owner last, ap (count_below (λ i. eqb (from_at net.offers i) node)) e);
     } in
     let follows = Settles-follows net (to_at net.offers edge) (cursor + 1) node next
-        (with_support now (to_at net.offers edge)) new within (omega (arith, h.within)) steady counted listing
+    (with_support now (to_at net.offers edge)) new within (omega (arith, h.within)) steady counted listing
     (λ a. (edge, node, record { within = there; from = owner; to = refl }, h.held))
     (λ k a q b d. h.follows.opened.at k a (omega (arith, b, with_support-other net now (to_at net.offers edge) within h.follows.steady k q)) d)
     s
@@ -418,8 +442,12 @@ OffersFrom-step net cursor node edge link next old now new h e within last listi
 -- the counts do not pass the numbers of edges
 pub Follows-visits : (net : Net) (cursor node link : ℕ) (t : Tally) → Follows net t cursor node link → t.visits ≤ length net.offers + length net.waits
 Follows-visits net cursor node link t h =
-    omega (arith, h.counted.visits, count_below-le (λ i. is_before t cursor (from_at net.offers i)) (length net.offers),
-        count_below-le (λ i. is_open_in t (from_at net.waits i)) (length net.waits))
+    omega (
+      arith,
+      h.counted.visits,
+      count_below-le (λ i. is_before t cursor (from_at net.offers i)) (length net.offers),
+      count_below-le (λ i. is_open_in t (from_at net.waits i)) (length net.waits),
+    )
 
 pub Follows-support : (net : Net) (cursor node link : ℕ) (t : Tally) → Follows net t cursor node link → (l : ℕ)
     → l < length net.closed → support_in t l ≤ length net.offers
@@ -435,7 +463,7 @@ pub Follows-offered : (net : Net) (cursor : ℕ) (t : Tally) → Follows net t c
     → 0 < support_in t l → (i : ℕ) × (m : ℕ) × IsEdge net.offers i m l × (is_marked_in t m ≡ true)
 Follows-offered net cursor t h l a s =
     let i = count_below-some (λ i. is_before t cursor (from_at net.offers i) && eqb (to_at net.offers i) l)
-        (length net.offers) (omega (arith, s, h.counted.support l a)) in
+    (length net.offers) (omega (arith, s, h.counted.support l a)) in
     let parts = and_parts (is_before t cursor (from_at net.offers i.0)) (eqb (to_at net.offers i.0) l) i.2 in
     let marked = and_parts (ltb 0 (get_or t.places (from_at net.offers i.0) 0)) (leb (get_or t.places (from_at net.offers i.0) 0) cursor) parts.0 in
     (i.0, from_at net.offers i.0, record { within = i.1; from = refl; to = eqb-true (to_at net.offers i.0) l parts.1 }, marked.0)
@@ -450,8 +478,12 @@ pub Restore-step : (net : Net) (cursor label : ℕ) (touched : List ℕ) (t new 
 Restore-step net cursor label touched t new h within l listing s =
     Settles-follows net label cursor 0 0 (with_untouched t touched label) new within l
     (record {
-      sizes = record { places = h.steady.sizes.places; support = h.steady.sizes.support; opened = h.steady.sizes.opened;
-          touched = length-set t.touched_places label 0 ∙ h.steady.sizes.touched };
+      sizes = record {
+        places = h.steady.sizes.places;
+        support = h.steady.sizes.support;
+        opened = h.steady.sizes.opened;
+        touched = length-set t.touched_places label 0 ∙ h.steady.sizes.touched;
+      };
       listing = h.steady.listing;
       sound = h.steady.sound;
       roots = h.steady.roots;

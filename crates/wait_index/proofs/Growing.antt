@@ -125,14 +125,14 @@ module _ (net : Net) (label node : ℕ) where
   wait_counted flags =
       let test = count_below-more (λ i. get_or flags (from_at (net.waits ++ record { from = label; to = node } ∷ []) i) false) (length net.waits) in
       let last : get_or flags (from_at (net.waits ++ record { from = label; to = node } ∷ []) (length net.waits)) false
-          ≡ get_or flags label false =
-          ap (λ k. get_or flags k false) (from_at-new net.waits (record { from = label; to = node })) in
+      ≡ get_or flags label false =
+      ap (λ k. get_or flags k false) (from_at-new net.waits (record { from = label; to = node })) in
       let same = count_below-same (λ i. get_or flags (from_at (net.waits ++ record { from = label; to = node } ∷ []) i)
-          false) (λ i. get_or flags (from_at net.waits i) false) (length net.waits)
+      false) (λ i. get_or flags (from_at net.waits i) false) (length net.waits)
       (λ i a. ap (λ k. get_or flags k false) (from_at-old net.waits (record { from = label; to = node }) i a))
       in
       ap (count_below (λ i. get_or flags (from_at (net.waits ++ record { from = label; to = node } ∷ []) i) false))
-          (length_push net.waits (record { from = label; to = node }))
+      (length_push net.waits (record { from = label; to = node }))
       ∙ omega (arith, test, same, ap bit last)
 
   pub Follows-wait : (t new : Tally) → label < length net.closed → IsSettled net t → FollowsWait label node t new
@@ -156,15 +156,18 @@ module _ (net : Net) (label node : ℕ) where
                       | inr b ↦
                           let at : i ≡ length net.waits = omega (arith, a, b, length_push net.waits (record { from = label; to = node })) in
                           let from : from_at (net.waits ++ record { from = label; to = node } ∷ []) i ≡ label =
-                              ap (from_at (net.waits ++ record { from = label; to = node } ∷ [])) at
-                              ∙ from_at-new net.waits (record { from = label; to = node }) in
+                          ap (from_at (net.waits ++ record { from = label; to = node } ∷ [])) at
+                          ∙ from_at-new net.waits (record { from = label; to = node }) in
                           absurd (both_ways (is_open_in t label) s.0 (ap (is_open_in t) (sym from) ∙ o))
                     ];
                 open_not_closed = steady.open_not_closed;
                 open_supported = steady.open_supported;
               };
-              counted = record { support = h.follows.counted.support; visits =
-                  omega (arith, h.follows.counted.visits, wait_counted t.opened, bit-false (is_open_in t label) s.0) };
+              counted = record {
+                support = h.follows.counted.support;
+                visits =
+                    omega (arith, h.follows.counted.visits, wait_counted t.opened, bit-false (is_open_in t label) s.0);
+              };
               opened = record { at = h.follows.opened.at };
             })
         | inl s ↦
@@ -193,9 +196,9 @@ module _ (net : Net) (label node : ℕ) where
                           let w = IsEdge-new net.waits (record { from = label; to = node }) in
                           subst (IsReached (with_wait net label node)) (sym (eqb-true n node b))
                           (step (reached-more net (with_wait net label node) IsMore-wait o.1 (steady.sound o.1 o.3))
-                              (record { within = e.within; from = e.from; to = e.to })
-                              (steady.open_not_closed label s.0)
-                              (record { within = w.within; from = w.from; to = w.to }))
+                          (record { within = e.within; from = e.from; to = e.to })
+                          (steady.open_not_closed label s.0)
+                          (record { within = w.within; from = w.from; to = w.to }))
                     ];
                 roots = λ n a. kept n (steady.roots n a);
                 released = λ i a o.
@@ -203,13 +206,13 @@ module _ (net : Net) (label node : ℕ) where
                       | inl b ↦
                           ap (is_marked_in new) (to_at-old net.waits (record { from = label; to = node }) i b)
                           ∙ kept (to_at net.waits i)
-                              (steady.released i b (sym (opened (from_at net.waits i))
-                              ∙ ap (is_open_in new)
-                              (sym (from_at-old net.waits (record { from = label; to = node }) i b)) ∙ o))
+                          (steady.released i b (sym (opened (from_at net.waits i))
+                          ∙ ap (is_open_in new)
+                          (sym (from_at-old net.waits (record { from = label; to = node }) i b)) ∙ o))
                       | inr b ↦
                           let at : i ≡ length net.waits = omega (arith, a, b, length_push net.waits (record { from = label; to = node })) in
                           ap (is_marked_in new) (ap (to_at (net.waits ++ record { from = label; to = node } ∷ [])) at
-                              ∙ to_at-new net.waits (record { from = label; to = node })) ∙ here
+                          ∙ to_at-new net.waits (record { from = label; to = node })) ∙ here
                     ];
                 open_not_closed = λ k o. steady.open_not_closed k (sym (opened k) ∙ o);
                 open_supported = λ k o. omega (arith, support k, steady.open_supported k (sym (opened k) ∙ o));
@@ -271,7 +274,7 @@ module _ (net : Net) (node label : ℕ) where
       ≡ count_below (λ i. test (from_at net.offers i)) (length net.offers) + bit (test node)
   offer_counted test =
       ap (count_below (λ i. test (from_at (net.offers ++ record { from = node; to = label } ∷ []) i)))
-          (length_push net.offers (record { from = node; to = label }))
+      (length_push net.offers (record { from = node; to = label }))
       ∙ omega (
         arith,
         count_below-more (λ i. test (from_at (net.offers ++ record { from = node; to = label } ∷ []) i)) (length net.offers),
@@ -287,8 +290,8 @@ module _ (net : Net) (node label : ℕ) where
       ≡ count_below (λ i. test (from_at net.offers i) && eqb (to_at net.offers i) k) (length net.offers) + bit (test node && eqb label k)
   offer_counted_to test k =
       ap (count_below (λ i. test (from_at (net.offers ++ record { from = node; to = label } ∷ []) i) && eqb
-          (to_at (net.offers ++ record { from = node; to = label } ∷ []) i) k))
-          (length_push net.offers (record { from = node; to = label }))
+      (to_at (net.offers ++ record { from = node; to = label } ∷ []) i) k))
+      (length_push net.offers (record { from = node; to = label }))
       ∙ omega (
         arith,
         count_below-more (λ i. test (from_at (net.offers ++ record { from = node; to = label } ∷ []) i) && eqb
@@ -300,7 +303,7 @@ module _ (net : Net) (node label : ℕ) where
             (to_at (net.offers ++ record { from = node; to = label } ∷ []) i) k)
             (λ i. test (from_at net.offers i) && eqb (to_at net.offers i) k) (length net.offers)
             (λ i a. ap (λ m. test m && eqb (to_at (net.offers ++ record { from = node; to = label } ∷ []) i) k)
-                (from_at-old net.offers (record { from = node; to = label }) i a)
+            (from_at-old net.offers (record { from = node; to = label }) i a)
             ∙ ap (λ m. test (from_at net.offers i) && eqb m k) (to_at-old net.offers (record { from = node; to = label }) i a)),
       )
 
@@ -329,9 +332,13 @@ module _ (net : Net) (node label : ℕ) where
             (record {
               steady = steady_offer t h.follows.steady;
               counted = record {
-                support = λ k a. omega (arith, c.support k a, offer_counted_to (is_before t (length t.marked)) k,
-                    bit-false (is_before t (length t.marked) node && eqb label k)
-                    (and_left (is_before t (length t.marked) node) (eqb label k) out));
+                support = λ k a. omega (
+                  arith,
+                  c.support k a,
+                  offer_counted_to (is_before t (length t.marked)) k,
+                  bit-false (is_before t (length t.marked) node && eqb label k)
+                      (and_left (is_before t (length t.marked) node) (eqb label k) out),
+                );
                 visits = omega (arith, c.visits, offer_counted (is_before t (length t.marked)), bit-false (is_before t (length t.marked) node) out);
               };
               opened = record { at = h.follows.opened.at };
@@ -468,11 +475,14 @@ module _ (net : Net) (closed : Bool) (labels : (i : ℕ) → i < length net.offe
   reached-label n (step {node = m} {label = l} {i = i} {j = j} r e c w) =
       let within : l < length net.closed = omega (arith, labels i e.within, e.to) in
       step (reached-label m r) (record { within = e.within; from = e.from; to = e.to }) (closed-old l within ∙ c)
-          (record { within = w.within; from = w.from; to = w.to })
+      (record { within = w.within; from = w.from; to = w.to })
 
   pub IsSettled-label : (t : Tally) → IsSettled net t
-      → IsSettled (with_label net closed) (record t { support = t.support ++ 0 ∷ []; opened = t.opened ++ false ∷ [];
-      touched_places = t.touched_places ++ 0 ∷ [] })
+      → IsSettled (with_label net closed) (record t {
+        support = t.support ++ 0 ∷ [];
+        opened = t.opened ++ false ∷ [];
+        touched_places = t.touched_places ++ 0 ∷ [];
+      })
   IsSettled-label t h =
       let steady = h.follows.steady in
       let c = h.follows.counted in
@@ -510,8 +520,8 @@ module _ (net : Net) (closed : Bool) (labels : (i : ℕ) → i < length net.offe
                             (λ i. is_before t (length t.marked) (from_at net.offers i) && eqb (to_at net.offers i) k) 0
                             (length net.offers) (omega arith)
                             (λ i d g. and_no (is_before t (length t.marked) (from_at net.offers i))
-                                (eqb (to_at net.offers i) k)
-                                (ne_eqb (to_at net.offers i) k (λ s. omega (arith, s, b, labels i g)))),
+                            (eqb (to_at net.offers i) k)
+                            (ne_eqb (to_at net.offers i) k (λ s. omega (arith, s, b, labels i g)))),
                       )
                 ];
             visits = omega (

@@ -96,5 +96,8 @@ closed-order net labels others h =
 
 pub visits-few : (net : Net) (nodes : List ℕ) → visits_of net nodes ≤ length net.offers + length net.waits
 visits-few net nodes =
-    omega (arith, count_by-le-length (λ (e : Edge). is_among nodes e.from) net.offers,
-        count_by-le-length (λ (e : Edge). is_open_among net nodes e.from) net.waits)
+    omega (
+      arith,
+      count_by-le-length (λ (e : Edge). is_among nodes e.from) net.offers,
+      count_by-le-length (λ (e : Edge). is_open_among net nodes e.from) net.waits,
+    )

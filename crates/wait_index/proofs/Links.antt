@@ -23,14 +23,18 @@ pub count_owned_and : (es : List Edge) (owner : ℕ) (test : ℕ → Bool) (n li
     ≡ count_below (λ i. eqb (from_at es i) owner && test i) link
 count_owned_and es owner test n link h =
     count_below-gap (λ i. eqb (from_at es i) owner && test i) link n h.below
-        (λ k a b. and_left (eqb (from_at es k) owner) (test k) (ne_eqb (from_at es k) owner (h.none_later k a b)))
+    (λ k a b. and_left (eqb (from_at es k) owner) (test k) (ne_eqb (from_at es k) owner (h.none_later k a b)))
 
 -- one edge of the owner is taken from those that are left
 pub count_owned-step : (es : List Edge) (owner i next : ℕ) → from_at es i ≡ owner → IsLast es owner i next
     → count_below (λ k. eqb (from_at es k) owner) (i + 1) ≡ count_below (λ k. eqb (from_at es k) owner) next + 1
 count_owned-step es owner i next e h =
-    omega (arith, count_below-more (λ k. eqb (from_at es k) owner) i,
-        bit-true (eqb (from_at es i) owner) (eq-eqb (from_at es i) owner e), count_owned es owner i next h)
+    omega (
+      arith,
+      count_below-more (λ k. eqb (from_at es k) owner) i,
+      bit-true (eqb (from_at es i) owner) (eq-eqb (from_at es i) owner e),
+      count_owned es owner i next h,
+    )
 
 pub count_owned_and-step : (es : List Edge) (owner : ℕ) (test : ℕ → Bool) (i next : ℕ) → from_at es i ≡ owner
     → IsLast es owner i next → count_below (λ k. eqb (from_at es k) owner && test k) (i + 1)
@@ -132,10 +136,10 @@ module _ (es : List Edge) (e : Edge) where
             (elim (cases_eq owner e.from) [
               | inl s ↦
                   let set_here : get_or (set newest e.from (length es + 1)) owner 0 ≡ length es + 1 =
-                      ap (λ o. get_or (set newest e.from (length es + 1)) o 0) s
-                      ∙ get_or-set_same newest e.from (length es + 1) 0 l in
+                  ap (λ o. get_or (set newest e.from (length es + 1)) o 0) s
+                  ∙ get_or-set_same newest e.from (length es + 1) 0 l in
                   subst (λ k. IsLast (es ++ e ∷ []) owner (length es + 1) k) (sym set_here)
-                      (subst (λ o. IsLast (es ++ e ∷ []) o (length es + 1) (length es + 1)) (sym s) IsLast-owner)
+                  (subst (λ o. IsLast (es ++ e ∷ []) o (length es + 1) (length es + 1)) (sym s) IsLast-owner)
               | inr s ↦
                   subst (λ k. IsLast (es ++ e ∷ []) owner (length es + 1) k) (sym (get_or-set_other newest e.from owner (length es + 1) 0 s))
                   (IsLast-other owner (get_or newest owner 0) s (h.last owner within))
@@ -146,12 +150,12 @@ module _ (es : List Edge) (e : Edge) where
                   let old = IsLast-old (from_at es i) i (get_or earlier i 0) (omega arith) (h.before i b) in
                   subst (λ o. IsLast (es ++ e ∷ []) o i (get_or (earlier ++ get_or newest e.from 0 ∷ []) i 0)) (sym (from_at-old i b))
                   (subst (λ k. IsLast (es ++ e ∷ []) (from_at es i) i k)
-                      (sym (get_or_append_left earlier (get_or newest e.from 0 ∷ []) 0 i (omega (arith, h.links)))) old)
+                  (sym (get_or_append_left earlier (get_or newest e.from 0 ∷ []) 0 i (omega (arith, h.links)))) old)
               | inr b ↦
                   let at : length es ≡ i = omega (arith, many) in
                   let old = IsLast-old e.from (length es) (get_or newest e.from 0) (omega arith) (h.last e.from l) in
                   let link : get_or (earlier ++ get_or newest e.from 0 ∷ []) (length es) 0 ≡ get_or newest e.from 0 =
-                      get_or_push earlier (get_or newest e.from 0) 0 (length es) h.links in
+                  get_or_push earlier (get_or newest e.from 0) 0 (length es) h.links in
                   subst (λ k. IsLast (es ++ e ∷ []) (from_at (es ++ e ∷ []) k) k (get_or (earlier ++ get_or newest e.from 0 ∷ []) k 0)) at
                   (subst (λ o. IsLast (es ++ e ∷ []) o (length es) (get_or (earlier ++ get_or newest e.from 0 ∷ []) (length es) 0)) (sym from_at-new)
                   (subst (λ k. IsLast (es ++ e ∷ []) e.from (length es) k) (sym link) old))

@@ -128,7 +128,7 @@ IsListing-insert items places n h l e =
       many =
           let change : count_below (λ m. holds (set places n v) m) (length places) ≡ count_below (λ m. holds places m) (length places) + 1 =
           count_below-change (λ m. holds places m) (λ m. holds (set places n v) m) n (length places) l e
-              (holds-from_placed (set places n v) n (omega (arith, here)))
+          (holds-from_placed (set places n v) n (omega (arith, here)))
           (λ m a ne. ap (ltb 0) (sym (get-other places n v l m ne)))
           in
           ap (count_below (λ m. holds (set places n v) m)) size ∙ omega (arith, change, h.many, more);
@@ -157,10 +157,10 @@ IsListing-grow items places h =
           count_below-same (λ m. holds (places ++ 0 ∷ []) m) (λ m. holds places m) (length places) (λ m a. ap (ltb 0) (old m))
           in
           let last : bit (holds (places ++ 0 ∷ []) (length places)) ≡ 0 =
-              bit-false (holds (places ++ 0 ∷ []) (length places))
-              (holds-from_unplaced (places ++ 0 ∷ []) (length places) (get_or_push places 0 0 (length places) refl)) in
+          bit-false (holds (places ++ 0 ∷ []) (length places))
+          (holds-from_unplaced (places ++ 0 ∷ []) (length places) (get_or_push places 0 0 (length places) refl)) in
           let step : count_below (λ m. holds (places ++ 0 ∷ []) m) (length places + 1) ≡ length items =
-              omega (arith, count_below-more (λ m. holds (places ++ 0 ∷ []) m) (length places), same, last, h.many) in
+          omega (arith, count_below-more (λ m. holds (places ++ 0 ∷ []) m) (length places), same, last, h.many) in
           ap (count_below (λ m. holds (places ++ 0 ∷ []) m)) more ∙ step;
     }
 
@@ -175,7 +175,7 @@ IsListing-pop items places n h =
     let here : get_or (set places n 0) n 0 ≡ 0 = get-here places n 0 l in
     let size : length (set places n 0) ≡ length places = length-set places n 0 in
     let at_old : (i : ℕ) → i < length items → get_or places (get_or items i 0) 0 ≡ i + 1 =
-        λ i a. ap (λ k. get_or places k 0) (sym (item i a)) ∙ h.listed i (omega (arith, more)) in
+    λ i a. ap (λ k. get_or places k 0) (sym (item i a)) ∙ h.listed i (omega (arith, more)) in
     let ne : (i : ℕ) → i < length items → get_or items i 0 ≢ n = λ i a s. omega (arith, place, ap (λ k. get_or places k 0) s, at_old i a) in
     let kept : (m i : ℕ) → get_or (set places n 0) m 0 ≡ i + 1 → m ≢ n = λ m i s q. omega (arith, here, s, ap (λ k. get_or (set places n 0) k 0) q) in
     let old : (m i : ℕ) → get_or (set places n 0) m 0 ≡ i + 1 → get_or places m 0 ≡ i + 1 = λ m i s. sym (get-other places n 0 l m (kept m i s)) ∙ s in
@@ -195,7 +195,7 @@ IsListing-pop items places n h =
       many =
           let change : count_below (λ m. holds places m) (length places) ≡ count_below (λ m. holds (set places n 0) m) (length places) + 1 =
           count_below-change (λ m. holds (set places n 0) m) (λ m. holds places m) n (length places) l
-              (holds-from_unplaced (set places n 0) n here) (holds-from_placed places n (omega (arith, place)))
+          (holds-from_unplaced (set places n 0) n here) (holds-from_placed places n (omega (arith, place)))
           (λ m a q. ap (ltb 0) (get-other places n 0 l m q))
           in
           ap (count_below (λ m. holds (set places n 0) m)) size ∙ omega (arith, change, h.many, more);
@@ -226,9 +226,12 @@ module _ (items places : List ℕ) (n index last : ℕ) (h : IsListing items pla
       elim (cases_eq m last) [
         | inl e ↦
             let one : holds (set places last (index + 1)) m ≡ true =
-                holds-from_placed (set places last (index + 1)) m
-                (omega (arith, ap (λ k. get_or (set places last (index + 1)) k 0) e,
-                get-here places last (index + 1) last_within)) in
+            holds-from_placed (set places last (index + 1)) m
+            (omega (
+              arith,
+              ap (λ k. get_or (set places last (index + 1)) k 0) e,
+              get-here places last (index + 1) last_within,
+            )) in
             let two : holds places m ≡ true = holds-from_placed places m (omega (arith, ap (λ k. get_or places k 0) e, last_place, in_list)) in
             one ∙ sym two
         | inr e ↦ ap (ltb 0) (get-other places last (index + 1) last_within m e)
@@ -279,7 +282,7 @@ module _ (items places : List ℕ) (n index last : ℕ) (h : IsListing items pla
             elim (cases_eq m last) [
               | inl r ↦
                   let place : get_or (set (set places last (index + 1)) n 0) m 0 ≡ index + 1 =
-                      ap (λ k. get_or (set (set places last (index + 1)) n 0) k 0) r ∙ place_last (λ s. q (r ∙ s)) in
+                  ap (λ k. get_or (set (set places last (index + 1)) n 0) k 0) r ∙ place_last (λ s. q (r ∙ s)) in
                   let apart : index + 1 ≢ length items = λ s.
                   q (r ∙ sym moved ∙ ap (λ k. get_or items k 0) (omega (arith, s)) ∙ item_n)
                   in
@@ -295,7 +298,7 @@ module _ (items places : List ℕ) (n index last : ℕ) (h : IsListing items pla
   pub IsListing-swap : (d : ℕ) → IsListing (swap_remove items index d) (set (set places last (index + 1)) n 0)
   IsListing-swap d =
       let size : length (set (set places last (index + 1)) n 0) ≡ length places =
-          length-set (set places last (index + 1)) n 0 ∙ length-set places last (index + 1) in
+      length-set (set places last (index + 1)) n 0 ∙ length-set places last (index + 1) in
       let items_size = size_items d in
       record {
         within = λ i a.
@@ -307,7 +310,7 @@ module _ (items places : List ℕ) (n index last : ℕ) (h : IsListing items pla
             elim (cases_eq i index) [
               | inl q ↦
                   let item : get_or (swap_remove items index d) i 0 ≡ last =
-                      ap (λ k. get_or (swap_remove items index d) k 0) q ∙ item_moved d (omega (arith, items_size)) in
+                  ap (λ k. get_or (swap_remove items index d) k 0) q ∙ item_moved d (omega (arith, items_size)) in
                   let apart : last ≢ n = λ s. omega (arith, last_is s, items_size) in
                   omega (arith, ap (λ k. get_or (set (set places last (index + 1)) n 0) k 0) item, place_last apart)
               | inr q ↦
@@ -326,9 +329,9 @@ module _ (items places : List ℕ) (n index last : ℕ) (h : IsListing items pla
         many =
             let held : holds places n ≡ true = holds-from_placed places n (omega (arith, at)) in
             let change : count_below (λ m. holds places m) (length places)
-                ≡ count_below (λ m. holds (set (set places last (index + 1)) n 0) m) (length places) + 1 =
+            ≡ count_below (λ m. holds (set (set places last (index + 1)) n 0) m) (length places) + 1 =
             count_below-change (λ m. holds (set (set places last (index + 1)) n 0) m) (λ m. holds places m) n
-                (length places) n_within (holds-from_unplaced (set (set places last (index + 1)) n 0) n place_n) held
+            (length places) n_within (holds-from_unplaced (set (set places last (index + 1)) n 0) n place_n) held
             (λ m a q. holds-swap m ∙ ap (λ b. holds places m && not b) (ne_eqb m n q) ∙ and-true (holds places m))
             in
             ap (count_below (λ m. holds (set (set places last (index + 1)) n 0) m)) size ∙ omega (arith, change, h.many, items_size);

@@ -31,8 +31,8 @@ module _ (items places : List ℕ) (h : IsListing items places) where
             false_from_ne_true (is_among items n) (λ t.
             let a = Any-from_list_any (λ m. eqb m n) items t in
             both_ways (holds places n) e
-                (holds-from_contains items places h n
-                (a.0, a.2, get_or_default items a.0 n a.1 a.2 ∙ a.3 ∙ eqb-true a.1 n a.4))) ∙ sym e
+            (holds-from_contains items places h n
+            (a.0, a.2, get_or_default items a.0 n a.1 a.2 ∙ a.3 ∙ eqb-true a.1 n a.4))) ∙ sym e
       ]
 
 module _ (net : Net) (t : Tally) (h : IsSettled net t) (queue : IsListing t.touched t.touched_places) (labels : (i : ℕ)
@@ -57,8 +57,8 @@ module _ (net : Net) (t : Tally) (h : IsSettled net t) (queue : IsListing t.touc
             let b = Follows-offered net (length t.marked) t h.follows l within (h.follows.steady.open_supported l o) in
             let here : (eqb (to_at net.offers b.0) l && is_among t.marked (from_at net.offers b.0)) ≡ true =
             and_from (eqb (to_at net.offers b.0) l) (is_among t.marked (from_at net.offers b.0))
-                (eq-eqb (to_at net.offers b.0) l b.2.to)
-                (among (from_at net.offers b.0) ∙ ap (is_marked_in t) b.2.from ∙ b.3)
+            (eq-eqb (to_at net.offers b.0) l b.2.to)
+            (among (from_at net.offers b.0) ∙ ap (is_marked_in t) b.2.from ∙ b.3)
             in
             and_from (not (is_closed net l)) (list_any (λ (e : Edge). eqb e.to l && is_among t.marked e.from) net.offers)
             (ap not (h.follows.steady.open_not_closed l o))
@@ -74,8 +74,8 @@ module _ (net : Net) (t : Tally) (h : IsSettled net t) (queue : IsListing t.touc
             let from : from_at net.offers a.0 ≡ a.1.from = ap (λ (x : Edge). x.from) item in
             both_ways (is_open_in t l) o
             (open-from_offer net t h queue a.0 a.1.from l (record { within = a.2; from = from; to = to })
-                (sym (among a.1.from) ∙ tests.1) (omega (arith, labels a.0 a.2, to))
-                (not-true (is_closed net l) parts.0))) ∙ sym o
+            (sym (among a.1.from) ∙ tests.1) (omega (arith, labels a.0 a.2, to))
+            (not-true (is_closed net l) parts.0))) ∙ sym o
       ]
 
   pub visits-shown : t.visits ≡ visits_of net t.marked

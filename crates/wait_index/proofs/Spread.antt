@@ -58,11 +58,11 @@ ReleasesFrom-step net label edge link next old now then new h e is last m =
     λ n. m.held n ∙ ap (λ (t : Tally). is_marked_in t n || eqb n (to_at net.waits edge)) is
     in
     let kept : (n : ℕ) → is_marked_in now n ≡ true → is_marked_in new n ≡ true =
-        λ n a. held n ∙ or_left (is_marked_in now n) (eqb n (to_at net.waits edge)) a in
+    λ n a. held n ∙ or_left (is_marked_in now n) (eqb n (to_at net.waits edge)) a in
     let here : is_marked_in new (to_at net.waits edge) ≡ true =
-        held (to_at net.waits edge) ∙ or_right (is_marked_in now (to_at net.waits edge))
-        (eqb (to_at net.waits edge) (to_at net.waits edge)) (eq-eqb (to_at net.waits edge) (to_at net.waits edge) refl)
-        in
+    held (to_at net.waits edge) ∙ or_right (is_marked_in now (to_at net.waits edge))
+    (eqb (to_at net.waits edge) (to_at net.waits edge)) (eq-eqb (to_at net.waits edge) (to_at net.waits edge) refl)
+    in
     let size : length new.places ≡ length now.places = m.size ∙ ap (λ (t : Tally). length t.places) is in
     let support : new.support ≡ now.support = m.support ∙ ap (λ (t : Tally). t.support) is in
     let opened : new.opened ≡ now.opened = m.opened ∙ ap (λ (t : Tally). t.opened) is in
@@ -98,14 +98,23 @@ ReleasesFrom-step net label edge link next old now then new h e is last m =
       opened = opened ∙ h.opened;
       touched = m.touched ∙ ap (λ (t : Tally). t.touched) is ∙ h.touched;
       touched_places = touched_places ∙ h.touched_places;
-      visits = omega (arith, visits, h.visits, ap (count_below (λ i. eqb (from_at net.waits i) label)) e,
-          count_owned-step net.waits label edge next owner last);
+      visits = omega (
+        arith,
+        visits,
+        h.visits,
+        ap (count_below (λ i. eqb (from_at net.waits i) label)) e,
+        count_owned-step net.waits label edge next owner last,
+      );
     }
 
 -- the count does not pass the bound
 pub ReleasesFrom-fits : (net : Net) (label edge link : ℕ) (old now : Tally) → ReleasesFrom net label link old now
     → link ≡ edge + 1 → now.visits + 1 ≤ old.visits + length net.waits
 ReleasesFrom-fits net label edge link old now h e =
-    omega (arith, h.visits, count_below-le (λ i. eqb (from_at net.waits i) label) (length net.waits),
-        count_below-at (λ i. eqb (from_at net.waits i) label) edge link (omega arith)
-        (eq-eqb (from_at net.waits edge) label (h.at.owned edge e)))
+    omega (
+      arith,
+      h.visits,
+      count_below-le (λ i. eqb (from_at net.waits i) label) (length net.waits),
+      count_below-at (λ i. eqb (from_at net.waits i) label) edge link (omega arith)
+          (eq-eqb (from_at net.waits edge) label (h.at.owned edge e)),
+    )

@@ -33,8 +33,10 @@ TouchesAll-more labels i label old now new l at h s =
             | inr b ↦
                 let parts = and_parts (eqb k label) (is_open_in now label) b in
                 let same = eqb-true k label parts.0 in
-                inr (subst (Contains (take i labels ++ label ∷ [])) (sym same) (Contains-push (take i labels) label),
-                    ap (is_open_in old) same ∙ sym (opened label) ∙ parts.1)
+                inr (
+                  subst (Contains (take i labels ++ label ∷ [])) (sym same) (Contains-push (take i labels) label),
+                  ap (is_open_in old) same ∙ sym (opened label) ∙ parts.1,
+                )
           ];
       size = s.size ∙ h.size;
     })
@@ -54,11 +56,11 @@ pub TouchesAll-same : (labels : List ℕ) (old new : Tally) → IsListing old.to
 TouchesAll-same labels old new queue queue_new none none_new h =
     let places : new.touched_places ≡ old.touched_places =
     ext_get_or 0 new.touched_places old.touched_places h.size
-        (λ k l. unplaced new.touched new.touched_places queue_new none_new k
-        ∙ sym (unplaced old.touched old.touched_places queue none k))
+    (λ k l. unplaced new.touched new.touched_places queue_new none_new k
+    ∙ sym (unplaced old.touched old.touched_places queue none k))
     in
     h.same ∙ ap (λ xs. record old { touched = xs; touched_places = new.touched_places }) (none_new ∙ sym none)
-        ∙ ap (λ xs. record old { touched_places = xs }) places
+    ∙ ap (λ xs. record old { touched_places = xs }) places
   where
     unplaced : (items places : List ℕ) → IsListing items places → items ≡ [] → (n : ℕ) → get_or places n 0 ≡ 0
     unplaced items places q e n =

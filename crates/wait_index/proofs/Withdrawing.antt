@@ -58,8 +58,8 @@ pub WithdrawsFrom-some : (net : Net) (node edge link : ℕ) (old now : Tally) �
 WithdrawsFrom-some net node edge link old now h e within =
     let owner : eqb (from_at net.offers edge) node ≡ true = eq-eqb (from_at net.offers edge) node (h.at.owned edge e) in
     let here : (eqb (from_at net.offers edge) node && eqb (to_at net.offers edge) (to_at net.offers edge)) ≡ true =
-        and_from (eqb (from_at net.offers edge) node) (eqb (to_at net.offers edge) (to_at net.offers edge)) owner
-        (eq-eqb (to_at net.offers edge) (to_at net.offers edge) refl) in (
+    and_from (eqb (from_at net.offers edge) node) (eqb (to_at net.offers edge) (to_at net.offers edge)) owner
+    (eq-eqb (to_at net.offers edge) (to_at net.offers edge) refl) in (
       omega (arith, h.visits, h.can.visits, count_below-at (λ i. eqb (from_at net.offers i) node) edge link (omega (arith, e)) owner),
       omega (
         arith,
@@ -79,16 +79,16 @@ WithdrawsFrom-step net node edge link next old now new h e within last w =
     let label_in : to_at net.offers edge < length now.support = omega (arith, within, h.sizes.support) in
     let opened : (l : ℕ) → is_open_in now l ≡ is_open_in old l = λ l. ap (λ flags. get_or flags l false) h.opened in
     let kept : (l : ℕ) → is_touched_in now l ≡ true → is_touched_in new l ≡ true =
-        λ l a. w.touched l ∙ or_left (is_touched_in now l)
-        (eqb l (to_at net.offers edge) && is_open_in now (to_at net.offers edge)) a in
+    λ l a. w.touched l ∙ or_left (is_touched_in now l)
+    (eqb l (to_at net.offers edge) && is_open_in now (to_at net.offers edge)) a in
     let here : support_in new (to_at net.offers edge) ≡ support_in now (to_at net.offers edge) - 1 =
     ap (λ xs. get_or xs (to_at net.offers edge) 0) w.support
-        ∙ get_or-set_same now.support (to_at net.offers edge) (support_in now (to_at net.offers edge) - 1) 0 label_in in
+    ∙ get_or-set_same now.support (to_at net.offers edge) (support_in now (to_at net.offers edge) - 1) 0 label_in in
     let other : (l : ℕ) → l ≢ to_at net.offers edge → support_in new l ≡ support_in now l = λ l ne.
     ap (λ xs. get_or xs l 0) w.support ∙ get_or-set_other now.support (to_at net.offers edge) l (support_in now (to_at net.offers edge) - 1) 0 ne in
     let supports : length new.support ≡ length now.support =
-        ap length w.support ∙ length-set now.support (to_at net.offers edge)
-        (support_in now (to_at net.offers edge) - 1) in
+    ap length w.support ∙ length-set now.support (to_at net.offers edge)
+    (support_in now (to_at net.offers edge) - 1) in
     record {
       can = h.can;
       sizes = record {
@@ -104,12 +104,25 @@ WithdrawsFrom-step net node edge link next old now new h e within last w =
           let step = count_owned_and-step net.offers node (λ i. eqb (to_at net.offers i) l) edge next owner last in
           let at = ap (count_below (λ i. eqb (from_at net.offers i) node && eqb (to_at net.offers i) l)) e in
           elim (cases_eq l (to_at net.offers edge)) [
-            | inl q ↦ omega (arith, h.support l a, step, at,
-                bit-true (eqb (to_at net.offers edge) l) (eq-eqb (to_at net.offers edge) l (sym q)),
-                ap (support_in new) q, ap (support_in now) q, here, some.1)
-            | inr q ↦ omega (arith, h.support l a, step, at,
-                bit-false (eqb (to_at net.offers edge) l) (ne_eqb (to_at net.offers edge) l (λ r. q (sym r))),
-                other l q)
+            | inl q ↦ omega (
+              arith,
+              h.support l a,
+              step,
+              at,
+              bit-true (eqb (to_at net.offers edge) l) (eq-eqb (to_at net.offers edge) l (sym q)),
+              ap (support_in new) q,
+              ap (support_in now) q,
+              here,
+              some.1,
+            )
+            | inr q ↦ omega (
+              arith,
+              h.support l a,
+              step,
+              at,
+              bit-false (eqb (to_at net.offers edge) l) (ne_eqb (to_at net.offers edge) l (λ r. q (sym r))),
+              other l q,
+            )
           ];
       supports = supports ∙ h.supports;
       opened = w.opened ∙ h.opened;
@@ -122,16 +135,16 @@ WithdrawsFrom-step net node edge link next old now new h e within last w =
                 elim (cases_eq i edge) [
                   | inl s ↦
                       let now_open : is_open_in now (to_at net.offers edge) ≡ true =
-                          opened (to_at net.offers edge) ∙ ap (λ k. is_open_in old (to_at net.offers k)) (sym s) ∙ p in
+                      opened (to_at net.offers edge) ∙ ap (λ k. is_open_in old (to_at net.offers k)) (sym s) ∙ p in
                       let both : (eqb (to_at net.offers edge) (to_at net.offers edge) && is_open_in now (to_at net.offers edge)) ≡ true =
                       and_from (eqb (to_at net.offers edge) (to_at net.offers edge))
-                          (is_open_in now (to_at net.offers edge))
-                          (eq-eqb (to_at net.offers edge) (to_at net.offers edge) refl) now_open
+                      (is_open_in now (to_at net.offers edge))
+                      (eq-eqb (to_at net.offers edge) (to_at net.offers edge) refl) now_open
                       in
                       ap (λ k. is_touched_in new (to_at net.offers k)) s ∙ w.touched (to_at net.offers edge)
                       ∙ or_right (is_touched_in now (to_at net.offers edge))
-                          (eqb (to_at net.offers edge) (to_at net.offers edge) && is_open_in now
-                          (to_at net.offers edge)) both
+                      (eqb (to_at net.offers edge) (to_at net.offers edge) && is_open_in now
+                      (to_at net.offers edge)) both
                   | inr s ↦ absurd (last.none_later i b (omega arith) o)
                 ]
           ];
@@ -144,6 +157,12 @@ WithdrawsFrom-step net node edge link next old now new h e within last w =
                 inr (sym (opened l) ∙ ap (is_open_in now) same ∙ parts.1, (edge, record { within = there; from = owner; to = sym same }))
           ];
       size = w.size ∙ h.size;
-      visits = omega (arith, h.visits, w.visits, some.0, count_owned-step net.offers node edge next owner last,
-          ap (count_below (λ i. eqb (from_at net.offers i) node)) e);
+      visits = omega (
+        arith,
+        h.visits,
+        w.visits,
+        some.0,
+        count_owned-step net.offers node edge next owner last,
+        ap (count_below (λ i. eqb (from_at net.offers i) node)) e,
+      );
     }

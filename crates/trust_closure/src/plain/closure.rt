@@ -1,6 +1,6 @@
 //! The closure that anybody can read.
 use crate::plain::changes::{lose, lose_all, reserve, take_into};
-use crate::plain::rounds::{count_raised, count_accepted};
+use crate::plain::rounds::{count_accepted, count_raised};
 use crate::plain::seeds::sow_all;
 use crate::shared::held::Held;
 use crate::shared::merge::{Mergeable, merge_into};

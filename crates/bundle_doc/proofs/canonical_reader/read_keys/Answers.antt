@@ -10,7 +10,7 @@ loop-last-preserved c = record {
   text = search rules;
   keeps =
       Keeps-next c.args.text.now c.loop-last.authorities.items c.push.new.self.items (vec_len c.loop-last.authorities)
-          (vec_len c.push.new.self) c.loop-last.last.now c.loop-last.rest.now
+      (vec_len c.push.new.self) c.loop-last.last.now c.loop-last.rest.now
       (not c.is_empty.result) c.in_ok-authority.authority c.in_ok-authority.own.now c.in_ok-authority.behind.now
       c.loop-last.invariant.keeps c.in_ok-authority.ensures (ap not c.is_empty.ensures) c.in_ok-push.ensures.items c.in_ok-push.ensures.len;
 }
@@ -18,4 +18,4 @@ loop-last-preserved c = record {
 pub returns : goal.returns
 returns c =
     Keeps-end c.args.text.now c.loop-last.authorities.items (vec_len c.loop-last.authorities) c.loop-last.last.now
-        c.loop-last.rest.now c.in_ok-after.field-0.now c.loop-last.invariant.keeps c.in_ok-after.ensures
+    c.loop-last.rest.now c.in_ok-after.field-0.now c.loop-last.invariant.keeps c.in_ok-after.ensures

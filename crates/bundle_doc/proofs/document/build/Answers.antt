@@ -5,8 +5,8 @@ use Rattle.bundle_doc.proofs.document.build.Goals as goal
 pub returns-then-len-gt-MAX_DOCUMENT_BYTES : goal.returns-then-len-gt-MAX_DOCUMENT_BYTES
 returns-then-len-gt-MAX_DOCUMENT_BYTES c =
     let built : IsBuilt c.args.contents.found.entries c.args.contents.rank c.args.contents.hint
-        c.in_ok-authorities.authorities.items (string_bytes c.in_ok-authorities.canonical)
-        (string_bytes c.write_numbers.new.out) = record {
+    c.in_ok-authorities.authorities.items (string_bytes c.in_ok-authorities.canonical)
+    (string_bytes c.write_numbers.new.out) = record {
       entries = c.requires.entries;
       authorities_are = c.in_ok-authorities.ensures.authorities;
       rising = c.in_ok-authorities.ensures.rising;

@@ -9,5 +9,5 @@ returns c =
     let is : IsElement (view c.args.element.now) c.in-Some.authority = rw c.in-Some.is at c.in_ok-authority.ensures in
     let form = form_of (view c.args.element.now) c.in-Some.authority is in
     rw c.in_ok-insert.ensures.entries
-        (AddsElement-insert_entry c.args.found.now.entries c.in_ok-text.text c.in-Some.authority
-        (view c.args.element.now) (c.in_ok-text.ensures, form) is)
+    (AddsElement-insert_entry c.args.found.now.entries c.in_ok-text.text c.in-Some.authority
+    (view c.args.element.now) (c.in_ok-text.ensures, form) is)

@@ -16,18 +16,18 @@ loop-text-init c = record {
 pub loop-text-preserved : goal.loop-text-preserved
 loop-text-preserved c =
     let text : string_bytes c.write_element.new.out ≡ string_bytes c.loop-text.out ++
-        (comma_if (not (vec_len c.loop-text.authorities == 0)) ++ string_bytes c.in-Some.text) =
+    (comma_if (not (vec_len c.loop-text.authorities == 0)) ++ string_bytes c.in-Some.text) =
     rw (← c.is_empty.ensures, ← c.as_str.ensures.value) c.in_ok-write_element.ensures in
     Writes-next (c.in-Some.text, c.in-Some.authority) c.loop-text.text-iterator c.next.new.self c.loop-text.authorities.items c.push.new.self.items
     (vec_len c.loop-text.authorities) (vec_len c.push.new.self) (string_bytes c.loop-text.out)
-        (string_bytes c.write_element.new.out) c.into_iter-text-iterator.result
+    (string_bytes c.write_element.new.out) c.into_iter-text-iterator.result
     c.loop-text.invariant c.in-Some.ensures.steps c.in_ok-push.ensures.items c.in_ok-push.ensures.len text
 
 pub returns-clause-authorities : goal.returns-clause-authorities
 returns-clause-authorities c =
     (Writes-end c.loop-text.text-iterator c.loop-text.authorities.items (vec_len c.loop-text.authorities)
-        (string_bytes c.loop-text.out) c.into_iter-text-iterator.result c.loop-text.invariant
-        c.in-None.ensures.steps.0).0
+    (string_bytes c.loop-text.out) c.into_iter-text-iterator.result c.loop-text.invariant
+    c.in-None.ensures.steps.0).0
     ∙ ap authorities_of c.into_iter-text-iterator.ensures.into_iter_gives.0
 
 pub returns-clause-text : goal.returns-clause-text
@@ -35,11 +35,11 @@ returns-clause-text c =
     c.in_ok-push-2.ensures.bytes
     ∙ ap (λ t. string_bytes c.loop-text.out ++ t) (c.in_ok-push-2.ensures.ascii (lit< tt))
     ∙ (Writes-end c.loop-text.text-iterator c.loop-text.authorities.items (vec_len c.loop-text.authorities)
-        (string_bytes c.loop-text.out) c.into_iter-text-iterator.result c.loop-text.invariant
-        c.in-None.ensures.steps.0).1
+    (string_bytes c.loop-text.out) c.into_iter-text-iterator.result c.loop-text.invariant
+    c.in-None.ensures.steps.0).1
     ∙ ap (λ es. keys_text (authorities_of es)) c.into_iter-text-iterator.ensures.into_iter_gives.0
 
 pub returns-clause-rising : goal.returns-clause-rising
 returns-clause-rising c =
     subst (IsStrictlySortedBy text_cmp) (sym (returns-clause-authorities c))
-        (rising_texts c.args.found.entries c.requires c.into_iter-text-iterator.ensures.into_iter_gives.5)
+    (rising_texts c.args.found.entries c.requires c.into_iter-text-iterator.ensures.into_iter_gives.5)

@@ -15,8 +15,12 @@ returns-in_default c = record {
 }
 
 pub returns-then-group-lt2 : goal.returns-then-group-lt2
-returns-then-group-lt2 c = record { clashes = []; are = single c.args.group.now c.if-group-lt2.true; now =
-    sym (append-nil (map reported_by c.args.found.now.items)) }
+returns-then-group-lt2 c = record {
+  clashes = [];
+  are = single c.args.group.now c.if-group-lt2.true;
+  now =
+      sym (append-nil (map reported_by c.args.found.now.items));
+}
 
 pub returns : goal.returns
 returns c =
@@ -25,9 +29,14 @@ returns c =
       clashes = it ∷ [];
       are = one_clash c.args.group.now c.in-Some.sequence c.kind_of.result c.requires.rising
           (λ d h. c.requires.alike d c.index-group-0.result h (0, c.requires.some, sym c.index-group-0.is)
-              ∙ ap (λ (b : Bundle). b.rank) (sym c.document.ensures) ∙ sym c.rank.ensures ∙ c.in-Some.is)
+          ∙ ap (λ (b : Bundle). b.rank) (sym c.document.ensures) ∙ sym c.rank.ensures ∙ c.in-Some.is)
           c.if-group-lt2.false c.kind_of.ensures;
       now = ap (map reported_by) c.in_ok-push.ensures.items ∙ map-append reported_by c.args.found.now.items _
-          ∙ (λ i. map reported_by c.args.found.now.items ++ record { domain = c.in_ok-try_clone.ensures i; sequence =
-              c.in-Some.sequence; kind = c.kind_of.result; documents = c.in_ok-documents.ensures i } ∷ []);
+          ∙ (λ i. map reported_by c.args.found.now.items ++ record {
+            domain = c.in_ok-try_clone.ensures i;
+            sequence =
+                c.in-Some.sequence;
+            kind = c.kind_of.result;
+            documents = c.in_ok-documents.ensures i;
+          } ∷ []);
     }

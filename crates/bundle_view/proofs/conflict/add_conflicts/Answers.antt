@@ -7,7 +7,7 @@ add_conflict-requires c = group_at c.args.documents.now c.groups.start c.group_l
 pub groups-preserved : goal.groups-preserved
 groups-preserved c =
     so_far_step c.args.domain.now c.args.documents.now c.groups.start c.group_len-len.result _ _ _ _ c.requires
-        c.split_at.ensures.back c.groups.invariant c.group_len-len.ensures c.in_ok-add_conflict.ensures
+    c.split_at.ensures.back c.groups.invariant c.group_len-len.ensures c.in_ok-add_conflict.ensures
 
 pub returns : goal.returns
 returns c = so_far_end c.args.domain.now c.args.documents.now c.groups.start _ _ c.groups.invariant c.groups-test.false

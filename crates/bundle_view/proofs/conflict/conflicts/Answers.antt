@@ -22,7 +22,7 @@ loop-domain-preserved g c =
 pub returns : goal.returns
 returns g c =
     found_all _ c.domains-domain-items.result.now _
-        (subst (λ config. AreDomains config c.domains-domain-items.result.now) c.config.ensures.config
-        c.domains-domain-items.ensures.all)
+    (subst (λ config. AreDomains config c.domains-domain-items.result.now) c.config.ensures.config
+    c.domains-domain-items.ensures.all)
     (subst (λ domains. AreFoundOf (g.C.Closure.state c.args.closure.now).meaning domains (map reported_by c.loop-domain.found.items))
     (take_all c.loop-domain.domain-index c.domains-domain-items.result.now c.loop-domain-test.false) c.loop-domain.invariant)

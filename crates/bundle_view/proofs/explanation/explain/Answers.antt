@@ -18,8 +18,8 @@ returns-then-is_configured-clause-ok g c =
     let p = document_of c.args.domain.now c.args.document.now in
     let seeds : c.seeds-seeds.result.now ≡ m.config.seeds = c.seeds-seeds.ensures ∙ ap (λ (x : Configuration). x.seeds) c.config.ensures.config in
     subst (IsShortest m p) (sym c.new.ensures.items)
-        (shortest_seed m p (subst (Any (λ s. pair_of_seed s ≡ p)) seeds
-        (c.is_configured.ensures.0 c.if-is_configured.true)))
+    (shortest_seed m p (subst (Any (λ s. pair_of_seed s ≡ p)) seeds
+    (c.is_configured.ensures.0 c.if-is_configured.true)))
 
 pub chain_to-requires-clause-linked : goal.chain_to-requires-clause-linked
 chain_to-requires-clause-linked g c =
@@ -42,7 +42,7 @@ returns-in-Some-clause-ok g c =
     (λ h. both_ways c.is_configured.result c.if-is_configured.false (c.is_configured.ensures.1 (subst (Any (λ s. pair_of_seed s ≡ p)) (sym seeds) h)))
     c.config.ensures.valid c.in-Some.last c.in_ok-chain_to-in-Some.field-0.items found
     (subst (λ steps. IsBackFrom steps (Some c.in-Some.last) (reverse c.in_ok-chain_to-in-Some.field-0.items))
-        c.as_slice-in-Some.ensures.value c.in_ok-chain_to-in-Some.ensures)
+    c.as_slice-in-Some.ensures.value c.in_ok-chain_to-in-Some.ensures)
 
 pub returns-clause-ok : goal.returns-clause-ok
 returns-clause-ok g c =

@@ -11,7 +11,7 @@ returns-in_err-check_endpoint g c =
     rw (exit.1, exit.2)
     (refuses_endpoint _ _ _ c.in_err-check_endpoint.field-0.0
     (subst (λ (config : Configuration). RefusesEndpoint config c.args.domain.now c.args.verdict.now.endpoint
-        c.in_err-check_endpoint.field-0.0) c.config.ensures.config c.in_err-check_endpoint.ensures))
+    c.in_err-check_endpoint.field-0.0) c.config.ensures.config c.in_err-check_endpoint.ensures))
 
 pub returns-in_default : goal.returns-in_default
 returns-in_default g c =

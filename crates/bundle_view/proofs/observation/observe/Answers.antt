@@ -14,5 +14,5 @@ pub returns : goal.returns
 returns g c =
     ended _ _ _ _ _ c.in_ok-voucher.voucher c.in_ok-document.document c.in_ok-receipt.receipt c.keep.result
     (copied _ _ c.args.verdict.now _ c.in_ok-voucher.voucher c.in_ok-document.document c.in_ok-receipt.receipt
-        c.in_ok-receipt.ensures c.in_ok-try_clone.ensures c.in_ok-try_clone-2.ensures)
+    c.in_ok-receipt.ensures c.in_ok-try_clone.ensures c.in_ok-try_clone-2.ensures)
     c.keep.ensures.valid c.keep.ensures.configuration c.keep.ensures.form c.in_ok-voucher.ensures c.in_ok-document.ensures c.keep.ensures.kept

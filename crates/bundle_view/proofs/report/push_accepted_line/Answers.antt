@@ -6,4 +6,4 @@ pub returns : goal.returns
 returns c =
     accepted_made c.args.domain.now c.args.document.now (length c.authorities.result.now) _ _ _ _ _ _ (ap length c.authorities.ensures)
     c.in_ok-extend_from_slice.ensures.items c.in_ok-push_document.ensures c.in_ok-extend_from_slice-2.ensures.items
-        c.in_ok-push_number.ensures c.in_ok-extend_from_slice-3.ensures.items
+    c.in_ok-push_number.ensures c.in_ok-extend_from_slice-3.ensures.items

@@ -12,13 +12,13 @@ returns g c =
     (map reported_by c.new-conflicts.result.items) (map reported_by c.add_conflicts.new.found.items) _ _ _ _ _ _
     c.in_ok-documents.ensures c.current.ensures (ap (map reported_by) c.new-conflicts.ensures.items)
     (subst (λ (documents : List Bundle). AddsClashes c.args.domain.now documents
-        (map reported_by c.new-conflicts.result.items) (map reported_by c.add_conflicts.new.found.items))
-        c.as_slice.ensures.value c.in_ok-add_conflicts.ensures)
+    (map reported_by c.new-conflicts.result.items) (map reported_by c.add_conflicts.new.found.items))
+    c.as_slice.ensures.value c.in_ok-add_conflicts.ensures)
     c.in_ok-push_domain.ensures c.in_ok-push_current.ensures
     (c.in_ok-push_accepted.ensures
-        ∙ ap (λ (documents : List Bundle). c.push_current.new.out.items ++ flat_map (accepted_line c.args.domain.now)
-        documents) c.as_slice-2.ensures.value)
+    ∙ ap (λ (documents : List Bundle). c.push_current.new.out.items ++ flat_map (accepted_line c.args.domain.now)
+    documents) c.as_slice-2.ensures.value)
     (c.in_ok-push_conflicts.ensures
-        ∙ ap (λ conflicts. c.push_accepted.new.out.items ++ flat_map conflict_line (map reported_by conflicts))
-        c.as_slice-3.ensures.value)
+    ∙ ap (λ conflicts. c.push_accepted.new.out.items ++ flat_map conflict_line (map reported_by conflicts))
+    c.as_slice-3.ensures.value)
     c.in_ok-push_distrusts.ensures

@@ -17,19 +17,19 @@ receipts-preserved c =
     let due = c.is_due.ensures.0 c.receipts-test.true in
     let here : slice_get c.args.waiting.now c.receipts.place ≡ Some c.receipt.result.now =
     slice_get_read c.args.waiting.now (length c.args.waiting.now) c.receipts.place c.index-waiting-place.result refl
-        (slice_get_within c.args.waiting.now c.receipts.place due.receipt due.at) c.index-waiting-place.is
-        ∙ ap (λ (r : Receipt). Some r) (sym c.receipt.ensures)
+    (slice_get_within c.args.waiting.now c.receipts.place due.receipt due.at) c.index-waiting-place.is
+    ∙ ap (λ (r : Receipt). Some r) (sym c.receipt.ensures)
     in
     subst (Gathers c.args.waiting.now c.args.offer.now c.args.before c.args.chain_len c.args.visited.now
-        c.args.steps.now.items c.partition_point-place.result (c.receipts.place + 1) c.visit.new.visited)
-        (sym c.in_ok-push.ensures.items)
+    c.args.steps.now.items c.partition_point-place.result (c.receipts.place + 1) c.visit.new.visited)
+    (sym c.in_ok-push.ensures.items)
     (gathers_more _ _ _ _ _ _ _ _ _ _ c.receipts.invariant c.requires.early due c.receipt.result.now here
-        c.visit.new.visited c.visit.ensures.flags c.visit.ensures.count)
+    c.visit.new.visited c.visit.ensures.flags c.visit.ensures.count)
 
 pub returns : goal.returns
 returns c =
     gathers_all _ _ _ _ _ _ _ _ _ _ c.receipts.invariant c.requires.sorted
     (IsPartitionPoint-from_clause (λ (r : Receipt). is_lt (triple_cmp (need_of r) c.args.offer.now)) c.args.waiting.now
-        c.partition_point-place.result c.partition_point-place.ensures.partitioned
-        (parted c.args.waiting.now c.args.offer.now c.requires.sorted) (λ a r f q. search rules))
+    c.partition_point-place.result c.partition_point-place.ensures.partitioned
+    (parted c.args.waiting.now c.args.offer.now c.requires.sorted) (λ a r f q. search rules))
     c.requires.visits (λ due. both_ways c.is_due.result c.receipts-test.false (c.is_due.ensures.1 due))

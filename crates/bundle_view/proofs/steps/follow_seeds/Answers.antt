@@ -15,7 +15,7 @@ loop-seed-preserved c =
     (sym (taken_more c.args.seeds.now c.loop-seed.seed-index c.seed-item.result c.loop-seed-test.true c.seed-item.is))
     (begun_more _ c.seed-item.result _ _ _ _ _ c.loop-seed.invariant
     (subst (λ offers. FollowsOffers c.args.waiting.now offers None 1 c.loop-seed.steps.items c.follow.new.visited
-        c.follow.new.steps.items) (c.as_slice.ensures.value ∙ c.in_ok-offers.ensures) c.in_ok-follow.ensures))
+    c.follow.new.steps.items) (c.as_slice.ensures.value ∙ c.in_ok-offers.ensures) c.in_ok-follow.ensures))
 
 pub returns : goal.returns
 returns c = subst (λ seeds. IsSearchBegun seeds c.args.waiting.now c.loop-seed.visited c.loop-seed.steps.items)

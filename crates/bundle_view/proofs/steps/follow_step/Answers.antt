@@ -12,9 +12,9 @@ returns c s at =
     slice_get_read c.args.steps.now.items (length c.args.steps.now.items) c.args.place c.index-step.result.now refl c.requires.within c.index-step.ensures
     in
     subst (λ (x : Stride). OnOk c.follow.result
-        (FollowsOffers c.args.waiting.now (offers_of (pair_of x.receipt)) (Some c.args.place) (x.length + 1)
-        c.args.steps.now.items c.follow.new.visited c.follow.new.steps.items))
+    (FollowsOffers c.args.waiting.now (offers_of (pair_of x.receipt)) (Some c.args.place) (x.length + 1)
+    c.args.steps.now.items c.follow.new.visited c.follow.new.steps.items))
     (c.step.view_is ∙ same_Some c.index-step.result.now s (sym here ∙ at))
     (subst (λ offers. OnOk c.follow.result
-        (FollowsOffers c.args.waiting.now offers (Some c.args.place) (c.step.inside.length + 1) c.args.steps.now.items
-        c.follow.new.visited c.follow.new.steps.items)) c.offers.ensures c.follow.ensures)
+    (FollowsOffers c.args.waiting.now offers (Some c.args.place) (c.step.inside.length + 1) c.args.steps.now.items
+    c.follow.new.visited c.follow.new.steps.items)) c.offers.ensures c.follow.ensures)

@@ -12,25 +12,25 @@ loop-receipt-init g c = sifted_none c.args.records.now c.into_iter-receipt-itera
 pub loop-receipt-preserved-then-is_distrusted : goal.loop-receipt-preserved-then-is_distrusted
 loop-receipt-preserved-then-is_distrusted g c =
     sifted_skips c.args.records.now c.into_iter-receipt-iterator.result c.loop-receipt.waiting.items
-        c.loop-receipt.receipt-iterator c.next.new.self c.in-Some.receipt.now c.in-Some.ensures.steps
-        c.loop-receipt.invariant
+    c.loop-receipt.receipt-iterator c.next.new.self c.in-Some.receipt.now c.in-Some.ensures.steps
+    c.loop-receipt.invariant
     (subst (λ (t : Triple). Contains c.args.records.now (record { domain = t.domain; key = t.key })) c.need.ensures
-        (c.is_distrusted.ensures.0 c.if-is_distrusted.true))
+    (c.is_distrusted.ensures.0 c.if-is_distrusted.true))
 
 pub loop-receipt-preserved : goal.loop-receipt-preserved
 loop-receipt-preserved g c =
     subst (λ taken. AreSifted c.args.records.now c.into_iter-receipt-iterator.result taken c.next.new.self) (sym c.in_ok-push.ensures.items)
     (sifted_takes c.args.records.now c.into_iter-receipt-iterator.result c.loop-receipt.waiting.items
-        c.loop-receipt.receipt-iterator c.next.new.self c.in-Some.receipt.now c.in-Some.ensures.steps
-        c.loop-receipt.invariant
+    c.loop-receipt.receipt-iterator c.next.new.self c.in-Some.receipt.now c.in-Some.ensures.steps
+    c.loop-receipt.invariant
     (λ has. both_ways c.is_distrusted.result c.if-is_distrusted.false
-        (c.is_distrusted.ensures.1
-        (subst (λ (t : Triple). Contains c.args.records.now (record { domain = t.domain; key = t.key }))
-        (sym c.need.ensures) has))))
+    (c.is_distrusted.ensures.1
+    (subst (λ (t : Triple). Contains c.args.records.now (record { domain = t.domain; key = t.key }))
+    (sym c.need.ensures) has))))
 
 pub returns : goal.returns
 returns g c =
     let m = (g.C.Closure.state c.args.closure.now).meaning in
     sifted_all m c.args.records.now c.into_iter-receipt-iterator.result c.loop-receipt.waiting.items c.loop-receipt.receipt-iterator c.requires
     (c.into_iter-receipt-iterator.ensures.into_iter_gives ∙ c.receipts-receipt-items.ensures) c.in-None.ensures.steps.0
-        c.config-valid.ensures.valid.few c.loop-receipt.invariant
+    c.config-valid.ensures.valid.few c.loop-receipt.invariant

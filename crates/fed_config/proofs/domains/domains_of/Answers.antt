@@ -8,5 +8,5 @@ pub returns : goal.returns
 returns c =
     rw (dedup_is _ _ _ c.dedup.ensures.filtered)
     (AreDomains-dedup c.args.relationships.now c.args.seeds.now _
-        (subst (λ l. IsPermutation l c.sort_unstable.new.self.items) c.in_ok-domains.ensures
-        c.sort_unstable.ensures.permutation) c.sort_unstable.ensures.sorted)
+    (subst (λ l. IsPermutation l c.sort_unstable.new.self.items) c.in_ok-domains.ensures
+    c.sort_unstable.ensures.permutation) c.sort_unstable.ensures.sorted)

@@ -8,8 +8,8 @@ pub loop-relationship-preserved : goal.loop-relationship-preserved
 loop-relationship-preserved c =
     rw (c.in_ok-push-2.ensures.items, c.in_ok-push.ensures.items, c.in_ok-try_clone-2.ensures, c.domain.ensures, c.in_ok-try_clone.ensures)
     (sym (gathered_next c.args.relationships.now c.args.seeds.now c.loop-relationship.relationship-index
-        c.relationship-item.result c.loop-relationship.domains.items c.loop-relationship-test.true
-        c.relationship-item.is) ∙ c.loop-relationship.invariant)
+    c.relationship-item.result c.loop-relationship.domains.items c.loop-relationship-test.true
+    c.relationship-item.is) ∙ c.loop-relationship.invariant)
 
 pub loop-seed-init : goal.loop-seed-init
 loop-seed-init c =
@@ -21,7 +21,7 @@ pub loop-seed-preserved : goal.loop-seed-preserved
 loop-seed-preserved c =
     rw (c.in_ok-push-3.ensures.items, c.in_ok-try_clone-3.ensures)
     (sym (mapped_next (λ s. s.domain) c.args.seeds.now c.loop-seed.seed-index c.seed-item.result
-        c.loop-seed.domains.items c.loop-seed-test.true c.seed-item.is) ∙ c.loop-seed.invariant)
+    c.loop-seed.domains.items c.loop-seed-test.true c.seed-item.is) ∙ c.loop-seed.invariant)
 
 pub returns : goal.returns
 returns c = sym (ap (λ l. c.loop-seed.domains.items ++ map (λ s. s.domain) l)

@@ -10,5 +10,8 @@ loop-entry-preserved c =
     rw c.in_ok-push.ensures.items (zip_more (λ e domain. SaysDomain (seed_text e) domain) c.args.entries.now
     c.loop-entry.domains.items c.loop-entry.entry-index c.entry-item.result c.in_ok-domain_of.field-0
     c.loop-entry-test.true c.entry-item.is c.loop-entry.invariant
-    (record { same = c.in_ok-domain_of.ensures.0; is =
-    subst IsDomainText (sym c.in_ok-domain_of.ensures.0) c.in_ok-domain_of.ensures.1 }))
+    (record {
+      same = c.in_ok-domain_of.ensures.0;
+      is =
+          subst IsDomainText (sym c.in_ok-domain_of.ensures.0) c.in_ok-domain_of.ensures.1;
+    }))

@@ -17,24 +17,28 @@ pub returns-in_err-read_relationships : goal.returns-in_err-read_relationships
 returns-in_err-read_relationships c =
     let p = err_from_is_err_and c.from_residual.result c.from_residual.ensures.1 in
     rw (p.1, p.2)
-    (narrower _ _ _ (λ h. let found = relationships_of _ c.in-Some.relationships.now.items c.in-Some.ensures h in
-        (found.0, subst (λ l. AllZip (λ value t. SaysRelationshipText (view value) t) l found.0)
-        (sym c.deref.ensures.value) found.1)) c.in_err-read_relationships.ensures)
+    (narrower _ _ _ (λ h. let found = relationships_of _ c.in-Some.relationships.now.items c.in-Some.ensures h in (
+      found.0,
+      subst (λ l. AllZip (λ value t. SaysRelationshipText (view value) t) l found.0)
+          (sym c.deref.ensures.value) found.1,
+    )) c.in_err-read_relationships.ensures)
 
 pub returns-in_err-read_seeds : goal.returns-in_err-read_seeds
 returns-in_err-read_seeds c =
     let p = err_from_is_err_and c.from_residual-in_err-read_seeds.result c.from_residual-in_err-read_seeds.ensures.1 in
     rw (p.1, p.2)
-    (narrower _ _ _ (λ h. let found = seeds_of _ c.in-Some-array_of.seeds.now.items c.in-Some-array_of.ensures h in
-        (found.0, subst (λ l. AllZip (λ value t. SaysSeedText (view value) t) l found.0) (sym c.deref-2.ensures.value)
-        found.1)) c.in_err-read_seeds.ensures)
+    (narrower _ _ _ (λ h. let found = seeds_of _ c.in-Some-array_of.seeds.now.items c.in-Some-array_of.ensures h in (
+      found.0,
+      subst (λ l. AllZip (λ value t. SaysSeedText (view value) t) l found.0) (sym c.deref-2.ensures.value)
+          found.1,
+    )) c.in_err-read_seeds.ensures)
 
 pub returns : goal.returns
 returns c =
     says _ c.in-Some.relationships.now.items c.in-Some-array_of.seeds.now.items c.in_ok-read_relationships.field-0.items
-        c.in_ok-read_seeds.field-0.items (c.if-not-has_count.ensures.0 refl) c.in-Some.ensures
-        c.in-Some-array_of.ensures
+    c.in_ok-read_seeds.field-0.items (c.if-not-has_count.ensures.0 refl) c.in-Some.ensures
+    c.in-Some-array_of.ensures
     (subst (λ l. AllZip (λ value t. SaysRelationshipText (view value) t) l c.in_ok-read_relationships.field-0.items)
-        c.deref.ensures.value c.in_ok-read_relationships.ensures)
+    c.deref.ensures.value c.in_ok-read_relationships.ensures)
     (subst (λ l. AllZip (λ value e. SaysSeedText (view value) (seed_text e)) l c.in_ok-read_seeds.field-0.items)
-        c.deref-2.ensures.value c.in_ok-read_seeds.ensures)
+    c.deref-2.ensures.value c.in_ok-read_seeds.ensures)

@@ -13,6 +13,9 @@ loop-element-preserved c =
 
 pub returns-in_default : goal.returns-in_default
 returns-in_default c =
-    inr (refl, λ h. zip_none (λ value t. SaysSeedText (view value) t) c.args.elements.now h.0
-    c.loop-element.element-index c.element-item.result c.loop-element-test.true c.element-item.is c.in_default.ensures
-    h.1)
+    inr (
+      refl,
+      λ h. zip_none (λ value t. SaysSeedText (view value) t) c.args.elements.now h.0
+          c.loop-element.element-index c.element-item.result c.loop-element-test.true c.element-item.is c.in_default.ensures
+          h.1,
+    )

@@ -17,7 +17,7 @@ returns-in_err-write_all-2-clause-beginning g c =
     let third = g.E.Sink.contents c.write_all-2.new.sink in
     c.pieces.ensures.in_second first second third (codes "line ") (decimal c.args.number ++ why_text c.args.why) c.in_ok-write_all.ensures.ok
     (c.pieces.ensures.in_first second third (decimal c.args.number) (why_text c.args.why)
-        (subst (AppendsBeginning second third) digits c.write_all-2.ensures.beginning))
+    (subst (AppendsBeginning second third) digits c.write_all-2.ensures.beginning))
 
 pub returns-clause-beginning : goal.returns-clause-beginning
 returns-clause-beginning g c =
@@ -29,5 +29,5 @@ returns-clause-beginning g c =
     let fourth = g.E.Sink.contents c.write_all-3.new.sink in
     c.pieces.ensures.in_second first second fourth (codes "line ") (decimal c.args.number ++ why_text c.args.why) c.in_ok-write_all.ensures.ok
     (c.pieces.ensures.in_second second third fourth (decimal c.args.number) (why_text c.args.why)
-        (subst (Appends second third) digits c.in_ok-write_all-2.ensures.ok)
+    (subst (Appends second third) digits c.in_ok-write_all-2.ensures.ok)
     (subst (AppendsBeginning third fourth) why c.write_all-3.ensures.beginning))

@@ -14,7 +14,7 @@ pub returns-clause-ok : goal.returns-clause-ok
 returns-clause-ok g c =
     on_ok_weaker c.write_all-3.result
     (λ last. c.pieces.ensures.both _ _ _ (codes "fedbundle: ") (c.args.text.now ++ 10 ∷ []) c.in_ok-write_all.ensures.ok
-        (c.pieces.ensures.both _ _ _ c.args.text.now (10 ∷ []) c.in_ok-write_all-2.ensures.ok last))
+    (c.pieces.ensures.both _ _ _ c.args.text.now (10 ∷ []) c.in_ok-write_all-2.ensures.ok last))
     c.write_all-3.ensures.ok
 
 pub returns-clause-beginning : goal.returns-clause-beginning

@@ -31,31 +31,34 @@ returns-in_err-count-in-Text-clause-stops g c =
     let taken = rw (c.in_ok-text.was, c.in-Text.is) at c.next_line.follows.holds-at-none in
     let exit = err_from_is_err_and c.from_residual-in_err-count-in-Text.result c.from_residual-in_err-count-in-Text.ensures.1 in
     rw (exit.1, exit.2) (stops_text _ _ _ _ (g.C.Closure.state c.lines.closure)
-        (g.C.Closure.state c.take_text.new.closure) _ (g.E.Sink.contents c.lines.complaints)
-        (g.E.Sink.contents c.take_text.new.complaints)
+    (g.C.Closure.state c.take_text.new.closure) _ (g.E.Sink.contents c.lines.complaints)
+    (g.E.Sink.contents c.take_text.new.complaints)
     c.lines.number c.lines.count c.in-Text.text.now (g.E.Sink.has_failed c.take_text.new.complaints)
-        c.in_err-count-in-Text.field-0.0 c.lines.invariant.so_far taken.finds.0 c.in_err-count-in-Text.ensures.tries)
+    c.in_err-count-in-Text.field-0.0 c.lines.invariant.so_far taken.finds.0 c.in_err-count-in-Text.ensures.tries)
 
 pub returns-in_err-text-clause-sound : goal.returns-in_err-text-clause-sound
 returns-in_err-text-clause-sound g c =
     let exit = err_from_is_err_and c.from_residual.result c.from_residual.ensures.1 in
-    λ unless. (line_sound Line c.in_err-text.field-0.0 _ _ (λ io. unless (exit.1 ∙ ap Err (exit.2 ∙ io)))
-        c.in_err-text.ensures.fault ∙ c.lines.invariant.source_sound, c.lines.invariant.told_sound)
+    λ unless. (
+      line_sound Line c.in_err-text.field-0.0 _ _ (λ io. unless (exit.1 ∙ ap Err (exit.2 ∙ io)))
+          c.in_err-text.ensures.fault ∙ c.lines.invariant.source_sound,
+      c.lines.invariant.told_sound,
+    )
 
 pub lines-preserved-in-Text : goal.lines-preserved-in-Text
 lines-preserved-in-Text g c =
     let taken = rw (c.in_ok-text.was, c.in-Text.is) at c.next_line.follows.holds-at-none in
     let less = taken.falls (λ e. cc) in
     let one = at_most_one (g.C.Closure.state c.lines.closure) (g.C.Closure.state c.take_text.new.closure)
-        c.in-Text.text.now (c.lines.number + 1) (g.E.Sink.contents c.lines.complaints)
-        (g.E.Sink.contents c.take_text.new.complaints)
+    c.in-Text.text.now (c.lines.number + 1) (g.E.Sink.contents c.lines.complaints)
+    (g.E.Sink.contents c.take_text.new.complaints)
     (g.E.Sink.has_failed c.take_text.new.complaints) c.in_ok-count-in-Text.field-0 c.in_ok-count-in-Text.ensures.tries in
     record {
       so_far = so_far_text _ _ _ _ (g.C.Closure.state c.lines.closure) (g.C.Closure.state c.take_text.new.closure) _
           (g.E.Sink.contents c.lines.complaints) (g.E.Sink.contents c.take_text.new.complaints)
           c.lines.number c.lines.count c.in-Text.text.now (g.E.Sink.has_failed c.take_text.new.complaints)
-              c.in_ok-count-in-Text.field-0 c.requires.config c.lines.invariant.so_far taken.finds.0
-              c.in_ok-count-in-Text.ensures.tries;
+          c.in_ok-count-in-Text.field-0 c.requires.config c.lines.invariant.so_far taken.finds.0
+          c.in_ok-count-in-Text.ensures.tries;
       below = omega (arith, less);
       few = omega (arith, one);
       source_sound = c.in_ok-text.ensures.fault ∙ c.lines.invariant.source_sound;
@@ -87,8 +90,8 @@ returns-in_err-complain-in-Cut-clause-stops g c =
     let taken = rw (c.in_ok-text.was, c.in-Cut.is) at c.next_line.follows.holds-at-none in
     let exit = err_from_is_err_and c.from_residual-in_err-complain-in-Cut.result c.from_residual-in_err-complain-in-Cut.ensures.1 in
     rw (exit.1, exit.2)
-        (stops_io _ _ _ _ (begun_rest _ _ _ _ _ _ _ _ _ c.lines.invariant.so_far taken.finds.0 taken.finds.1
-        c.complain-in-Cut.ensures.beginning))
+    (stops_io _ _ _ _ (begun_rest _ _ _ _ _ _ _ _ _ c.lines.invariant.so_far taken.finds.0 taken.finds.1
+    c.complain-in-Cut.ensures.beginning))
 
 pub returns-in-Cut-clause-ok : goal.returns-in-Cut-clause-ok
 returns-in-Cut-clause-ok g c =

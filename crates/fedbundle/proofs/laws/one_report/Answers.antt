@@ -9,4 +9,4 @@ returns g config one other rs ss s t same p q here there =
     let list : rs ≡ ss = g.one_list.ensures.receipts rs ss p.rising q.rising
     (λ r. (λ has. q.complete r ((same r).0 (p.sound r has)), λ has. p.complete r ((same r).1 (q.sound r has)))) in
     g.one_view.ensures.report (meaning_of_receipts config rs) s t here
-        (subst (λ (l : List Receipt). IsReport (meaning_of_receipts config l) t) (sym list) there)
+    (subst (λ (l : List Receipt). IsReport (meaning_of_receipts config l) t) (sym list) there)

@@ -35,8 +35,12 @@ pub returns-in_err-write_report-clause-sound : goal.returns-in_err-write_report-
 returns-in_err-write_report-clause-sound g c =
     let exit = err_from_is_err_and c.from_residual-in_err-write_report.result c.from_residual-in_err-write_report.ensures.1 in
     let before = c.in_ok-count.ensures.sound (λ bad. cc) in
-    λ unless. (before.0, report_sound (Unit {0}) c.in_err-write_report.field-0.0 _ _
-        (λ io. unless (exit.1 ∙ ap Err (exit.2 ∙ io))) c.in_err-write_report.ensures.fault, before.1)
+    λ unless. (
+      before.0,
+      report_sound (Unit {0}) c.in_err-write_report.field-0.0 _ _
+          (λ io. unless (exit.1 ∙ ap Err (exit.2 ∙ io))) c.in_err-write_report.ensures.fault,
+      before.1,
+    )
 
 pub returns-clause-ok : goal.returns-clause-ok
 returns-clause-ok g c =

@@ -12,5 +12,5 @@ options-preserved c = texts_more (given (rows_of (found_of c.args.matches.now)))
     (map (λ t. t.now) c.push.new.self.items) c.in-Some.text.now
     (ap (map (λ t. t.now)) c.in_ok-push.ensures.items ∙ map-append (λ t. t.now) c.options.texts.items (c.in-Some.text ∷ []))
     (sym (first_value-rows (found_of c.args.matches.now) (option_text _))
-        ∙ ap (first_value (found_of c.args.matches.now)) (sym c.text.ensures) ∙ sym c.in-Some.ensures)
+    ∙ ap (first_value (found_of c.args.matches.now)) (sym c.text.ensures) ∙ sym c.in-Some.ensures)
     ∙ c.options.invariant

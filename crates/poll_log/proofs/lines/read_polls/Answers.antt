@@ -31,7 +31,7 @@ returns-in_err-record_line-in-Text-clause-refused g c =
     let taken = rw (c.in_ok-text.was, c.in-Text.is) at c.next_line.follows.holds-at-none in
     let p = err_from_is_err_and c.from_residual-in_err-record_line-in-Text.result c.from_residual-in_err-record_line-in-Text.ensures.1 in
     rw (p.1, p.2) (RefusesPolls-record _ _ _ _ _ c.record_line.new.log _ c.in-Text.text.now _ c.lines.invariant.read
-        taken.finds.0 c.in_err-record_line-in-Text.ensures)
+    taken.finds.0 c.in_err-record_line-in-Text.ensures)
 
 pub returns-in-TooLong-clause-refused : goal.returns-in-TooLong-clause-refused
 returns-in-TooLong-clause-refused g c =

@@ -24,16 +24,16 @@ returns-in_err-seconds c =
 pub returns-then-is_written : goal.returns-then-is_written
 returns-then-is_written c =
     let fits : FitsSigned w64 c.in_ok-seconds.seconds =
-        fits_parsed c.in_ok-seconds.seconds c.in_ok-ok.field-0.now c.parse.result c.in_ok-seconds.ensures.value
-        c.parse.ensures.value.0 in
+    fits_parsed c.in_ok-seconds.seconds c.in_ok-ok.field-0.now c.parse.result c.in_ok-seconds.ensures.value
+    c.parse.ensures.value.0 in
     (c.if-is_written.ensures.0 refl, subst (FitsSigned w64) (sym (to_z-of_z w64 c.in_ok-seconds.seconds fits)) fits)
 
 pub returns-else-is_written : goal.returns-else-is_written
 returns-else-is_written c = λ n fits is.
     let lent = answered c.from_utf8.result _ _ c.in_ok-ok.field-0 c.in_ok-ok.ensures.value c.from_utf8.ensures.cases in
     let same : c.in_ok-seconds.seconds ≡ n =
-        parsed n c.in_ok-seconds.seconds c.in_ok-ok.field-0.now c.parse.result c.in_ok-seconds.ensures.value
-        c.parse.ensures.value.0 fits (lent.0 ∙ is) in
+    parsed n c.in_ok-seconds.seconds c.in_ok-ok.field-0.now c.parse.result c.in_ok-seconds.ensures.value
+    c.parse.ensures.value.0 fits (lent.0 ∙ is) in
     let own : FitsSigned w64 c.in_ok-seconds.seconds = subst (FitsSigned w64) (sym same) fits in
     let false_is = c.if-is_written.ensures.1 (is ∙ ap signed_decimal (sym same ∙ sym (to_z-of_z w64 c.in_ok-seconds.seconds own))) in
     cc

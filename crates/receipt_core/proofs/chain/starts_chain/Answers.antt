@@ -5,7 +5,7 @@ use Rattle.receipt_core.proofs.chain.starts_chain.Goals as goal
 pub returns-then-is_first : goal.returns-then-is_first
 returns-then-is_first c =
     chain_told c.args.config.now c.args.records.now c.args.first.now c.args.others.now c.leads_on.result
-        (c.is_first.ensures.0 c.if-is_first.true) c.leads_on.ensures
+    (c.is_first.ensures.0 c.if-is_first.true) c.leads_on.ensures
 
 pub returns-else-is_first : goal.returns-else-is_first
 returns-else-is_first c =

@@ -26,5 +26,5 @@ returns-clause-id c =
     (c.update-5.ensures _ (c.update-4.ensures _ (c.update-3.ensures _ (c.update-2.ensures _ (c.update.ensures [] c.new-hasher.ensures)))))))))))
     ∙ ap sha256 (pieces_grown c.canonical.result.now c.as_str.result.now c.as_str-2.result.now c.digits.result c.digits-2.result)
     ∙ (λ i. sha256 (pieces (c.canonical.ensures.text i) (c.as_str.ensures.text i) (c.as_str-2.ensures.text i)
-        (c.digits.ensures.text i) (c.digits-2.ensures.text i)))
+    (c.digits.ensures.text i) (c.digits-2.ensures.text i)))
     ∙ ap sha256 (sym (line_text (receipt c) (returns-clause-form c)))

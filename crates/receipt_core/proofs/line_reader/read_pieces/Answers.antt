@@ -13,7 +13,7 @@ returns c =
     let endpoint = rw c.in-Some-2.is at c.in_ok-endpoint.ensures in
     let document = rw c.in-Some-3.is at c.in_ok-document.ensures in
     subst (λ r. IsLine (pieces c.args.parts.now.document.now c.args.parts.now.domain.now c.args.parts.now.endpoint.now
-        c.args.parts.now.key.now c.args.parts.now.voucher.now) r)
+    c.args.parts.now.key.now c.args.parts.now.voucher.now) r)
     (sym c.in_ok-receipt.ensures)
     (IsLine-pieces c.in-Some-3.document c.in-Some.domain c.in-Some-2.endpoint c.in-Some-Some.key c.in-Some-Some.voucher
     c.args.parts.now.document.now c.args.parts.now.domain.now c.args.parts.now.endpoint.now c.args.parts.now.key.now c.args.parts.now.voucher.now

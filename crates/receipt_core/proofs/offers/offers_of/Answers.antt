@@ -6,7 +6,7 @@ use Rattle.receipt_core.proofs.offers.offers_of.Goals as goal
 pub loop-key-init : goal.loop-key-init
 loop-key-init c =
     ap (λ x. x ++ map (offer_of (record { domain = c.args.domain.now; document = c.args.document.now }))
-        c.into_iter-key-iterator.result) c.new-offers.ensures.items
+    c.into_iter-key-iterator.result) c.new-offers.ensures.items
 
 pub loop-key-preserved : goal.loop-key-preserved
 loop-key-preserved c =

@@ -15,7 +15,7 @@ overflow_add-result g c =
     let content = c.args.give.now.content in
     let first = c.in-Some-first_receipt.ensures in
     let bound = first-bound (record m { records = with_items distrust_cmp content.records m.records })
-        (of_receipts c.receipts.result.now) c.in-Some-first_receipt.number c.in-Some-first_receipt.why
+    (of_receipts c.receipts.result.now) c.in-Some-first_receipt.number c.in-Some-first_receipt.why
     (first (with_items distrust_cmp content.records m.records)) in
     let records = ap length c.distrusts.ensures in
     let receipts = ap (λ (rs : List Receipt). length (of_receipts rs)) c.receipts.ensures in
@@ -29,11 +29,11 @@ returns-in-Some-first_receipt g c =
     let m = (g.C.Closure.state c.args.closure.now).meaning in
     let content = c.args.give.now.content in
     first-receipt m content.records content.held (length c.distrusts.result.now) c.in-Some-first_receipt.number
-        c.in-Some-first_receipt.why (ap length c.distrusts.ensures)
+    c.in-Some-first_receipt.why (ap length c.distrusts.ensures)
     (subst (λ (xs : List Distrust). AreWelcome m (of_records xs)) c.distrusts-2.ensures c.in-None.ensures)
     (subst (λ (rs : List Receipt). IsFirstRefused
-        (record m { records = with_items distrust_cmp content.records m.records }) (of_receipts rs)
-        c.in-Some-first_receipt.number c.in-Some-first_receipt.why) c.receipts.ensures
+    (record m { records = with_items distrust_cmp content.records m.records }) (of_receipts rs)
+    c.in-Some-first_receipt.number c.in-Some-first_receipt.why) c.receipts.ensures
     (c.in-Some-first_receipt.ensures (with_items distrust_cmp content.records m.records)))
 
 pub returns-in-None-first_receipt : goal.returns-in-None-first_receipt

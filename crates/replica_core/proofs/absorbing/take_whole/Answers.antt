@@ -15,7 +15,7 @@ distrust_all-requires g c =
     let m = (g.C.Closure.state c.args.closure.now).meaning in
     let content = c.args.give.content in
     subst (λ (xs : List Distrust). AreWelcome m (of_records xs)) (sym c.distrusts.ensures)
-        (welcome-front m (of_records content.records) (of_receipts content.held) c.requires.welcome)
+    (welcome-front m (of_records content.records) (of_receipts content.held) c.requires.welcome)
 
 pub take_all-requires-clause-welcome : goal.take_all-requires-clause-welcome
 take_all-requires-clause-welcome g c =
@@ -25,7 +25,7 @@ take_all-requires-clause-welcome g c =
     subst (λ (rs : List Receipt). AreWelcome (g.C.Closure.state c.distrust_all.new.closure).meaning (of_receipts rs)) (sym held)
     (subst (λ (k : Meaning). AreWelcome k (of_receipts content.held)) (sym c.distrust_all.ensures.meaning)
     (subst (λ (xs : List Distrust). AreWelcome (record m { records = with_items distrust_cmp xs m.records })
-        (of_receipts content.held)) (sym c.distrusts.ensures)
+    (of_receipts content.held)) (sym c.distrusts.ensures)
     (receipts-welcome m content.records content.held c.requires.welcome)))
 
 pub overflow_sub-result : goal.overflow_sub-result
@@ -33,8 +33,8 @@ overflow_sub-result g c =
     let m = (g.C.Closure.state c.args.closure.now).meaning in
     let before : (g.C.Closure.state c.distrust_all.new.closure).meaning.held ≡ m.held = ap (λ (k : Meaning). k.held) c.distrust_all.ensures.meaning in
     let after : (g.C.Closure.state c.take_all.new.closure).meaning.held
-        ≡ with_items receipt_cmp c.give.inside.receipts.items
-        (g.C.Closure.state c.distrust_all.new.closure).meaning.held = ap (λ (k : Meaning). k.held) c.take_all.ensures in
+    ≡ with_items receipt_cmp c.give.inside.receipts.items
+    (g.C.Closure.state c.distrust_all.new.closure).meaning.held = ap (λ (k : Meaning). k.held) c.take_all.ensures in
     let grown = with_items-grows receipt_cmp c.give.inside.receipts.items (g.C.Closure.state c.distrust_all.new.closure).meaning.held in
     omega (arith, c.receipt_count-held.ensures, c.receipt_count.ensures, ap length before, ap length after, grown)
 
@@ -43,7 +43,7 @@ returns-clause-count g c =
     let m = (g.C.Closure.state c.args.closure.now).meaning in
     let before : (g.C.Closure.state c.distrust_all.new.closure).meaning.held ≡ m.held = ap (λ (k : Meaning). k.held) c.distrust_all.ensures.meaning in
     let after : (g.C.Closure.state c.take_all.new.closure).meaning.held
-        ≡ with_items receipt_cmp c.give.inside.receipts.items
-        (g.C.Closure.state c.distrust_all.new.closure).meaning.held = ap (λ (k : Meaning). k.held) c.take_all.ensures in
+    ≡ with_items receipt_cmp c.give.inside.receipts.items
+    (g.C.Closure.state c.distrust_all.new.closure).meaning.held = ap (λ (k : Meaning). k.held) c.take_all.ensures in
     let grown = with_items-grows receipt_cmp c.give.inside.receipts.items (g.C.Closure.state c.distrust_all.new.closure).meaning.held in
     omega (arith, c.receipt_count-held.ensures, c.receipt_count.ensures, ap length before, ap length after, grown)

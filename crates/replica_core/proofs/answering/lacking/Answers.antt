@@ -10,4 +10,4 @@ returns g c =
     let held = (g.C.Closure.state c.args.closure.now).meaning.held in
     c.new.ensures ∙ ap (λ ids. not_named ids c.receipts_of.result) c.ids.ensures.ids ∙ ap (not_named c.args.have.now.ids) c.receipts_of.ensures
     ∙ ap (λ (b : ℕ). not_named c.args.have.now.ids (filter (is_of_bucket b) held)) c.bucket.ensures
-        ∙ filter-filter (is_of_bucket c.args.have.now.bucket) (λ r. not (is_named c.args.have.now.ids r)) held
+    ∙ filter-filter (is_of_bucket c.args.have.now.bucket) (λ r. not (is_named c.args.have.now.ids r)) held

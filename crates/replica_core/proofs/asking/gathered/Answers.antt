@@ -13,7 +13,7 @@ loop-receipt-preserved g c =
 pub returns : goal.returns
 returns g c =
     let all : c.into_iter-receipt-iterator.result ≡ receipts_in c.args.bucket
-        (g.C.Closure.state c.args.closure.now).meaning.held = first_of (cc, search rules) in
+    (g.C.Closure.state c.args.closure.now).meaning.held = first_of (cc, search rules) in
     sym (append-nil (map bytes_of c.loop-receipt.ids.items))
     ∙ ap (λ rest. map bytes_of c.loop-receipt.ids.items ++ map receipt_id_of rest) (sym c.in-None.ensures.steps.0)
     ∙ c.loop-receipt.invariant ∙ ap (map receipt_id_of) all

@@ -10,4 +10,4 @@ pub returns : goal.returns
 returns g c =
     ap (map bytes_of) (dedup_is _ _ _ c.dedup.ensures.filtered)
     ∙ are-held (receipts_in c.args.bucket (g.C.Closure.state c.args.closure.now).meaning.held) _ _ c.in_ok-ids.ensures
-        c.sort_unstable.ensures.permutation c.sort_unstable.ensures.sorted
+    c.sort_unstable.ensures.permutation c.sort_unstable.ensures.sorted

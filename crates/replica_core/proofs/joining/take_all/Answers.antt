@@ -25,7 +25,7 @@ loop-receipt-preserved g c =
     record {
       joining = IsJoining-next (g.C.Closure.state c.args.closure.now) (g.C.Closure.state c.loop-receipt.closure) (g.C.Closure.state c.take.new.self)
           (into_iter_items c.into_iter-receipt-iterator.result) (into_iter_items c.loop-receipt.receipt-iterator)
-              (into_iter_items c.next.new.self) c.in-Some.receipt c.take.result
+          (into_iter_items c.next.new.self) c.in-Some.receipt c.take.result
           c.sets.ensures.receipts c.config-valid.ensures.valid c.loop-receipt.invariant.joining steps c.take.ensures;
       size = omega (arith, c.in-Some.ensures.steps.1, ap length steps, c.loop-receipt.invariant.size);
     }
@@ -36,7 +36,7 @@ loop-receipt-preserved-in-Some g c =
     record {
       joining = IsJoining-next (g.C.Closure.state c.args.closure.now) (g.C.Closure.state c.loop-receipt.closure) (g.C.Closure.state c.take.new.self)
           (into_iter_items c.into_iter-receipt-iterator.result) (into_iter_items c.loop-receipt.receipt-iterator)
-              (into_iter_items c.next.new.self) c.in-Some.receipt c.take.result
+          (into_iter_items c.next.new.self) c.in-Some.receipt c.take.result
           c.sets.ensures.receipts c.config-valid.ensures.valid c.loop-receipt.invariant.joining steps c.take.ensures;
       size = omega (arith, c.in-Some.ensures.steps.1, ap length steps, c.loop-receipt.invariant.size);
     }
@@ -45,7 +45,7 @@ pub returns : goal.returns
 returns g c =
     let start = g.C.Closure.state c.args.closure.now in
     IsJoining-end start (g.C.Closure.state c.loop-receipt.closure) (into_iter_items c.into_iter-receipt-iterator.result)
-        (into_iter_items c.loop-receipt.receipt-iterator) c.loop-receipt.invariant.joining
+    (into_iter_items c.loop-receipt.receipt-iterator) c.loop-receipt.invariant.joining
     (none-left (into_iter_items c.loop-receipt.receipt-iterator) (sym c.loop-receipt.invariant.size ∙ c.in-None.ensures.steps.0))
     ∙ ap (λ (xs : List Receipt). record start.meaning { held = with_items receipt_cmp xs start.meaning.held })
-        c.into_iter-receipt-iterator.ensures.into_iter_gives.0
+    c.into_iter-receipt-iterator.ensures.into_iter_gives.0

@@ -22,7 +22,7 @@ returns-in-Err g c = λ records.
     let refused = misfit-refused (record m { held = with_items receipt_cmp (take c.loop-receipt.place rs) m.held }) r c.in-Err.why misfits in
     receipt-refused m rs c.loop-receipt.place r c.in-Err.why (omega (arith, same, c.loop-receipt-test.true))
     (subst (λ i. get_or rs i r ≡ r) (sym same) (sym c.receipt-item.is))
-        (subst (λ i. AreWelcome m (of_receipts (take i rs))) (sym same) (c.loop-receipt.invariant.welcome records))
+    (subst (λ i. AreWelcome m (of_receipts (take i rs))) (sym same) (c.loop-receipt.invariant.welcome records))
     refused.0 refused.1
 
 pub returns-in-None : goal.returns-in-None
@@ -33,7 +33,7 @@ returns-in-None g c = λ records.
     let same = c.loop-receipt.invariant.place in
     receipt-refused m rs c.loop-receipt.place r Full (omega (arith, same, c.loop-receipt-test.true))
     (subst (λ i. get_or rs i r ≡ r) (sym same) (sym c.receipt-item.is))
-        (subst (λ i. AreWelcome m (of_receipts (take i rs))) (sym same) (c.loop-receipt.invariant.welcome records))
+    (subst (λ i. AreWelcome m (of_receipts (take i rs))) (sym same) (c.loop-receipt.invariant.welcome records))
     (record {
       fits = subst (λ (k : Configuration). IsFitting k r) c.config-config.ensures.config c.in_default.ensures.fits;
       unheld = c.in-None.ensures.unheld;

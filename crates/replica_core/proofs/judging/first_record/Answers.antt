@@ -18,9 +18,9 @@ returns-then-is_none g c =
     let own : c.config-config.result.now ≡ m.config = c.config-config.ensures.config in
     record-refused m xs c.loop-record.place x UnknownDomain (omega (arith, same, c.loop-record-test.true))
     (subst (λ i. get_or xs i x ≡ x) (sym same) (sym c.record-item.is))
-        (subst (λ i. AreWelcome m (of_records (take i xs))) (sym same) c.loop-record.invariant.welcome)
+    (subst (λ i. AreWelcome m (of_records (take i xs))) (sym same) c.loop-record.invariant.welcome)
     (λ has. unknown c.config-config.result.now x.domain c.domain_no.result c.domain_no.ensures c.if-is_none.ensures
-        (subst (λ (k : Configuration). HasDomain k x.domain) (sym own) has))
+    (subst (λ (k : Configuration). HasDomain k x.domain) (sym own) has))
     (λ e. absurd (cc))
 
 pub returns-in-None : goal.returns-in-None
@@ -32,11 +32,11 @@ returns-in-None g c =
     let own : c.config-config.result.now ≡ m.config = c.config-config.ensures.config in
     record-refused m xs c.loop-record.place x Full (omega (arith, same, c.loop-record-test.true))
     (subst (λ i. get_or xs i x ≡ x) (sym same) (sym c.record-item.is))
-        (subst (λ i. AreWelcome m (of_records (take i xs))) (sym same) c.loop-record.invariant.welcome)
+    (subst (λ i. AreWelcome m (of_records (take i xs))) (sym same) c.loop-record.invariant.welcome)
     (record {
       domain = subst (λ (k : Configuration). HasDomain k x.domain) own
           (known c.config-config.result.now x.domain c.domains-form.result.now c.domain_no.result
-              c.domains-form.ensures.all c.domain_no.ensures c.if-is_none.ensures);
+          c.domains-form.ensures.all c.domain_no.ensures c.if-is_none.ensures);
       unheld = c.in-None.ensures.unheld;
       full = c.in-None.ensures.full;
     })
@@ -50,7 +50,7 @@ loop-record-preserved g c =
     let same = c.loop-record.invariant.place in
     let own : c.config-config.result.now ≡ m.config = c.config-config.ensures.config in
     let has : HasPlace distrust_cmp 4096 (with_items distrust_cmp (take c.loop-record.record-index xs) m.records) x
-        (length xs - c.loop-record.record-index) c.in-Some.more =
+    (length xs - c.loop-record.record-index) c.in-Some.more =
     subst (λ i. HasPlace distrust_cmp 4096 (with_items distrust_cmp (take i xs) m.records) x (length xs - i) c.in-Some.more) same c.in-Some.ensures in
     record {
       place = omega (arith, same);
@@ -58,6 +58,6 @@ loop-record-preserved g c =
       welcome = record-judged m xs c.loop-record.record-index x c.loop-record-test.true (sym c.record-item.is) c.loop-record.invariant.welcome
           (subst (λ (k : Configuration). HasDomain k x.domain) own
           (known c.config-config.result.now x.domain c.domains-form.result.now c.domain_no.result
-              c.domains-form.ensures.all c.domain_no.ensures c.if-is_none.ensures))
+          c.domains-form.ensures.all c.domain_no.ensures c.if-is_none.ensures))
           has.place;
     }

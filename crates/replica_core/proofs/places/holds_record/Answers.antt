@@ -7,5 +7,5 @@ pub loop-domain-preserved : goal.loop-domain-preserved
 loop-domain-preserved g c =
     let x : Distrust = record { domain = c.in-Some.domain.now; key = c.in-Some.key.now } in
     IsSought-next c.into_iter-domain-iterator.result c.loop-domain.domain-iterator c.next.new.self x c.args.distrust.now
-        c.loop-domain.invariant c.in-Some.ensures.steps
+    c.loop-domain.invariant c.in-Some.ensures.steps
     (refuted c.is_of.result _ c.if-is_of.false c.is_of.ensures)

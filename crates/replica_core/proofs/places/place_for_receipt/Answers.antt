@@ -21,7 +21,7 @@ pub returns-then-free-eq0 : goal.returns-then-free-eq0
 returns-then-free-eq0 g c =
     let set = with_items receipt_cmp c.args.before.now (g.C.Closure.state c.args.closure.now).meaning.held in
     place-none 65536 set c.args.receipt.now c.args.free c.args.left c.requires.places c.if-left-free.false
-        c.if-free-eq0.true (refuted c.is_receipt_among.result _ c.if-is_receipt_among.false c.is_receipt_among.ensures)
+    c.if-free-eq0.true (refuted c.is_receipt_among.result _ c.if-is_receipt_among.false c.is_receipt_among.ensures)
 
 pub returns-else-free-eq0 : goal.returns-else-free-eq0
 returns-else-free-eq0 g c =
@@ -29,5 +29,5 @@ returns-else-free-eq0 g c =
     let set = with_items receipt_cmp c.args.before.now held in
     place-new receipt_cmp 65536 set c.args.receipt.now c.args.free c.args.left c.requires.places c.if-left-free.false c.if-free-eq0.false
     (c.sets.ensures.receipts.longer c.args.receipt.now set c.requires.form
-        (c.sets.ensures.receipts.all_keep c.args.before.now held c.requires.forms c.config-valid.ensures.valid.receipts)
-        (refuted c.is_receipt_among.result _ c.if-is_receipt_among.false c.is_receipt_among.ensures))
+    (c.sets.ensures.receipts.all_keep c.args.before.now held c.requires.forms c.config-valid.ensures.valid.receipts)
+    (refuted c.is_receipt_among.result _ c.if-is_receipt_among.false c.is_receipt_among.ensures))

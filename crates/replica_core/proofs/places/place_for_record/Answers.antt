@@ -16,13 +16,13 @@ returns-then-is_record_among g c =
     let has = c.is_record_among.ensures.0 c.if-is_record_among.true in
     place-held distrust_cmp 4096 set c.args.distrust.now c.args.free c.args.left c.requires.places has
     (c.sets.ensures.records.present c.args.distrust.now set
-        (c.sets.ensures.records.all_rise c.args.before.now held c.config-valid.ensures.valid.records_rising) has)
+    (c.sets.ensures.records.all_rise c.args.before.now held c.config-valid.ensures.valid.records_rising) has)
 
 pub returns-then-free-eq0 : goal.returns-then-free-eq0
 returns-then-free-eq0 g c =
     let set = with_items distrust_cmp c.args.before.now (g.C.Closure.state c.args.closure.now).meaning.records in
     place-none 4096 set c.args.distrust.now c.args.free c.args.left c.requires.places c.if-left-free.false
-        c.if-free-eq0.true (refuted c.is_record_among.result _ c.if-is_record_among.false c.is_record_among.ensures)
+    c.if-free-eq0.true (refuted c.is_record_among.result _ c.if-is_record_among.false c.is_record_among.ensures)
 
 pub returns-else-free-eq0 : goal.returns-else-free-eq0
 returns-else-free-eq0 g c =
@@ -30,5 +30,5 @@ returns-else-free-eq0 g c =
     let set = with_items distrust_cmp c.args.before.now held in
     place-new distrust_cmp 4096 set c.args.distrust.now c.args.free c.args.left c.requires.places c.if-left-free.false c.if-free-eq0.false
     (c.sets.ensures.records.longer c.args.distrust.now set tt
-        (c.sets.ensures.records.all_keep c.args.before.now held (always c.args.before.now) (always held))
-        (refuted c.is_record_among.result _ c.if-is_record_among.false c.is_record_among.ensures))
+    (c.sets.ensures.records.all_keep c.args.before.now held (always c.args.before.now) (always held))
+    (refuted c.is_record_among.result _ c.if-is_record_among.false c.is_record_among.ensures))

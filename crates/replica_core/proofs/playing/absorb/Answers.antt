@@ -8,12 +8,12 @@ use Rattle.replica_core.proofs.playing.absorb.Goals as goal
 pub returns : goal.returns
 returns g c =
     gain-follows (λ closure. (g.C.Closure.state closure).meaning) c.args.config.now c.args.playing.now
-        c.gain.new.playing (Absorb c.args.replica c.args.answer) c.args.replica
+    c.gain.new.playing (Absorb c.args.replica c.args.answer) c.args.replica
     (g.C.Closure.state c.in_ok-more.more).meaning c.gain.result c.gain.ensures
     (λ n w p.
     let told = sym (c.in-Some.ensures ∙ ap (λ sent. answered (slice_get (map message_of sent) c.args.answer))
-        c.as_slice.ensures.value ∙ ap (λ sent. answered (slice_get sent c.args.answer)) p.sent) in
+    c.as_slice.ensures.value ∙ ap (λ sent. answered (slice_get sent c.args.answer)) p.sent) in
     absorb-gains c.args.config.now n w c.args.replica c.args.answer (content_of c.in-Some.content.now)
-        c.as_slice-receipts.result.now c.as_slice-records.result.now (g.C.Closure.state c.in_ok-more.more).meaning
-        p.sound
+    c.as_slice-receipts.result.now c.as_slice-records.result.now (g.C.Closure.state c.in_ok-more.more).meaning
+    p.sound
     told c.as_slice-receipts.ensures.value c.as_slice-records.ensures.value c.in_ok-more.ensures)

@@ -10,14 +10,14 @@ pub returns : goal.returns
 returns g c =
     λ config n w p.
     let found = here (λ closure. (g.C.Closure.state closure).meaning) config n c.args.playing.now.held.items
-        c.deref.result.now w.now c.args.replica c.in-Some.closure.now p.held c.deref.ensures.value
+    c.deref.result.now w.now c.args.replica c.in-Some.closure.now p.held c.deref.ensures.value
     c.in-Some.ensures.lookup.3.0 c.in-Some.ensures.lookup.1 in
     let asking =
-        sym (c.in-Some-question_at.ensures ∙ ap (λ sent. asked (slice_get (map message_of sent) c.args.question))
-        c.as_slice.ensures.value ∙ ap (λ sent. asked (slice_get sent c.args.question)) p.sent) in
+    sym (c.in-Some-question_at.ensures ∙ ap (λ sent. asked (slice_get (map message_of sent) c.args.question))
+    c.as_slice.ensures.value ∙ ap (λ sent. asked (slice_get sent c.args.question)) p.sent) in
     answer-follows (λ closure. (g.C.Closure.state closure).meaning) config n c.args.playing.now
-        (record c.args.playing.now { sent = c.push.new.self }) w c.args.replica c.args.question
+    (record c.args.playing.now { sent = c.push.new.self }) w c.args.replica c.args.question
     (g.C.Closure.state c.in-Some.closure.now).meaning c.in-Some-question_at.have.now.bucket
-        c.in-Some-question_at.have.now.ids (Answer c.args.replica c.args.question c.in_ok-content.content) found.0 p
-        found.1
+    c.in-Some-question_at.have.now.ids (Answer c.args.replica c.args.question c.in_ok-content.content) found.0 p
+    found.1
     c.copy_answer.ensures.valid asking (ap (answer c.args.replica c.args.question) c.in_ok-content.ensures.copies) refl refl c.in_ok-push.ensures.items

@@ -8,10 +8,10 @@ use Rattle.replica_core.proofs.playing.save.Goals as goal
 pub returns : goal.returns
 returns g c =
     λ config. on-all (λ closure. (g.C.Closure.state closure).meaning) config c.args.playing.now
-        (record c.args.playing.now { saved = c.copy_at.new.to }) (Save c.args.replica) c.copy_at.result
+    (record c.args.playing.now { saved = c.copy_at.new.to }) (Save c.args.replica) c.copy_at.result
     (λ n w p.
     on_ok_weaker c.copy_at.result
     (plays-saves (λ closure. (g.C.Closure.state closure).meaning) config n
-        (is_replica (rules_of config n) c.args.replica) c.args.playing.now
-        (record c.args.playing.now { saved = c.copy_at.new.to }) w c.args.replica p refl refl)
+    (is_replica (rules_of config n) c.args.replica) c.args.playing.now
+    (record c.args.playing.now { saved = c.copy_at.new.to }) w c.args.replica p refl refl)
     (c.copy_at.ensures config n w.now w.saved p.held p.saved))

@@ -10,14 +10,14 @@ pub returns-in_err-push_entry-clause-refused : goal.returns-in_err-push_entry-cl
 returns-in_err-push_entry-clause-refused c =
     let old = answer_content c.args.content.now in
     refused_by c.from_residual-in_err-push_entry.result
-        (refused_text old c.args.wanted (last_of (content_lines old)) c.args.text.now) NoMemory
-        c.from_residual-in_err-push_entry.ensures.1
+    (refused_text old c.args.wanted (last_of (content_lines old)) c.args.text.now) NoMemory
+    c.from_residual-in_err-push_entry.ensures.1
     (short-entry c.args.wanted c.args.text.now c.in_ok-entry.entry c.in_ok-entry.ensures.is)
 
 pub returns-in_err-set_last-clause-refused : goal.returns-in_err-set_last-clause-refused
 returns-in_err-set_last-clause-refused c =
     let old = answer_content c.args.content.now in
     refused_by c.from_residual-in_err-set_last.result
-        (refused_text old c.args.wanted (last_of (content_lines old)) c.args.text.now) NoMemory
-        c.from_residual-in_err-set_last.ensures.1
+    (refused_text old c.args.wanted (last_of (content_lines old)) c.args.text.now) NoMemory
+    c.from_residual-in_err-set_last.ensures.1
     (short-entry c.args.wanted c.args.text.now c.in_ok-entry.entry c.in_ok-entry.ensures.is)

@@ -27,7 +27,7 @@ lines-preserved g c =
     record {
       gathers = gathers-more c.args.head.now.count c.args.head.now.distrusts stream before after old new c.lines.invariant.gathers
           (subst (λ (more : Bool). StepsThroughAnswer c.args.head.now.count c.args.head.now.distrusts old before new
-              after more) c.if-branch.true c.in_ok-read_next.ensures.ok);
+          after more) c.if-branch.true c.in_ok-read_next.ensures.ok);
       last = c.in_ok-read_next.ensures.last;
       fault = c.in_ok-read_next.ensures.fault ∙ c.lines.invariant.fault;
     }

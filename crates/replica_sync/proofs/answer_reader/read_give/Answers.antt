@@ -24,8 +24,8 @@ returns-clause-valid g c =
     let middle = stream_of g.R.Source.remaining c.next_head.new.lines c.next_head.new.source in
     let new = stream_of g.R.Source.remaining c.read_content.new.lines c.read_content.new.source in
     subst IsAnswer (sym c.give_of.ensures)
-        (whole-answer old middle new c.in_ok-head.head (answer_content c.in_ok-content.content) c.in_ok-head.ensures.ok
-        c.in_ok-content.ensures.ok)
+    (whole-answer old middle new c.in_ok-head.head (answer_content c.in_ok-content.content) c.in_ok-head.ensures.ok
+    c.in_ok-content.ensures.ok)
 
 pub returns-clause-ok : goal.returns-clause-ok
 returns-clause-ok g c =

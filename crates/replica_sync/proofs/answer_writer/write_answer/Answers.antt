@@ -40,4 +40,4 @@ returns-clause-written g c =
     (writes-then one two new c.write_receipts.result (flat_map record_text c.args.answer.content.records) (flat_map receipt_text c.args.answer.content.held)
     (subst (λ records. Appends one two (flat_map record_text records)) c.into_parts-distrusts.ensures.records c.in_ok-write_records.ensures.written)
     (subst (λ rs. WritesText two new c.write_receipts.result (flat_map receipt_text rs))
-        c.into_parts-distrusts.ensures.receipts c.write_receipts.ensures.written))
+    c.into_parts-distrusts.ensures.receipts c.write_receipts.ensures.written))

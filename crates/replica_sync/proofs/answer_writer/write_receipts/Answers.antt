@@ -8,17 +8,17 @@ use Rattle.replica_sync.proofs.answer_writer.write_receipts.Goals as goal
 pub loop-receipt-preserved : goal.loop-receipt-preserved
 loop-receipt-preserved g c =
     wrote-piece (g.W.Sink.contents c.args.sink.now) (g.W.Sink.contents c.loop-receipt.sink)
-        (g.W.Sink.contents c.write_receipt.new.sink) _ (flat_map receipt_text c.loop-receipt.receipt-iterator) _
-        (flat_map receipt_text c.next.new.self)
+    (g.W.Sink.contents c.write_receipt.new.sink) _ (flat_map receipt_text c.loop-receipt.receipt-iterator) _
+    (flat_map receipt_text c.next.new.self)
     c.loop-receipt.invariant (ap (flat_map receipt_text) c.in-Some.ensures.steps) c.in_ok-write_receipt.ensures.written
 
 pub returns-in_err-write_receipt-clause-written : goal.returns-in_err-write_receipt-clause-written
 returns-in_err-write_receipt-clause-written g c =
     writes-err (g.W.Sink.contents c.args.sink.now) (g.W.Sink.contents c.write_receipt.new.sink) c.from_residual.result
-        (flat_map receipt_text c.args.receipts) c.from_residual.ensures.0
+    (flat_map receipt_text c.args.receipts) c.from_residual.ensures.0
     (subst (AppendsBeginning (g.W.Sink.contents c.args.sink.now) (g.W.Sink.contents c.write_receipt.new.sink))
-        (ap (flat_map receipt_text) c.into_iter-receipt-iterator.ensures.into_iter_gives)
+    (ap (flat_map receipt_text) c.into_iter-receipt-iterator.ensures.into_iter_gives)
     (wrote-begun (g.W.Sink.contents c.args.sink.now) (g.W.Sink.contents c.loop-receipt.sink)
-        (g.W.Sink.contents c.write_receipt.new.sink) _ (flat_map receipt_text c.loop-receipt.receipt-iterator) _
-        (flat_map receipt_text c.next.new.self)
+    (g.W.Sink.contents c.write_receipt.new.sink) _ (flat_map receipt_text c.loop-receipt.receipt-iterator) _
+    (flat_map receipt_text c.next.new.self)
     c.loop-receipt.invariant (ap (flat_map receipt_text) c.in-Some.ensures.steps) c.in_err-write_receipt.ensures.written))

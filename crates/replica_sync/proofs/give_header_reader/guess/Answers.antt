@@ -13,10 +13,10 @@ returns-clause-right c = λ t h.
     let one = c.number_behind-bucket.ensures.right t.bucket 44 _ few refl h.spelt in
     let two = c.digest_behind.ensures t.config _ h.is.config one.1 in
     let three = c.number_behind-count.ensures.right t.count 44 (drop 1 behind) h.is.count refl
-        (two.1 ∙ ap (λ (x : List ℕ). codes
-        "\",\"count\":" ++ (decimal t.count ++ x)) (part-begins t.distrusts later)) in
+    (two.1 ∙ ap (λ (x : List ℕ). codes
+    "\",\"count\":" ++ (decimal t.count ++ x)) (part-begins t.distrusts later)) in
     let four = c.records_behind-distrusts.ensures.right t.distrusts later
-        (few-records t.format t.distrusts h.is.records) (three.1 ∙ sym (part-begins t.distrusts later)) in
+    (few-records t.format t.distrusts h.is.records) (three.1 ∙ sym (part-begins t.distrusts later)) in
     let five = c.number_behind-format.ensures.right t.format 44 (drop 1 last) h.is.format refl four.1 in
     let six = c.number_behind-buckets.ensures.right t.buckets 125 [] h.is.buckets refl five.1 in
     λ i. record { bucket = one.0 i; config = (c.id_of.ensures.same ∙ two.0) i; count = three.0 i; distrusts = four.0 i; format = five.0 i; buckets = six.0 i }

@@ -6,7 +6,7 @@ use Rattle.replica_sync.proofs.have_line_reader.guess.Goals as goal
 pub returns-clause-parts : goal.returns-clause-parts
 returns-clause-parts c = λ a is.
     let bucket = c.number_behind-bucket.ensures.right a.question.bucket 44 (behind_bucket a) (small-bucket a is.is) refl
-        (whole-line c.args.text.now a is.spelt) in
+    (whole-line c.args.text.now a is.spelt) in
     let config = c.digest_behind.ensures a.question.config (behind_config a) is.is.config bucket.1 in
     let format = c.number_behind-format.ensures.right a.format 44 (behind_format a) is.is.format refl config.1 in
     let ids = c.list_behind.ensures _ (behind_ids a) (inside_ids a.question.ids is.is.ids) format.1 in

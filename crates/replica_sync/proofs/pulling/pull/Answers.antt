@@ -5,8 +5,8 @@ use Rattle.replica_sync.proofs.pulling.pull.Goals as goal
 pub overflow_sub-taken : goal.overflow_sub-taken
 overflow_sub-taken g c =
     let more = grows c.pull_all-pulled.result (g.C.Closure.state c.args.closure.now).meaning _ _
-        (g.C.Closure.state c.pull_all-pulled.new.closure).meaning _ c.pull_all-pulled.ensures.ok
-        c.pull_all-pulled.ensures.refused in
+    (g.C.Closure.state c.pull_all-pulled.new.closure).meaning _ c.pull_all-pulled.ensures.ok
+    c.pull_all-pulled.ensures.refused in
     let before = c.receipt_count-before.ensures in
     let after = c.receipt_count.ensures in
     omega (arith, more, before, after)
@@ -14,8 +14,8 @@ overflow_sub-taken g c =
 pub returns-in-Ok-clause-pulls : goal.returns-in-Ok-clause-pulls
 returns-in-Ok-clause-pulls g c =
     let more = grows c.pull_all-pulled.result (g.C.Closure.state c.args.closure.now).meaning _ _
-        (g.C.Closure.state c.pull_all-pulled.new.closure).meaning _ c.pull_all-pulled.ensures.ok
-        c.pull_all-pulled.ensures.refused in
+    (g.C.Closure.state c.pull_all-pulled.new.closure).meaning _ c.pull_all-pulled.ensures.ok
+    c.pull_all-pulled.ensures.refused in
     let before = c.receipt_count-before.ensures in
     let after = c.receipt_count.ensures in
     (c.in-Ok.ensures.ok, omega (arith, more, before, after))
@@ -23,8 +23,8 @@ returns-in-Ok-clause-pulls g c =
 pub returns-in-Err-clause-pulls : goal.returns-in-Err-clause-pulls
 returns-in-Err-clause-pulls g c =
     let more = grows c.pull_all-pulled.result (g.C.Closure.state c.args.closure.now).meaning _ _
-        (g.C.Closure.state c.pull_all-pulled.new.closure).meaning _ c.pull_all-pulled.ensures.ok
-        c.pull_all-pulled.ensures.refused in
+    (g.C.Closure.state c.pull_all-pulled.new.closure).meaning _ c.pull_all-pulled.ensures.ok
+    c.pull_all-pulled.ensures.refused in
     let before = c.receipt_count-before.ensures in
     let after = c.receipt_count.ensures in
     (c.in-Err.ensures.refused, omega (arith, more, before, after))

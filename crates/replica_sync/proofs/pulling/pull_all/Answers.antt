@@ -14,7 +14,7 @@ returns-in_err-pull_bucket-clause-refused g c =
     let e = c.in_err-pull_bucket.field-0.0 in
     refused_by c.from_residual.result (PullsUpTo old stream before new after) e c.from_residual.ensures.1
     (asked_stops old stream before c.buckets.bucket _ _ _ _ new after e c.buckets-test.true c.buckets.invariant.asked
-        c.in_err-pull_bucket.ensures.refused c.in_err-pull_bucket.ensures.asks)
+    c.in_err-pull_bucket.ensures.refused c.in_err-pull_bucket.ensures.asks)
 
 pub buckets-preserved : goal.buckets-preserved
 buckets-preserved g c =

@@ -11,4 +11,4 @@ pub returns-in_err-own_question-in-Some-clause-refused : goal.returns-in_err-own
 returns-in_err-own_question-in-Some-clause-refused g c =
     let p = err_from_is_err_and c.from_residual-in_err-own_question-in-Some.result c.from_residual-in_err-own_question-in-Some.ensures.1 in
     rw (p.1, p.2) (unsupported-further c.args.config.now _ _ c.in-Some.asking _
-        (rw c.in-Some.is at c.in_ok-asking.ensures.ok) c.in_err-own_question-in-Some.ensures)
+    (rw c.in-Some.is at c.in_ok-asking.ensures.ok) c.in_err-own_question-in-Some.ensures)

@@ -29,12 +29,12 @@ returns-in_err-put_line-clause-writes g c =
     let new = g.W.Sink.contents c.put_line.new.sink in
     let later = text_of_lines (map distrust_line c.next.new.self) in
     let first = ap (λ (items : List Distrust). text_of_lines (map distrust_line items)) c.in-Some.ensures.steps
-        ∙ flat_map-cons ended (distrust_line x) (map distrust_line c.next.new.self) in
+    ∙ flat_map-cons ended (distrust_line x) (map distrust_line c.next.new.self) in
     refused_write c.from_residual-in_err-put_line.result c.in_err-put_line.field-0.0 start new _
-        c.from_residual-in_err-put_line.ensures.1 c.in_err-put_line.ensures.writes.cause
+    c.from_residual-in_err-put_line.ensures.1 c.in_err-put_line.ensures.writes.cause
     (subst (λ (items : List Distrust). AppendsBeginning start new (text_of_lines (map distrust_line items))) all
     (begun_in c.pieces.ensures.both c.pieces.ensures.in_first c.pieces.ensures.in_second start now new
-        (ended (distrust_line x)) later _ whole first c.records.invariant.written
+    (ended (distrust_line x)) later _ whole first c.records.invariant.written
     (subst (λ (t : List ℕ). AppendsBeginning now new (ended t)) c.in_ok-text.ensures c.in_err-put_line.ensures.writes.begun)))
 
 pub records-preserved : goal.records-preserved
@@ -47,7 +47,7 @@ records-preserved g c =
     let new = g.W.Sink.contents c.put_line.new.sink in
     let later = text_of_lines (map distrust_line c.next.new.self) in
     let first = ap (λ (items : List Distrust). text_of_lines (map distrust_line items)) c.in-Some.ensures.steps
-        ∙ flat_map-cons ended (distrust_line x) (map distrust_line c.next.new.self) in
+    ∙ flat_map-cons ended (distrust_line x) (map distrust_line c.next.new.self) in
     let one = ap (λ (items : List Distrust). length items) c.in-Some.ensures.steps in
     record {
       written = one_more c.pieces.ensures.both c.pieces.ensures.in_first c.pieces.ensures.in_second start now new

@@ -18,15 +18,15 @@ returns-in_err-records-clause-writes g c =
     let t = text_of_lines (map line m.held) in
     let k = ended (count_line Second m) in
     let header : Appends a b h =
-        subst (λ (x : List ℕ). Appends a b (ended x))
-        (c.in_ok-header.ensures ∙ ap (header_line Second) c.config.ensures.config) c.in_ok-put_line.ensures.writes.all
-        in
+    subst (λ (x : List ℕ). Appends a b (ended x))
+    (c.in_ok-header.ensures ∙ ap (header_line Second) c.config.ensures.config) c.in_ok-put_line.ensures.writes.all
+    in
     let d = g.W.Sink.contents c.put_records.new.sink in
     refused_write c.from_residual-in_err-records.result c.in_err-records.field-0.0 a d _
-        c.from_residual-in_err-records.ensures.1 c.in_err-records.ensures.writes.cause
+    c.from_residual-in_err-records.ensures.1 c.in_err-records.ensures.writes.cause
     (subst (AppendsBeginning a d) (parts_of_text m)
-        (in_records c.pieces.ensures.both c.pieces.ensures.in_first c.pieces.ensures.in_second a b d h r t k header
-        c.in_err-records.ensures.writes.begun))
+    (in_records c.pieces.ensures.both c.pieces.ensures.in_first c.pieces.ensures.in_second a b d h r t k header
+    c.in_err-records.ensures.writes.begun))
 
 pub returns-in_err-put_receipts-clause-writes : goal.returns-in_err-put_receipts-clause-writes
 returns-in_err-put_receipts-clause-writes g c =
@@ -38,16 +38,16 @@ returns-in_err-put_receipts-clause-writes g c =
     let t = text_of_lines (map line m.held) in
     let k = ended (count_line Second m) in
     let header : Appends a b h =
-        subst (λ (x : List ℕ). Appends a b (ended x))
-        (c.in_ok-header.ensures ∙ ap (header_line Second) c.config.ensures.config) c.in_ok-put_line.ensures.writes.all
-        in
+    subst (λ (x : List ℕ). Appends a b (ended x))
+    (c.in_ok-header.ensures ∙ ap (header_line Second) c.config.ensures.config) c.in_ok-put_line.ensures.writes.all
+    in
     let d = g.W.Sink.contents c.put_records.new.sink in
     let e = g.W.Sink.contents c.put_receipts.new.sink in
     refused_write c.from_residual-in_err-put_receipts.result c.in_err-put_receipts.field-0.0 a e _
-        c.from_residual-in_err-put_receipts.ensures.1 c.in_err-put_receipts.ensures.writes.cause
+    c.from_residual-in_err-put_receipts.ensures.1 c.in_err-put_receipts.ensures.writes.cause
     (subst (AppendsBeginning a e) (parts_of_text m)
-        (in_receipts c.pieces.ensures.both c.pieces.ensures.in_first c.pieces.ensures.in_second a b d e h r t k header
-        c.in_ok-records.ensures.writes.all c.in_err-put_receipts.ensures.writes.begun))
+    (in_receipts c.pieces.ensures.both c.pieces.ensures.in_first c.pieces.ensures.in_second a b d e h r t k header
+    c.in_ok-records.ensures.writes.all c.in_err-put_receipts.ensures.writes.begun))
 
 pub returns-in_err-count-clause-writes : goal.returns-in_err-count-clause-writes
 returns-in_err-count-clause-writes g c =
@@ -59,15 +59,15 @@ returns-in_err-count-clause-writes g c =
     let t = text_of_lines (map line m.held) in
     let k = ended (count_line Second m) in
     let header : Appends a b h =
-        subst (λ (x : List ℕ). Appends a b (ended x))
-        (c.in_ok-header.ensures ∙ ap (header_line Second) c.config.ensures.config) c.in_ok-put_line.ensures.writes.all
-        in
+    subst (λ (x : List ℕ). Appends a b (ended x))
+    (c.in_ok-header.ensures ∙ ap (header_line Second) c.config.ensures.config) c.in_ok-put_line.ensures.writes.all
+    in
     let d = g.W.Sink.contents c.put_records.new.sink in
     let e = g.W.Sink.contents c.put_receipts.new.sink in
     refused_write c.from_residual-in_err-count.result NoMemory a e _ c.from_residual-in_err-count.ensures.1 tt
     (subst (AppendsBeginning a e) (parts_of_text m)
-        (in_count c.pieces.ensures.both c.pieces.ensures.in_first c.pieces.ensures.in_second a b d e e h r t k header
-        c.in_ok-records.ensures.writes.all c.in_ok-put_receipts.ensures.writes.all (nothing c.pieces.ensures.none e k)))
+    (in_count c.pieces.ensures.both c.pieces.ensures.in_first c.pieces.ensures.in_second a b d e e h r t k header
+    c.in_ok-records.ensures.writes.all c.in_ok-put_receipts.ensures.writes.all (nothing c.pieces.ensures.none e k)))
 
 pub returns-in_err-put_line-2-clause-writes : goal.returns-in_err-put_line-2-clause-writes
 returns-in_err-put_line-2-clause-writes g c =
@@ -79,18 +79,18 @@ returns-in_err-put_line-2-clause-writes g c =
     let t = text_of_lines (map line m.held) in
     let k = ended (count_line Second m) in
     let header : Appends a b h =
-        subst (λ (x : List ℕ). Appends a b (ended x))
-        (c.in_ok-header.ensures ∙ ap (header_line Second) c.config.ensures.config) c.in_ok-put_line.ensures.writes.all
-        in
+    subst (λ (x : List ℕ). Appends a b (ended x))
+    (c.in_ok-header.ensures ∙ ap (header_line Second) c.config.ensures.config) c.in_ok-put_line.ensures.writes.all
+    in
     let d = g.W.Sink.contents c.put_records.new.sink in
     let e = g.W.Sink.contents c.put_receipts.new.sink in
     let f = g.W.Sink.contents c.put_line-2.new.sink in
     let same : c.in_ok-count.count.items ≡ count_line Second m = first_of (cc, search rules) in
     refused_write c.from_residual-in_err-put_line-2.result c.in_err-put_line-2.field-0.0 a f _
-        c.from_residual-in_err-put_line-2.ensures.1 c.in_err-put_line-2.ensures.writes.cause
+    c.from_residual-in_err-put_line-2.ensures.1 c.in_err-put_line-2.ensures.writes.cause
     (subst (AppendsBeginning a f) (parts_of_text m)
-        (in_count c.pieces.ensures.both c.pieces.ensures.in_first c.pieces.ensures.in_second a b d e f h r t k header
-        c.in_ok-records.ensures.writes.all c.in_ok-put_receipts.ensures.writes.all
+    (in_count c.pieces.ensures.both c.pieces.ensures.in_first c.pieces.ensures.in_second a b d e f h r t k header
+    c.in_ok-records.ensures.writes.all c.in_ok-put_receipts.ensures.writes.all
     (subst (λ (x : List ℕ). AppendsBeginning e f (ended x)) same c.in_err-put_line-2.ensures.writes.begun)))
 
 pub returns-clause-writes : goal.returns-clause-writes
@@ -103,9 +103,9 @@ returns-clause-writes g c =
     let t = text_of_lines (map line m.held) in
     let k = ended (count_line Second m) in
     let header : Appends a b h =
-        subst (λ (x : List ℕ). Appends a b (ended x))
-        (c.in_ok-header.ensures ∙ ap (header_line Second) c.config.ensures.config) c.in_ok-put_line.ensures.writes.all
-        in
+    subst (λ (x : List ℕ). Appends a b (ended x))
+    (c.in_ok-header.ensures ∙ ap (header_line Second) c.config.ensures.config) c.in_ok-put_line.ensures.writes.all
+    in
     let d = g.W.Sink.contents c.put_records.new.sink in
     let e = g.W.Sink.contents c.put_receipts.new.sink in
     let f = g.W.Sink.contents c.put_line-2.new.sink in

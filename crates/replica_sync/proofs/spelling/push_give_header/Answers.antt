@@ -8,4 +8,4 @@ returns c =
     c.in_ok-extend_from_slice.ensures.items c.in_ok-push_number.ensures c.in_ok-extend_from_slice-2.ensures.items c.in_ok-push_digits.ensures
     c.in_ok-extend_from_slice-3.ensures.items c.in_ok-push_number-2.ensures c.in_ok-push_distrusts.ensures
     c.in_ok-extend_from_slice-4.ensures.items c.in_ok-push_number-3.ensures c.in_ok-extend_from_slice-5.ensures.items
-        c.in_ok-push_number-4.ensures c.in_ok-extend_from_slice-6.ensures.items
+    c.in_ok-push_number-4.ensures c.in_ok-extend_from_slice-6.ensures.items

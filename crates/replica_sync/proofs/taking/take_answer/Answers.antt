@@ -12,7 +12,7 @@ returns-in_err-told-clause-refused g c =
     let stream = stream_of g.R.Source.remaining c.args.lines.now c.args.source.now in
     refused_by c.from_residual.result (StopsReply old c.args.bucket (c.args.place.now.read + 1) stream old) c.in_err-told.field-0.0 c.from_residual.ensures.1
     (answer_refused old c.config.result.now c.args.bucket (c.args.place.now.read + 1) stream _ c.in_err-told.field-0.0
-        c.config.ensures.config c.in_err-told.ensures.refused)
+    c.config.ensures.config c.in_err-told.ensures.refused)
 
 pub returns-clause-ok : goal.returns-clause-ok
 returns-clause-ok g c =
@@ -24,7 +24,7 @@ returns-clause-ok g c =
     let before = c.args.place.now.read in
     let told = c.in_ok-told.told in
     on_ok_weaker c.take_lines.result (answer_taken old c.config.result.now c.args.bucket before told stream middle left
-        new c.take_lines.new.place.read c.config.ensures.config c.in_ok-told.ensures.ok) c.take_lines.ensures.ok
+    new c.take_lines.new.place.read c.config.ensures.config c.in_ok-told.ensures.ok) c.take_lines.ensures.ok
 
 pub returns-clause-refused : goal.returns-clause-refused
 returns-clause-refused g c =
@@ -36,4 +36,4 @@ returns-clause-refused g c =
     let told = c.in_ok-told.told in
     IfErr-weaker c.take_lines.result (StopsWithin old middle told.count told.distrusts first new) (StopsReply old c.args.bucket first stream new)
     (λ e. answer_stops old c.config.result.now c.args.bucket first told stream middle new e c.config.ensures.config
-        c.in_ok-told.ensures.ok) c.take_lines.ensures.refused
+    c.in_ok-told.ensures.ok) c.take_lines.ensures.refused

@@ -15,11 +15,11 @@ pub returns-in_err-take_next-clause-refused : goal.returns-in_err-take_next-clau
 returns-in_err-take_next-clause-refused g c =
     refused_by c.from_residual.result
     (StopsWithin (g.C.Closure.state c.args.closure.now).meaning
-        (stream_of g.R.Source.remaining c.args.lines.now c.args.source.now) c.args.told.count c.args.told.distrusts
-        c.args.place.now.read (g.C.Closure.state c.take_next.new.closure).meaning)
+    (stream_of g.R.Source.remaining c.args.lines.now c.args.source.now) c.args.told.count c.args.told.distrusts
+    c.args.place.now.read (g.C.Closure.state c.take_next.new.closure).meaning)
     c.in_err-take_next.field-0.0 c.from_residual.ensures.1
     (so_far_fails c.next_of-wanted.result.0 _ _ _ _ _ _ _ _ _ _ _ _ _ _ _ _ c.lines.invariant.so_far
-        c.next_of-wanted.ensures c.in_err-take_next.ensures.refused)
+    c.next_of-wanted.ensures c.in_err-take_next.ensures.refused)
 
 pub lines-preserved : goal.lines-preserved
 lines-preserved g c =

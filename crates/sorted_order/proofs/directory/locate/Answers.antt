@@ -5,7 +5,7 @@ pub locate_among-block-requires-clause-place : goal.locate_among-block-requires-
 locate_among-block-requires-clause-place c =
     let group = c.group_at-group in
     rest_within c.args.sums.now c.args.blocks.now c.args.at group.result.0 group.result.1 c.requires.summed
-        group.ensures.listed group.ensures.whole c.requires.place
+    group.ensures.listed group.ensures.whole c.requires.place
 
 pub returns-clause-spot : goal.returns-clause-spot
 returns-clause-spot c =

@@ -9,8 +9,8 @@ split-requires-clause-spare c =
     let bs = c.args.blocks.now.items in
     let at = c.locate-block.result in
     let h = full_from bs c.as_slice.result.now c.args.at at.0 at.1 c.len-len.result c.index.result.now
-        c.as_slice.ensures.value c.locate-block.ensures.spot c.index.ensures c.len-len.ensures.len
-        c.len-len.ensures.most c.if-len-lt-BLOCK.false in
+    c.as_slice.ensures.value c.locate-block.ensures.spot c.index.ensures c.len-len.ensures.len
+    c.len-len.ensures.most c.if-len-lt-BLOCK.false in
     has_spare bs c.args.at at.0 at.1 (length c.args.spare.now.items) h c.requires.filled c.requires.room
 
 pub split-requires-clause-directory : goal.split-requires-clause-directory
@@ -18,8 +18,8 @@ split-requires-clause-directory c =
     let bs = c.args.blocks.now.items in
     let at = c.locate-block.result in
     let h = full_from bs c.as_slice.result.now c.args.at at.0 at.1 c.len-len.result c.index.result.now
-        c.as_slice.ensures.value c.locate-block.ensures.spot c.index.ensures c.len-len.ensures.len
-        c.len-len.ensures.most c.if-len-lt-BLOCK.false in
+    c.as_slice.ensures.value c.locate-block.ensures.spot c.index.ensures c.len-len.ensures.len
+    c.len-len.ensures.most c.if-len-lt-BLOCK.false in
     omega (arith, c.requires.directory, has_spare bs c.args.at at.0 at.1 (length c.args.spare.now.items) h c.requires.filled c.requires.room)
 
 pub sum_up-requires-clause-all : goal.sum_up-requires-clause-all
@@ -27,10 +27,16 @@ sum_up-requires-clause-all c =
     let bs = c.args.blocks.now.items in
     let at = c.locate-block.result in
     let h = full_from bs c.as_slice.result.now c.args.at at.0 at.1 c.len-len.result c.index.result.now
-        c.as_slice.ensures.value c.locate-block.ensures.spot c.index.ensures c.len-len.ensures.len
-        c.len-len.ensures.most c.if-len-lt-BLOCK.false in
-    omega (arith, ap length c.as_slice-2.ensures.value, ap length c.split.ensures.items,
-        length-halved bs at.0 h.spot.listed, c.split.ensures.spare, c.requires.grouped)
+    c.as_slice.ensures.value c.locate-block.ensures.spot c.index.ensures c.len-len.ensures.len
+    c.len-len.ensures.most c.if-len-lt-BLOCK.false in
+    omega (
+      arith,
+      ap length c.as_slice-2.ensures.value,
+      ap length c.split.ensures.items,
+      length-halved bs at.0 h.spot.listed,
+      c.split.ensures.spare,
+      c.requires.grouped,
+    )
 
 pub sum_up-requires-clause-few : goal.sum_up-requires-clause-few
 sum_up-requires-clause-few c =
@@ -47,8 +53,8 @@ returns-then-place-le-HALF-clause-spot c =
     let bs = c.args.blocks.now.items in
     let at = c.locate-block.result in
     let h = full_from bs c.as_slice.result.now c.args.at at.0 at.1 c.len-len.result c.index.result.now
-        c.as_slice.ensures.value c.locate-block.ensures.spot c.index.ensures c.len-len.ensures.len
-        c.len-len.ensures.most c.if-len-lt-BLOCK.false in
+    c.as_slice.ensures.value c.locate-block.ensures.spot c.index.ensures c.len-len.ensures.len
+    c.len-len.ensures.most c.if-len-lt-BLOCK.false in
     rw c.split.ensures.items (first_spot bs c.args.at at.0 at.1 h.spot (omega (arith, h.full)) c.if-place-le-HALF.true)
 
 pub returns-then-place-le-HALF-clause-room : goal.returns-then-place-le-HALF-clause-room
@@ -56,8 +62,8 @@ returns-then-place-le-HALF-clause-room c =
     let bs = c.args.blocks.now.items in
     let at = c.locate-block.result in
     let h = full_from bs c.as_slice.result.now c.args.at at.0 at.1 c.len-len.result c.index.result.now
-        c.as_slice.ensures.value c.locate-block.ensures.spot c.index.ensures c.len-len.ensures.len
-        c.len-len.ensures.most c.if-len-lt-BLOCK.false in
+    c.as_slice.ensures.value c.locate-block.ensures.spot c.index.ensures c.len-len.ensures.len
+    c.len-len.ensures.most c.if-len-lt-BLOCK.false in
     rw c.split.ensures.items (first_room bs c.args.at at.0 at.1 h)
 
 pub returns-then-place-le-HALF-clause-items : goal.returns-then-place-le-HALF-clause-items
@@ -68,8 +74,8 @@ returns-then-place-le-HALF-clause-filled c =
     let bs = c.args.blocks.now.items in
     let at = c.locate-block.result in
     let h = full_from bs c.as_slice.result.now c.args.at at.0 at.1 c.len-len.result c.index.result.now
-        c.as_slice.ensures.value c.locate-block.ensures.spot c.index.ensures c.len-len.ensures.len
-        c.len-len.ensures.most c.if-len-lt-BLOCK.false in
+    c.as_slice.ensures.value c.locate-block.ensures.spot c.index.ensures c.len-len.ensures.len
+    c.len-len.ensures.most c.if-len-lt-BLOCK.false in
     rw c.split.ensures.items (AreFilled-halved bs at.0 h.spot.listed (omega (arith, h.full)) c.requires.filled)
 
 pub returns-then-place-le-HALF-clause-blocks : goal.returns-then-place-le-HALF-clause-blocks
@@ -77,8 +83,8 @@ returns-then-place-le-HALF-clause-blocks c =
     let bs = c.args.blocks.now.items in
     let at = c.locate-block.result in
     let h = full_from bs c.as_slice.result.now c.args.at at.0 at.1 c.len-len.result c.index.result.now
-        c.as_slice.ensures.value c.locate-block.ensures.spot c.index.ensures c.len-len.ensures.len
-        c.len-len.ensures.most c.if-len-lt-BLOCK.false in
+    c.as_slice.ensures.value c.locate-block.ensures.spot c.index.ensures c.len-len.ensures.len
+    c.len-len.ensures.most c.if-len-lt-BLOCK.false in
     omega (arith, ap length c.split.ensures.items, length-halved bs at.0 h.spot.listed, c.split.ensures.spare)
 
 pub returns-clause-spot : goal.returns-clause-spot
@@ -86,8 +92,8 @@ returns-clause-spot c =
     let bs = c.args.blocks.now.items in
     let at = c.locate-block.result in
     let h = full_from bs c.as_slice.result.now c.args.at at.0 at.1 c.len-len.result c.index.result.now
-        c.as_slice.ensures.value c.locate-block.ensures.spot c.index.ensures c.len-len.ensures.len
-        c.len-len.ensures.most c.if-len-lt-BLOCK.false in
+    c.as_slice.ensures.value c.locate-block.ensures.spot c.index.ensures c.len-len.ensures.len
+    c.len-len.ensures.most c.if-len-lt-BLOCK.false in
     let one : at.0 + 1 ≡ suc at.0 = omega arith in
     rw (one, c.split.ensures.items) (second_spot bs c.args.at at.0 at.1 h.spot (omega (arith, h.full)) c.if-place-le-HALF.false)
 
@@ -96,8 +102,8 @@ returns-clause-room c =
     let bs = c.args.blocks.now.items in
     let at = c.locate-block.result in
     let h = full_from bs c.as_slice.result.now c.args.at at.0 at.1 c.len-len.result c.index.result.now
-        c.as_slice.ensures.value c.locate-block.ensures.spot c.index.ensures c.len-len.ensures.len
-        c.len-len.ensures.most c.if-len-lt-BLOCK.false in
+    c.as_slice.ensures.value c.locate-block.ensures.spot c.index.ensures c.len-len.ensures.len
+    c.len-len.ensures.most c.if-len-lt-BLOCK.false in
     let one : at.0 + 1 ≡ suc at.0 = omega arith in
     rw (one, c.split.ensures.items) (second_room bs c.args.at at.0 at.1 h)
 
@@ -109,8 +115,8 @@ returns-clause-filled c =
     let bs = c.args.blocks.now.items in
     let at = c.locate-block.result in
     let h = full_from bs c.as_slice.result.now c.args.at at.0 at.1 c.len-len.result c.index.result.now
-        c.as_slice.ensures.value c.locate-block.ensures.spot c.index.ensures c.len-len.ensures.len
-        c.len-len.ensures.most c.if-len-lt-BLOCK.false in
+    c.as_slice.ensures.value c.locate-block.ensures.spot c.index.ensures c.len-len.ensures.len
+    c.len-len.ensures.most c.if-len-lt-BLOCK.false in
     rw c.split.ensures.items (AreFilled-halved bs at.0 h.spot.listed (omega (arith, h.full)) c.requires.filled)
 
 pub returns-clause-blocks : goal.returns-clause-blocks
@@ -118,6 +124,6 @@ returns-clause-blocks c =
     let bs = c.args.blocks.now.items in
     let at = c.locate-block.result in
     let h = full_from bs c.as_slice.result.now c.args.at at.0 at.1 c.len-len.result c.index.result.now
-        c.as_slice.ensures.value c.locate-block.ensures.spot c.index.ensures c.len-len.ensures.len
-        c.len-len.ensures.most c.if-len-lt-BLOCK.false in
+    c.as_slice.ensures.value c.locate-block.ensures.spot c.index.ensures c.len-len.ensures.len
+    c.len-len.ensures.most c.if-len-lt-BLOCK.false in
     omega (arith, ap length c.split.ensures.items, length-halved bs at.0 h.spot.listed, c.split.ensures.spare)

@@ -31,4 +31,4 @@ returns-clause-summed c =
     let room = c.make_room-block in
     rw (c.put_into.ensures.items, c.count_one.ensures)
     (AreSums-put room.new.sums room.new.blocks.items room.result.0 room.result.1 c.args.number room.ensures.summed
-        room.ensures.spot.listed room.ensures.spot.within)
+    room.ensures.spot.listed room.ensures.spot.within)

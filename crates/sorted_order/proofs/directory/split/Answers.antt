@@ -8,4 +8,4 @@ returns-clause-items c =
     let next : c.args.block + 1 ≡ suc c.args.block = omega arith in
     if_ok c.insert.result _ _ _ ok c.insert.ensures.items
     ∙ split_from c.args.blocks.now.items c.args.block (c.args.block + 1) c.index_mut-first.result.now _ _
-        c.requires.block c.index_mut-first.ensures.value next c.halve.ensures.first c.halve.ensures.second
+    c.requires.block c.index_mut-first.ensures.value next c.halve.ensures.first c.halve.ensures.second

@@ -23,7 +23,7 @@ bounds-as_slice-0 c =
     let there = c.if-block-blocks.true in
     let same : c.as_slice-then-block-blocks.result.now ≡ block_at bs next =
     c.as_slice-then-block-blocks.ensures ∙ get_or_read bs next c.index-blocks-block-then-block-blocks.result there
-        c.index-blocks-block-then-block-blocks.is [] in
+    c.index-blocks-block-then-block-blocks.is [] in
     let later : 0 < next = omega arith in
     let some : 0 < length c.as_slice-then-block-blocks.result.now = omega (arith, ap length same, filled_at bs next later there c.requires.filled) in
     some
@@ -36,7 +36,7 @@ returns-then-block-blocks c =
     let len = block_length bs i c.len.result c.index-blocks-block.result c.requires.block c.index-blocks-block.is c.len.ensures.len in
     let same : c.as_slice-then-block-blocks.result.now ≡ block_at bs (i + 1) =
     c.as_slice-then-block-blocks.ensures ∙ get_or_read bs (i + 1) c.index-blocks-block-then-block-blocks.result there
-        c.index-blocks-block-then-block-blocks.is [] in
+    c.index-blocks-block-then-block-blocks.is [] in
     let end : c.args.place ≡ length (block_at bs i) = omega (arith, len, c.if-place-len.false, c.requires.place) in
     ap (λ xs. Some (slice_index xs 0)) same ∙ sym (first_next bs i c.args.place there end c.requires.filled)
 

@@ -7,7 +7,7 @@ use Rattle.spiffe_name.proofs.id.fault_in_path.Goals as goal
 pub loop-after-preserved : goal.loop-after-preserved
 loop-after-preserved c =
     let e : c.loop-after.rest.now ≡ 47 ∷ c.in-Some.after.now =
-        strip_prefix_char 47 c.loop-after.rest.now (Some c.in-Some.after) c.in-Some.ensures.cases (lit< tt) in
+    strip_prefix_char 47 c.loop-after.rest.now (Some c.in-Some.after) c.in-Some.ensures.cases (lit< tt) in
     let split = c.split_at_slash.ensures in
     let size = ap length e in
     let parts = ap length split.whole in

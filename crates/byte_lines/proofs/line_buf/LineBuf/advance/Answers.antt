@@ -19,23 +19,23 @@ returns-in_err-gather-clause-takes g c =
     let exit = err_from_is_err_and c.from_residual-in_err-gather.result c.from_residual-in_err-gather.ensures.1 in
     let keeps = Keeps-trans _ _ _ c.pieces.invariant.keeps (prepend_known-front _ _ _ _ _ c.in_ok-fill.ensures.bytes) in
     let spent = spent_on (if c.pieces.self.is_given then [] else c.pieces.self.line.items)
-        (ahead_of c.pieces.self.ahead) (ahead_of c.fill.new.self) (g.R.Source.budget c.pieces.source)
-        (g.R.Source.budget c.fill.new.source) (left_of g.R.Source.budget c.args.self.now c.args.source.now)
-        c.pieces.invariant.spent c.in_ok-fill.ensures.spends in
+    (ahead_of c.pieces.self.ahead) (ahead_of c.fill.new.self) (g.R.Source.budget c.pieces.source)
+    (g.R.Source.budget c.fill.new.source) (left_of g.R.Source.budget c.args.self.now c.args.source.now)
+    c.pieces.invariant.spent c.in_ok-fill.ensures.spends in
     let same = c.in_err-gather.ensures.gathers in
     TakesFound-memory g.R.Source.remaining g.R.Source.budget c.args.self.now c.args.source.now c.gather.new.self
-        c.fill.new.source c.from_residual-in_err-gather.result exit.0 exit.1
-        (subst (λ (l : List ℕ). Keeps (stream_of g.R.Source.remaining c.args.self.now c.args.source.now)
-        (prepend_known l (g.R.Source.remaining c.fill.new.source))) (sym same) keeps)
+    c.fill.new.source c.from_residual-in_err-gather.result exit.0 exit.1
+    (subst (λ (l : List ℕ). Keeps (stream_of g.R.Source.remaining c.args.self.now c.args.source.now)
+    (prepend_known l (g.R.Source.remaining c.fill.new.source))) (sym same) keeps)
     (omega (arith, ap length same, spent))
 
 pub returns-in-Line-clause-takes : goal.returns-in-Line-clause-takes
 returns-in-Line-clause-takes g c =
     let keeps = Keeps-trans _ _ _ c.pieces.invariant.keeps (prepend_known-front _ _ _ _ _ c.in_ok-fill.ensures.bytes) in
     let spent = spent_on (if c.pieces.self.is_given then [] else c.pieces.self.line.items)
-        (ahead_of c.pieces.self.ahead) (ahead_of c.fill.new.self) (g.R.Source.budget c.pieces.source)
-        (g.R.Source.budget c.fill.new.source) (left_of g.R.Source.budget c.args.self.now c.args.source.now)
-        c.pieces.invariant.spent c.in_ok-fill.ensures.spends in
+    (ahead_of c.pieces.self.ahead) (ahead_of c.fill.new.self) (g.R.Source.budget c.pieces.source)
+    (g.R.Source.budget c.fill.new.source) (left_of g.R.Source.budget c.args.self.now c.args.source.now)
+    c.pieces.invariant.spent c.in_ok-fill.ensures.spends in
     let parts = (rw c.in-Line.is at c.in_ok-gather.ensures.gathers).0 in
     let size = length_line _ _ _ parts in
     let given = c.gather.new.self in
@@ -50,13 +50,13 @@ pub returns-in_err-is_ended-in-TooMuch-clause-takes : goal.returns-in_err-is_end
 returns-in_err-is_ended-in-TooMuch-clause-takes g c =
     let exit = err_from_is_err_and c.from_residual-in_err-is_ended-in-TooMuch.result c.from_residual-in_err-is_ended-in-TooMuch.ensures.1 in
     let spent = spent_on (if c.pieces.self.is_given then [] else c.pieces.self.line.items)
-        (ahead_of c.pieces.self.ahead) (ahead_of c.fill.new.self) (g.R.Source.budget c.pieces.source)
-        (g.R.Source.budget c.fill.new.source) (left_of g.R.Source.budget c.args.self.now c.args.source.now)
-        c.pieces.invariant.spent c.in_ok-fill.ensures.spends in
+    (ahead_of c.pieces.self.ahead) (ahead_of c.fill.new.self) (g.R.Source.budget c.pieces.source)
+    (g.R.Source.budget c.fill.new.source) (left_of g.R.Source.budget c.args.self.now c.args.source.now)
+    c.pieces.invariant.spent c.in_ok-fill.ensures.spends in
     let over = rw c.in-TooMuch.is at c.in_ok-gather.ensures.gathers in
     let same = kept_none c.gather.new.self.is_given _ (ahead_of c.skip_line.new.self) over.1 in
     TakesFound-io _ _ _ _ _ _ _ exit.0 exit.1 exit.2
-        (omega (arith, length_passed _ _ over.0, ap length same, spent, c.in_err-is_ended-in-TooMuch.ensures.spends))
+    (omega (arith, length_passed _ _ over.0, ap length same, spent, c.in_err-is_ended-in-TooMuch.ensures.spends))
 
 pub returns-in_err-is_ended-in-TooMuch-clause-lines_first : goal.returns-in_err-is_ended-in-TooMuch-clause-lines_first
 returns-in_err-is_ended-in-TooMuch-clause-lines_first g c =
@@ -70,9 +70,9 @@ pub returns-then-is_ended-clause-takes : goal.returns-then-is_ended-clause-takes
 returns-then-is_ended-clause-takes g c =
     let keeps = Keeps-trans _ _ _ c.pieces.invariant.keeps (prepend_known-front _ _ _ _ _ c.in_ok-fill.ensures.bytes) in
     let spent = spent_on (if c.pieces.self.is_given then [] else c.pieces.self.line.items)
-        (ahead_of c.pieces.self.ahead) (ahead_of c.fill.new.self) (g.R.Source.budget c.pieces.source)
-        (g.R.Source.budget c.fill.new.source) (left_of g.R.Source.budget c.args.self.now c.args.source.now)
-        c.pieces.invariant.spent c.in_ok-fill.ensures.spends in
+    (ahead_of c.pieces.self.ahead) (ahead_of c.fill.new.self) (g.R.Source.budget c.pieces.source)
+    (g.R.Source.budget c.fill.new.source) (left_of g.R.Source.budget c.args.self.now c.args.source.now)
+    c.pieces.invariant.spent c.in_ok-fill.ensures.spends in
     let over = rw c.in-TooMuch.is at c.in_ok-gather.ensures.gathers in
     let same = kept_none c.gather.new.self.is_given _ (ahead_of c.skip_line.new.self) over.1 in
     let skipped = c.in_ok-is_ended-in-TooMuch.ensures in
@@ -87,9 +87,9 @@ pub returns-else-is_ended-clause-takes : goal.returns-else-is_ended-clause-takes
 returns-else-is_ended-clause-takes g c =
     let keeps = Keeps-trans _ _ _ c.pieces.invariant.keeps (prepend_known-front _ _ _ _ _ c.in_ok-fill.ensures.bytes) in
     let spent = spent_on (if c.pieces.self.is_given then [] else c.pieces.self.line.items)
-        (ahead_of c.pieces.self.ahead) (ahead_of c.fill.new.self) (g.R.Source.budget c.pieces.source)
-        (g.R.Source.budget c.fill.new.source) (left_of g.R.Source.budget c.args.self.now c.args.source.now)
-        c.pieces.invariant.spent c.in_ok-fill.ensures.spends in
+    (ahead_of c.pieces.self.ahead) (ahead_of c.fill.new.self) (g.R.Source.budget c.pieces.source)
+    (g.R.Source.budget c.fill.new.source) (left_of g.R.Source.budget c.args.self.now c.args.source.now)
+    c.pieces.invariant.spent c.in_ok-fill.ensures.spends in
     let over = rw c.in-TooMuch.is at c.in_ok-gather.ensures.gathers in
     let same = kept_none c.gather.new.self.is_given _ (ahead_of c.skip_line.new.self) over.1 in
     let skipped = c.in_ok-is_ended-in-TooMuch.ensures in

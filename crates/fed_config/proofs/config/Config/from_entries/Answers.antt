@@ -19,10 +19,13 @@ pub returns-in_err-domains : goal.returns-in_err-domains
 returns-in_err-domains c = let p =
     err_from_is_err_and c.from_residual-in_err-domains.result c.from_residual-in_err-domains.ensures.1 in
     rw (p.1, p.2) (exits (written c.args.entries.now.relationships.items c.args.entries.now.seeds.items) BadName _ _
-    c.in_err-domains.ensures (λ none. record { passed = tt; failed =
-    λ h. none (each_at_slice (λ e. IsDomainText (seed_text e).domain) c.as_slice-2.result.now
-    c.args.entries.now.seeds.items c.as_slice-2.ensures.value
-    (each_map (λ t. IsDomainText t.domain) seed_text c.args.entries.now.seeds.items h.1)) }))
+    c.in_err-domains.ensures (λ none. record {
+      passed = tt;
+      failed =
+          λ h. none (each_at_slice (λ e. IsDomainText (seed_text e).domain) c.as_slice-2.result.now
+          c.args.entries.now.seeds.items c.as_slice-2.ensures.value
+          (each_map (λ t. IsDomainText t.domain) seed_text c.args.entries.now.seeds.items h.1));
+    }))
 
 pub returns-in_err-urls : goal.returns-in_err-urls
 returns-in_err-urls c = let p =
@@ -101,8 +104,10 @@ returns-then-not-are_few c =
     c.in_ok-documents.documents.items
     (zip_at_slice (λ e b. SaysSeedDocument (seed_text e) b) c.as_slice-6.result.now c.args.entries.now.seeds.items
     c.in_ok-documents.documents.items c.as_slice-6.ensures.value c.in_ok-documents.ensures) (λ h. let told =
-    c.if-not-are_few.ensures.1 (h.relationships,
-    subst (λ n. n ≤ 4096) (map_length seed_text c.args.entries.now.seeds.items) h.seeds) in cc)
+    c.if-not-are_few.ensures.1 (
+      h.relationships,
+      subst (λ n. n ≤ 4096) (map_length seed_text c.args.entries.now.seeds.items) h.seeds,
+    ) in cc)
 
 pub sort_seeds-requires : goal.sort_seeds-requires
 sort_seeds-requires c = are_seeds c.args.entries.now.relationships.items c.args.entries.now.seeds.items

@@ -20,8 +20,8 @@ adds c p moment ok at =
     let is : IsLog c.args.self.now = subst IsLog c.self.view_is c.self.invariant in
     subst (RecordsPoll c.args.self.now p) (sym (changed c))
     (subst (λ (z : Poll). RecordsPoll c.args.self.now p
-        (set c.args.self.now c.args.place
-        (after (get_or c.args.self.now c.args.place (kept_standing c.index_mut.result.now)) z.moment z.ok)))
+    (set c.args.self.now c.args.place
+    (after (get_or c.args.self.now c.args.place (kept_standing c.index_mut.result.now)) z.moment z.ok)))
     (λ i. record { domain = p.domain; moment = moment i; ok = ok i })
     (Adds-at c.args.self.now p c.args.place (kept_standing c.index_mut.result.now) is at))
 
@@ -31,8 +31,8 @@ invariant_of-self c =
     let s : Standing = get_or c.args.self.now c.args.place (kept_standing c.index_mut.result.now) in
     let p : Poll = record { domain = s.domain; moment = c.args.moment.nanosecond; ok = c.args.ok } in
     IsLog-more c.args.self.now _ p is
-        (adds c p (λ i. c.args.moment.nanosecond) (λ i. c.args.ok)
-        (slice_get-domain c.args.self.now c.args.place (kept_standing c.index_mut.result.now) c.requires))
+    (adds c p (λ i. c.args.moment.nanosecond) (λ i. c.args.ok)
+    (slice_get-domain c.args.self.now c.args.place (kept_standing c.index_mut.result.now) c.requires))
 
 pub returns : goal.returns
 returns c = λ domain at. adds c (record { domain = domain; moment = c.args.moment.nanosecond; ok = c.args.ok })

@@ -14,11 +14,15 @@ returns-in-Some c =
     let is : IsLog c.args.self.now = subst IsLog c.self.view_is c.self.invariant in
     let size = ap length c.self.view_is in
     let within : c.in-Some.place < length c.self.inside.standings.items =
-        omega (arith, size, length-map c.self.inside.standings.items kept_standing,
-        within_log c.args.self.now c.in-Some.place c.args.domain.now at) in
+    omega (
+      arith,
+      size,
+      length-map c.self.inside.standings.items kept_standing,
+      within_log c.args.self.now c.in-Some.place c.args.domain.now at,
+    ) in
     subst (λ s. IsNext c.args.hint s c.next_poll.result)
     (sym (standing_in-held c.self.inside.standings.items c.args.self.now c.args.domain.now c.in-Some.place
-        c.index.result.now c.self.view_is is at c.index.ensures within))
+    c.index.result.now c.self.view_is is at c.index.ensures within))
     c.next_poll.ensures
 
 pub returns-in-None : goal.returns-in-None

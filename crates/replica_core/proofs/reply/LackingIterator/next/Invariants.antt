@@ -9,7 +9,7 @@ abbrev pub invariant-loop-receipt : goal.invariant-loop-receipt
 invariant-loop-receipt l =
     IsStrictlySortedBy id_cmp (map bytes_of l.self-inside.ids.now)
     × (not_named (map bytes_of l.self-inside.ids.now) l.self-inside.receipts
-        ≡ not_named (map bytes_of l.initial.self-inside.ids.now) l.initial.self-inside.receipts)
+    ≡ not_named (map bytes_of l.initial.self-inside.ids.now) l.initial.self-inside.receipts)
 
 abbrev pub decreases-loop-receipt : goal.decreases-loop-receipt
 decreases-loop-receipt l = length l.self-inside.receipts

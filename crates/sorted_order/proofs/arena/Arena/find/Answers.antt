@@ -12,5 +12,5 @@ pub returns : goal.returns
 returns g c =
     let a = c.self.inside in
     by_number g.P.ItemProbe.compared c.args.probe.now c.new.result.probe.now a.items.items c.new.result.items.now
-        a.order.items _ c.args.self.now c.find_number.result
+    a.order.items _ c.args.self.now c.find_number.result
     c.self.view_is c.new.ensures.probe (c.new.ensures.items ∙ c.as_slice.ensures.value) c.self.invariant.within c.find_number.ensures

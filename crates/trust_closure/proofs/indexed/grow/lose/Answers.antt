@@ -14,26 +14,30 @@ pub close-fall-requires-clause-domain : goal.close-fall-requires-clause-domain
 close-fall-requires-clause-domain c =
     let x : Distrust = record { domain = c.args.domain.now; key = c.args.key } in
     let added : HasAdded (meaning_of c.args.held.now) x (meaning_of c.add_record.new.self) =
-        subst (λ (a : Addition). AddsRecord (meaning_of c.args.held.now) x (meaning_of c.add_record.new.self) a)
-        c.in-Added.is c.in_ok-add_record.ensures.meaning in
+    subst (λ (a : Addition). AddsRecord (meaning_of c.args.held.now) x (meaning_of c.add_record.new.self) a)
+    c.in-Added.is c.in_ok-add_record.ensures.meaning in
     subst (λ (k : Configuration). HasDomain k c.args.domain.now) (sym (ap (λ (m : Meaning). m.config) added.meaning)) added.domain
 
 pub close-fall-requires-clause-before : goal.close-fall-requires-clause-before
 close-fall-requires-clause-before c =
     let x : Distrust = record { domain = c.args.domain.now; key = c.args.key } in
     let added : HasAdded (meaning_of c.args.held.now) x (meaning_of c.add_record.new.self) =
-        subst (λ (a : Addition). AddsRecord (meaning_of c.args.held.now) x (meaning_of c.add_record.new.self) a)
-        c.in-Added.is c.in_ok-add_record.ensures.meaning in
-    record { old = c.args.held.now; before =
-        before-added c.args.held.now c.add_record.new.self x added c.in_ok-add_record.ensures.arrived; indexed =
-        c.requires.indexed }
+    subst (λ (a : Addition). AddsRecord (meaning_of c.args.held.now) x (meaning_of c.add_record.new.self) a)
+    c.in-Added.is c.in_ok-add_record.ensures.meaning in
+    record {
+      old = c.args.held.now;
+      before =
+          before-added c.args.held.now c.add_record.new.self x added c.in_ok-add_record.ensures.arrived;
+      indexed =
+          c.requires.indexed;
+    }
 
 pub returns-in-Added-clause-meaning : goal.returns-in-Added-clause-meaning
 returns-in-Added-clause-meaning c =
     let x : Distrust = record { domain = c.args.domain.now; key = c.args.key } in
     let added : HasAdded (meaning_of c.args.held.now) x (meaning_of c.add_record.new.self) =
-        subst (λ (a : Addition). AddsRecord (meaning_of c.args.held.now) x (meaning_of c.add_record.new.self) a)
-        c.in-Added.is c.in_ok-add_record.ensures.meaning in
+    subst (λ (a : Addition). AddsRecord (meaning_of c.args.held.now) x (meaning_of c.add_record.new.self) a)
+    c.in-Added.is c.in_ok-add_record.ensures.meaning in
     let before = before-added c.args.held.now c.add_record.new.self x added c.in_ok-add_record.ensures.arrived in
     record {
       domain = added.domain;
@@ -47,35 +51,35 @@ pub returns-in-There-clause-indexed : goal.returns-in-There-clause-indexed
 returns-in-There-clause-indexed c =
     let x : Distrust = record { domain = c.args.domain.now; key = c.args.key } in
     let there = subst (λ (a : Addition). AddsRecord (meaning_of c.args.held.now) x (meaning_of c.add_record.new.self) a)
-        c.in-There.is c.in_ok-add_record.ensures.meaning in
+    c.in-There.is c.in_ok-add_record.ensures.meaning in
     subst (λ (h : Hoard). IsIndexed h c.args.pairs.now c.args.wiring.now)
-        (sym (hoard-same c.args.held.now c.add_record.new.self there.1 c.in_ok-add_record.ensures.arrived
-        c.in_ok-add_record.ensures.capacity)) c.requires.indexed
+    (sym (hoard-same c.args.held.now c.add_record.new.self there.1 c.in_ok-add_record.ensures.arrived
+    c.in_ok-add_record.ensures.capacity)) c.requires.indexed
 
 pub returns-in-There-clause-meaning : goal.returns-in-There-clause-meaning
 returns-in-There-clause-meaning c =
     let x : Distrust = record { domain = c.args.domain.now; key = c.args.key } in
     let there = subst (λ (a : Addition). AddsRecord (meaning_of c.args.held.now) x (meaning_of c.add_record.new.self) a)
-        c.in-There.is c.in_ok-add_record.ensures.meaning in
+    c.in-There.is c.in_ok-add_record.ensures.meaning in
     record { held = there.0; meaning = there.1 }
 
 pub returns-in-Full-clause-indexed : goal.returns-in-Full-clause-indexed
 returns-in-Full-clause-indexed c =
     let x : Distrust = record { domain = c.args.domain.now; key = c.args.key } in
     absurd (subst (λ (a : Addition). AddsRecord (meaning_of c.args.held.now) x (meaning_of c.add_record.new.self) a)
-        c.in-Full.is c.in_ok-add_record.ensures.meaning)
+    c.in-Full.is c.in_ok-add_record.ensures.meaning)
 
 pub returns-in-Full-clause-meaning : goal.returns-in-Full-clause-meaning
 returns-in-Full-clause-meaning c =
     let x : Distrust = record { domain = c.args.domain.now; key = c.args.key } in
     absurd (subst (λ (a : Addition). AddsRecord (meaning_of c.args.held.now) x (meaning_of c.add_record.new.self) a)
-        c.in-Full.is c.in_ok-add_record.ensures.meaning)
+    c.in-Full.is c.in_ok-add_record.ensures.meaning)
 
 pub returns-in_err-add_record-clause-indexed : goal.returns-in_err-add_record-clause-indexed
 returns-in_err-add_record-clause-indexed c =
     subst (λ (h : Hoard). IsIndexed h c.args.pairs.now c.args.wiring.now)
-        (sym (hoard-same c.args.held.now c.add_record.new.self c.in_err-add_record.ensures.meaning.1
-        c.in_err-add_record.ensures.arrived c.in_err-add_record.ensures.capacity)) c.requires.indexed
+    (sym (hoard-same c.args.held.now c.add_record.new.self c.in_err-add_record.ensures.meaning.1
+    c.in_err-add_record.ensures.arrived c.in_err-add_record.ensures.capacity)) c.requires.indexed
 
 pub returns-in_err-add_record-clause-meaning : goal.returns-in_err-add_record-clause-meaning
 returns-in_err-add_record-clause-meaning c =

@@ -15,14 +15,14 @@ returns-clause-built c =
     let seeds : c.seeds-seeds.result.now ≡ h.config.seeds = c.seeds-seeds.ensures ∙ ap (λ a. a.seeds) c.config.ensures.config in
     let pairing = c.add.ensures.pairing in
     built-more h c.insert.new.self c.args.pairs.now c.add.new.self c.args.wiring.now c.add_receipt.new.wiring
-        c.args.receipt c.requires.built c.requires.absent.is c.requires.absent.unheld c.insert.ensures
-        c.config-valid.ensures.valid
+    c.args.receipt c.requires.built c.requires.absent.is c.requires.absent.unheld c.insert.ensures
+    c.config-valid.ensures.valid
     c.add_receipt.ensures.wired c.add_receipt.ensures.reached
     (subst (λ (ss : List Seed). IsPairing (pairs_of ss h.arrived ++ pair_of c.args.receipt ∷ []) c.add.new.self) seeds
     (subst (λ (rs : List Receipt). IsPairing (pairs_of c.seeds-seeds.result.now rs ++ pair_of c.args.receipt ∷ []) c.add.new.self) c.arrived.ensures
     (subst (λ (d : List ℕ). IsPairing
-        (pairs_of c.seeds-seeds.result.now c.arrived.result.now ++ document_of d c.args.receipt.document ∷ [])
-        c.add.new.self) c.domain.ensures.domain
+    (pairs_of c.seeds-seeds.result.now c.arrived.result.now ++ document_of d c.args.receipt.document ∷ [])
+    c.add.new.self) c.domain.ensures.domain
     (subst (λ (b : Bundle). IsPairing
-        (pairs_of c.seeds-seeds.result.now c.arrived.result.now ++ document_of c.domain.result.now b ∷ [])
-        c.add.new.self) c.document.ensures pairing))))
+    (pairs_of c.seeds-seeds.result.now c.arrived.result.now ++ document_of c.domain.result.now b ∷ [])
+    c.add.new.self) c.document.ensures pairing))))

@@ -27,14 +27,14 @@ pub returns : goal.returns
 returns c =
     let h = c.args.held.now in
     let pairing =
-        subst (λ (rs : List Receipt). IsPairing (pairs_of c.args.earlier.now rs ++ pair_of_seed c.args.seed.now ∷ [])
-        c.add.new.self) c.arrived.ensures c.add.ensures.pairing in
+    subst (λ (rs : List Receipt). IsPairing (pairs_of c.args.earlier.now rs ++ pair_of_seed c.args.seed.now ∷ [])
+    c.add.new.self) c.arrived.ensures c.add.ensures.pairing in
     seeded-more h c.args.earlier.now c.args.seed.now c.args.pairs.now c.try_reserve.new.self c.add.new.self
-        c.args.wiring.now c.offer_triples.new.wiring c.add.ensures.firsts.0 c.requires.arrived c.requires.seeded
+    c.args.wiring.now c.offer_triples.new.wiring c.add.ensures.firsts.0 c.requires.arrived c.requires.seeded
     pairing c.try_reserve.ensures.counts c.try_reserve.ensures.firsts c.add.ensures.counts
     c.add.ensures.firsts.1 c.in_ok-try_reserve.ensures.ok c.add.ensures.capacity
     (wired-seed h c.args.earlier.now c.args.seed.now c.args.wiring.now c.try_reserve-2.new.self c.add_node-node.new.self
-        c.mark.new.self c.offer_triples.new.wiring c.add_node-node.result c.as_slice.result.now
+    c.mark.new.self c.offer_triples.new.wiring c.add_node-node.result c.as_slice.result.now
     c.requires.seeded.wired c.try_reserve-2.ensures.roomier c.add_node-node.ensures.node c.mark.ensures.rooted
-        (c.as_slice.ensures.value ∙ c.in_ok-offers.ensures) c.offer_triples.ensures.wired)
+    (c.as_slice.ensures.value ∙ c.in_ok-offers.ensures) c.offer_triples.ensures.wired)
     c.offer_triples.ensures.reached

@@ -7,4 +7,4 @@ use Rattle.trust_closure.proofs.indexed.seeds.add_seeds.Goals as goal
 pub add_seed-requires-clause-domain : goal.add_seed-requires-clause-domain
 add_seed-requires-clause-domain c =
     subst (λ (s : Seed). HasDomain c.args.held.now.config s.domain) (sym c.index-seeds-place.is)
-        (c.requires.domains c.loop-place.place c.index-seeds-place.result (omega arith))
+    (c.requires.domains c.loop-place.place c.index-seeds-place.result (omega arith))

@@ -13,7 +13,7 @@ use Rattle.trust_closure.proofs.indexed.wire.add_receipt.Goals as goal
 pub await_triple-requires-clause-domain : goal.await_triple-requires-clause-domain
 await_triple-requires-clause-domain c =
     subst (λ (t : Triple). HasDomain c.args.held.now.config t.domain) (sym c.need.ensures)
-        (fitting-endpoint c.args.held.now.config c.args.receipt.now c.requires.fits)
+    (fitting-endpoint c.args.held.now.config c.args.receipt.now c.requires.fits)
 
 pub await_triple-requires-clause-node : goal.await_triple-requires-clause-node
 await_triple-requires-clause-node c =
@@ -30,15 +30,20 @@ offer_triples-requires-clause-room c =
 
 pub offer_triples-requires-clause-node : goal.offer_triples-requires-clause-node
 offer_triples-requires-clause-node c =
-    omega (arith, c.await_triple.ensures.widens.roots, c.add_node-node.ensures.node.number,
-        ap (λ n. length n.roots) c.add_node-node.ensures.node.net, length_push c.args.wiring.now.net.roots false)
+    omega (
+      arith,
+      c.await_triple.ensures.widens.roots,
+      c.add_node-node.ensures.node.number,
+      ap (λ n. length n.roots) c.add_node-node.ensures.node.net,
+      length_push c.args.wiring.now.net.roots false,
+    )
 
 pub returns-clause-wired : goal.returns-clause-wired
 returns-clause-wired c domains spots d h =
     let at : c.add_node-node.result ≡ length spots =
-        c.add_node-node.ensures.node.number ∙ node-number domains c.args.held.now.records spots c.args.wiring.now h in
+    c.add_node-node.ensures.node.number ∙ node-number domains c.args.held.now.records spots c.args.wiring.now h in
     let node = wiring-node domains d.rising c.args.held.now.records spots c.args.wiring.now c.add_node-node.new.self
-        c.add_node-node.result h c.add_node-node.ensures.node in
+    c.add_node-node.result h c.add_node-node.ensures.node in
     let waits = c.await_triple.ensures.wired domains spots bare_spot d at refl node in
     let offers = c.offer_triples.ensures.wired domains spots (record { rooted = false; offers = []; awaits = Some c.need.result.now }) d at waits in
     let same : record { rooted = false; offers = [] ++ c.offers.result.now; awaits = Some c.need.result.now } ≡ spot_of_receipt c.args.receipt.now =
@@ -51,11 +56,11 @@ pub returns-clause-front : goal.returns-clause-front
 returns-clause-front c =
     let first : take (length c.args.wiring.now.marked) c.add_node-node.new.self.marked ≡ c.args.wiring.now.marked =
     ap (take (length c.args.wiring.now.marked)) c.add_node-node.ensures.node.marked
-        ∙ take_all (length c.args.wiring.now.marked) c.args.wiring.now.marked (omega arith)
+    ∙ take_all (length c.args.wiring.now.marked) c.args.wiring.now.marked (omega arith)
     in
     front-trans c.args.wiring.now.marked c.add_node-node.new.self.marked c.offer_triples.new.wiring.marked first
     (front-trans c.add_node-node.new.self.marked c.await_triple.new.wiring.marked c.offer_triples.new.wiring.marked
-        c.await_triple.ensures.widens.front c.offer_triples.ensures.widens.front)
+    c.await_triple.ensures.widens.front c.offer_triples.ensures.widens.front)
 
 pub returns-clause-nodes : goal.returns-clause-nodes
 returns-clause-nodes c = omega (arith, c.add_node-node.ensures.node.nodes, c.await_triple.ensures.widens.nodes, c.offer_triples.ensures.widens.nodes)

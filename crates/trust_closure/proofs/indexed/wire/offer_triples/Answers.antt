@@ -8,7 +8,7 @@ use Rattle.trust_closure.proofs.indexed.wire.offer_triples.Goals as goal
 pub offer_triple-requires-clause-domain : goal.offer_triple-requires-clause-domain
 offer_triple-requires-clause-domain c =
     subst (λ (t : Triple). HasDomain c.args.held.now.config t.domain) (sym c.triple-item.is)
-        (c.requires.domains c.loop-triple.triple-index c.triple-item.result (omega arith))
+    (c.requires.domains c.loop-triple.triple-index c.triple-item.result (omega arith))
 
 pub offer_triple-requires-clause-room : goal.offer_triple-requires-clause-room
 offer_triple-requires-clause-room c = omega (arith, c.requires.room, c.loop-triple.invariant.widens.room)
@@ -27,10 +27,10 @@ pub loop-triple-preserved : goal.loop-triple-preserved
 loop-triple-preserved c = record {
   wired = λ domains spots spot d at h.
       offers-more domains c.args.held.now.records spots spot c.args.triples.now c.offer_triple.new.wiring
-          c.loop-triple.triple-index c.triple-item.result (omega arith) c.triple-item.is
+      c.loop-triple.triple-index c.triple-item.result (omega arith) c.triple-item.is
       (c.offer_triple.ensures.wired domains spots
-          (record spot { offers = spot.offers ++ take c.loop-triple.triple-index c.args.triples.now }) d at
-          (c.loop-triple.invariant.wired domains spots spot d at h));
+      (record spot { offers = spot.offers ++ take c.loop-triple.triple-index c.args.triples.now }) d at
+      (c.loop-triple.invariant.wired domains spots spot d at h));
   widens = Widens-more c.loop-triple.triple-index 1 c.args.wiring.now c.loop-triple.wiring c.offer_triple.new.wiring
       c.loop-triple.invariant.widens c.offer_triple.ensures.widens;
   reached = c.offer_triple.ensures.reached;
@@ -39,4 +39,4 @@ loop-triple-preserved c = record {
 pub returns-clause-wired : goal.returns-clause-wired
 returns-clause-wired c domains spots spot d at h =
     offers-all domains c.args.held.now.records spots spot c.args.triples.now c.loop-triple.wiring
-        c.loop-triple.triple-index (omega arith) (c.loop-triple.invariant.wired domains spots spot d at h)
+    c.loop-triple.triple-index (omega arith) (c.loop-triple.invariant.wired domains spots spot d at h)

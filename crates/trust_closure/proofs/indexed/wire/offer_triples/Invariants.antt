@@ -11,8 +11,10 @@ abbrev pub invariant-loop-triple : goal.invariant-loop-triple
 invariant-loop-triple l = record {
   wired : (domains : List (List ℕ)) (spots : List (Spot Triple)) (spot : Spot Triple) → AreDomains l.held.config domains
       → l.node ≡ length spots → IsWiringOf domains l.held.records (spots ++ spot ∷ []) l.initial.wiring
-      → IsWiringOf domains l.held.records (spots ++ record spot { offers =
-      spot.offers ++ take l.triple-index l.triples } ∷ []) l.wiring;
+      → IsWiringOf domains l.held.records (spots ++ record spot {
+        offers =
+            spot.offers ++ take l.triple-index l.triples;
+      } ∷ []) l.wiring;
   widens : Widens l.triple-index l.initial.wiring l.wiring;
   reached : ListsReached l.wiring.net l.wiring.marked;
 }

@@ -45,7 +45,7 @@ overflow_sub-result c =
     c.place_receipt.ensures.set c.settle.ensures.size c.settle.ensures.released
     (c.count_accepted-after.ensures.numbers ∙ c.clear-before.ensures.numbers) list size raised in
     let gain = gain-added h new p q offers old rel c.args.receipt c.place_receipt.ensures.firsts.0 c.requires.settled
-        c.requires.absent.is c.place_receipt.ensures.held settled
+    c.requires.absent.is c.place_receipt.ensures.held settled
     (list ∙ c.place_receipt.ensures.firsts.1)
     (omega (arith, size, ap length c.place_receipt.ensures.counts, length_push p.counts 0)) in
     let before : c.clear-before.result ≡ raised_count (flags_of p.counts) =
@@ -99,7 +99,7 @@ returns-clause-gain c =
     c.place_receipt.ensures.set c.settle.ensures.size c.settle.ensures.released
     (c.count_accepted-after.ensures.numbers ∙ c.clear-before.ensures.numbers) list size raised in
     let gain = gain-added h new p q offers old rel c.args.receipt c.place_receipt.ensures.firsts.0 c.requires.settled
-        c.requires.absent.is c.place_receipt.ensures.held settled
+    c.requires.absent.is c.place_receipt.ensures.held settled
     (list ∙ c.place_receipt.ensures.firsts.1)
     (omega (arith, size, ap length c.place_receipt.ensures.counts, length_push p.counts 0)) in
     let before : c.clear-before.result ≡ raised_count (flags_of p.counts) =

@@ -12,5 +12,5 @@ returns-clause-released c =
     let xs = c.spread.new.released in
     let size : v.len ≡ length xs = omega (arith, v.ok.0, c.spread.ensures.size, ap length c.deref_mut.ensures.value) in
     let same : take v.len (xs ++ drop (length xs) v.items) ≡ xs =
-        ap (λ n. take n (xs ++ drop (length xs) v.items)) size ∙ take-append_seam xs (drop (length xs) v.items) in
+    ap (λ n. take n (xs ++ drop (length xs) v.items)) size ∙ take-append_seam xs (drop (length xs) v.items) in
     subst (AreReleased (meaning_of h) h.arrived) (sym same) c.spread.ensures.released

@@ -29,8 +29,8 @@ loop-place-preserved c =
             sound = λ s. subst (AreSound (meaning_of h) h.arrived) (sym list)
                 (sound-more (meaning_of h) h.arrived c.loop-place.released c.loop-place.place r.0 (omega (arith, c.loop-place-test.true, i.size)) r.1
                 (vouched-released (meaning_of h) h.arrived c.args.seed_offers.now c.requires.offers c.requires.same
-                    c.config-valid.ensures.valid c.loop-place.released (i.sound s) r.0
-                    (slice_get-Contains h.arrived c.loop-place.place r.0 r.1) due.1)
+                c.config-valid.ensures.valid c.loop-place.released (i.sound s) r.0
+                (slice_get-Contains h.arrived c.loop-place.place r.0 r.1) due.1)
                 (i.sound s));
             quiet = λ e. absurd (omega (arith, e, w.count-is));
             count = omega (arith, w.raise.ensures.count, i.count, w.count-is, ap raised_count w.released-is);

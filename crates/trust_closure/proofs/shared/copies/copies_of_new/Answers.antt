@@ -11,7 +11,7 @@ pub loop-receipt-preserved : goal.loop-receipt-preserved
 loop-receipt-preserved c =
     let held = c.args.held.now.held in
     IsCopied-held held c.into_iter-receipt-iterator.result c.loop-receipt.receipt-iterator c.next.new.self
-        c.loop-receipt.copies.items c.in-Some.receipt.now c.config-valid.ensures.valid.rising
+    c.loop-receipt.copies.items c.in-Some.receipt.now c.config-valid.ensures.valid.rising
     c.loop-receipt.invariant c.in-Some.ensures.steps (c.holds.ensures.0 c.if-not-holds.false)
 
 pub loop-receipt-preserved-in_ok-push : goal.loop-receipt-preserved-in_ok-push
@@ -19,7 +19,7 @@ loop-receipt-preserved-in_ok-push c =
     let held = c.args.held.now.held in
     let r = c.in-Some.receipt.now in
     IsCopied-new held c.into_iter-receipt-iterator.result c.loop-receipt.receipt-iterator c.next.new.self
-        c.loop-receipt.copies.items c.push.new.self.items r c.in_ok-try_clone.field-0
+    c.loop-receipt.copies.items c.push.new.self.items r c.in_ok-try_clone.field-0
     c.loop-receipt.invariant c.in-Some.ensures.steps (lacks_of c.holds.result (Contains held r) c.if-not-holds.true c.holds.ensures)
     c.in_ok-push.ensures.items c.in_ok-try_clone.ensures
 
@@ -32,7 +32,7 @@ returns-in_err-try_clone c =
       r,
       subst (λ (xs : List Receipt). Contains xs r) (c.into_iter-receipt-iterator.ensures.into_iter_gives ∙ c.receipts-receipt-items.ensures)
           (IsCopied-has held c.into_iter-receipt-iterator.result c.loop-receipt.receipt-iterator c.next.new.self
-              c.loop-receipt.copies.items r c.loop-receipt.invariant c.in-Some.ensures.steps),
+          c.loop-receipt.copies.items r c.loop-receipt.invariant c.in-Some.ensures.steps),
       lacks_of c.holds.result (Contains held r) c.if-not-holds.true c.holds.ensures,
     )
 
@@ -45,7 +45,7 @@ returns-in_err-push c =
       r,
       subst (λ (xs : List Receipt). Contains xs r) (c.into_iter-receipt-iterator.ensures.into_iter_gives ∙ c.receipts-receipt-items.ensures)
           (IsCopied-has held c.into_iter-receipt-iterator.result c.loop-receipt.receipt-iterator c.next.new.self
-              c.loop-receipt.copies.items r c.loop-receipt.invariant c.in-Some.ensures.steps),
+          c.loop-receipt.copies.items r c.loop-receipt.invariant c.in-Some.ensures.steps),
       lacks_of c.holds.result (Contains held r) c.if-not-holds.true c.holds.ensures,
     )
 
@@ -55,6 +55,6 @@ returns c =
     let other = meaning_of c.args.other.now in
     IsCopied-end m other c.loop-receipt.receipt-iterator c.loop-receipt.copies.items c.config-valid.ensures.valid c.config-other_valid.ensures.valid
     (subst (λ (all : List Receipt). IsCopied m.held all c.loop-receipt.receipt-iterator c.loop-receipt.copies.items)
-        (c.into_iter-receipt-iterator.ensures.into_iter_gives ∙ c.receipts-receipt-items.ensures)
-        c.loop-receipt.invariant)
+    (c.into_iter-receipt-iterator.ensures.into_iter_gives ∙ c.receipts-receipt-items.ensures)
+    c.loop-receipt.invariant)
     c.in-None.ensures.steps.0

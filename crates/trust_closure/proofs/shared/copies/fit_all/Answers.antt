@@ -33,9 +33,13 @@ loop-receipt-preserved-in-Err c =
           → ⊥) all c.loop-receipt.receipt-iterator c.next.new.self r c.loop-receipt.invariant.known
           c.in-Some.ensures.steps
           (wrong_known c.args.config.now r wrong);
-      fitting = (r, IsPassed-has (λ (s : Receipt). IsOfUnknownDomain c.args.config.now s
-          → ⊥) all c.loop-receipt.receipt-iterator c.next.new.self r c.loop-receipt.invariant.known
-          c.in-Some.ensures.steps, wrong);
+      fitting = (
+        r,
+        IsPassed-has (λ (s : Receipt). IsOfUnknownDomain c.args.config.now s
+            → ⊥) all c.loop-receipt.receipt-iterator c.next.new.self r c.loop-receipt.invariant.known
+            c.in-Some.ensures.steps,
+        wrong,
+      );
     }
 
 pub returns-else-all_fit : goal.returns-else-all_fit
@@ -43,8 +47,7 @@ returns-else-all_fit c =
     let all = c.into_iter-receipt-iterator.result in
     let wrong : (s : Receipt) × Contains all s × IsOfWrongEndpoint c.args.config.now s =
     MatchBool-at_false (IsPassed (IsFitting c.args.config.now) all c.loop-receipt.receipt-iterator) ((s : Receipt)
-        × Contains all s × IsOfWrongEndpoint c.args.config.now s) c.if-all_fit.false c.loop-receipt.invariant.fitting in
-        (
+    × Contains all s × IsOfWrongEndpoint c.args.config.now s) c.if-all_fit.false c.loop-receipt.invariant.fitting in (
       λ r has. IsPassed-end (λ (s : Receipt). IsOfUnknownDomain c.args.config.now s
           → ⊥) all c.loop-receipt.receipt-iterator c.loop-receipt.invariant.known c.in-None.ensures.steps.0 r
           (subst (λ (xs : List Receipt). Contains xs r) (sym c.into_iter-receipt-iterator.ensures.into_iter_gives) has),

@@ -15,5 +15,5 @@ loop-domain-preserved c =
 pub returns : goal.returns
 returns c x has =
     IsPassed-end (λ (y : Distrust). HasDomain c.args.config.now y.domain) c.into_iter-domain-iterator.result
-        c.loop-domain.domain-iterator c.loop-domain.invariant c.in-None.ensures.steps.0 x
+    c.loop-domain.domain-iterator c.loop-domain.invariant c.in-None.ensures.steps.0 x
     (subst (λ (xs : List Distrust). Contains xs x) (sym c.into_iter-domain-iterator.ensures.into_iter_gives) has)

@@ -9,8 +9,8 @@ use Rattle.trust_closure.proofs.shared.held.fit.Goals as goal
 pub returns-in_default-clause-fits : goal.returns-in_default-clause-fits
 returns-in_default-clause-fits c = λ x has e.
     let none : IsRelationshipOf c.args.config.now c.domain.result.now None =
-        subst (λ o. IsRelationshipOf c.args.config.now c.domain.result.now (option_copied o)) c.in_default.is
-        c.relationship.ensures in
+    subst (λ o. IsRelationshipOf c.args.config.now c.domain.result.now (option_copied o)) c.in_default.is
+    c.relationship.ensures in
     none x has (e ∙ sym c.domain.ensures.domain)
 
 pub returns-then-eq-clause-fits : goal.returns-then-eq-clause-fits

@@ -48,9 +48,9 @@ take_all-requires g c =
     let is = share_same (meaning_of c.held.result.now) m (meaning_of c.held-2.result.now) other share c.held.ensures c.held-2.ensures c.in_ok-share.ensures in
     let size = c.len-count.ensures ∙ share.copies.ok.0 in
     let roomier =
-        on_ok c.make_room.result (IsRoomier (record { receipts = c.len-count.result; offers = share.offers })
-        (g.C.Mergeable.state c.make_room.new.self).room) (sym c.is_err.ensures.value ∙ c.if-is_err.false)
-        c.make_room.ensures.ok in
+    on_ok c.make_room.result (IsRoomier (record { receipts = c.len-count.result; offers = share.offers })
+    (g.C.Mergeable.state c.make_room.new.self).room) (sym c.is_err.ensures.value ∙ c.if-is_err.false)
+    c.make_room.ensures.ok in
     share_welcome m other (g.C.Mergeable.state c.make_room.new.self)
     (g.C.Mergeable.state c.distrust_all.new.self) share c.distrusts.result is
     c.make_room.ensures.meaning c.distrust_all.ensures.meaning c.distrust_all.ensures.room

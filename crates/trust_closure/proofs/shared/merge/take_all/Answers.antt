@@ -25,7 +25,7 @@ loop-receipt-preserved g c =
       joining = IsJoining-next (g.C.Mergeable.state c.args.closure.now) (g.C.Mergeable.state c.loop-receipt.closure)
           (g.C.Mergeable.state c.take_one.new.self) (meaning_of c.held.result.now)
           (into_iter_items c.into_iter-receipt-iterator.result) (into_iter_items c.loop-receipt.receipt-iterator)
-              (into_iter_items c.next.new.self) c.in-Some.receipt c.take_one.result
+          (into_iter_items c.next.new.self) c.in-Some.receipt c.take_one.result
           c.held.ensures c.config-valid.ensures.valid c.config-valid.ensures.form
           c.loop-receipt.invariant.joining steps c.take_one.ensures.takes;
       turns = c.take_one.ensures.turns ∙ c.loop-receipt.invariant.turns;
@@ -39,7 +39,7 @@ loop-receipt-preserved-in-Some g c =
       joining = IsJoining-next (g.C.Mergeable.state c.args.closure.now) (g.C.Mergeable.state c.loop-receipt.closure)
           (g.C.Mergeable.state c.take_one.new.self) (meaning_of c.held.result.now)
           (into_iter_items c.into_iter-receipt-iterator.result) (into_iter_items c.loop-receipt.receipt-iterator)
-              (into_iter_items c.next.new.self) c.in-Some.receipt c.take_one.result
+          (into_iter_items c.next.new.self) c.in-Some.receipt c.take_one.result
           c.held.ensures c.config-valid.ensures.valid c.config-valid.ensures.form
           c.loop-receipt.invariant.joining steps c.take_one.ensures.takes;
       turns = c.take_one.ensures.turns ∙ c.loop-receipt.invariant.turns;
@@ -50,8 +50,8 @@ pub returns-clause-meaning : goal.returns-clause-meaning
 returns-clause-meaning g c =
     let start = g.C.Mergeable.state c.args.closure.now in
     IsJoining-end start (g.C.Mergeable.state c.loop-receipt.closure)
-        (into_iter_items c.into_iter-receipt-iterator.result) (into_iter_items c.loop-receipt.receipt-iterator)
-        c.loop-receipt.invariant.joining
+    (into_iter_items c.into_iter-receipt-iterator.result) (into_iter_items c.loop-receipt.receipt-iterator)
+    c.loop-receipt.invariant.joining
     (none_left (into_iter_items c.loop-receipt.receipt-iterator) (sym c.loop-receipt.invariant.size ∙ c.in-None.ensures.steps.0))
     ∙ ap (λ (xs : List Receipt). record start.meaning { held = with_items receipt_cmp xs start.meaning.held })
-        c.into_iter-receipt-iterator.ensures.into_iter_gives.0
+    c.into_iter-receipt-iterator.ensures.into_iter_gives.0

@@ -8,5 +8,11 @@ close-requires c =
     let labels = c.args.labels.now in
     let i = c.loop-label.label-index in
     let size = ap (λ (n : Net). length n.closed) c.loop-label.invariant.0 in
-    omega (arith, size, length-all_set (take i labels) c.args.self.now.closed.items, c.index.ensures, c.label-item.is,
-        c.requires i c.label-item.result c.loop-label-test.true)
+    omega (
+      arith,
+      size,
+      length-all_set (take i labels) c.args.self.now.closed.items,
+      c.index.ensures,
+      c.label-item.is,
+      c.requires i c.label-item.result c.loop-label-test.true,
+    )

@@ -10,15 +10,23 @@ use Rattle.wait_index.proofs.marks.Marks.add_offer.Goals as goal
 pub follow_new_offer-requires-clause-visits : goal.follow_new_offer-requires-clause-visits
 follow_new_offer-requires-clause-visits c =
     let s = c.args.self.now in
-    omega (arith, c.requires.few, ap (λ (n : Net). length n.waits) c.add_offer.ensures.net,
-        Follows-visits (net_of c.args.graph.now) (length s.marked.items.items) 0 0 (tally_of s)
-        c.requires.settled.follows)
+    omega (
+      arith,
+      c.requires.few,
+      ap (λ (n : Net). length n.waits) c.add_offer.ensures.net,
+      Follows-visits (net_of c.args.graph.now) (length s.marked.items.items) 0 0 (tally_of s)
+          c.requires.settled.follows,
+    )
 
 pub follow_new_offer-requires-clause-support : goal.follow_new_offer-requires-clause-support
 follow_new_offer-requires-clause-support c =
     let s = c.args.self.now in
-    omega (arith, c.requires.few, Follows-support (net_of c.args.graph.now) (length s.marked.items.items) 0 0
-        (tally_of s) c.requires.settled.follows c.args.label c.requires.label)
+    omega (
+      arith,
+      c.requires.few,
+      Follows-support (net_of c.args.graph.now) (length s.marked.items.items) 0 0
+          (tally_of s) c.requires.settled.follows c.args.label c.requires.label,
+    )
 
 pub follow_all-requires-clause-follows : goal.follow_all-requires-clause-follows
 follow_all-requires-clause-follows c =

@@ -9,4 +9,4 @@ follow_all-requires-clause-follows c =
     let cursor : c.len-cursor.result ≡ length s.marked.items.items = omega (arith, c.len-cursor.ensures, s.marked.items.ok.0) in
     rw (c.add_root.ensures.net, cursor)
     (Follows-root (net_of c.args.graph.now) c.args.node c.requires.node (tally_of s) (tally_of c.mark.new.self)
-        c.requires.settled c.mark.ensures.marked c.mark.new.self.marked.listed)
+    c.requires.settled c.mark.ensures.marked c.mark.new.self.marked.listed)

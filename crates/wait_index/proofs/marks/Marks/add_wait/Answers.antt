@@ -17,7 +17,7 @@ follow_all-requires-clause-follows c =
     let cursor : c.len-cursor.result ≡ length s.marked.items.items = omega (arith, c.len-cursor.ensures, s.marked.items.ok.0) in
     rw (c.add_wait.ensures.net, cursor)
     (Follows-wait (net_of c.args.graph.now) c.args.label c.args.node (tally_of s) (tally_of c.follow_new_wait.new.self)
-        c.requires.label c.requires.settled c.follow_new_wait.ensures.followed c.follow_new_wait.new.self.marked.listed)
+    c.requires.label c.requires.settled c.follow_new_wait.ensures.followed c.follow_new_wait.new.self.marked.listed)
 
 pub returns-clause-front : goal.returns-clause-front
 returns-clause-front c =

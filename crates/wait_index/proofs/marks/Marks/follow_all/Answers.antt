@@ -5,5 +5,9 @@ use Rattle.wait_index.proofs.marks.Marks.follow_all.Goals as goal
 
 pub nodes-smaller : goal.nodes-smaller
 nodes-smaller c =
-    omega (arith, c.nodes-test.true, c.nodes.self.marked.items.ok.0,
-        Follows-nodes (net_of c.args.graph.now) c.nodes.cursor 0 0 (tally_of c.nodes.self) c.nodes.invariant.follows)
+    omega (
+      arith,
+      c.nodes-test.true,
+      c.nodes.self.marked.items.ok.0,
+      Follows-nodes (net_of c.args.graph.now) c.nodes.cursor 0 0 (tally_of c.nodes.self) c.nodes.invariant.follows,
+    )

@@ -9,16 +9,20 @@ pub waits-init : goal.waits-init
 waits-init c =
     let g = c.args.graph.now in
     let first = first_link g.waits.edges.items g.waits.newest.items g.waits.earlier.items c.args.label
-        c.index-link.result.now g.waits.linked (omega (arith, g.shaped.labels_listed, c.requires.label))
-        c.index-link.ensures in
+    c.index-link.result.now g.waits.linked (omega (arith, g.shaped.labels_listed, c.requires.label))
+    c.index-link.ensures in
     (ReleasesFrom-start (net_of g) c.args.label c.index-link.result.now (tally_of c.args.self.now) c.requires.sizes first, refl)
 
 pub overflow_add-self : goal.overflow_add-self
 overflow_add-self c =
     let g = c.args.graph.now in
     let at : c.waits.link ≡ (c.waits.link - 1) + 1 = omega (arith, c.waits-test.true) in
-    omega (arith, c.requires.visits, ReleasesFrom-fits (net_of g) c.args.label (c.waits.link - 1) c.waits.link
-        (tally_of c.args.self.now) (tally_of c.waits.self) c.waits.invariant.0 at)
+    omega (
+      arith,
+      c.requires.visits,
+      ReleasesFrom-fits (net_of g) c.args.label (c.waits.link - 1) c.waits.link
+          (tally_of c.args.self.now) (tally_of c.waits.self) c.waits.invariant.0 at,
+    )
 
 pub waits-preserved : goal.waits-preserved
 waits-preserved c =
@@ -28,7 +32,7 @@ waits-preserved c =
     let at : c.waits.link ≡ edge + 1 = omega (arith, c.waits-test.true) in
     let within : edge < length g.waits.edges.items = omega (arith, h.at.within) in
     let last = next_link g.waits.edges.items g.waits.newest.items g.waits.earlier.items c.args.label edge c.waits.link
-        c.index-link-in-waits.result.now g.waits.linked h.at at c.index-link-in-waits.ensures in
+    c.index-link-in-waits.result.now g.waits.linked h.at at c.index-link-in-waits.ensures in
     let then : Tally = record (tally_of c.waits.self) { visits = c.waits.self.visits + 1 } in
     let marks : MarksNode (to_at g.waits.edges.items edge) then (tally_of c.mark.new.self) =
     subst (λ n. MarksNode n then (tally_of c.mark.new.self)) (read_to g.waits.edges.items edge c.index.result.now within c.index.ensures) c.mark.ensures.marked

@@ -7,5 +7,12 @@ pub labels-smaller : goal.labels-smaller
 labels-smaller g c =
     let t = c.labels.self.touched in
     let f = c.labels.invariant.falling in
-    omega (arith, c.labels-test.true, c.len.ensures, t.items.ok.0, f.queue.many, f.sizes.touched,
-        count_below-le (λ n. holds t.places.items n) (length t.places.items))
+    omega (
+      arith,
+      c.labels-test.true,
+      c.len.ensures,
+      t.items.ok.0,
+      f.queue.many,
+      f.sizes.touched,
+      count_below-le (λ n. holds t.places.items n) (length t.places.items),
+    )

@@ -18,14 +18,14 @@ waits-init g c =
     let f = c.requires.0 in
     let label = c.index-label.result in
     let item : c.index-label.result ≡ get_or s.touched.items.items c.args.index 0 =
-        c.index-label.ensures ∙ get_or_read s.touched.items.items c.args.index c.index.result.now c.requires.1.0
-        c.index.ensures 0 in
+    c.index-label.ensures ∙ get_or_read s.touched.items.items c.args.index c.index.result.now c.requires.1.0
+    c.index.ensures 0 in
     let there = s.touched.listed.within c.args.index c.requires.1.0 in
     let within : c.index-label.result < length graph.closed.items = omega (arith, item, there, f.sizes.touched) in
     let first : IsLast graph.waits.edges.items c.index-label.result (length graph.waits.edges.items) c.index-link.result.now =
     first_link graph.waits.edges.items graph.waits.newest.items graph.waits.earlier.items c.index-label.result
-        c.index-link.result.now graph.waits.linked (omega (arith, within, graph.shaped.labels_listed))
-        c.index-link.ensures
+    c.index-link.result.now graph.waits.linked (omega (arith, within, graph.shaped.labels_listed))
+    c.index-link.ensures
     in (
       record {
         falling = IsFalling-start (net_of graph) g.closing (tally_of s) c.args.index c.index-label.result
@@ -33,8 +33,11 @@ waits-init g c =
         at = IsLink-last graph.waits.edges.items c.index-label.result (length graph.waits.edges.items) c.index-link.result.now (omega arith) first;
         shut_label = flag-here s.opened.items c.index-label.result _ (omega (arith, within, f.sizes.opened));
         touched_label = holds-from_placed s.touched.places.items c.index-label.result
-            (omega (arith, ap (λ k. get_or s.touched.places.items k 0) item,
-            s.touched.listed.listed c.args.index c.requires.1.0));
+            (omega (
+              arith,
+              ap (λ k. get_or s.touched.places.items k 0) item,
+              s.touched.listed.listed c.args.index c.requires.1.0,
+            ));
         within = c.requires.1.0;
         front = take_all (length s.touched.items.items) s.touched.items.items (omega arith);
       },
@@ -53,13 +56,16 @@ overflow_sub-self g c =
     let within : c.waits.link - 1 < length graph.waits.edges.items = omega (arith, h.at.within, at) in
     let last : IsLast graph.waits.edges.items c.index-label.result (c.waits.link - 1) (get_or graph.waits.earlier.items (c.waits.link - 1) 0) =
     subst (λ o. IsLast graph.waits.edges.items o (c.waits.link - 1)
-        (get_or graph.waits.earlier.items (c.waits.link - 1) 0)) owner
-        (graph.waits.linked.before (c.waits.link - 1) within)
+    (get_or graph.waits.earlier.items (c.waits.link - 1) 0)) owner
+    (graph.waits.linked.before (c.waits.link - 1) within)
     in
     let old : Tally = record (tally_of c.args.self.now) { opened = set c.args.self.now.opened.items c.index-label.result false } in
-    omega (arith, visits_some (net_of graph) graph.shaped.once g.closing c.args.index c.index-label.result
-        (c.waits.link - 1) c.waits.link (get_or graph.waits.earlier.items (c.waits.link - 1) 0) old
-        (tally_of c.waits.self) h at last)
+    omega (
+      arith,
+      visits_some (net_of graph) graph.shaped.once g.closing c.args.index c.index-label.result
+          (c.waits.link - 1) c.waits.link (get_or graph.waits.earlier.items (c.waits.link - 1) 0) old
+          (tally_of c.waits.self) h at last,
+    )
 
 pub fall-requires-clause-can : goal.fall-requires-clause-can
 fall-requires-clause-can g c =
@@ -70,17 +76,17 @@ fall-requires-clause-can g c =
     let within : c.waits.link - 1 < length graph.waits.edges.items = omega (arith, h.at.within, at) in
     let last : IsLast graph.waits.edges.items c.index-label.result (c.waits.link - 1) (get_or graph.waits.earlier.items (c.waits.link - 1) 0) =
     subst (λ o. IsLast graph.waits.edges.items o (c.waits.link - 1)
-        (get_or graph.waits.earlier.items (c.waits.link - 1) 0)) owner
-        (graph.waits.linked.before (c.waits.link - 1) within)
+    (get_or graph.waits.earlier.items (c.waits.link - 1) 0)) owner
+    (graph.waits.linked.before (c.waits.link - 1) within)
     in
     let old : Tally = record (tally_of c.args.self.now) { opened = set c.args.self.now.opened.items c.index-label.result false } in
     let then : Tally = record (tally_of c.waits.self) { visits = c.waits.self.visits - 1 } in
     let can : CanFall (net_of graph) then (to_at graph.waits.edges.items (c.waits.link - 1)) =
-        node_can (net_of graph) graph.shaped.once g.closing c.args.index c.index-label.result (c.waits.link - 1)
-        c.waits.link (get_or graph.waits.earlier.items (c.waits.link - 1) 0) old (tally_of c.waits.self) h at last in
+    node_can (net_of graph) graph.shaped.once g.closing c.args.index c.index-label.result (c.waits.link - 1)
+    c.waits.link (get_or graph.waits.earlier.items (c.waits.link - 1) 0) old (tally_of c.waits.self) h at last in
     subst (λ n. CanFall (net_of graph) then n)
-        (sym (read_to graph.waits.edges.items (c.waits.link - 1) c.index-in-waits.result.now within
-        c.index-in-waits.ensures)) can
+    (sym (read_to graph.waits.edges.items (c.waits.link - 1) c.index-in-waits.result.now within
+    c.index-in-waits.ensures)) can
 
 pub fall-requires-clause-marked : goal.fall-requires-clause-marked
 fall-requires-clause-marked g c =
@@ -93,8 +99,8 @@ fall-requires-clause-marked g c =
     h.falling.released (c.waits.link - 1) (record { within = within; by = inr (owner, omega (arith, at)) })
     in
     subst (λ n. is_marked_in (tally_of c.waits.self) n ≡ true)
-        (sym (read_to graph.waits.edges.items (c.waits.link - 1) c.index-in-waits.result.now within
-        c.index-in-waits.ensures)) marked
+    (sym (read_to graph.waits.edges.items (c.waits.link - 1) c.index-in-waits.result.now within
+    c.index-in-waits.ensures)) marked
 
 pub fall-requires-clause-last_room : goal.fall-requires-clause-last_room
 fall-requires-clause-last_room g c =
@@ -115,21 +121,21 @@ waits-preserved g c =
     let at : c.waits.link ≡ edge + 1 = omega (arith, c.waits-test.true) in
     let within : edge < length graph.waits.edges.items = omega (arith, h.at.within, at) in
     let last = next_link graph.waits.edges.items graph.waits.newest.items graph.waits.earlier.items c.index-label.result
-        edge c.waits.link c.index-link-in-waits.result.now graph.waits.linked h.at at c.index-link-in-waits.ensures in
+    edge c.waits.link c.index-link-in-waits.result.now graph.waits.linked h.at at c.index-link-in-waits.ensures in
     let old : Tally = record (tally_of c.args.self.now) { opened = set c.args.self.now.opened.items c.index-label.result false } in
     let then : Tally = record (tally_of c.waits.self) { visits = c.waits.self.visits - 1 } in
     let falls : Falls (net_of graph) (to_at graph.waits.edges.items edge) then (tally_of c.fall.new.self) =
     subst (λ n. Falls (net_of graph) n then (tally_of c.fall.new.self))
-        (read_to graph.waits.edges.items edge c.index-in-waits.result.now within c.index-in-waits.ensures)
-        c.fall.ensures.falls
+    (read_to graph.waits.edges.items edge c.index-in-waits.result.now within c.index-in-waits.ensures)
+    c.fall.ensures.falls
     in
     let marked = node_marked (net_of graph) graph.shaped.once g.closing c.args.index c.index-label.result edge
-        c.waits.link c.index-link-in-waits.result.now old (tally_of c.waits.self) h at last in
+    c.waits.link c.index-link-in-waits.result.now old (tally_of c.waits.self) h at last in
     let node = to_at graph.waits.edges.items edge in
     let listed : c.fall.new.last.fallen.items ≡ with_fallen (net_of graph) node c.waits.last.fallen.items =
     subst (λ n. c.fall.new.last.fallen.items ≡ with_fallen (net_of graph) n c.waits.last.fallen.items)
-        (read_to graph.waits.edges.items edge c.index-in-waits.result.now within c.index-in-waits.ensures)
-        c.fall.ensures.listed
+    (read_to graph.waits.edges.items edge c.index-in-waits.result.now within c.index-in-waits.ensures)
+    c.fall.ensures.listed
     in (
       TakesBackFrom-step (net_of graph) graph.shaped.once g.closing c.args.index c.index-label.result edge c.waits.link
           c.index-link-in-waits.result.now old (tally_of c.waits.self) h at last (tally_of c.fall.new.self) falls
@@ -153,5 +159,5 @@ returns-clause-falling g c =
     let graph = c.args.graph.now in
     let none : c.waits.link ≡ 0 = omega (arith, c.waits-test.false) in
     IsFalling-between (net_of graph) g.closing (tally_of c.waits.self) (c.args.index + 1) c.index-label.result
-        (subst (λ k. IsFalling (net_of graph) g.closing (tally_of c.waits.self) (c.args.index + 1) c.index-label.result
-        k) none c.waits.invariant.0.falling)
+    (subst (λ k. IsFalling (net_of graph) g.closing (tally_of c.waits.self) (c.args.index + 1) c.index-label.result
+    k) none c.waits.invariant.0.falling)

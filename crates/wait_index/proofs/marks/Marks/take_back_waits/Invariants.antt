@@ -9,8 +9,8 @@ abbrev pub invariant-waits : goal.invariant-waits
 invariant-waits g l = TakesBackFrom (net_of l.graph) g.closing l.index l.label l.link (tally_of l.initial.self)
     (tally_of l.self) × (marks_capacity l.self ≡ marks_capacity l.initial.self)
     × ListsFallen (net_of l.graph) (tally_of l.self) l.last.fallen.items
-        × (length l.last.fallen.items + length l.self.marked.items.items
-        ≡ length l.initial.last.fallen.items + length l.initial.self.marked.items.items)
+    × (length l.last.fallen.items + length l.self.marked.items.items
+    ≡ length l.initial.last.fallen.items + length l.initial.self.marked.items.items)
     × (vec_capacity l.last.fallen ≡ vec_capacity l.initial.last.fallen)
 
 abbrev pub decreases-waits : goal.decreases-waits

@@ -9,8 +9,8 @@ loop-label-preserved c =
     let labels = c.args.labels.now in
     let i = c.loop-label.label-index in
     let at : c.index.result ≡ get_or labels i 0 =
-        c.index.ensures ∙ c.label-item.is ∙ sym (get_or_default labels i 0 c.label-item.result c.loop-label-test.true)
-        in (
+    c.index.ensures ∙ c.label-item.is ∙ sym (get_or_default labels i 0 c.label-item.result c.loop-label-test.true)
+    in (
       TouchesAll-more labels i c.index.result (tally_of c.args.self.now) (tally_of c.loop-label.self)
           (tally_of c.touch.new.self) c.loop-label-test.true at c.loop-label.invariant.0 c.touch.ensures.touched,
       c.touch.ensures.room ∙ c.loop-label.invariant.1,

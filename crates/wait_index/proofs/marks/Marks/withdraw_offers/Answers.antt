@@ -10,7 +10,7 @@ offers-init c =
     let g = c.args.graph.now in
     let within : c.args.node < length g.offers.newest.items = omega (arith, c.requires.node, g.shaped.nodes_listed) in
     let first = first_link g.offers.edges.items g.offers.newest.items g.offers.earlier.items c.args.node
-        c.index-link.result.now g.offers.linked within c.index-link.ensures in
+    c.index-link.result.now g.offers.linked within c.index-link.ensures in
     (WithdrawsFrom-start (net_of g) c.args.node c.index-link.result.now (tally_of c.args.self.now) c.requires.can first, refl)
 
 pub withdraw-requires : goal.withdraw-requires
@@ -36,8 +36,8 @@ offers-smaller c =
     let g = c.args.graph.now in
     let at : c.offers.link ≡ (c.offers.link - 1) + 1 = omega (arith, c.offers-test.true) in
     let last = next_link g.offers.edges.items g.offers.newest.items g.offers.earlier.items c.args.node
-        (c.offers.link - 1) c.offers.link c.index-link-in-offers.result.now g.offers.linked c.offers.invariant.0.at at
-        c.index-link-in-offers.ensures in
+    (c.offers.link - 1) c.offers.link c.index-link-in-offers.result.now g.offers.linked c.offers.invariant.0.at at
+    c.index-link-in-offers.ensures in
     omega (arith, at, last.below)
 
 pub offers-preserved : goal.offers-preserved
@@ -48,10 +48,10 @@ offers-preserved c =
     let at : c.offers.link ≡ edge + 1 = omega (arith, c.offers-test.true) in
     let within : edge < length g.offers.edges.items = omega (arith, h.at.within, at) in
     let last = next_link g.offers.edges.items g.offers.newest.items g.offers.earlier.items c.args.node edge
-        c.offers.link c.index-link-in-offers.result.now g.offers.linked h.at at c.index-link-in-offers.ensures in
+    c.offers.link c.index-link-in-offers.result.now g.offers.linked h.at at c.index-link-in-offers.ensures in
     let withdraws : Withdraws (to_at g.offers.edges.items edge) (tally_of c.offers.self) (tally_of c.withdraw.new.self) =
     subst (λ n. Withdraws n (tally_of c.offers.self) (tally_of c.withdraw.new.self))
-        (read_to g.offers.edges.items edge c.index.result.now within c.index.ensures) c.withdraw.ensures.withdrawn
+    (read_to g.offers.edges.items edge c.index.result.now within c.index.ensures) c.withdraw.ensures.withdrawn
     in (
       WithdrawsFrom-step (net_of g) c.args.node edge c.offers.link c.index-link-in-offers.result.now
           (tally_of c.args.self.now) (tally_of c.offers.self) (tally_of c.withdraw.new.self) h at

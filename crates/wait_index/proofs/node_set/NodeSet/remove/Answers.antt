@@ -44,7 +44,7 @@ index_mut-requires c =
     let s = c.args.self.now in
     let r = read_of s c.args.node c.index.result.now c.requires.node c.requires.present c.index.ensures in
     let last = last_of s c.len.result c.index-last.result.now c.index-2.result (omega (arith, r.in_list))
-        (omega (arith, c.len.ensures, s.items.ok.0)) c.index-last.ensures c.index-2.ensures in
+    (omega (arith, c.len.ensures, s.items.ok.0)) c.index-last.ensures c.index-2.ensures in
     omega (arith, last, s.places.ok.0, s.listed.within (length s.items.items - 1) (omega (arith, r.in_list)))
 
 pub swap_remove-requires : goal.swap_remove-requires
@@ -58,7 +58,7 @@ invariant_of-self-clause-listed c =
     let s = c.args.self.now in
     let r = read_of s c.args.node c.index.result.now c.requires.node c.requires.present c.index.ensures in
     let last = last_of s c.len.result c.index-last.result.now c.index-2.result (omega (arith, r.in_list))
-        (omega (arith, c.len.ensures, s.items.ok.0)) c.index-last.ensures c.index-2.ensures in
+    (omega (arith, c.len.ensures, s.items.ok.0)) c.index-last.ensures c.index-2.ensures in
     rw c.swap_remove.ensures.items
     (IsListing-swap s.items.items s.places.items c.args.node (c.index.result.now - 1) c.index-2.result s.listed r.at last c.swap_remove.result)
 
@@ -67,12 +67,17 @@ returns-clause-held c =
     let s = c.args.self.now in
     let r = read_of s c.args.node c.index.result.now c.requires.node c.requires.present c.index.ensures in
     let last = last_of s c.len.result c.index-last.result.now c.index-2.result (omega (arith, r.in_list))
-        (omega (arith, c.len.ensures, s.items.ok.0)) c.index-last.ensures c.index-2.ensures in
+    (omega (arith, c.len.ensures, s.items.ok.0)) c.index-last.ensures c.index-2.ensures in
     holds-swap s.items.items s.places.items c.args.node (c.index.result.now - 1) c.index-2.result s.listed r.at last
 
 pub invariant_of-self-clause-roomy : goal.invariant_of-self-clause-roomy
 invariant_of-self-clause-roomy c =
     let s = c.args.self.now in
     let index = c.index.result.now - 1 + 1 in
-    omega (arith, length-set s.places.items c.index-2.result index,
-        length-set (set s.places.items c.index-2.result index) c.args.node 0, c.swap_remove.ensures.capacity, s.roomy)
+    omega (
+      arith,
+      length-set s.places.items c.index-2.result index,
+      length-set (set s.places.items c.index-2.result index) c.args.node 0,
+      c.swap_remove.ensures.capacity,
+      s.roomy,
+    )

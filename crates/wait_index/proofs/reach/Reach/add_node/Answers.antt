@@ -37,8 +37,8 @@ pub returns-clause-awaits : goal.returns-clause-awaits
 returns-clause-awaits c =
     let r = c.self.inside in
     subst (λ (n : Net). has_wait n c.new-node.result ≡ false) (sym c.add_node.ensures.net)
-        (has_wait-past (net_of r.graph) c.new-node.result r.graph.shaped.nodes
-        (omega (arith, c.new-node.ensures, c.len.ensures, r.graph.roots.ok.0)))
+    (has_wait-past (net_of r.graph) c.new-node.result r.graph.shaped.nodes
+    (omega (arith, c.new-node.ensures, c.len.ensures, r.graph.roots.ok.0)))
 
 pub returns-clause-reached : goal.returns-clause-reached
 returns-clause-reached c = lists c.add_node.new.self c.add_node-2.new.self (invariant_of-self c).settled

@@ -30,9 +30,12 @@ invariant_of-self c =
       open_labels = omega (arith, k.open_labels, closed, ap (λ (g : Capacity). g.labels) room);
       offers = omega (arith, k.offers, offers, ap (λ (g : GraphCapacity). g.offers) graph_room);
       waits = omega (arith, k.waits, waits, ap (λ (g : GraphCapacity). g.waits) graph_room);
-      fallen = omega (arith, c.close.ensures.many,
-          Follows-nodes (net_of r.graph) (length r.marks.marked.items.items) 0 0 (tally_of r.marks) k.settled.follows,
-          roots);
+      fallen = omega (
+        arith,
+        c.close.ensures.many,
+        Follows-nodes (net_of r.graph) (length r.marks.marked.items.items) 0 0 (tally_of r.marks) k.settled.follows,
+        roots,
+      );
       last_nodes = omega (arith, k.last_nodes, c.close.ensures.last_room, roots);
     }
 
@@ -48,10 +51,10 @@ returns-clause-turns c =
     let before = visits-shown (net_of r.graph) (tally_of r.marks) c.self.invariant.settled r.marks.touched.listed r.graph.shaped.labels in
     let after = visits-shown (net_of g) (tally_of m) c.close.ensures.settled m.touched.listed g.shaped.labels in
     let shown : ClosesIn (net_of r.graph) labels (visits_of (net_of r.graph) r.marks.marked.items.items)
-        (visits_of (net_of g) m.marked.items.items) c.close.result =
+    (visits_of (net_of g) m.marked.items.items) c.close.result =
     subst (λ v. ClosesIn (net_of r.graph) labels (visits_of (net_of r.graph) r.marks.marked.items.items) v
-        c.close.result) after (subst (λ v. ClosesIn (net_of r.graph) labels v m.visits c.close.result) before
-        c.close.ensures.turns)
+    c.close.result) after (subst (λ v. ClosesIn (net_of r.graph) labels v m.visits c.close.result) before
+    c.close.ensures.turns)
     in
     subst (λ (x : Index). ClosesIn x.net labels (visits_of x.net x.marked) (visits_of (net_of g) m.marked.items.items) c.close.result) c.self.view_is shown
 
@@ -63,5 +66,5 @@ returns-clause-shut c shut =
     false_from_ne_true (is_open_in (tally_of r.marks) l) (λ o.
     let within : l < length r.graph.closed.items = omega (arith, c.requires a.0 l a.1, a.2, ap (λ (x : Index). length x.net.closed) c.self.view_is) in
     shut l a (subst (λ (x : Index). IsOpen x.net l) c.self.view_is
-        (open-shown (net_of r.graph) (tally_of r.marks) k r.marks.touched.listed r.graph.shaped.labels l within o)))) in
+    (open-shown (net_of r.graph) (tally_of r.marks) k r.marks.touched.listed r.graph.shaped.labels l within o)))) in
     (same.0, ap (λ (t : Tally). t.marked) same.1 ∙ ap (λ (x : Index). x.marked) c.self.view_is)

@@ -12,8 +12,8 @@ returns c =
     let k = c.self.invariant.settled in
     let within : c.args.label < length r.graph.closed.items = omega (arith, c.requires, ap (λ (x : Index). length x.net.closed) c.self.view_is) in
     let read : c.index-2.result.now ≡ get_or r.marks.opened.items c.index.result false =
-        get_or_read r.marks.opened.items c.index.result c.index-2.result.now
-        (omega (arith, within, c.index.ensures, k.follows.steady.sizes.opened)) c.index-2.ensures false in
+    get_or_read r.marks.opened.items c.index.result c.index-2.result.now
+    (omega (arith, within, c.index.ensures, k.follows.steady.sizes.opened)) c.index-2.ensures false in
     let opened : c.index-2.result.now ≡ is_open_in (tally_of r.marks) c.args.label = read ∙ ap (is_open_in (tally_of r.marks)) c.index.ensures in (
       λ e. subst (λ (x : Index). IsOpen x.net c.args.label) c.self.view_is
           (open-shown (net_of r.graph) (tally_of r.marks) k r.marks.touched.listed r.graph.shaped.labels c.args.label

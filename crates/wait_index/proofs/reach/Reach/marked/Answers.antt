@@ -10,4 +10,4 @@ returns-clause-reached c =
     let r = c.self.inside in
     let lists = lists-reached (net_of r.graph) (tally_of r.marks) c.self.invariant.settled r.marks.touched.listed r.graph.shaped.labels in
     subst (λ (x : Index). ListsReached x.net c.deref.result.now) c.self.view_is
-        (subst (λ nodes. ListsReached (net_of r.graph) nodes) (sym c.deref.ensures.value) lists)
+    (subst (λ nodes. ListsReached (net_of r.graph) nodes) (sym c.deref.ensures.value) lists)

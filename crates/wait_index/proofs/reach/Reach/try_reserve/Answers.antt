@@ -15,14 +15,14 @@ returns-in_err-try_reserve-clause-reached c =
 pub returns-in_err-try_reserve-2-clause-reached : goal.returns-in_err-try_reserve-2-clause-reached
 returns-in_err-try_reserve-2-clause-reached c =
     lists-grown c.self.inside.graph c.try_reserve.new.self c.self.inside.marks c.try_reserve-2.new.self
-        c.self.invariant.settled c.try_reserve.ensures.grows.net c.try_reserve-2.ensures.grows.tally
+    c.self.invariant.settled c.try_reserve.ensures.grows.net c.try_reserve-2.ensures.grows.tally
 
 pub returns-clause-reached : goal.returns-clause-reached
 returns-clause-reached c =
     lists-grown c.self.inside.graph c.try_reserve.new.self c.self.inside.marks c.try_reserve-2.new.self
-        c.self.invariant.settled c.try_reserve.ensures.grows.net c.try_reserve-2.ensures.grows.tally
+    c.self.invariant.settled c.try_reserve.ensures.grows.net c.try_reserve-2.ensures.grows.tally
 
 pub returns-in_err-try_reserve-3-clause-reached : goal.returns-in_err-try_reserve-3-clause-reached
 returns-in_err-try_reserve-3-clause-reached c =
     lists-grown c.self.inside.graph c.try_reserve.new.self c.self.inside.marks c.try_reserve-2.new.self
-        c.self.invariant.settled c.try_reserve.ensures.grows.net c.try_reserve-2.ensures.grows.tally
+    c.self.invariant.settled c.try_reserve.ensures.grows.net c.try_reserve-2.ensures.grows.tally

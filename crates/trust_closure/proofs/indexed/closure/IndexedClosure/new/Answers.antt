@@ -10,8 +10,8 @@ use Rattle.trust_closure.proofs.indexed.closure.IndexedClosure.new.Goals as goal
 pub add_seeds-requires-clause-domains : goal.add_seeds-requires-clause-domains
 add_seeds-requires-clause-domains c =
     subst (All (λ (s : Seed). HasDomain c.in_ok-held.held.config s.domain))
-        (sym (c.seeds.ensures ∙ ap (λ (a : Configuration). a.seeds) c.config-2.ensures.config))
-        (seeds-domains c.in_ok-held.held.config)
+    (sym (c.seeds.ensures ∙ ap (λ (a : Configuration). a.seeds) c.config-2.ensures.config))
+    (seeds-domains c.in_ok-held.held.config)
 
 pub raise-requires-clause-nodes : goal.raise-requires-clause-nodes
 raise-requires-clause-nodes c =
@@ -21,9 +21,9 @@ raise-requires-clause-nodes c =
     let seeds : c.seeds.result.now ≡ h.config.seeds = c.seeds.ensures ∙ ap (λ (a : Configuration). a.seeds) c.config-2.ensures.config in
     let marked : c.marked.result.now ≡ w.marked = c.marked.ensures.nodes ∙ c.reach.ensures.marked in
     let built = built-seeded h c.domains-domains.result.now p w c.seeds.result.now c.config.ensures.valid
-        (ap (λ (m : Meaning). m.held) c.in_ok-held.ensures.0) c.in_ok-held.ensures.1
-        (subst (λ (k : Configuration). AreDomains k c.domains-domains.result.now) c.config.ensures.config
-        c.domains-domains.ensures.all) seeds c.in_ok-add_seeds.ensures in
+    (ap (λ (m : Meaning). m.held) c.in_ok-held.ensures.0) c.in_ok-held.ensures.1
+    (subst (λ (k : Configuration). AreDomains k c.domains-domains.result.now) c.config.ensures.config
+    c.domains-domains.ensures.all) seeds c.in_ok-add_seeds.ensures in
     subst (All (λ n. n < length p.firsts)) (sym marked) (marked-within h p w built)
 
 pub raise-requires-clause-firsts : goal.raise-requires-clause-firsts
@@ -33,9 +33,9 @@ raise-requires-clause-firsts c =
     let w = c.add_seeds.new.wiring in
     let seeds : c.seeds.result.now ≡ h.config.seeds = c.seeds.ensures ∙ ap (λ (a : Configuration). a.seeds) c.config-2.ensures.config in
     let built = built-seeded h c.domains-domains.result.now p w c.seeds.result.now c.config.ensures.valid
-        (ap (λ (m : Meaning). m.held) c.in_ok-held.ensures.0) c.in_ok-held.ensures.1
-        (subst (λ (k : Configuration). AreDomains k c.domains-domains.result.now) c.config.ensures.config
-        c.domains-domains.ensures.all) seeds c.in_ok-add_seeds.ensures in
+    (ap (λ (m : Meaning). m.held) c.in_ok-held.ensures.0) c.in_ok-held.ensures.1
+    (subst (λ (k : Configuration). AreDomains k c.domains-domains.result.now) c.config.ensures.config
+    c.domains-domains.ensures.all) seeds c.in_ok-add_seeds.ensures in
     firsts-within h p w built
 
 pub raise-requires-clause-few : goal.raise-requires-clause-few
@@ -68,12 +68,16 @@ invariant_of-result c =
     let seeds : c.seeds.result.now ≡ h.config.seeds = c.seeds.ensures ∙ ap (λ (a : Configuration). a.seeds) c.config-2.ensures.config in
     let marked : c.marked.result.now ≡ w.marked = c.marked.ensures.nodes ∙ c.reach.ensures.marked in
     let built = built-seeded h c.domains-domains.result.now p w c.seeds.result.now c.config.ensures.valid
-        (ap (λ (m : Meaning). m.held) c.in_ok-held.ensures.0) c.in_ok-held.ensures.1
-        (subst (λ (k : Configuration). AreDomains k c.domains-domains.result.now) c.config.ensures.config
-        c.domains-domains.ensures.all) seeds c.in_ok-add_seeds.ensures in
+    (ap (λ (m : Meaning). m.held) c.in_ok-held.ensures.0) c.in_ok-held.ensures.1
+    (subst (λ (k : Configuration). AreDomains k c.domains-domains.result.now) c.config.ensures.config
+    c.domains-domains.ensures.all) seeds c.in_ok-add_seeds.ensures in
     kept-seeded h p c.raise.new.self w c.marked.result.now c.seeds.result.now built c.in_ok-add_seeds.ensures c.in_ok-held.ensures.1
-    (omega (arith, c.domains-domains.ensures.form.few_seeds, ap length c.seeds.ensures,
-        ap (λ (a : Configuration). length a.seeds) c.config-2.ensures.config,
-        ap (λ (a : Configuration). length a.seeds) c.config.ensures.config))
+    (omega (
+      arith,
+      c.domains-domains.ensures.form.few_seeds,
+      ap length c.seeds.ensures,
+      ap (λ (a : Configuration). length a.seeds) c.config-2.ensures.config,
+      ap (λ (a : Configuration). length a.seeds) c.config.ensures.config,
+    ))
     c.raise.ensures.numbers c.raise.ensures.firsts c.raise.ensures.capacity marked
     c.raise.ensures.adds

@@ -18,7 +18,7 @@ returns c =
     let raised : IsTrue c.is_raised.result ↔ HasRaised (pairs_of h.config.seeds h.arrived) c.self.inside.pairs q =
     subst (λ (ss : List Seed). IsTrue c.is_raised.result ↔ HasRaised (pairs_of ss h.arrived) c.self.inside.pairs q) seeds
     (subst (λ (rs : List Receipt). IsTrue c.is_raised.result
-        ↔ HasRaised (pairs_of c.seeds-seeds.result.now rs) c.self.inside.pairs q) c.arrived.ensures c.is_raised.ensures)
+    ↔ HasRaised (pairs_of c.seeds-seeds.result.now rs) c.self.inside.pairs q) c.arrived.ensures c.is_raised.ensures)
     in
     let member = raised-member h c.self.inside.pairs c.self.inside.wiring c.self.invariant.indexed q in
     subst (λ v. IsTrue c.is_raised.result ↔ IsMember v.state.meaning q) c.self.view_is

@@ -18,8 +18,14 @@ overflow_sub-result c =
 
 pub returns : goal.returns
 returns c =
-    let none : Receipt = record { domain = []; endpoint = record { text = []; domain = []; path = [] }; document =
-        record { authorities = []; rank = None; hint = None }; voucher = record { 0 = [] }; key = record { 0 = [] } } in
+    let none : Receipt = record {
+      domain = [];
+      endpoint = record { text = []; domain = []; path = [] };
+      document =
+          record { authorities = []; rank = None; hint = None };
+      voucher = record { 0 = [] };
+      key = record { 0 = [] };
+    } in
     let n = (length c.seeds.result.now + length c.arrived.result.now) - length c.marked.result.now in
     subst (λ v. IsPendingCount v.state.meaning n) c.self.view_is
     (pending-count c.self.inside.held c.self.inside.pairs c.self.inside.wiring none n c.self.invariant.indexed.built

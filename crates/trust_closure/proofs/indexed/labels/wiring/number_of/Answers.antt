@@ -14,8 +14,13 @@ find-requires c = rising-from_in_order (in_order c.args.labels.now) c.args.label
 
 pub insert-requires-clause-place : goal.insert-requires-clause-place
 insert-requires-clause-place c =
-    omega (arith, c.in-Err.ensures.within, length-picked c.args.labels.now.items c.args.labels.now.order
-        c.len-count.ensures.arranged.within, c.len-count.ensures.arranged.counted)
+    omega (
+      arith,
+      c.in-Err.ensures.within,
+      length-picked c.args.labels.now.items c.args.labels.now.order
+          c.len-count.ensures.arranged.within,
+      c.len-count.ensures.arranged.counted,
+    )
 
 pub returns-in-Ok-clause-number : goal.returns-in-Ok-clause-number
 returns-in-Ok-clause-number c = record {
@@ -30,11 +35,15 @@ returns-in-Err-clause-number c = record {
   named = ap (λ n. slice_get c.insert.new.self.items n) (c.add_label.ensures.number ∙ c.requires.sizes)
       ∙ ap (λ xs. slice_get xs (length c.args.labels.now.items)) c.insert.ensures.items
       ∙ slice_get-push c.args.labels.now.items c.args.label;
-  grown = inr (missing-not_contained c.args.labels.now c.in-Err.place c.args.label c.len-count.ensures.arranged
-      c.in-Err.ensures, c.insert.ensures.items, c.add_label.ensures.net);
+  grown = inr (
+    missing-not_contained c.args.labels.now c.in-Err.place c.args.label c.len-count.ensures.arranged
+        c.in-Err.ensures,
+    c.insert.ensures.items,
+    c.add_label.ensures.net,
+  );
 }
 
 pub returns-in-Err-clause-rising : goal.returns-in-Err-clause-rising
 returns-in-Err-clause-rising c =
     subst IsInOrder (sym c.insert.ensures.in_order)
-        (in_order-insert (in_order c.args.labels.now) c.in-Err.place c.args.label c.requires.rising c.in-Err.ensures)
+    (in_order-insert (in_order c.args.labels.now) c.in-Err.place c.args.label c.requires.rising c.in-Err.ensures)

@@ -17,10 +17,10 @@ returns c =
     let seeds : c.seeds-seeds.result.now ≡ h.config.seeds = c.seeds-seeds.ensures ∙ ap (λ (a : Configuration). a.seeds) c.config.ensures.config in
     let list = λ (ss : List Seed) (rs : List Receipt). raised_of (pairs_of ss rs) p c.args.domain.now in
     let is : c.accepted.result ≡ list h.config.seeds h.arrived =
-        c.accepted.ensures ∙ ap (λ ss. list ss c.arrived.result.now) seeds
-        ∙ ap (λ rs. list h.config.seeds rs) c.arrived.ensures in
+    c.accepted.ensures ∙ ap (λ ss. list ss c.arrived.result.now) seeds
+    ∙ ap (λ rs. list h.config.seeds rs) c.arrived.ensures in
     subst (λ v. IsAcceptedList v.meaning c.args.domain.now c.accepted.result) c.self.view_is
     (subst (IsAcceptedList _ c.args.domain.now) (sym is)
     (accepted-list _ (pairs_of h.config.seeds h.arrived) p c.args.domain.now
-        (plain-tells h p c.self.inside.seed_offers.items c.self.inside.released.items c.self.invariant.settled)
-        c.self.invariant.settled.set.pairing.rising))
+    (plain-tells h p c.self.inside.seed_offers.items c.self.inside.released.items c.self.invariant.settled)
+    c.self.invariant.settled.set.pairing.rising))

@@ -15,7 +15,7 @@ count_accepted-requires-clause-firsts c =
     let offers = c.sow_all.new.seed_offers.items in
     let seeds : c.seeds-seeds.result.now ≡ h.config.seeds = c.seeds-seeds.ensures ∙ ap (λ (a : Configuration). a.seeds) c.config-2.ensures.config in
     firsts-within h p offers [] (sown-set h p offers c.seeds-seeds.result.now seeds c.config.ensures.valid
-        (ap (λ (m : Meaning). m.held) c.in_ok-held.ensures.0) c.in_ok-held.ensures.1 c.in_ok-sow_all.ensures)
+    (ap (λ (m : Meaning). m.held) c.in_ok-held.ensures.0) c.in_ok-held.ensures.1 c.in_ok-sow_all.ensures)
 
 pub invariant_of-result : goal.invariant_of-result
 invariant_of-result c =
@@ -26,14 +26,14 @@ invariant_of-result c =
     let seeds : c.seeds-seeds.result.now ≡ h.config.seeds = c.seeds-seeds.ensures ∙ ap (λ (a : Configuration). a.seeds) c.config-2.ensures.config in
     let arrived = c.in_ok-held.ensures.1 in
     let set = sown-set h p offers c.seeds-seeds.result.now seeds c.config.ensures.valid
-        (ap (λ (m : Meaning). m.held) c.in_ok-held.ensures.0) arrived c.in_ok-sow_all.ensures in
+    (ap (λ (m : Meaning). m.held) c.in_ok-held.ensures.0) arrived c.in_ok-sow_all.ensures in
     let raised = raised-as (flags_of q.counts) (length c.seeds-seeds.result.now)
     (length h.config.seeds) c.deref.result.now [] p.firsts p.firsts (ap length seeds)
     (c.deref.ensures.value ∙ c.new-released.ensures.items) refl c.count_accepted.ensures.raised in
     record {
       settled = subst (λ (fs : List Bool). HasPlainFlags h q offers fs) (sym c.new-released.ensures.items)
           (settled-from h p q offers [] [] set refl (none-released h [] arrived) c.count_accepted.ensures.numbers
-              c.count_accepted.ensures.firsts c.count_accepted.ensures.size raised);
+          c.count_accepted.ensures.firsts c.count_accepted.ensures.size raised);
       room = record {
         held = omega (arith, ap length arrived);
         pairs = omega (arith, c.in_ok-sow_all.ensures.room, ap length c.count_accepted.ensures.firsts, c.count_accepted.ensures.capacity);

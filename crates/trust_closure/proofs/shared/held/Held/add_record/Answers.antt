@@ -16,31 +16,33 @@ pub invariant_of-self : goal.invariant_of-self
 invariant_of-self c =
     let below : c.record_of.result.domain < length (domains_of c.self.inside.config) =
     subst (λ (n : ℕ). n < length (domains_of c.self.inside.config)) (sym c.record_of.ensures.domain)
-        (place_below c.self.inside.config c.args.domain.now c.in-Some.number c.in-Some.ensures) in
+    (place_below c.self.inside.config c.args.domain.now c.in-Some.number c.in-Some.ensures) in
     hoard_add c.self.inside.config c.self.inside.receipts c.self.inside.buckets.items c.self.inside.records
-        c.add.new.self c.record_of.result c.self.invariant below
+    c.add.new.self c.record_of.result c.self.invariant below
     (subst IsDigest (sym c.record_of.ensures.key) c.record_of.ensures.form) c.add.result c.add.ensures
 
 pub returns-clause-meaning : goal.returns-clause-meaning
 returns-clause-meaning c =
     let below : c.record_of.result.domain < length (domains_of c.self.inside.config) =
     subst (λ (n : ℕ). n < length (domains_of c.self.inside.config)) (sym c.record_of.ensures.domain)
-        (place_below c.self.inside.config c.args.domain.now c.in-Some.number c.in-Some.ensures) in
+    (place_below c.self.inside.config c.args.domain.now c.in-Some.number c.in-Some.ensures) in
     let domains : get_or (domains_of c.self.inside.config) c.record_of.result.domain [] ≡ c.args.domain.now =
     ap (λ (n : ℕ). get_or (domains_of c.self.inside.config) n []) c.record_of.ensures.domain
-        ∙ place_is c.self.inside.config c.args.domain.now c.in-Some.number c.in-Some.ensures in
+    ∙ place_is c.self.inside.config c.args.domain.now c.in-Some.number c.in-Some.ensures in
     let keys = c.record_of.ensures.key in
-    let same : distrust_by (domains_of c.self.inside.config) c.record_of.result ≡ record { domain = c.args.domain.now;
-        key = c.args.key } = λ i. record { domain = domains i; key = record { 0 = keys i } } in
+    let same : distrust_by (domains_of c.self.inside.config) c.record_of.result ≡ record {
+      domain = c.args.domain.now;
+      key = c.args.key;
+    } = λ i. record { domain = domains i; key = record { 0 = keys i } } in
     let answer = c.answer_of.ensures in
     subst (λ r. AddsOrRefuses (meaning_of c.args.self.now) (record { domain = c.args.domain.now; key = c.args.key })
-        (meaning_with c.self.inside.config (in_order c.self.inside.receipts) c.add.new.self) r) (sym answer)
+    (meaning_with c.self.inside.config (in_order c.self.inside.receipts) c.add.new.self) r) (sym answer)
     (subst (λ (h : Hoard). AddsOrRefuses (meaning_of h) (record { domain = c.args.domain.now; key = c.args.key })
-        (meaning_with c.self.inside.config (in_order c.self.inside.receipts) c.add.new.self)
-        (addition_result c.add.result)) c.self.view_is
+    (meaning_with c.self.inside.config (in_order c.self.inside.receipts) c.add.new.self)
+    (addition_result c.add.result)) c.self.view_is
     (subst (λ (d : Distrust). AddsOrRefuses
-        (meaning_with c.self.inside.config (in_order c.self.inside.receipts) c.self.inside.records) d
-        (meaning_with c.self.inside.config (in_order c.self.inside.receipts) c.add.new.self)
-        (addition_result c.add.result)) same
+    (meaning_with c.self.inside.config (in_order c.self.inside.receipts) c.self.inside.records) d
+    (meaning_with c.self.inside.config (in_order c.self.inside.receipts) c.add.new.self)
+    (addition_result c.add.result)) same
     (told_adds c.self.inside.config (in_order c.self.inside.receipts) c.self.inside.records c.add.new.self
-        c.record_of.result below c.self.invariant.within c.add.result c.add.ensures)))
+    c.record_of.result below c.self.invariant.within c.add.result c.add.ensures)))

@@ -19,7 +19,7 @@ insert-number-requires-clause-place c =
     let missing : IsMissing (λ s. receipt_cmp s c.args.receipt) (in_order c.self.inside.receipts) c.args.place =
     subst (λ (h : Hoard). IsMissing (λ s. receipt_cmp s c.args.receipt) h.held c.args.place) (sym c.self.view_is) c.requires.absent.missing in
     let size : length (in_order c.self.inside.receipts) ≡ length c.self.inside.receipts.items =
-        length_in_order c.self.inside.receipts c.self.invariant.arranged in
+    length_in_order c.self.inside.receipts c.self.invariant.arranged in
     let within = missing.within in
     omega arith
 
@@ -28,20 +28,20 @@ invariant_of-self c =
     let missing : IsMissing (λ s. receipt_cmp s c.args.receipt) (in_order c.self.inside.receipts) c.args.place =
     subst (λ (h : Hoard). IsMissing (λ s. receipt_cmp s c.args.receipt) h.held c.args.place) (sym c.self.view_is) c.requires.absent.missing in
     let fits : IsFitting c.self.inside.config c.args.receipt =
-        subst (λ (h : Hoard). IsFitting h.config c.args.receipt) (sym c.self.view_is) c.requires.absent.fits in
+    subst (λ (h : Hoard). IsFitting h.config c.args.receipt) (sym c.self.view_is) c.requires.absent.fits in
     let few : length (in_order c.self.inside.receipts) < 65536 = subst (λ (h : Hoard). length h.held < 65536) (sym c.self.view_is) c.requires.absent.few in
     let size : length (in_order c.self.inside.receipts) ≡ length c.self.inside.receipts.items =
-        length_in_order c.self.inside.receipts c.self.invariant.arranged in
+    length_in_order c.self.inside.receipts c.self.invariant.arranged in
     let gap : IsGap (λ n. compared_at (λ x. bucket_cmp x c.args.receipt) c.self.inside.receipts.items n) c.self.inside.buckets.items c.before-spot.result =
     subst (λ (r : Receipt). IsGap (λ n. compared_at (λ x. bucket_cmp x r) c.self.inside.receipts.items n)
-        c.self.inside.buckets.items c.before-spot.result) c.new.ensures.receipt
+    c.self.inside.buckets.items c.before-spot.result) c.new.ensures.receipt
     (subst (λ (xs : List Receipt). IsGap (λ n. compared_at (λ x. bucket_cmp x c.new.result.receipt.now) xs n)
-        c.self.inside.buckets.items c.before-spot.result) (c.new.ensures.receipts ∙ c.items.ensures)
-        c.before-spot.ensures) in
+    c.self.inside.buckets.items c.before-spot.result) (c.new.ensures.receipts ∙ c.items.ensures)
+    c.before-spot.ensures) in
     hoard_more c.self.inside.config c.self.inside.receipts c.insert-number.new.self c.self.inside.buckets.items
-        c.insert.new.self.items c.self.inside.records c.args.receipt c.args.place c.before-spot.result
+    c.insert.new.self.items c.self.inside.records c.args.receipt c.args.place c.before-spot.result
     c.self.invariant c.requires.absent.is fits (omega arith) missing gap c.insert-number.ensures.items
-        c.insert-number.ensures.in_order c.insert-number.ensures.order
+    c.insert-number.ensures.in_order c.insert-number.ensures.order
     (c.insert.ensures.items ∙ ap (λ n. insert c.self.inside.buckets.items c.before-spot.result n) c.insert-number.ensures.number)
 
 pub returns : goal.returns
@@ -50,8 +50,8 @@ returns c =
     subst (λ (h : Hoard). IsMissing (λ s. receipt_cmp s c.args.receipt) h.held c.args.place) (sym c.self.view_is) c.requires.absent.missing in
     let arrived = c.insert-number.ensures.items ∙ ap (λ (h : Hoard). h.arrived ++ c.args.receipt ∷ []) c.self.view_is in
     let held = c.insert-number.ensures.in_order
-        ∙ sym (missing_inserts (in_order c.self.inside.receipts) c.args.receipt c.args.place missing)
-        ∙ ap (λ (h : Hoard). with_receipt c.args.receipt h.held) c.self.view_is in
+    ∙ sym (missing_inserts (in_order c.self.inside.receipts) c.args.receipt c.args.place missing)
+    ∙ ap (λ (h : Hoard). with_receipt c.args.receipt h.held) c.self.view_is in
     let config = ap (λ (h : Hoard). h.config) c.self.view_is in
     let records = ap (λ (h : Hoard). h.records) c.self.view_is in
     let capacity = ap₂ (λ a b. min a b) c.insert-number.ensures.capacity c.insert.ensures.capacity ∙ ap (λ (h : Hoard). h.capacity) c.self.view_is in

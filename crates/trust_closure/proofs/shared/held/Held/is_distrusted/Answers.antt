@@ -17,13 +17,15 @@ pub returns-in-Some : goal.returns-in-Some
 returns-in-Some c =
     let below : c.record_of.result.domain < length (domains_of c.self.inside.config) =
     subst (λ (n : ℕ). n < length (domains_of c.self.inside.config)) (sym c.record_of.ensures.domain)
-        (place_below c.self.inside.config c.args.domain.now c.in-Some.number c.in-Some.ensures) in
+    (place_below c.self.inside.config c.args.domain.now c.in-Some.number c.in-Some.ensures) in
     let domains : get_or (domains_of c.self.inside.config) c.record_of.result.domain [] ≡ c.args.domain.now =
     ap (λ (n : ℕ). get_or (domains_of c.self.inside.config) n []) c.record_of.ensures.domain
-        ∙ place_is c.self.inside.config c.args.domain.now c.in-Some.number c.in-Some.ensures in
+    ∙ place_is c.self.inside.config c.args.domain.now c.in-Some.number c.in-Some.ensures in
     let keys = c.record_of.ensures.key in
-    let same : distrust_by (domains_of c.self.inside.config) c.record_of.result ≡ record { domain = c.args.domain.now;
-        key = c.args.key } = λ i. record { domain = domains i; key = record { 0 = keys i } } in
+    let same : distrust_by (domains_of c.self.inside.config) c.record_of.result ≡ record {
+      domain = c.args.domain.now;
+      key = c.args.key;
+    } = λ i. record { domain = domains i; key = record { 0 = keys i } } in
     subst (λ (h : Hoard). IsTrue c.holds.result ↔ Contains h.records (record { domain = c.args.domain.now; key = c.args.key })) c.self.view_is
     (subst (λ (d : Distrust). IsTrue c.holds.result ↔ Contains (distrusts_of (domains_of c.self.inside.config) c.self.inside.records) d) same
     (distrust_held c.self.inside.config c.self.inside.records c.record_of.result c.holds.result below c.self.invariant.within c.holds.ensures))

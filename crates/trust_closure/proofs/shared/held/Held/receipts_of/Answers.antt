@@ -20,21 +20,21 @@ new-requires-2 c =
     subst (λ (xs : List Receipt). All (λ n. n < length xs) c.matching-numbers.result) (sym c.items-items.ensures)
     (subst (All (λ n. n < length c.self.inside.receipts.items)) (sym c.matching-numbers.ensures)
     (filter_within
-        (λ n. is_equal (compared_at (λ r. nat_cmp (bucket_of r) c.new.result.bucket) c.new.result.receipts.now n))
-        (length c.self.inside.receipts.items) c.self.inside.buckets.items c.self.invariant.buckets_arranged.within))
+    (λ n. is_equal (compared_at (λ r. nat_cmp (bucket_of r) c.new.result.bucket) c.new.result.receipts.now n))
+    (length c.self.inside.receipts.items) c.self.inside.buckets.items c.self.invariant.buckets_arranged.within))
 
 pub returns : goal.returns
 returns c =
     let lent : c.items-items.result.now ≡ c.self.inside.receipts.items = c.items-items.ensures in
     let numbers : c.matching-numbers.result ≡ filter
-        (λ n. is_equal (compared_at (λ r. nat_cmp (bucket_of r) c.args.bucket) c.self.inside.receipts.items n))
-        c.self.inside.buckets.items =
+    (λ n. is_equal (compared_at (λ r. nat_cmp (bucket_of r) c.args.bucket) c.self.inside.receipts.items n))
+    c.self.inside.buckets.items =
     c.matching-numbers.ensures
     ∙ ap (λ (b : ℕ). filter (λ n. is_equal (compared_at (λ r. nat_cmp (bucket_of r) b) c.new.result.receipts.now n))
-        c.self.inside.buckets.items) c.new.ensures.bucket
+    c.self.inside.buckets.items) c.new.ensures.bucket
     ∙ ap (λ (xs : List Receipt). filter (λ n. is_equal (compared_at (λ r. nat_cmp (bucket_of r) c.args.bucket) xs n))
-        c.self.inside.buckets.items) (c.new.ensures.receipts ∙ lent) in
+    c.self.inside.buckets.items) (c.new.ensures.receipts ∙ lent) in
     c.new-3.ensures ∙ c.new-2.ensures ∙ ap (λ xs. picked xs c.matching-numbers.result) lent ∙ ap (picked c.self.inside.receipts.items) numbers
     ∙ bucket_list c.self.inside.receipts c.self.inside.buckets.items c.args.bucket c.self.invariant.arranged
-        c.self.invariant.buckets_arranged c.self.invariant.rising c.self.invariant.buckets_rising
+    c.self.invariant.buckets_arranged c.self.invariant.rising c.self.invariant.buckets_rising
     ∙ ap (λ (h : Hoard). receipts_in c.args.bucket h.held) c.self.view_is

@@ -27,22 +27,26 @@ returns-in-Ok c =
     let found : IsNumber (λ s. receipt_cmp s c.args.receipt.now) c.self.inside.receipts c.in-Ok.field-0 =
     subst (λ (r : Receipt). IsNumber (λ s. receipt_cmp s r) c.self.inside.receipts c.in-Ok.field-0) c.new.ensures c.in-Ok.ensures in
     subst (λ (h : Hoard). Contains h.held c.args.receipt.now) c.self.view_is
-        (found_held c.self.inside.receipts c.args.receipt.now c.in-Ok.field-0 c.self.invariant.receipts
-        c.fit.ensures.form found)
+    (found_held c.self.inside.receipts c.args.receipt.now c.in-Ok.field-0 c.self.invariant.receipts
+    c.fit.ensures.form found)
 
 pub returns-in-Err : goal.returns-in-Err
 returns-in-Err c =
     subst (λ (h : Hoard). Repels (meaning_of h) c.args.receipt.now c.in-Err.why) c.self.view_is
-    (misfit_repels (record { config = c.self.inside.config; held = in_order c.self.inside.receipts; records =
-        distrusts_of (domains_of c.self.inside.config) c.self.inside.records }) c.args.receipt.now c.in-Err.why
-        c.in-Err.ensures.fits)
+    (misfit_repels (record {
+      config = c.self.inside.config;
+      held = in_order c.self.inside.receipts;
+      records =
+          distrusts_of (domains_of c.self.inside.config) c.self.inside.records;
+    }) c.args.receipt.now c.in-Err.why
+    c.in-Err.ensures.fits)
 
 pub returns-in-Err-find : goal.returns-in-Err-find
 returns-in-Err-find c =
     let missing : IsMissing (λ s. receipt_cmp s c.args.receipt.now) (in_order c.self.inside.receipts) c.in-Err-find.field-0 =
     subst (λ (r : Receipt). IsMissing (λ s. receipt_cmp s r) (in_order c.self.inside.receipts) c.in-Err-find.field-0) c.new.ensures c.in-Err-find.ensures in
     let size : length (in_order c.self.inside.receipts) ≡ length c.self.inside.receipts.items =
-        length_in_order c.self.inside.receipts c.self.invariant.arranged in
+    length_in_order c.self.inside.receipts c.self.invariant.arranged in
     let full : 65536 ≤ length (in_order c.self.inside.receipts) = omega arith in
     record {
       fits = subst (λ (h : Hoard). Fits h c.args.receipt.now) c.self.view_is c.in_default.ensures.fits;
@@ -56,7 +60,7 @@ returns-in-Err-2 c =
     let missing : IsMissing (λ s. receipt_cmp s c.args.receipt.now) (in_order c.self.inside.receipts) c.in-Err-find.field-0 =
     subst (λ (r : Receipt). IsMissing (λ s. receipt_cmp s r) (in_order c.self.inside.receipts) c.in-Err-find.field-0) c.new.ensures c.in-Err-find.ensures in
     let size : length (in_order c.self.inside.receipts) ≡ length c.self.inside.receipts.items =
-        length_in_order c.self.inside.receipts c.self.invariant.arranged in
+    length_in_order c.self.inside.receipts c.self.invariant.arranged in
     let few : length (in_order c.self.inside.receipts) < 65536 = omega arith in
     record {
       is = c.fit.ensures.form;

@@ -9,7 +9,7 @@ use Rattle.trust_closure.proofs.shared.pairs.Pairs.add.Goals as goal
 pub returns-clause-pairing : goal.returns-clause-pairing
 returns-clause-pairing c =
     pairing-more (pairs_of c.args.seeds.now c.args.receipts.now) _ _ (document_of c.args.domain.now c.args.document.now)
-        c.len-number.result c.first_number-first.result
+    c.len-number.result c.first_number-first.result
     (subst (IsPairing (pairs_of c.args.seeds.now c.args.receipts.now)) (sym c.self.view_is) c.requires.pairing)
-        c.canonical-form.ensures.form (c.len-number.ensures ∙ c.self.inside.firsts.ok.0)
-        c.first_number-first.ensures.first c.push_reserved.ensures.items c.push_reserved-2.ensures.items
+    c.canonical-form.ensures.form (c.len-number.ensures ∙ c.self.inside.firsts.ok.0)
+    c.first_number-first.ensures.first c.push_reserved.ensures.items c.push_reserved-2.ensures.items

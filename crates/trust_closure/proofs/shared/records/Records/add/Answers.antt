@@ -46,7 +46,7 @@ inserted c =
     let fits : vec_len c.self.inside.items < vec_capacity c.self.inside.items = omega arith in
     let kept : c.insert.new.self.items ≡ insert c.self.inside.items.items c.in-Err.field-0 c.args.entry =
     if_ok c.insert.result c.insert.new.self.items (insert c.self.inside.items.items c.in-Err.field-0 c.args.entry)
-        c.self.inside.items.items (c.insert.ensures.succeeds fits) c.insert.ensures.items in
+    c.self.inside.items.items (c.insert.ensures.succeeds fits) c.insert.ensures.items in
     let now : c.insert.new.self.items ≡ with_item record_cmp c.args.entry c.self.inside.items.items =
     with_record c.self.inside.items.items c.insert.new.self.items c.args.entry c.in-Err.field-0 c.self.invariant.rising here within kept in
     let few : length c.self.inside.items.items < 4096 = omega arith in (
