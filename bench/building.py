@@ -17,7 +17,8 @@ def stop(text):
 
 
 def build_ours(here, name, crate):
-    """Builds the program of main.rt.txt over a crate and all that it stands on, and answers where it is."""
+    """Builds the program of main.rt.txt and the other files NAME.rt.txt over a crate and all that it stands on, and
+    answers where it is."""
     repo = here / "out/repo"
     bench = repo / "crates" / name
     (bench / "src").mkdir(parents=True, exist_ok=True)
@@ -30,7 +31,8 @@ def build_ours(here, name, crate):
         subprocess.run(["git", "init", "-q", repo], check=True)
     for other in needed:
         copy_crate(TOP / "crates" / other, repo / "crates" / other)
-    shutil.copy(here / "main.rt.txt", bench / "src/main.rt")
+    for file in here.glob("*.rt.txt"):
+        shutil.copy(file, bench / "src" / file.stem)
     print("proving and building the crates and their benchmark", file=sys.stderr)
     done = subprocess.run(["rt", "run"], cwd=bench, stdin=subprocess.DEVNULL, capture_output=True)
     if done.returncode != 0:

@@ -75,6 +75,7 @@ pub enum Taken {
 
 #[derive(Debug)]
 pub enum TakeError {
+    ConfigDiffers,
     UnknownDomain,
     WrongEndpoint,
     Full,
@@ -223,6 +224,10 @@ impl Closure {
     }
 
     pub fn take(&mut self, receipt: Receipt) -> Result<Taken, TakeError> {
+        self.take_shared(Rc::new(receipt))
+    }
+
+    fn take_shared(&mut self, receipt: Rc<Receipt>) -> Result<Taken, TakeError> {
         match self.relationships.get(&receipt.domain) {
             None => return Err(TakeError::UnknownDomain),
             Some(endpoint) if *endpoint != receipt.endpoint => return Err(TakeError::WrongEndpoint),
@@ -235,7 +240,6 @@ impl Closure {
             return Err(TakeError::Full);
         }
         let before = self.accepted.len();
-        let receipt = Rc::new(receipt);
         self.receipts.insert(receipt.clone());
         self.buckets.insert(InBucket(receipt.clone()));
         let node = self.add_node(Pair::OfReceipt(receipt.clone()), &receipt.offers);
@@ -256,10 +260,34 @@ impl Closure {
             return Ok(0);
         }
         let before = self.accepted.len();
-        for label in self.of_key.get(&(number, key)).cloned().unwrap_or_default() {
-            self.close(label);
-        }
+        let labels = self.of_key.get(&(number, key)).cloned().unwrap_or_default();
+        self.close(&labels);
         Ok(before - self.accepted.len())
+    }
+
+    /// Takes all records and receipts of a closure of the same configuration, and says how many receipts are new. The
+    /// labels of all records are closed at once.
+    pub fn merge(&mut self, other: &Closure) -> Result<usize, TakeError> {
+        if self.relationships != other.relationships || self.domains != other.domains {
+            return Err(TakeError::ConfigDiffers);
+        }
+        let new = other.receipts.difference(&self.receipts);
+        let copies: Vec<Rc<Receipt>> = new.cloned().collect();
+        if self.receipts.len() + copies.len() > MOST_RECEIPTS {
+            return Err(TakeError::Full);
+        }
+        let mut labels = Vec::new();
+        for &(key, number) in &other.distrusted {
+            if self.distrusted.insert((key, number)) {
+                labels.extend(self.of_key.get(&(number, key)).into_iter().flatten());
+            }
+        }
+        self.close(&labels);
+        let count = copies.len();
+        for receipt in copies {
+            self.take_shared(receipt)?;
+        }
+        Ok(count)
     }
 
     pub fn receipts(&self) -> impl Iterator<Item = &Receipt> {
@@ -354,14 +382,19 @@ impl Closure {
         }
     }
 
-    fn close(&mut self, label: usize) {
-        self.touch(label);
+    /// Closes the labels at once: what rests on any of them is taken back, and then what is reached otherwise follows.
+    fn close(&mut self, labels: &[usize]) {
+        for &label in labels {
+            self.touch(label);
+        }
         let mut index = 0;
         while index < self.touched.len() {
             self.take_back(self.touched[index]);
             index += 1;
         }
-        self.labels[label].closed = true;
+        for &label in labels {
+            self.labels[label].closed = true;
+        }
         let cursor = self.marked.len();
         while let Some(label) = self.touched.pop() {
             self.labels[label].touched = false;

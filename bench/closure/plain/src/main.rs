@@ -1,6 +1,7 @@
 //! Takes the receipts on standard input into a closure in plain Rust, and then the records of distrust, to measure
 //! `trust_closure` against. The first line is the configuration. It prints what the takes and each record took, in
-//! nanoseconds, and numbers that tell what is held and accepted. With the word `hold` it only holds the receipts.
+//! nanoseconds, and numbers that tell what is held and accepted. With the word `merge` another closure has the records,
+//! and is merged. With the word `hold` it only holds the receipts.
 mod closure;
 #[path = "../../../lines/plain/src/receipt.rs"]
 mod receipt;
@@ -20,24 +21,48 @@ struct Input {
 
 fn main() -> Result<(), Box<dyn Error>> {
     let input = read_input().ok_or("no such input")?;
-    if std::env::args().nth(1).as_deref() == Some("hold") {
+    let word = std::env::args().nth(1);
+    if word.as_deref() == Some("hold") {
         println!("{}", hold(input.receipts));
         return Ok(());
     }
-    let mut closure = Closure::new(input.config).ok_or("no configuration")?;
+    let mut closure = Closure::new(input.config.clone()).ok_or("no configuration")?;
     let started = Instant::now();
     let accepted = take_all(&mut closure, input.receipts);
-    let taken = started.elapsed().as_nanos();
-    let pending = closure.pending_count();
-    let sum = sum_of(&closure);
-    print!("{taken} {accepted} {pending} {sum}");
-    for (domain, key) in input.records {
+    print!("{} {accepted}", started.elapsed().as_nanos());
+    tell(&closure);
+    if word.as_deref() == Some("merge") {
+        merge(&mut closure, input.config, input.records)?;
+    } else {
+        distrust(&mut closure, input.records)?;
+    }
+    tell(&closure);
+    println!();
+    Ok(())
+}
+
+fn distrust(closure: &mut Closure, records: Vec<(String, Id)>) -> Result<(), Box<dyn Error>> {
+    for (domain, key) in records {
         let started = Instant::now();
         let lost = closure.distrust(&domain, key).map_err(|error| format!("{error:?}"))?;
         print!(" {} {lost}", started.elapsed().as_nanos());
     }
-    println!(" {} {}", closure.pending_count(), sum_of(&closure));
     Ok(())
+}
+
+fn merge(closure: &mut Closure, config: Value, records: Vec<(String, Id)>) -> Result<(), Box<dyn Error>> {
+    let mut other = Closure::new(config).ok_or("no configuration")?;
+    for (domain, key) in records {
+        other.distrust(&domain, key).map_err(|error| format!("{error:?}"))?;
+    }
+    let started = Instant::now();
+    let new = closure.merge(&other).map_err(|error| format!("{error:?}"))?;
+    print!(" {} {new}", started.elapsed().as_nanos());
+    Ok(())
+}
+
+fn tell(closure: &Closure) {
+    print!(" {} {}", closure.pending_count(), sum_of(closure));
 }
 
 fn read_input() -> Option<Input> {
