@@ -21,7 +21,8 @@ def build_ours(here, name, crate):
     answers where it is."""
     repo = here / "out/repo"
     bench = repo / "crates" / name
-    (bench / "src").mkdir(parents=True, exist_ok=True)
+    shutil.rmtree(bench / "src", ignore_errors=True)
+    (bench / "src").mkdir(parents=True)
     lines = {line.split(":")[0]: line for line in (TOP / "crates.txt").read_text().splitlines() if ":" in line}
     needed = below(lines, crate)
     own = [other for other in needed if other != "thiserror"]
@@ -54,6 +55,16 @@ def copy_crate(source, target):
     for part in ["src", "specs", "proofs"]:
         shutil.rmtree(target / part, ignore_errors=True)
         shutil.copytree(source / part, target / part)
+    if built_at(source) > built_at(target):
+        shutil.rmtree(target / "out/rlib", ignore_errors=True)
+        shutil.copytree(source / "out/rlib", target / "out/rlib")
+
+
+def built_at(crate):
+    """When the crate's library was proved and built, or 0. Its stamp tells `rt` of which files, so that it proves and
+    builds the library again where they are not those that lie there."""
+    stamp = crate / "out/rlib/stamp"
+    return stamp.stat().st_mtime if stamp.is_file() else 0
 
 
 def build_plain(here, name, packages, features=()):
