@@ -15,7 +15,7 @@ use Rattle.receipt_core.specs.Chain.{LeadsOn, IsChain}
 use Rattle.receipt_core.proofs.RisingFacts.{each_has, Has-from_contains}
 use Rattle.receipt_core.proofs.VouchingFacts.{Vouches-by_offers}
 use Rattle.bundle_view.specs.Explain.{LeadsTo, IsShortest}
-use Rattle.bundle_view.specs.Search.{Stride, IsStride, AreStrides, AreTrusted, AreFollowed, IsSearched, SearchFinds, HasSearched, IsBackFrom}
+use Rattle.bundle_view.specs.Inside.Search.{Stride, IsStride, AreStrides, AreTrusted, AreFollowed, IsSearched, SearchFinds, HasSearched, IsBackFrom}
 
 -- ---- no chain is shorter
 

@@ -12,7 +12,7 @@ use Rattle.fed_config.specs.Configuration.{AreDomains}
 use Rattle.receipt_core.specs.Acceptance.{Meaning, IsMember}
 use Rattle.closure_core.specs.AcceptedList.{document_cmp, document_of, IsAcceptedList}
 use Rattle.bundle_view.specs.Conflicts.{Clash, AreClashes, AreConflicts, OfDomain, AreAllConflicts, ReportedConflict, reported_conflict}
-use Rattle.bundle_view.specs.Groups.{IsGroup, IsGroupLength, AddsClashes, SoFar, AreFoundOf}
+use Rattle.bundle_view.specs.Inside.Groups.{IsGroup, IsGroupLength, AddsClashes, SoFar, AreFoundOf}
 use Rattle.bundle_view.proofs.ListFacts.{rising_left, rising_right}
 use Rattle.bundle_view.proofs.ClashFacts.{group_below, clashes_append, clashes_iff, single}
 

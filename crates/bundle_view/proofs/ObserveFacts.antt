@@ -32,7 +32,7 @@ use Rattle.bundle_view.specs.Current.{IsCurrent}
 use Rattle.bundle_view.specs.Observe.{IsEndpointOf, IsVouchedFor, IsObservation, HasObserved, of_document}
 use Rattle.bundle_view.specs.Observe.{RefusesEndpoint, RefusesVerdict, RefusesTaking, RefusesObservation}
 use Rattle.bundle_view.specs.Observe.{HasNotObserved}
-use Rattle.bundle_view.specs.Observing.{IsVoucher, HasKept, HasNotKept}
+use Rattle.bundle_view.specs.Inside.Observing.{IsVoucher, HasKept, HasNotKept}
 use Rattle.bundle_view.specs.declared.observation.Verdict.{Verdict}
 use Rattle.bundle_view.specs.declared.observe_error.ObserveError.{ObserveError}
 use Rattle.bundle_view.specs.declared.observe_error.ObserveError.TheVariants.{NoRelationship, WrongEndpoint, Take}

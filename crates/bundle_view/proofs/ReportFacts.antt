@@ -14,8 +14,8 @@ use Rattle.closure_core.specs.AcceptedList.{document_cmp, document_of, IsAccepte
 use Rattle.closure_core.specs.Order.{document_total}
 use Rattle.bundle_view.specs.Current.{IsCurrent}
 use Rattle.bundle_view.specs.Conflicts.{AreConflicts, ReportedConflict, reported_conflict}
-use Rattle.bundle_view.specs.Groups.{AddsClashes}
-use Rattle.bundle_view.specs.Sections.{HasReportHead, AddsSection, HasSections}
+use Rattle.bundle_view.specs.Inside.Groups.{AddsClashes}
+use Rattle.bundle_view.specs.Inside.Sections.{HasReportHead, AddsSection, HasSections}
 use Rattle.bundle_view.specs.Report.{Section, IsSection, IsReport, report_text, head_text, section_text, current_line}
 use Rattle.bundle_view.specs.Report.{accepted_line, conflict_line, distrust_line, records_of, document_text}
 use Rattle.bundle_view.specs.Report.{sequence_text}

@@ -1,9 +1,6 @@
 pub mod Current
 pub mod Conflicts
 pub mod Report
-pub mod Groups
-pub mod Sections
 pub mod Explain
-pub mod Search
 pub mod Observe
-pub mod Observing
+pub mod Inside

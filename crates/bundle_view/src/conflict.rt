@@ -4,7 +4,7 @@ ghost use Rattle.std.specs.Prelude.{OnOk, Contains};
 ghost use Rattle.std.specs.List.Sorted.{IsStrictlySortedBy};
 ghost use Rattle.closure_core.specs.AcceptedList.{document_cmp};
 ghost use Rattle.bundle_view.specs.Conflicts.{AreAllConflicts, IsOfKind, id_in, reported_by};
-ghost use Rattle.bundle_view.specs.Groups.{AddsClashes, IsGroup, IsGroupLength};
+ghost use Rattle.bundle_view.specs.Inside.Groups.{AddsClashes, IsGroup, IsGroupLength};
 
 use crate::listed::{Listed, list_accepted};
 use bundle_doc::{DocId, Document};

@@ -5,7 +5,7 @@ ghost use Rattle.receipt_core.specs.Acceptance.{IsMeaning};
 ghost use Rattle.receipt_core.specs.Receipt.{IsReceipt};
 ghost use Rattle.bundle_view.specs.Observe.{HasNotObserved, HasObserved, IsEndpointOf};
 ghost use Rattle.bundle_view.specs.Observe.{RefusesEndpoint, RefusesVerdict};
-ghost use Rattle.bundle_view.specs.Observing.{HasKept, HasNotKept, IsVoucher, distrust};
+ghost use Rattle.bundle_view.specs.Inside.Observing.{HasKept, HasNotKept, IsVoucher, distrust};
 
 use crate::current_document::current;
 use crate::observe_error::ObserveError;

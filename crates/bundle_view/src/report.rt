@@ -6,7 +6,7 @@ ghost use Rattle.bundle_view.specs.Report.{IsReport, WritesReport, BeginsReport,
 ghost use Rattle.bundle_view.specs.Report.{conflict_line, current_line, distrust_line};
 ghost use Rattle.bundle_view.specs.Report.{document_text, head_text, id_text, kind_text};
 ghost use Rattle.bundle_view.specs.Report.{is_report_fault, records_of, sequence_text};
-ghost use Rattle.bundle_view.specs.Sections.{AddsSection, HasReportHead};
+ghost use Rattle.bundle_view.specs.Inside.Sections.{AddsSection, HasReportHead};
 ghost use Rattle.bundle_view.specs.declared.error.ReportError.TheVariants.{Io, NoMemory};
 
 use crate::conflict::{Conflict, ConflictKind, add_conflicts};

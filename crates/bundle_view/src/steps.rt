@@ -6,9 +6,11 @@ ghost use Rattle.receipt_core.specs.Receipt.{need_of, pair_of, offers_of, triple
 ghost use Rattle.closure_core.specs.Inside.Nodes.{is_raised};
 ghost use Rattle.closure_core.specs.Inside.Flags.{raised_count};
 ghost use Rattle.closure_core.specs.AcceptedList.{document_of};
-ghost use Rattle.bundle_view.specs.Search.{AreFollowed, AreLinkedSteps, AreStrides, AreVisited};
-ghost use Rattle.bundle_view.specs.Search.{FollowsOffers, HasSearched, IsBackFrom, IsSearchBegun};
-ghost use Rattle.bundle_view.specs.Search.{IsEdgeDue, Stride};
+ghost use Rattle.bundle_view.specs.Inside.Search.{AreFollowed, AreLinkedSteps, AreStrides};
+ghost use Rattle.bundle_view.specs.Inside.Search.{AreVisited};
+ghost use Rattle.bundle_view.specs.Inside.Search.{FollowsOffers, HasSearched, IsBackFrom};
+ghost use Rattle.bundle_view.specs.Inside.Search.{IsSearchBegun};
+ghost use Rattle.bundle_view.specs.Inside.Search.{IsEdgeDue, Stride};
 
 use crate::waiting::Waiting;
 use bundle_doc::Document;
@@ -28,7 +30,7 @@ pub(crate) struct Step<'a> {
 }
 
 impl<'a> Model for Step<'a> {
-    ghost use Rattle.bundle_view.specs.Search.{Stride};
+    ghost use Rattle.bundle_view.specs.Inside.Search.{Stride};
 
     ghost Value = { Stride };
 

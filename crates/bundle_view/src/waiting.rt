@@ -3,7 +3,7 @@ ghost use Rattle.std.specs.Prelude.{◌≡◌, ◌↔◌, true, IsTrue, IfOk, Co
 ghost use Rattle.std.specs.Ordering.{is_lt};
 ghost use Rattle.std.specs.List.Sorted.{IsStrictlySortedBy};
 ghost use Rattle.receipt_core.specs.Receipt.{need_of, triple_cmp, distrust_cmp};
-ghost use Rattle.bundle_view.specs.Search.{AreTrusted, AreWaiting};
+ghost use Rattle.bundle_view.specs.Inside.Search.{AreTrusted, AreWaiting};
 
 use closure_core::Closure;
 use jwk_set::KeyId;

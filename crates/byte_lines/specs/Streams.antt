@@ -11,6 +11,7 @@ use Rattle.byte_lines.specs.declared.line_buf.Line.{Line}
 use Rattle.byte_lines.specs.declared.line_buf.Line.TheVariants.{Text, TooLong, Cut, End}
 use Rattle.byte_lines.specs.declared.error.DeviceError.{DeviceError}
 use Rattle.byte_lines.specs.declared.error.DeviceError.TheVariants.{NoMemory}
+use Rattle.byte_lines.specs.Limits.{line_limit}
 
 -- what a buffer keeps: the beginning of a line, unless that was handed out, and what it read ahead
 abbrev pub kept : LineBuf → List ℕ
@@ -25,8 +26,8 @@ left_of budget lines source = length (kept lines) + budget source
 
 -- of the stream `old` this is the first line, or its rest, and `new` is what follows
 abbrev pub FindsLine : Option (List ℕ) → Option (List ℕ) → Line → Type 0
-FindsLine old new (Text text) = HasLine old new text.now × (length text.now ≤ 8388608)
-FindsLine old new TooLong = ((text : List ℕ) × HasLine old new text × (8388608 < length text))
+FindsLine old new (Text text) = HasLine old new text.now × (length text.now ≤ line_limit)
+FindsLine old new TooLong = ((text : List ℕ) × HasLine old new text × (line_limit < length text))
 FindsLine old new Cut = HasNoLine old × HasMore old × IsAtEnd new
 FindsLine old new End = IsAtEnd old × IsAtEnd new
 

@@ -7,6 +7,7 @@ ghost use Rattle.std.specs.Io.BufRead.{Rests};
 ghost use Rattle.std.specs.Io.KnownBytes.{Keeps, Consumes, IsAtEnd};
 ghost use Rattle.byte_lines.specs.Device.{is_source_fault};
 ghost use Rattle.byte_lines.specs.Lines.{HasNoFeed};
+ghost use Rattle.byte_lines.specs.Limits.{line_limit};
 
 use crate::error::DeviceError;
 use crate::read_ahead::ReadAhead;
@@ -38,7 +39,7 @@ pub struct LineBuf {
     // The line that was given last, or the beginning of the next one.
     line: Vec<u8>,
     is_given: bool,
-    ghost within: { vec_len line ≤ 8388608 },
+    ghost within: { vec_len line ≤ line_limit },
     ghost unbroken: { HasNoFeed line.items },
 }
 

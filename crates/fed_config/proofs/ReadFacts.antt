@@ -21,7 +21,7 @@ use Rattle.fed_config.specs.Reading.{Fails, HasName, HasNames, HasUrls, HasProfi
 use Rattle.fed_config.specs.Reading.{HasFewDomains, IsMeant, IsProfile, IsRead, IsSetOf, RefusesRead, RefusesWritten}
 use Rattle.fed_config.specs.Reading.{HasRisingLists, SaysNames, SaysDomain, SaysUrl, SaysSeedDocument, SaysRelationship}
 use Rattle.fed_config.specs.Reading.{SaysSeed, joined_relationship, joined_seed}
-use Rattle.fed_config.specs.Entries.{seed_text}
+use Rattle.fed_config.specs.Inside.Entries.{seed_text}
 use Rattle.fed_config.specs.declared.error.ConfigError.{ConfigError}
 use Rattle.fed_config.specs.declared.error.ConfigError.TheVariants.{BadUrl, BadProfile, DoubleRelationship, BadSeed, TooMany}
 use Rattle.fed_config.specs.declared.names.Names.{Names}

@@ -16,6 +16,7 @@ use Rattle.bundle_doc.specs.Bundle.{IsBundle, Fits, canonical_text, document_tre
 use Rattle.fed_config.specs.EndpointUrl.{IsEndpointUrl}
 use Rattle.fed_config.specs.declared.relationship.Relationship.{Relationship}
 use Rattle.fed_config.specs.declared.seed.Seed.{Seed}
+use Rattle.fed_config.specs.Limits.{domain_limit, relationship_limit, seed_limit, url_limit}
 
 -- A finite map of relationships, kept as the list that rises by their domains, and a finite set of
 -- seeds, kept as the list that rises by domain and then by canonical text.
@@ -62,9 +63,9 @@ pub record IsConfiguration (c : Configuration) : Type 0 where
   pub rising_seeds : IsStrictlySortedBy seed_cmp c.seeds
   pub each_relationship : AllByRecursion IsRelationship c.relationships
   pub each_seed : AllByRecursion IsSeed c.seeds
-  pub few_relationships : length c.relationships ≤ 1024
-  pub few_seeds : length c.seeds ≤ 4096
-  pub few_domains : (domains : List (List ℕ)) → AreDomains c domains → length domains ≤ 1024
+  pub few_relationships : length c.relationships ≤ relationship_limit
+  pub few_seeds : length c.seeds ≤ seed_limit
+  pub few_domains : (domains : List (List ℕ)) → AreDomains c domains → length domains ≤ domain_limit
 
 -- where the domain stands among the configuration's domains, if it is one
 abbrev pub IsPlace : Configuration → List ℕ → Option ℕ → Type 0
@@ -108,7 +109,7 @@ config_id_of c = sha256 (config_text c)
 -- each kept URL is within the limit of what is read: escaping may make it longer than the text that
 -- was read
 abbrev pub HasShortUrls : Configuration → Type 0
-HasShortUrls c = AllByRecursion (λ r. length r.url ≤ 2048) c.relationships
+HasShortUrls c = AllByRecursion (λ r. length r.url ≤ url_limit) c.relationships
 
 -- a configuration in memory: beside its domains and its id
 pub record IsStoredConfiguration (c : Configuration) (domains : List (List ℕ))

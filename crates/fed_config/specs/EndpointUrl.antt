@@ -2,11 +2,12 @@
 use Rattle.std.specs.Prelude.{◌≡◌, ℕ, ◌≤◌, List, [], length, codes, None, Ok}
 use Rattle.url.specs.Parts.{Parts, IsValid, serialize}
 use Rattle.url.specs.Parser.{parse_url}
+use Rattle.fed_config.specs.Limits.{url_limit}
 
 -- The text has at most 2,048 bytes. The URL Standard parses it to these parts: the scheme `https`,
 -- and neither a user name nor a password.
 pub record IsParsed (text : List ℕ) (parts : Parts) : Type 0 where
-  pub limit : length text ≤ 2048
+  pub limit : length text ≤ url_limit
   pub parses : parse_url None text ≡ Ok parts
   pub scheme : parts.scheme ≡ codes "https"
   pub username : parts.username ≡ []

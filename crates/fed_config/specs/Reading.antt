@@ -24,6 +24,7 @@ use Rattle.fed_config.specs.declared.error.ConfigError.{ConfigError}
 use Rattle.fed_config.specs.declared.error.ConfigError.TheVariants.{NotJson, Shape, BadName, BadUrl}
 use Rattle.fed_config.specs.declared.error.ConfigError.TheVariants.{BadProfile, DoubleRelationship}
 use Rattle.fed_config.specs.declared.error.ConfigError.TheVariants.{BadSeed, TooMany, NoMemory}
+use Rattle.fed_config.specs.Limits.{domain_limit, relationship_limit, seed_limit}
 
 -- ---- the meaning
 
@@ -69,8 +70,8 @@ pub record IsConfig (bytes : List ℕ) (c : Configuration) : Type 0 where
   pub text : IsText bytes written
   pub meant : IsMeant written c
   pub single : HasSingle written
-  pub few_relationships : length written.relationships ≤ 1024
-  pub few_seeds : length written.seeds ≤ 4096
+  pub few_relationships : length written.relationships ≤ relationship_limit
+  pub few_seeds : length written.seeds ≤ seed_limit
   pub is : IsConfiguration c
 
 -- ---- the refusals
@@ -96,10 +97,10 @@ HasDocuments w = AllByRecursion (λ t. (b : Bundle) × Means t.bundle b × Fits 
 
 -- at most 1,024 relationships and 4,096 seeds, as written, and at most 1,024 domains
 pub record HasFew (w : Written) : Type 0 where
-  pub relationships : length w.relationships ≤ 1024
-  pub seeds : length w.seeds ≤ 4096
+  pub relationships : length w.relationships ≤ relationship_limit
+  pub seeds : length w.seeds ≤ seed_limit
   pub domains : (c : Configuration) (domains : List (List ℕ)) → IsMeant w c → AreDomains c domains
-      → length domains ≤ 1024
+      → length domains ≤ domain_limit
 
 -- what is refused with this cause lacks this
 abbrev pub Passes : Written → ConfigError → Type 0
@@ -174,7 +175,7 @@ abbrev pub joined_seed : List ℕ × Bundle → Seed
 joined_seed p = record { domain = p.0; document = p.1 }
 
 abbrev pub HasFewDomains : Configuration → Type 0
-HasFewDomains c = (domains : List (List ℕ)) → AreDomains c domains → length domains ≤ 1024
+HasFewDomains c = (domains : List (List ℕ)) → AreDomains c domains → length domains ≤ domain_limit
 
 -- a configuration, but for the number of its domains
 pub record HasRisingLists (c : Configuration) : Type 0 where
@@ -182,15 +183,15 @@ pub record HasRisingLists (c : Configuration) : Type 0 where
   pub rising_seeds : IsStrictlySortedBy seed_cmp c.seeds
   pub each_relationship : AllByRecursion IsRelationship c.relationships
   pub each_seed : AllByRecursion IsSeed c.seeds
-  pub few_relationships : length c.relationships ≤ 1024
-  pub few_seeds : length c.seeds ≤ 4096
+  pub few_relationships : length c.relationships ≤ relationship_limit
+  pub few_seeds : length c.seeds ≤ seed_limit
 
 -- what is written is a configuration
 pub record IsRead (w : Written) (c : Configuration) : Type 0 where
   pub meant : IsMeant w c
   pub single : HasSingle w
-  pub few_relationships : length w.relationships ≤ 1024
-  pub few_seeds : length w.seeds ≤ 4096
+  pub few_relationships : length w.relationships ≤ relationship_limit
+  pub few_seeds : length w.seeds ≤ seed_limit
   pub is : IsConfiguration c
 
 abbrev pub RefusesRead : Written → ConfigError → Type 0

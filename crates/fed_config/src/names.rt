@@ -5,7 +5,7 @@ ghost use Rattle.bundle_doc.specs.Bundle.{Bundle, Means, Fits};
 ghost use Rattle.url.specs.Parts.{Parts};
 ghost use Rattle.spiffe_name.specs.TrustDomain.{IsDomainText};
 ghost use Rattle.fed_config.specs.EndpointUrl.{IsParsed};
-ghost use Rattle.fed_config.specs.Entries.{seed_text};
+ghost use Rattle.fed_config.specs.Inside.Entries.{seed_text};
 ghost use Rattle.fed_config.specs.Reading.{Fails, HasName, IsProfile, SaysNames, SaysDomain};
 ghost use Rattle.fed_config.specs.Reading.{SaysUrl, SaysSeedDocument, cause_of};
 ghost use Rattle.fed_config.specs.Reading.{joined_relationship, joined_seed};

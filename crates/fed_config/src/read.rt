@@ -1,9 +1,10 @@
 //! Reading a configuration.
 ghost use Rattle.std.specs.Prelude.{◌≡◌, ◌↔◌, ◌≤◌, IsTrue, MatchResult, length};
 ghost use Rattle.fed_config.specs.Configuration.{IsConfiguration};
-ghost use Rattle.fed_config.specs.Entries.{written_of};
+ghost use Rattle.fed_config.specs.Inside.Entries.{written_of};
 ghost use Rattle.fed_config.specs.Reading.{HasRisingLists, Fails, HasFewDomains, IsConfig, IsRead};
 ghost use Rattle.fed_config.specs.Reading.{RefusesConfigBytes, RefusesRead};
+ghost use Rattle.fed_config.specs.Limits.{relationship_limit, seed_limit};
 
 use crate::canonical::id_of;
 use crate::config::Config;
@@ -110,8 +111,8 @@ impl Config {
 /// Whether there are few enough relationships and seeds, as they are written.
 fn are_few(entries: &Entries) -> bool
     ensures { IsTrue result
-        ↔ ((length entries.now.relationships.items ≤ 1024)
-        × (length entries.now.seeds.items ≤ 4096)) }
+        ↔ ((length entries.now.relationships.items ≤ relationship_limit)
+        × (length entries.now.seeds.items ≤ seed_limit)) }
 {
     if entries.relationships.len() > MAX_DOMAINS {
         return false;

@@ -8,7 +8,7 @@ ghost use Rattle.jwk_set.specs.Element.{HasText};
 ghost use Rattle.jwk_set.specs.Forms.{FindsMember};
 ghost use Rattle.fed_config.specs.Written.{HasCount, HasArray, RelationshipText, SeedText, Written};
 ghost use Rattle.fed_config.specs.Written.{SaysRelationshipText, SaysSeedText, SaysWritten};
-ghost use Rattle.fed_config.specs.Entries.{seed_text, written_of};
+ghost use Rattle.fed_config.specs.Inside.Entries.{seed_text, written_of};
 ghost use Rattle.fed_config.specs.Reading.{Fails};
 
 use crate::error::ConfigError;

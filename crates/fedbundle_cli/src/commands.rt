@@ -1,7 +1,7 @@
 // The subcommands: each reads its options in their order, then its state, runs the command's
 // function over the streams, and writes its state.
-use crate::stop::Stop;
-use crate::{exchange, options, words};
+use crate::exit::Exit;
+use crate::{command_line, exchange, options};
 use bundle_view::Verdict;
 use byte_lines::{FromRead, FromWrite};
 use fed_config::Config;
@@ -15,14 +15,14 @@ use trust_closure::IndexedClosure;
 
 /// What the words ask for, done: the exit status 0, or 1 where an input was refused and the rest is
 /// done.
-pub(crate) fn run(rt: &HostRuntime) -> Result<u8, Stop> {
-    let words = words::of_process(rt)?;
-    let texts = words::texts(rt.alloc(), words.as_slice())?;
+pub(crate) fn run(rt: &HostRuntime) -> Result<u8, Exit> {
+    let words = command_line::words_of_process(rt)?;
+    let texts = command_line::texts(rt.alloc(), words.as_slice())?;
     let call = read_words(rt.alloc(), texts.as_slice())?;
     carry_out(rt, &call)
 }
 
-fn carry_out(rt: &HostRuntime, call: &Call<'_>) -> Result<u8, Stop> {
+fn carry_out(rt: &HostRuntime, call: &Call<'_>) -> Result<u8, Exit> {
     match (call.name, call.texts.as_slice()) {
         (CommandName::Canon, [domain]) => canon(rt, domain),
         (CommandName::Serve, [config, state, address, sessions]) => {
@@ -34,7 +34,7 @@ fn carry_out(rt: &HostRuntime, call: &Call<'_>) -> Result<u8, Stop> {
             let config = options::config(rt, rt.alloc(), config)?;
             carry_out_under(rt, name, &config, given)
         }
-        _ => Err(Stop::Usage),
+        _ => Err(Exit::Usage),
     }
 }
 
@@ -43,7 +43,7 @@ fn carry_out_under(
     name: CommandName,
     config: &Config,
     given: &[&str],
-) -> Result<u8, Stop> {
+) -> Result<u8, Exit> {
     match (name, given) {
         (CommandName::Report, []) => report(rt, config),
         (CommandName::Merge, [state]) => merge(rt, config, state),
@@ -55,17 +55,17 @@ fn carry_out_under(
         (CommandName::Observe, [state, domain, endpoint, key]) => {
             observe(rt, config, state, domain, endpoint, key)
         }
-        _ => Err(Stop::Usage),
+        _ => Err(Exit::Usage),
     }
 }
 
-fn canon(rt: &HostRuntime, domain: &str) -> Result<u8, Stop> {
+fn canon(rt: &HostRuntime, domain: &str) -> Result<u8, Exit> {
     let domain = options::domain(rt.alloc(), domain)?;
     run_canon(rt.alloc(), &domain, &mut input(rt), &mut output(rt))?;
     Ok(0)
 }
 
-fn report(rt: &HostRuntime, config: &Config) -> Result<u8, Stop> {
+fn report(rt: &HostRuntime, config: &Config) -> Result<u8, Exit> {
     let mut errors = FromWrite::new(rt.stderr());
     match run_report(
         rt.alloc(),
@@ -76,30 +76,30 @@ fn report(rt: &HostRuntime, config: &Config) -> Result<u8, Stop> {
     ) {
         Ok(0) => Ok(0),
         Ok(_) => Ok(1),
-        Err(error) => Err(Stop::Refused(CommandError::from(error))),
+        Err(error) => Err(Exit::Refused(CommandError::from(error))),
     }
 }
 
-fn bundle(rt: &HostRuntime, config: &Config, state: &str, domain: &str) -> Result<u8, Stop> {
-    let closure = held(rt, config, state)?;
-    bundle_of(rt, &closure, domain)
+fn bundle(rt: &HostRuntime, config: &Config, state: &str, domain: &str) -> Result<u8, Exit> {
+    let closure = load_closure(rt, config, state)?;
+    bundle_on(rt, &closure, domain)
 }
 
-fn bundle_of(rt: &HostRuntime, closure: &IndexedClosure, domain: &str) -> Result<u8, Stop> {
+fn bundle_on(rt: &HostRuntime, closure: &IndexedClosure, domain: &str) -> Result<u8, Exit> {
     let domain = options::domain(rt.alloc(), domain)?;
     if run_bundle(closure, &domain, &mut output(rt))? {
         Ok(0)
     } else {
-        Err(Stop::NoBundle)
+        Err(Exit::NoBundle)
     }
 }
 
-fn explain(rt: &HostRuntime, config: &Config, state: &str, domain: &str) -> Result<u8, Stop> {
-    let closure = held(rt, config, state)?;
-    explain_in(rt, &closure, domain)
+fn explain(rt: &HostRuntime, config: &Config, state: &str, domain: &str) -> Result<u8, Exit> {
+    let closure = load_closure(rt, config, state)?;
+    explain_on(rt, &closure, domain)
 }
 
-fn explain_in(rt: &HostRuntime, closure: &IndexedClosure, domain: &str) -> Result<u8, Stop> {
+fn explain_on(rt: &HostRuntime, closure: &IndexedClosure, domain: &str) -> Result<u8, Exit> {
     let domain = options::domain(rt.alloc(), domain)?;
     if run_explain(
         rt.alloc(),
@@ -110,7 +110,7 @@ fn explain_in(rt: &HostRuntime, closure: &IndexedClosure, domain: &str) -> Resul
     )? {
         Ok(0)
     } else {
-        Err(Stop::NotAccepted)
+        Err(Exit::NotAccepted)
     }
 }
 
@@ -121,20 +121,20 @@ fn observe(
     domain: &str,
     endpoint: &str,
     key: &str,
-) -> Result<u8, Stop> {
-    let _lock = locked(rt, state)?;
-    let mut closure = held(rt, config, state)?;
-    let observed = observe_in(rt, &mut closure, domain, endpoint, key);
-    saved(rt, &closure, state, observed)
+) -> Result<u8, Exit> {
+    let _lock = lock(rt, state)?;
+    let mut closure = load_closure(rt, config, state)?;
+    let observed = observe_on(rt, &mut closure, domain, endpoint, key);
+    save_after(rt, &closure, state, observed)
 }
 
-fn observe_in(
+fn observe_on(
     rt: &HostRuntime,
     closure: &mut IndexedClosure,
     domain: &str,
     endpoint: &str,
     key: &str,
-) -> Result<(), Stop> {
+) -> Result<(), Exit> {
     let domain = options::domain(rt.alloc(), domain)?;
     let endpoint = options::endpoint(rt.alloc(), endpoint)?;
     let key = options::key(key)?;
@@ -150,11 +150,11 @@ fn observe_in(
     Ok(())
 }
 
-fn merge(rt: &HostRuntime, config: &Config, state: &str) -> Result<u8, Stop> {
-    let _lock = locked(rt, state)?;
-    let mut closure = held(rt, config, state)?;
+fn merge(rt: &HostRuntime, config: &Config, state: &str) -> Result<u8, Exit> {
+    let _lock = lock(rt, state)?;
+    let mut closure = load_closure(rt, config, state)?;
     let merged = run_merge(rt.alloc(), &mut closure, &mut input(rt), &mut output(rt));
-    saved(rt, &closure, state, merged.map_err(Stop::Refused))
+    save_after(rt, &closure, state, merged.map_err(Exit::Refused))
 }
 
 fn distrust(
@@ -163,31 +163,31 @@ fn distrust(
     state: &str,
     domain: &str,
     key: &str,
-) -> Result<u8, Stop> {
-    let _lock = locked(rt, state)?;
-    let mut closure = held(rt, config, state)?;
-    let distrusted = distrust_in(rt, &mut closure, domain, key);
-    saved(rt, &closure, state, distrusted)
+) -> Result<u8, Exit> {
+    let _lock = lock(rt, state)?;
+    let mut closure = load_closure(rt, config, state)?;
+    let distrusted = distrust_on(rt, &mut closure, domain, key);
+    save_after(rt, &closure, state, distrusted)
 }
 
-fn distrust_in(
+fn distrust_on(
     rt: &HostRuntime,
     closure: &mut IndexedClosure,
     domain: &str,
     key: &str,
-) -> Result<(), Stop> {
+) -> Result<(), Exit> {
     let domain = options::domain(rt.alloc(), domain)?;
     let key = options::key(key)?;
     run_distrust(closure, &domain, key)?;
     Ok(())
 }
 
-fn polls(rt: &HostRuntime, config: &Config, state: &str, now: &str) -> Result<u8, Stop> {
-    let closure = held(rt, config, state)?;
-    polls_of(rt, &closure, now)
+fn polls(rt: &HostRuntime, config: &Config, state: &str, now: &str) -> Result<u8, Exit> {
+    let closure = load_closure(rt, config, state)?;
+    polls_on(rt, &closure, now)
 }
 
-fn polls_of(rt: &HostRuntime, closure: &IndexedClosure, now: &str) -> Result<u8, Stop> {
+fn polls_on(rt: &HostRuntime, closure: &IndexedClosure, now: &str) -> Result<u8, Exit> {
     let now = options::moment(now)?;
     run_polls(rt.alloc(), closure, now, &mut input(rt), &mut output(rt))?;
     Ok(0)
@@ -201,7 +201,7 @@ pub(crate) fn output(rt: &HostRuntime) -> FromWrite<Stdout> {
     FromWrite::new(rt.stdout())
 }
 
-pub(crate) fn held(
+pub(crate) fn load_closure(
     rt: &HostRuntime,
     config: &Config,
     state: &str,
@@ -209,20 +209,20 @@ pub(crate) fn held(
     Ok(load_state(rt, rt.alloc(), config, state)?)
 }
 
-pub(crate) fn locked(rt: &HostRuntime, state: &str) -> Result<StateLock, CommandError> {
+pub(crate) fn lock(rt: &HostRuntime, state: &str) -> Result<StateLock, CommandError> {
     Ok(lock_state(rt, rt.alloc(), state)?)
 }
 
 // Writes the state where the command is done.
-fn saved(
+fn save_after(
     rt: &HostRuntime,
     closure: &IndexedClosure,
     state: &str,
-    done: Result<(), Stop>,
-) -> Result<u8, Stop> {
+    done: Result<(), Exit>,
+) -> Result<u8, Exit> {
     done?;
     match save_state(rt, rt.alloc(), closure, state) {
         Ok(()) => Ok(0),
-        Err(error) => Err(Stop::Refused(CommandError::Sync(error))),
+        Err(error) => Err(Exit::Refused(CommandError::Sync(error))),
     }
 }

@@ -1,5 +1,5 @@
 // Connections with other replicas, and how long they may keep this one.
-use crate::stop::Stop;
+use crate::exit::Exit;
 use fedbundle::CommandError;
 use replica_core::SyncError;
 use std::io;
@@ -23,46 +23,46 @@ pub(crate) struct Connection {
 
 /// One direction of a connection. Past the session's time each call fails.
 #[derive(Drop)]
-pub(crate) struct Way<'a> {
+pub(crate) struct Direction<'a> {
     rt: &'a HostRuntime,
     connection: &'a Connection,
 }
 
 /// Waits at the address. It is at fault where another program does so already.
-pub(crate) fn listen(rt: &HostRuntime, address: SocketAddr) -> Result<TcpListener, Stop> {
+pub(crate) fn listen(rt: &HostRuntime, address: SocketAddr) -> Result<TcpListener, Exit> {
     match TcpListener::bind(rt, address) {
         Ok(listener) => Ok(listener),
-        Err(error) => Err(Stop::Refused(fault_of(&error))),
+        Err(error) => Err(Exit::Refused(fault_of(&error))),
     }
 }
 
 /// The connection that the next client makes. How long it is waited for has no limit.
 pub(crate) fn accept(rt: &HostRuntime, listener: &TcpListener) -> Result<Connection, CommandError> {
-    match accepted(rt, listener) {
+    match accept_stream(rt, listener) {
         Ok(connection) => Ok(connection),
         Err(error) => Err(fault_of(&error)),
     }
 }
 
 /// A connection to the replica that serves at the address.
-pub(crate) fn connect(rt: &HostRuntime, address: SocketAddr) -> Result<Connection, Stop> {
-    match connected(rt, address) {
+pub(crate) fn connect(rt: &HostRuntime, address: SocketAddr) -> Result<Connection, Exit> {
+    match connect_stream(rt, address) {
         Ok(connection) => Ok(connection),
-        Err(error) => Err(Stop::Refused(fault_of(&error))),
+        Err(error) => Err(Exit::Refused(fault_of(&error))),
     }
 }
 
 impl Connection {
     /// A direction of the connection; either serves for both.
-    pub(crate) fn way<'a>(&'a self, rt: &'a HostRuntime) -> Way<'a> {
-        Way {
+    pub(crate) fn direction<'a>(&'a self, rt: &'a HostRuntime) -> Direction<'a> {
+        Direction {
             rt,
             connection: self,
         }
     }
 }
 
-impl Way<'_> {
+impl Direction<'_> {
     fn check_time(&self) -> io::Result<()> {
         if Instant::now(self.rt)? < self.connection.deadline {
             Ok(())
@@ -72,7 +72,7 @@ impl Way<'_> {
     }
 }
 
-impl Read for Way<'_> {
+impl Read for Direction<'_> {
     fn read(&mut self, buffer: &mut [u8]) -> io::Result<usize> {
         self.check_time()?;
         let mut stream = &self.connection.stream;
@@ -80,7 +80,7 @@ impl Read for Way<'_> {
     }
 }
 
-impl Write for Way<'_> {
+impl Write for Direction<'_> {
     fn write(&mut self, bytes: &[u8]) -> io::Result<usize> {
         self.check_time()?;
         let mut stream = &self.connection.stream;
@@ -100,19 +100,19 @@ fn fault_of(error: &io::Error) -> CommandError {
     }
 }
 
-fn accepted(rt: &HostRuntime, listener: &TcpListener) -> io::Result<Connection> {
+fn accept_stream(rt: &HostRuntime, listener: &TcpListener) -> io::Result<Connection> {
     let (stream, _) = listener.accept()?;
-    limited(rt, stream)
+    with_timeouts(rt, stream)
 }
 
-fn connected(rt: &HostRuntime, address: SocketAddr) -> io::Result<Connection> {
+fn connect_stream(rt: &HostRuntime, address: SocketAddr) -> io::Result<Connection> {
     let idle = Duration::from_secs(MAX_IDLE_SECONDS);
     let stream = TcpStream::connect_timeout(rt, &address, idle)?;
-    limited(rt, stream)
+    with_timeouts(rt, stream)
 }
 
 // A session whose time begins now. Each write goes out at once, since the other side waits for it.
-fn limited(rt: &HostRuntime, stream: TcpStream) -> io::Result<Connection> {
+fn with_timeouts(rt: &HostRuntime, stream: TcpStream) -> io::Result<Connection> {
     let idle = Duration::from_secs(MAX_IDLE_SECONDS);
     stream.set_nodelay(true)?;
     stream.set_read_timeout(Some(idle))?;

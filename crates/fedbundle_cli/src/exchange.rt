@@ -1,8 +1,8 @@
 // `serve` and `pull`: a replica's two ends of a session, over sockets.
-use crate::commands::{held, locked, output};
+use crate::commands::{load_closure, lock, output};
 use crate::connection::{Connection, accept, connect, listen};
+use crate::exit::{Exit, print_fault};
 use crate::options;
-use crate::stop::{Stop, tell_fault};
 use byte_lines::{FromRead, FromWrite};
 use fed_config::Config;
 use fedbundle::{CommandError, run_pull, run_serve, save_state, write_served};
@@ -10,15 +10,15 @@ use std::net::TcpListener;
 use trust_closure::IndexedClosure;
 
 /// Serves this many sessions, one after another, with what the state file holds at the start. The
-/// fault of a session is reported at its end, and the answer is the greatest exit status of all.
+/// fault of a session is reported at its end, and the greatest exit status of all is returned.
 pub(crate) fn serve(
     rt: &HostRuntime,
     config: &Config,
     state: &str,
     address: &str,
     sessions: u32,
-) -> Result<u8, Stop> {
-    let closure = held(rt, config, state)?;
+) -> Result<u8, Exit> {
+    let closure = load_closure(rt, config, state)?;
     let listener = listen(rt, options::address(address)?)?;
     Ok(serve_all(rt, &closure, &listener, sessions))
 }
@@ -29,12 +29,12 @@ fn serve_all(
     listener: &TcpListener,
     sessions: u32,
 ) -> u8 {
-    let mut ended = 0;
+    let mut worst = 0;
     for _ in 0..sessions {
-        ended = status_of(rt, serve_next(rt, closure, listener)).max(ended);
+        worst = status_of(rt, serve_next(rt, closure, listener)).max(worst);
     }
-    let told = write_served(u64::from(sessions), &mut output(rt));
-    status_of(rt, told).max(ended)
+    let written = write_served(u64::from(sessions), &mut output(rt));
+    status_of(rt, written).max(worst)
 }
 
 fn serve_next(
@@ -43,16 +43,16 @@ fn serve_next(
     listener: &TcpListener,
 ) -> Result<(), CommandError> {
     let connection = accept(rt, listener)?;
-    serve_over(rt, closure, &connection)
+    serve_on(rt, closure, &connection)
 }
 
-fn serve_over(
+fn serve_on(
     rt: &HostRuntime,
     closure: &IndexedClosure,
     connection: &Connection,
 ) -> Result<(), CommandError> {
-    let mut source = FromRead::new(connection.way(rt));
-    let mut sink = FromWrite::new(connection.way(rt));
+    let mut source = FromRead::new(connection.direction(rt));
+    let mut sink = FromWrite::new(connection.direction(rt));
     run_serve(rt.alloc(), closure, &mut source, &mut sink)?;
     Ok(())
 }
@@ -64,27 +64,27 @@ pub(crate) fn pull(
     config: &Config,
     state: &str,
     address: &str,
-) -> Result<u8, Stop> {
-    let _lock = locked(rt, state)?;
-    let mut closure = held(rt, config, state)?;
+) -> Result<u8, Exit> {
+    let _lock = lock(rt, state)?;
+    let mut closure = load_closure(rt, config, state)?;
     let connection = connect(rt, options::address(address)?)?;
-    let pulled = pull_over(rt, &mut closure, &connection);
+    let pulled = pull_on(rt, &mut closure, &connection);
     drop(connection);
-    Ok(kept(rt, &closure, state, pulled))
+    Ok(save_pulled(rt, &closure, state, pulled))
 }
 
-fn pull_over(
+fn pull_on(
     rt: &HostRuntime,
     closure: &mut IndexedClosure,
     connection: &Connection,
 ) -> Result<(), CommandError> {
-    let mut source = FromRead::new(connection.way(rt));
-    let mut peer = FromWrite::new(connection.way(rt));
+    let mut source = FromRead::new(connection.direction(rt));
+    let mut peer = FromWrite::new(connection.direction(rt));
     run_pull(rt.alloc(), closure, &mut source, &mut peer, &mut output(rt))
 }
 
 // The state is written before a fault of the session is reported.
-fn kept(
+fn save_pulled(
     rt: &HostRuntime,
     closure: &IndexedClosure,
     state: &str,
@@ -99,6 +99,6 @@ fn kept(
 fn status_of(rt: &HostRuntime, done: Result<(), CommandError>) -> u8 {
     match done {
         Ok(()) => 0,
-        Err(error) => tell_fault(rt, &error),
+        Err(error) => print_fault(rt, &error),
     }
 }

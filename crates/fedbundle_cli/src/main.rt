@@ -2,51 +2,51 @@
 // command's function, and ends with the exit status that the function's answer has.
 #![tactic(auto)]
 
+mod command_line;
 mod commands;
 mod connection;
 mod exchange;
+mod exit;
 mod options;
-mod stop;
-mod words;
 
 use byte_lines::{FromWrite, write_all};
+use exit::Exit;
 use fedbundle::CommandError;
 use std::process::ExitCode;
-use stop::Stop;
 
 fn main(rt: HostRuntime) -> ExitCode {
     let ended = match commands::run(&rt) {
         Ok(status) => status,
-        Err(stop) => tell(&rt, &stop),
+        Err(exit) => print_exit(&rt, &exit),
     };
     ExitCode::from(ended)
 }
 
-// Tells on standard error why the program stops, and returns its exit status.
-fn tell(rt: &HostRuntime, stop: &Stop) -> u8 {
-    let (ended, told) = match stop {
-        Stop::Words(error) if error.use_stderr() => (2, error.print(rt).is_ok()),
-        Stop::Words(error) => return show(rt, error),
-        Stop::Usage => (2, say(rt, b"fedbundle: usage\n")),
-        Stop::BadKey => (1, say(rt, b"fedbundle: bad key\n")),
-        Stop::BadMoment => (1, say(rt, b"fedbundle: bad moment\n")),
-        Stop::BadAddress => (1, say(rt, b"fedbundle: bad address\n")),
-        Stop::NoBundle => (1, say(rt, b"fedbundle: no current bundle\n")),
-        Stop::NotAccepted => (1, say(rt, b"fedbundle: not accepted\n")),
-        Stop::Refused(error) => return stop::tell_fault(rt, error),
+// Prints on standard error why the program ends, and returns its exit status.
+fn print_exit(rt: &HostRuntime, exit: &Exit) -> u8 {
+    let (status, written) = match exit {
+        Exit::Words(error) if error.use_stderr() => (2, error.print(rt).is_ok()),
+        Exit::Words(error) => return print_clap(rt, error),
+        Exit::Usage => (2, write_stderr(rt, b"fedbundle: usage\n")),
+        Exit::BadKey => (1, write_stderr(rt, b"fedbundle: bad key\n")),
+        Exit::BadMoment => (1, write_stderr(rt, b"fedbundle: bad moment\n")),
+        Exit::BadAddress => (1, write_stderr(rt, b"fedbundle: bad address\n")),
+        Exit::NoBundle => (1, write_stderr(rt, b"fedbundle: no current bundle\n")),
+        Exit::NotAccepted => (1, write_stderr(rt, b"fedbundle: not accepted\n")),
+        Exit::Refused(error) => return exit::print_fault(rt, error),
     };
-    if told { ended } else { ended.max(3) }
+    if written { status } else { status.max(3) }
 }
 
 // Shows help or the version on standard output, and returns the exit status.
-fn show(rt: &HostRuntime, shown: &clap::Error) -> u8 {
+fn print_clap(rt: &HostRuntime, shown: &clap::Error) -> u8 {
     if shown.print(rt).is_ok() {
         0
     } else {
-        stop::tell_fault(rt, &CommandError::Io)
+        exit::print_fault(rt, &CommandError::Io)
     }
 }
 
-fn say(rt: &HostRuntime, line: &[u8]) -> bool {
+fn write_stderr(rt: &HostRuntime, line: &[u8]) -> bool {
     write_all(&mut FromWrite::new(rt.stderr()), line).is_ok()
 }

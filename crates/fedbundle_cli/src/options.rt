@@ -1,5 +1,5 @@
 // The texts of options, read.
-use crate::stop::Stop;
+use crate::exit::Exit;
 use byte_lines::{FromRead, read_up_to};
 use fed_config::Config;
 use fedbundle::{CommandError, read_sessions};
@@ -37,7 +37,7 @@ pub(crate) fn endpoint(alloc: Global, text: &str) -> Result<SpiffeId, CommandErr
 }
 
 /// The key id of 64 lower-case hexadecimal digits.
-pub(crate) fn key(text: &str) -> Result<KeyId, Stop> {
+pub(crate) fn key(text: &str) -> Result<KeyId, Exit> {
     let is_lower = text
         .bytes()
         .all(|b| b.is_ascii_digit() || (b'a'..=b'f').contains(&b));
@@ -45,24 +45,24 @@ pub(crate) fn key(text: &str) -> Result<KeyId, Stop> {
     if is_lower && hex::decode_to_slice(text, &mut id).is_ok() {
         Ok(KeyId(id))
     } else {
-        Err(Stop::BadKey)
+        Err(Exit::BadKey)
     }
 }
 
 /// The moment of this many Unix seconds.
-pub(crate) fn moment(text: &str) -> Result<Timestamp, Stop> {
+pub(crate) fn moment(text: &str) -> Result<Timestamp, Exit> {
     let Some(seconds) = read_seconds(text.as_bytes()) else {
-        return Err(Stop::BadMoment);
+        return Err(Exit::BadMoment);
     };
-    Timestamp::from_second(seconds).map_err(|_| Stop::BadMoment)
+    Timestamp::from_second(seconds).map_err(|_| Exit::BadMoment)
 }
 
 /// The address of an IP address and a port.
-pub(crate) fn address(text: &str) -> Result<SocketAddr, Stop> {
-    text.parse::<SocketAddr>().map_err(|_| Stop::BadAddress)
+pub(crate) fn address(text: &str) -> Result<SocketAddr, Exit> {
+    text.parse::<SocketAddr>().map_err(|_| Exit::BadAddress)
 }
 
 /// How many sessions are served.
-pub(crate) fn sessions(text: &str) -> Result<u32, Stop> {
-    read_sessions(text).ok_or(Stop::Usage)
+pub(crate) fn sessions(text: &str) -> Result<u32, Exit> {
+    read_sessions(text).ok_or(Exit::Usage)
 }

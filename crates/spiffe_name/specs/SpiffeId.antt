@@ -7,6 +7,7 @@ use Rattle.spiffe_name.specs.TrustDomain.{IsDomainText, RefusesDomain}
 use Rattle.spiffe_name.specs.declared.error.NameError.{NameError}
 use Rattle.spiffe_name.specs.declared.error.NameError.TheVariants.{Empty, TooLong, BadScheme}
 use Rattle.spiffe_name.specs.declared.error.NameError.TheVariants.{BadDomainByte, BadPath, NoMemory}
+use Rattle.spiffe_name.specs.Limits.{id_limit}
 
 -- An ID, as contracts see it.
 pub record Id : Type 0 where
@@ -39,7 +40,7 @@ pub record IsPath (path : List ℕ) : Type 0 where
 -- 2,048 bytes together.
 pub record IsIdText (text domain path : List ℕ) : Type 0 where
   pub whole : text ≡ scheme ++ (domain ++ path)
-  pub limit : length text ≤ 2048
+  pub limit : length text ≤ id_limit
   pub is_domain : IsDomainText domain
   pub is_path : IsPath path
 
@@ -49,7 +50,7 @@ IsId id = IsIdText id.text id.domain id.path
 -- A text within the limit is spiffe://, what is to be a trust domain name, up to the next slash or
 -- the end, and what is to be a path.
 pub record HasParts (text domain path : List ℕ) : Type 0 where
-  pub limit : length text ≤ 2048
+  pub limit : length text ≤ id_limit
   pub whole : text ≡ scheme ++ (domain ++ path)
   pub no_slash : AllPass is_not_slash domain
   pub slash : EmptyOrSlash path
@@ -80,8 +81,8 @@ pub record FirstFault (path : List ℕ) (place : ℕ) : Type 0 where
 -- The first cause for which the text is no ID, or that there was no memory for one.
 abbrev pub RefusesId : List ℕ → NameError → Type 0
 RefusesId text Empty = (text ≡ []) ⊎ RefusesDomainPart text Empty
-RefusesId text TooLong = (2048 < length text) ⊎ RefusesDomainPart text TooLong
-RefusesId text BadScheme = (text ≢ []) × (length text ≤ 2048)
+RefusesId text TooLong = (id_limit < length text) ⊎ RefusesDomainPart text TooLong
+RefusesId text BadScheme = (text ≢ []) × (length text ≤ id_limit)
     × ((rest : List ℕ) → text ≢ scheme ++ rest)
 RefusesId text (BadDomainByte place) = (n : ℕ)
     × ((place ≡ length scheme + n) × RefusesDomainPart text (BadDomainByte n))

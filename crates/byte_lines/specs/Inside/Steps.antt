@@ -13,11 +13,13 @@ use Rattle.byte_lines.specs.declared.line_buf.Gathered.{Gathered}
 use Rattle.byte_lines.specs.declared.line_buf.Gathered.TheVariants.{Part, Line, TooMuch}
 use Rattle.byte_lines.specs.declared.error.DeviceError.{DeviceError}
 use Rattle.byte_lines.specs.declared.error.DeviceError.TheVariants.{NoMemory}
+use Rattle.byte_lines.specs.Limits.{line_limit}
 
 -- what was found, where `given` is the line that the buffer then holds
 abbrev pub FindsIn : Option (List ℕ) → Option (List ℕ) → List ℕ → Found → Type 0
-FindsIn old new given Text = HasLine old new given × (length given ≤ 8388608)
-FindsIn old new given TooLong = ((text : List ℕ) × HasLine old new text × (8388608 < length text))
+FindsIn old new given Text = HasLine old new given × (length given ≤ line_limit)
+FindsIn old new given TooLong = (text : List ℕ)
+    × HasLine old new text × (line_limit < length text)
 FindsIn old new given Cut = HasNoLine old × HasMore old × IsAtEnd new
 FindsIn old new given End = IsAtEnd old × IsAtEnd new
 
@@ -36,7 +38,7 @@ pub record TakesFound {S : Type 0} (remaining : S → Option (List ℕ)) (budget
 pub record SkipsText (old new : List ℕ) : Type 0 where
   pub text : List ℕ
   pub plain : HasNoFeed text
-  pub long : 8388608 < length text
+  pub long : line_limit < length text
   pub parts : old ≡ text ++ new
 
 abbrev pub GathersLine : LineBuf → LineBuf → Result Gathered AllocError → Type 0

@@ -1,6 +1,6 @@
 use Rattle.std.proofs.Common.{◌-◌, length, map}
 use Rattle.bundle_view.specs.Conflicts.{reported_by}
-use Rattle.bundle_view.specs.Groups.{SoFar}
+use Rattle.bundle_view.specs.Inside.Groups.{SoFar}
 use Rattle.bundle_view.proofs.conflict.add_conflicts.Given as goal
 
 abbrev pub invariant-groups : goal.invariant-groups

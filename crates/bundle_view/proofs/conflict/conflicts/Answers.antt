@@ -3,7 +3,7 @@ use Rattle.std.proofs.lemmas.List.{take_all}
 use Rattle.fed_config.specs.Configuration.{AreDomains}
 use Rattle.closure_core.specs.AcceptedList.{IsAcceptedList}
 use Rattle.bundle_view.specs.Conflicts.{reported_by}
-use Rattle.bundle_view.specs.Groups.{AreFoundOf}
+use Rattle.bundle_view.specs.Inside.Groups.{AreFoundOf}
 use Rattle.bundle_view.proofs.GroupFacts.{taken_more, found_none, found_more, found_all}
 use Rattle.bundle_view.proofs.conflict.conflicts.Goals as goal
 

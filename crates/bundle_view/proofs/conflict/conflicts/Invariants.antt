@@ -1,6 +1,6 @@
 use Rattle.std.proofs.Common.{map, take}
 use Rattle.bundle_view.specs.Conflicts.{reported_by}
-use Rattle.bundle_view.specs.Groups.{AreFoundOf}
+use Rattle.bundle_view.specs.Inside.Groups.{AreFoundOf}
 use Rattle.bundle_view.proofs.conflict.conflicts.Given as goal
 
 abbrev pub invariant-loop-domain : goal.invariant-loop-domain

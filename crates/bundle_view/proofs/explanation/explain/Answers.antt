@@ -6,7 +6,7 @@ use Rattle.std.proofs.lemmas.Option.{slice_get_within}
 use Rattle.fed_config.specs.Configuration.{Configuration}
 use Rattle.receipt_core.specs.Acceptance.{pair_of_seed}
 use Rattle.closure_core.specs.AcceptedList.{document_of}
-use Rattle.bundle_view.specs.Search.{AreLinkedSteps, IsBackFrom}
+use Rattle.bundle_view.specs.Inside.Search.{AreLinkedSteps, IsBackFrom}
 use Rattle.bundle_view.specs.Explain.{IsShortest}
 use Rattle.bundle_view.proofs.TrailFacts.{linked}
 use Rattle.bundle_view.proofs.ExplainFacts.{shortest_seed, none_leads, shortest_found, searched_moved}

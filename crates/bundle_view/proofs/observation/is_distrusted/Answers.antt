@@ -1,5 +1,5 @@
 use Rattle.receipt_core.proofs.ChainFacts.{not_told}
-use Rattle.bundle_view.specs.Observing.{distrust}
+use Rattle.bundle_view.specs.Inside.Observing.{distrust}
 use Rattle.bundle_view.proofs.ObserveFacts.{passed_over}
 use Rattle.bundle_view.proofs.observation.is_distrusted.Goals as goal
 

@@ -1,7 +1,7 @@
 use Rattle.std.proofs.Common.{List, ◌∙◌, ◌++◌, ap, subst, map, flat_map, option_copied}
 use Rattle.bundle_doc.specs.Bundle.{Bundle}
 use Rattle.bundle_view.specs.Conflicts.{reported_by}
-use Rattle.bundle_view.specs.Groups.{AddsClashes}
+use Rattle.bundle_view.specs.Inside.Groups.{AddsClashes}
 use Rattle.bundle_view.specs.Report.{accepted_line, conflict_line}
 use Rattle.bundle_view.proofs.ReportFacts.{section_added}
 use Rattle.bundle_view.proofs.report.push_section.Goals as goal

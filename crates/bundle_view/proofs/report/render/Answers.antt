@@ -1,7 +1,7 @@
 use Rattle.std.proofs.Common.{sym, subst}
 use Rattle.std.proofs.lemmas.List.{take_all}
 use Rattle.fed_config.specs.Configuration.{AreDomains}
-use Rattle.bundle_view.specs.Sections.{HasSections}
+use Rattle.bundle_view.specs.Inside.Sections.{HasSections}
 use Rattle.bundle_view.proofs.GroupFacts.{taken_more}
 use Rattle.bundle_view.proofs.ReportFacts.{sections_none, sections_more, sections_all}
 use Rattle.bundle_view.proofs.report.render.Goals as goal

@@ -1,5 +1,5 @@
 use Rattle.std.proofs.Common.{take}
-use Rattle.bundle_view.specs.Sections.{HasSections}
+use Rattle.bundle_view.specs.Inside.Sections.{HasSections}
 use Rattle.bundle_view.proofs.report.render.Given as goal
 
 abbrev pub invariant-loop-domain : goal.invariant-loop-domain

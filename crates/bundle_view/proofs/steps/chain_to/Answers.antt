@@ -4,7 +4,7 @@ use Rattle.std.specs.Prelude.{slice_get}
 use Rattle.std.proofs.lemmas.List.{reverse-reverse}
 use Rattle.std.proofs.lemmas.Option.{slice_get_read}
 use Rattle.receipt_core.specs.Receipt.{Receipt}
-use Rattle.bundle_view.specs.Search.{Stride, IsBackFrom}
+use Rattle.bundle_view.specs.Inside.Search.{Stride, IsBackFrom}
 use Rattle.bundle_view.proofs.TrailFacts.{IsWithin, left_from, falls_back, before_within, back_more}
 use Rattle.bundle_view.proofs.steps.chain_to.Goals as goal
 

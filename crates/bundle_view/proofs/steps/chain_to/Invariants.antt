@@ -1,7 +1,7 @@
 -- With the receipts from here back, those so far are all.
 use Rattle.std.proofs.Common.{◌++◌, List, Some}
 use Rattle.receipt_core.specs.Receipt.{Receipt}
-use Rattle.bundle_view.specs.Search.{IsBackFrom}
+use Rattle.bundle_view.specs.Inside.Search.{IsBackFrom}
 use Rattle.bundle_view.proofs.TrailFacts.{IsWithin, left_from}
 use Rattle.bundle_view.proofs.steps.chain_to.Given as goal
 

@@ -1,6 +1,6 @@
 -- One offer more.
 use Rattle.std.proofs.Common.{sym, subst}
-use Rattle.bundle_view.specs.Search.{FollowsOffers}
+use Rattle.bundle_view.specs.Inside.Search.{FollowsOffers}
 use Rattle.bundle_view.proofs.GroupFacts.{taken_more}
 use Rattle.bundle_view.proofs.SearchFacts.{follows_none, follows_more}
 use Rattle.bundle_view.proofs.steps.follow.Goals as goal

@@ -1,5 +1,5 @@
 use Rattle.std.proofs.Common.{take}
-use Rattle.bundle_view.specs.Search.{FollowsOffers}
+use Rattle.bundle_view.specs.Inside.Search.{FollowsOffers}
 use Rattle.bundle_view.proofs.steps.follow.Given as goal
 
 abbrev pub invariant-loop-offer : goal.invariant-loop-offer

@@ -1,7 +1,7 @@
 -- One configured document more.
 use Rattle.std.proofs.Common.{sym, ◌∙◌, subst, None}
 use Rattle.std.proofs.lemmas.List.{take_all}
-use Rattle.bundle_view.specs.Search.{IsSearchBegun, FollowsOffers}
+use Rattle.bundle_view.specs.Inside.Search.{IsSearchBegun, FollowsOffers}
 use Rattle.bundle_view.proofs.GroupFacts.{taken_more}
 use Rattle.bundle_view.proofs.TrailFacts.{begun_none, begun_more}
 use Rattle.bundle_view.proofs.steps.follow_seeds.Goals as goal

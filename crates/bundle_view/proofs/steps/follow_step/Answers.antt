@@ -3,7 +3,7 @@ use Rattle.std.proofs.Common.{◌≡◌, ◌+◌, Some, length, refl, sym, ◌�
 use Rattle.std.specs.Prelude.{slice_get, OnOk}
 use Rattle.std.proofs.lemmas.Option.{slice_get_read, same_Some}
 use Rattle.receipt_core.specs.Receipt.{offers_of, pair_of}
-use Rattle.bundle_view.specs.Search.{Stride, FollowsOffers}
+use Rattle.bundle_view.specs.Inside.Search.{Stride, FollowsOffers}
 use Rattle.bundle_view.proofs.steps.follow_step.Goals as goal
 
 pub returns : goal.returns

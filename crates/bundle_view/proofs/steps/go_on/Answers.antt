@@ -4,7 +4,7 @@ use Rattle.std.specs.Prelude.{slice_get}
 use Rattle.std.proofs.lemmas.Bool.{both_ways}
 use Rattle.std.proofs.lemmas.Option.{slice_get_read}
 use Rattle.receipt_core.specs.Receipt.{pair_of}
-use Rattle.bundle_view.specs.Search.{Stride}
+use Rattle.bundle_view.specs.Inside.Search.{Stride}
 use Rattle.bundle_view.proofs.TrailFacts.{at_start, at_next, at_last}
 use Rattle.bundle_view.proofs.steps.go_on.Goals as goal
 

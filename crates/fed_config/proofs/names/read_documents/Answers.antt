@@ -1,4 +1,4 @@
-use Rattle.fed_config.specs.Entries.{seed_text}
+use Rattle.fed_config.specs.Inside.Entries.{seed_text}
 use Rattle.fed_config.specs.Reading.{SaysSeedDocument}
 use Rattle.fed_config.proofs.ZipFacts.{zip_more}
 use Rattle.fed_config.proofs.names.read_documents.Goals as goal

@@ -1,6 +1,6 @@
 use Rattle.std.proofs.Common.{take}
 use Rattle.std.specs.List.{AllZip}
-use Rattle.fed_config.specs.Entries.{seed_text}
+use Rattle.fed_config.specs.Inside.Entries.{seed_text}
 use Rattle.fed_config.specs.Reading.{SaysSeedDocument}
 use Rattle.fed_config.proofs.names.read_documents.Given as goal
 

@@ -1,6 +1,6 @@
 use Rattle.std.proofs.Common.{sym, subst}
 use Rattle.spiffe_name.specs.TrustDomain.{IsDomainText}
-use Rattle.fed_config.specs.Entries.{seed_text}
+use Rattle.fed_config.specs.Inside.Entries.{seed_text}
 use Rattle.fed_config.specs.Reading.{SaysDomain}
 use Rattle.fed_config.proofs.ZipFacts.{zip_more}
 use Rattle.fed_config.proofs.names.read_domains.Goals as goal

@@ -2,7 +2,7 @@ use Rattle.std.proofs.Common.{inr, refl, sym, subst}
 use Rattle.std.specs.List.{AllZip}
 use Rattle.std.proofs.lemmas.Result.{err_from_is_err_and}
 use Rattle.serde_json.specs.View.{view}
-use Rattle.fed_config.specs.Entries.{seed_text}
+use Rattle.fed_config.specs.Inside.Entries.{seed_text}
 use Rattle.fed_config.specs.Written.{SaysRelationshipText, SaysSeedText}
 use Rattle.fed_config.proofs.WrittenFacts.{narrower, relationships_of, seeds_of, says}
 use Rattle.fed_config.proofs.written.read_entries.Goals as goal

@@ -1,6 +1,6 @@
 use Rattle.std.proofs.Common.{inr, refl}
 use Rattle.serde_json.specs.View.{view}
-use Rattle.fed_config.specs.Entries.{seed_text}
+use Rattle.fed_config.specs.Inside.Entries.{seed_text}
 use Rattle.fed_config.specs.Written.{SaysSeedText}
 use Rattle.fed_config.proofs.ZipFacts.{zip_more, zip_none}
 use Rattle.fed_config.proofs.written.read_seeds.Goals as goal

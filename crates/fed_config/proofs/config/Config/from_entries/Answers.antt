@@ -7,7 +7,7 @@ use Rattle.bundle_doc.specs.Bundle.{Bundle, Means, Fits}
 use Rattle.spiffe_name.specs.TrustDomain.{IsDomainText}
 use Rattle.fed_config.specs.EndpointUrl.{IsParsed}
 use Rattle.fed_config.specs.Configuration.{relationship_cmp}
-use Rattle.fed_config.specs.Entries.{seed_text}
+use Rattle.fed_config.specs.Inside.Entries.{seed_text}
 use Rattle.fed_config.specs.Reading.{IsProfile, SaysNames, SaysDomain, SaysUrl, SaysSeedDocument}
 use Rattle.fed_config.specs.declared.error.ConfigError.TheVariants.{BadName, BadUrl, BadSeed}
 use Rattle.fed_config.proofs.ZipFacts.{each_map}

@@ -1,18 +1,18 @@
 // The words of the command line, as the system gives them.
-use crate::stop::Stop;
+use crate::exit::Exit;
 use fedbundle::CommandError;
 use std::alloc::{AllocError, Global};
 use std::rt::Env;
 use std::{env, io};
 
 /// The words that the program was started with, without its own name.
-pub(crate) fn of_process<R: Env + AllocGlobal>(rt: &R) -> Result<Vec<String>, Stop> {
+pub(crate) fn words_of_process<R: Env + AllocGlobal>(rt: &R) -> Result<Vec<String>, Exit> {
     match env::args(rt) {
         Ok(words) => Ok(words.skip(1).collect(rt.alloc())?),
         Err(error) if error.kind() == io::ErrorKind::OutOfMemory => {
-            Err(Stop::Refused(CommandError::NoMemory))
+            Err(Exit::Refused(CommandError::NoMemory))
         }
-        Err(_) => Err(Stop::Usage),
+        Err(_) => Err(Exit::Usage),
     }
 }
 

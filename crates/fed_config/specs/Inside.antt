@@ -1,0 +1,2 @@
+-- What is written, as the code holds it
+pub mod Entries

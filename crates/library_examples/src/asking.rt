@@ -1,0 +1,27 @@
+//! To ask what is accepted.
+use anyhow::Error;
+use bundle_view::{conflicts, current, write_report};
+use byte_lines::MemSink;
+use closure_core::Closure;
+use std::alloc::Global;
+
+/// The current document of each domain, its conflicts, and the length of the whole report.
+pub(crate) fn show<C: Closure>(alloc: Global, closure: &C, out: &mut String) -> Result<(), Error> {
+    for domain in closure.config().domains() {
+        let count = closure.accepted(domain).count();
+        let sequence = current(closure, domain).and_then(|document| document.rank());
+        let (name, sequence) = (domain.as_str(), sequence.unwrap_or(0));
+        writeln!(
+            out,
+            "{name}: {count} accepted, the current one has sequence {sequence}"
+        )?;
+    }
+    for conflict in &conflicts(alloc, closure)? {
+        let (name, sequence) = (conflict.domain.as_str(), conflict.sequence);
+        writeln!(out, "{name}: conflict at sequence {sequence}")?;
+    }
+    let mut report = MemSink::new(alloc, 100_000)?;
+    write_report(alloc, closure, &mut report)?;
+    writeln!(out, "report of {} bytes", report.as_bytes().len())?;
+    Ok(())
+}
