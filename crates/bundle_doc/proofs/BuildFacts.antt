@@ -23,10 +23,12 @@ pub record IsBuilt (es : List Entry) (rank hint : Option ℕ) (authorities : Lis
   pub rank_fits : FitsWord rank
   pub hint_fits : FitsWord hint
 
+-- the bundle of these authorities and numbers
 abbrev pub bundle_of : List Authority → Option ℕ → Option ℕ → Bundle
 bundle_of authorities rank hint = record { authorities = authorities; rank = rank; hint = hint }
 
 module _ (es : List Entry) (rank hint : Option ℕ) (authorities : List Authority) (keys out : List ℕ) (b : IsBuilt es rank hint authorities keys out) where
+  -- what was built is a bundle that a document can mean
   pub IsBundle-built : IsBundle (bundle_of authorities rank hint)
   IsBundle-built = record {
     rising = b.rising;
@@ -35,20 +37,25 @@ module _ (es : List Entry) (rank hint : Option ℕ) (authorities : List Authorit
     hint = b.hint_fits;
   }
 
+  -- it is the bundle of the entries and the numbers
   pub IsBundleOf-built : IsBundleOf es rank hint (bundle_of authorities rank hint)
   IsBundleOf-built = record { authorities = b.authorities_are; same_rank = refl; same_hint = refl; is = IsBundle-built }
 
+  -- what was written is its canonical text
   pub text-built : out ≡ canonical_text (bundle_of authorities rank hint)
   text-built =
       b.out_is ∙ ap (λ k. k ++ numbers_text hint rank) (b.keys_are ∙ ap keys_text (sym b.authorities_are))
       ∙ sym (canonical_text-parts (bundle_of authorities rank hint))
 
+  -- it fits where what was written is within the limit
   pub fits-built : (n : ℕ) → n ≡ length out → n ≤ document_limit → Fits (bundle_of authorities rank hint)
   fits-built n len short = subst (λ t. length t ≤ document_limit) text-built (subst (λ k. k ≤ document_limit) len short)
 
+  -- the bundle and what was written are a document in memory
   pub IsKept-built : (n : ℕ) → n ≡ length out → n ≤ document_limit → IsStoredDocument (bundle_of authorities rank hint) out
   IsKept-built n len short = record { is = IsBundle-built; text = text-built; fits = fits-built n len short }
 
+  -- a text above the limit is a fault of `build`
   pub too_long-built : (n : ℕ) → n ≡ length out → document_limit < n → IsBuildFault es rank hint CanonicalTooLong
   too_long-built n len long = (
     bundle_of authorities rank hint,
@@ -59,6 +66,7 @@ module _ (es : List Entry) (rank hint : Option ℕ) (authorities : List Authorit
 -- ---- from the contents of a value
 
 module _ (tree : Data) (es : List Entry) (rank hint : Option ℕ) (contents : IsContents tree es rank hint) where
+  -- a value means the bundle that is built from its contents
   pub Means-contents : (b : Bundle) → IsBundleOf es rank hint b → Means tree b
   Means-contents b is = record {
     keys = contents.keys;
@@ -69,6 +77,7 @@ module _ (tree : Data) (es : List Entry) (rank hint : Option ℕ) (contents : Is
     is = is.is;
   }
 
+  -- a fault of `build` refuses the value that the contents came from
   pub RefusesTree-contents : (e : DocError) → IsBuildFault es rank hint e → RefusesTree tree e
   RefusesTree-contents TooLong h = absurd h
   RefusesTree-contents NotJson h = absurd h
@@ -82,6 +91,7 @@ module _ (tree : Data) (es : List Entry) (rank hint : Option ℕ) (contents : Is
 -- ---- from the contents of bytes
 
 module _ (bytes : List ℕ) (es : List Entry) (rank hint : Option ℕ) (found : IsContentsOfText bytes es rank hint) where
+  -- bytes are a document of the bundle that is built from their contents, where it fits
   pub IsDocument-contents : (b : Bundle) → IsBundleOf es rank hint b → Fits b → IsDocument bytes b
   IsDocument-contents b is fits = record {
     tree = found.tree;
@@ -91,6 +101,7 @@ module _ (bytes : List ℕ) (es : List Entry) (rank hint : Option ℕ) (found : 
     fits = fits;
   }
 
+  -- a fault of `build` refuses the bytes that the contents came from
   pub RefusesBytes-contents : (e : DocError) → IsBuildFault es rank hint e → RefusesBytes bytes e
   RefusesBytes-contents TooLong h = absurd h
   RefusesBytes-contents NotJson h = absurd h

@@ -24,14 +24,17 @@ use Rattle.bundle_doc.specs.Bundle.{Means, trees, with_number, document_tree, ca
 abbrev Below : Authority → List Authority → Type 0
 Below a others = AllByRecursion (λ b. text_cmp a b ≡ Less) others
 
+-- an authority is below each member of a list that it is below
 below_has : (a b : Authority) (others : List Authority) → Below a others → Has others b → text_cmp a b ≡ Less
 below_has a b [] h has = absurd has
 below_has a b (c ∷ others) h (inl e) = subst (λ x. text_cmp a x ≡ Less) (sym e) h.0
 below_has a b (c ∷ others) h (inr has) = below_has a b others h.1 has
 
+-- no authority is below itself
 not_below_itself : (a : Authority) → text_cmp a a ≡ Less → ⊥
 not_below_itself a h = let same = tied_itself nat_list_cmp_total (authority_text a) in cc
 
+-- no two authorities are below each other
 not_both : (a b : Authority) → text_cmp a b ≡ Less → text_cmp b a ≡ Less → ⊥
 not_both a b p q = let above : text_cmp a b ≡ Greater = nat_list_cmp_total.antisymm (authority_text a) (authority_text b) ∙ ap ordering_reverse q in cc
 
@@ -41,9 +44,11 @@ same_first a b others more p q (inl e) there = e
 same_first a b others more p q (inr here) (inl e) = sym e
 same_first a b others more p q (inr here) (inr there) = absurd (not_both a b (below_has a b others p there) (below_has b a more q here))
 
+-- an authority that is below a list is no member of it
 not_again : (a : Authority) (others : List Authority) → Below a others → Has others a → ⊥
 not_again a others h has = not_below_itself a (below_has a a others h has)
 
+-- without the first, which both have, the members of one list are still members of the other
 tail_has : (a x : Authority) (others more : List Authority) → Below a others
     → ((y : Authority) → Has (a ∷ others) y → Has (a ∷ more) y) → Has others x → Has more x
 tail_has a x others more below all has = elim (all x (inr has)) [
@@ -51,6 +56,7 @@ tail_has a x others more below all has = elim (all x (inr has)) [
   | inr there ↦ there
 ]
 
+-- rising lists with the same members are equal
 pub rising_same : (xs ys : List Authority) → IsStrictlySortedBy text_cmp xs → IsStrictlySortedBy text_cmp ys
     → ((a : Authority) → Has xs a → Has ys a) → ((a : Authority) → Has ys a → Has xs a) → xs ≡ ys
 unfolding IsStrictlySortedBy
@@ -67,6 +73,7 @@ rising_same (x ∷ xs) (y ∷ ys) p q there back =
 
 -- ---- an object means one bundle
 
+-- a value has one number at most under a name
 one_number : (tree : Data) (name : List ℕ) (m n : Option ℕ) → HasNumberMember tree name m → HasNumberMember tree name n → m ≡ n
 one_number tree name None None p q = refl
 one_number tree name None (Some n) (inl p) q = absurd (cc)
@@ -75,16 +82,20 @@ one_number tree name (Some m) None p (inl q) = absurd (cc)
 one_number tree name (Some m) None p (inr q) = absurd (cc)
 one_number tree name (Some m) (Some n) p q = cc
 
+-- a value has one array of keys at most
 one_array : (tree : Data) (k l : Items) → HasKeys tree k → HasKeys tree l → k ≡ l
 one_array tree k l p q = cc
 
+-- a bundle from its parts
 bundle : List Authority → Option ℕ → Option ℕ → Bundle
 bundle authorities rank hint = record { authorities = authorities; rank = rank; hint = hint }
 
+-- bundles with equal parts are equal
 same_bundle : (b c : Bundle) → b.authorities ≡ c.authorities → b.rank ≡ c.rank → b.hint ≡ c.hint → b ≡ c
 unfolding bundle
 same_bundle b c authorities ranks hints = let same : bundle b.authorities b.rank b.hint ≡ bundle c.authorities c.rank c.hint = cc in same
 
+-- a value means one bundle at most, as `laws::values` says
 pub one_meaning : (tree : Data) (b c : Bundle) → Means tree b → Means tree c → b ≡ c
 one_meaning tree b c p q =
     let keys : p.keys ≡ q.keys = one_array tree p.keys q.keys p.has_keys q.has_keys in
@@ -98,6 +109,7 @@ one_meaning tree b c p q =
 
 -- ---- the canonical text means the bundle
 
+-- the elements of authorities say these authorities and no others
 says_trees : (xs : List Authority) → AllByRecursion IsAuthority xs → (a : Authority) → Has xs a ↔ Says (trees xs) a
 says_trees [] h a = (λ x. x, λ x. x)
 says_trees (x ∷ xs) h a =
@@ -106,6 +118,7 @@ says_trees (x ∷ xs) h a =
       λ says. elim says [ inl is ↦ inl (one_authority (tree_of x) a x is (IsElement-tree_of x h.0)) | inr later ↦ inr (rest.1 later) ],
     )
 
+-- the value of a bundle has its sequence number, whichever of the two numbers there are
 rank_there : (rank hint : Option ℕ) (items : Items)
     → HasNumberMember
     (object (member (codes "keys") (array items)
@@ -116,6 +129,7 @@ rank_there None (Some h) items = inl refl
 rank_there (Some r) None items = refl
 rank_there (Some r) (Some h) items = refl
 
+-- the same for the refresh hint
 hint_there : (rank hint : Option ℕ) (items : Items)
     → HasNumberMember
     (object (member (codes "keys") (array items)
@@ -126,6 +140,7 @@ hint_there (Some r) None items = inl refl
 hint_there None (Some h) items = refl
 hint_there (Some r) (Some h) items = refl
 
+-- the same for the elements
 keys_there : (rank hint : Option ℕ) (items : Items)
     → HasKeys (object (member (codes "keys") (array items)
     (with_number (codes "spiffe_refresh_hint") hint (with_number (codes "spiffe_sequence") rank no_members)))) items
@@ -134,6 +149,7 @@ keys_there None (Some h) items = refl
 keys_there (Some r) None items = refl
 keys_there (Some r) (Some h) items = refl
 
+-- the value that is made of a bundle means it
 pub Means-document_tree : (b : Bundle) → IsBundle b → Means (document_tree b) b
 Means-document_tree b h = record {
   keys = trees b.authorities;
@@ -144,17 +160,21 @@ Means-document_tree b h = record {
   is = h;
 }
 
+-- the elements of authorities are plain values
 ArePlain-trees : (xs : List Authority) → AllByRecursion IsAuthority xs → ArePlain (trees xs)
 ArePlain-trees [] h = tt
 ArePlain-trees (x ∷ xs) h = (IsPlain-tree_of x h.0, ArePlain-trees xs h.1)
 
+-- the elements of authorities nest two levels deep at most
 shallow_trees : (xs : List Authority) → items_depth (trees xs) ≤ 2
 shallow_trees [] = omega arith
 shallow_trees (x ∷ xs) = omega (arith, depth-tree_of x, shallow_trees xs)
 
+-- a text whose bytes pass the test for ASCII is UTF-8: for the names of members
 ascii : (t : List ℕ) → are_ascii t ≡ true → IsUtf8 t
 ascii = IsUtf8-are_ascii
 
+-- the members of a bundle's value are plain, and their names rise
 plain_members : (xs : List Authority) (rank hint : Option ℕ) → ArePlain (trees xs) → IfSome rank (λ n. n < 2 ^ 64) → IfSome hint (λ n. n < 2 ^ 64)
     → HasPlainMembers (member (codes "keys") (array (trees xs))
     (with_number (codes "spiffe_refresh_hint") hint (with_number (codes "spiffe_sequence") rank no_members)))
@@ -168,9 +188,11 @@ plain_members xs (Some n) (Some m) h r k = (
   (ascii (codes "spiffe_refresh_hint") refl, k, (refl, tt), (ascii (codes "spiffe_sequence") refl, r, tt, tt)),
 )
 
+-- the value of a bundle is plain, so its text is read back as it
 pub IsPlain-document_tree : (b : Bundle) → IsBundle b → IsPlain (document_tree b)
 IsPlain-document_tree b h = plain_members b.authorities b.rank b.hint (ArePlain-trees b.authorities h.forms) h.rank h.hint
 
+-- the value of a bundle nests four levels deep at most, whichever of the two numbers there are
 shallow : (xs : List Authority) (rank hint : Option ℕ)
     → depth (object (member (codes "keys") (array (trees xs))
     (with_number (codes "spiffe_refresh_hint") hint (with_number (codes "spiffe_sequence") rank no_members)))) ≤ 4
@@ -179,13 +201,15 @@ shallow xs (Some n) None = omega (arith, shallow_trees xs)
 shallow xs None (Some m) = omega (arith, shallow_trees xs)
 shallow xs (Some n) (Some m) = omega (arith, shallow_trees xs)
 
+-- the value of a bundle nests four levels deep at most, far below the limit of JSON texts
 pub depth-document_tree : (b : Bundle) → depth (document_tree b) ≤ 4
 depth-document_tree b = shallow b.authorities b.rank b.hint
 
+-- a canonical text is a JSON text of the bundle's value
 pub IsJson-canonical_text : (b : Bundle) → IsBundle b → IsJson (canonical_text b) (document_tree b)
 IsJson-canonical_text b h = IsJson-compact_text (document_tree b) (IsPlain-document_tree b h) (omega (arith, depth-document_tree b))
 
--- bundles of one canonical text are one
+-- bundles with one canonical text are equal, as `laws::documents` says
 pub one_text : (b c : Bundle) → IsBundle b → IsBundle c → canonical_text b ≡ canonical_text c → b ≡ c
 one_text b c p q e =
     let trees_same : Some (document_tree b) ≡ Some (document_tree c) = sym (IsJson-canonical_text b p).1 ∙ ap read e ∙ (IsJson-canonical_text c q).1 in
@@ -203,7 +227,7 @@ IsDocument-canonical_text b h fits = record {
   fits = fits;
 }
 
--- authorities of one text are one
+-- authorities with one text are equal
 pub one_authority_text : (a b : Authority) → IsAuthority a → IsAuthority b → authority_text a ≡ authority_text b → a ≡ b
 one_authority_text a b p q e =
     let deep : (x : Authority) → depth (tree_of x) ≤ max_depth = λ x. omega (arith, depth-tree_of x) in
@@ -213,7 +237,7 @@ one_authority_text a b p q e =
     let tree_same : tree_of a ≡ tree_of b = cc in
     one_authority (tree_of a) a b (IsElement-tree_of a p) (subst (λ t. IsElement t b) (sym tree_same) (IsElement-tree_of b q))
 
--- bytes are a document of one bundle
+-- bytes are a document of one bundle at most, as `laws::documents` says
 pub one_document : (bytes : List ℕ) (b c : Bundle) → IsDocument bytes b → IsDocument bytes c → b ≡ c
 one_document bytes b c p q =
     let trees_same : Some p.tree ≡ Some q.tree = sym p.json.1 ∙ q.json.1 in

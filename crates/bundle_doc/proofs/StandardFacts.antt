@@ -13,19 +13,22 @@ use Rattle.bundle_doc.specs.Bundle.{Bundle, HasNumberMember, Means, canonical_te
 use Rattle.bundle_doc.specs.Refusal.{HasSomeNumber, RefusesTree}
 use Rattle.bundle_doc.specs.declared.error.DocError.TheVariants.{NotObject, NoKeys, BadSequence}
 
--- 1 MiB
+-- a document has 1 MiB at most
 pub limit : document_limit ≡ 1024 * 1024
 limit = refl
 
 -- ---- canonical texts
 
+-- the bundle that says nothing
 abbrev nothing : Bundle
 nothing = record { authorities = []; rank = None; hint = None }
 
+-- its canonical text has an empty array and no numbers
 pub text_of_nothing : canonical_text nothing ≡ codes "{\"keys\":[]}"
 unfolding escape_byte
 text_of_nothing = refl
 
+-- a bundle with two authorities, a sequence number and a refresh hint
 abbrev abc : Bundle
 abc = record {
   authorities =
@@ -35,6 +38,7 @@ abc = record {
   hint = Some 600;
 }
 
+-- its canonical text has the members in the order of their names, with no space
 pub text_of_abc : canonical_text abc
     ≡ codes "{\"keys\":[{\"e\":\"Ag\",\"kty\":\"RSA\",\"n\":\"AQAB\",\"use\":\"x509-svid\",\"x5c\":[\"YWJj\"]},{\"e\":\"Aw\",\"kid\":\"k\",\"kty\":\"RSA\",\"n\":\"AQ\",\"use\":\"jwt-svid\"}],\"spiffe_refresh_hint\":600,\"spiffe_sequence\":7}"
 unfolding base64_on_literals escape_byte digits
@@ -46,9 +50,11 @@ text_of_abc = refl
 abbrev document : Data → Data → Data
 document keys sequence = object (member (codes "keys") keys (member (codes "note") null (member (codes "spiffe_sequence") sequence no_members)))
 
+-- a number, as an element and as a sequence number
 abbrev seven : Data
 seven = number (unsigned 7)
 
+-- a number says no authority as an element
 says_nothing : (a : Authority) → IsElement seven a → ⊥
 says_nothing (X509 key der) h = let role = h.0 in cc
 says_nothing (Jwt kid key) h = let role = h.0 in cc
@@ -65,24 +71,30 @@ means_nothing = record {
   is = record { rising = tt; forms = tt; rank = tt; hint = tt };
 }
 
+-- a whole number is a sequence number
 pub sequence : HasNumberMember (document (array no_items) seven) (codes "spiffe_sequence") (Some 7)
 sequence = refl
 
 -- ---- refusals
 
+-- an array is no document
 pub no_object : RefusesTree (array no_items) NotObject
 no_object = refl
 
+-- an object without `keys` is no document
 pub no_keys : RefusesTree (object no_members) NoKeys
 no_keys = (refl, λ h. let keys = h.1 in cc)
 
+-- `keys` must be an array: `null` counts as none
 pub keys_of_null : RefusesTree (document null seven) NoKeys
 keys_of_null = (refl, λ h. let keys = h.1 in cc)
 
+-- a text is no number, and is not absent
 no_text : HasSomeNumber (document (array no_items) (string (codes "1"))) (codes "spiffe_sequence") → ⊥
 no_text (None, inl h) = cc
 no_text (None, inr h) = cc
 no_text (Some n, h) = cc
 
+-- a text as the sequence number is refused
 pub text_as_sequence : RefusesTree (document (array no_items) (string (codes "1"))) BadSequence
 text_as_sequence = ((no_items, refl), no_text)

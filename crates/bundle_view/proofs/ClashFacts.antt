@@ -24,26 +24,31 @@ use Rattle.bundle_view.proofs.ListFacts.{rising_rest, two_in_one, first_of}
 
 -- ---- ranks
 
+-- the order of ranks, an absent one below all
 abbrev pub rank_cmp : Option ℕ → Option ℕ → Ordering
 rank_cmp = option_cmp nat_cmp
 
+-- two orders in turn find less only where the first does, or ties
 then_less : (a b : Ordering) → ordering_then a b ≡ Less → (a ≡ Less) ⊎ (a ≡ Equal)
 then_less Less b h = inl refl
 then_less Equal b h = inr refl
 then_less Greater b h = absurd (cc)
 
+-- ranks that tie are equal
 rank_equal : (a b : Option ℕ) → rank_cmp a b ≡ Equal → a ≡ b
 rank_equal None None h = refl
 rank_equal None (Some b) h = absurd (cc)
 rank_equal (Some a) None h = absurd (cc)
 rank_equal (Some a) (Some b) h = ap Some (equal_bytes a b h)
 
+-- a document below another has a lesser rank or the same
 rank_first : (d e : Bundle) → document_cmp d e ≡ Less → (rank_cmp d.rank e.rank ≡ Less) ⊎ (d.rank ≡ e.rank)
 rank_first d e h = elim (then_less _ _ h) [
   | inl less ↦ inl less
   | inr same ↦ inr (rank_equal d.rank e.rank same)
 ]
 
+-- one sequence number is not below itself
 same_sequence_below : (s : ℕ) (a b : Option ℕ) → a ≡ Some s → b ≡ Some s → rank_cmp a b ≡ Less → ⊥
 same_sequence_below s a b p q less =
     let here : rank_cmp (Some s) (Some s) ≡ Less =
@@ -51,6 +56,7 @@ same_sequence_below s a b p q less =
     let same : rank_cmp (Some s) (Some s) ≡ Equal = cmp_equal s s refl in
     cc
 
+-- a lesser rank is a lesser sequence number
 sequence_below : (s t : ℕ) (a b : Option ℕ) → a ≡ Some s → b ≡ Some t → rank_cmp a b ≡ Less → nat_cmp s t ≡ Less
 sequence_below s t a b p q less = subst (λ (z : Option ℕ). rank_cmp (Some s) z ≡ Less) q (subst (λ (z : Option ℕ). rank_cmp z b ≡ Less) p less)
 
@@ -79,6 +85,7 @@ group_below group (x ∷ others) rising ended d e h k =
 
 -- ---- one property in place of another
 
+-- a conflict among the documents with a property is one among those with an equivalent one
 pub clash_iff : (P Q : Bundle → Type 0) → ((d : Bundle) → P d → Q d) → ((d : Bundle) → Q d → P d) → (c : Clash) → IsClash P c → IsClash Q c
 clash_iff P Q f g c is = record {
   rising = is.rising;
@@ -87,6 +94,7 @@ clash_iff P Q f g c is = record {
   kind = is.kind;
 }
 
+-- the same for the list of all conflicts
 pub clashes_iff : (P Q : Bundle → Type 0) → ((d : Bundle) → P d → Q d) → ((d : Bundle) → Q d → P d) → (cs : List Clash) → AreClashes P cs → AreClashes Q cs
 clashes_iff P Q f g cs are = record {
   rising = are.rising;
@@ -98,22 +106,25 @@ clashes_iff P Q f g cs are = record {
 
 module _ (P Q R : Bundle → Type 0) (cut : (d : Bundle) → R d → P d ⊎ Q d) (front : (d : Bundle) → P d → R d) (back : (d : Bundle) → Q d → R d)
     (below : (d e : Bundle) → P d → Q e → rank_cmp d.rank e.rank ≡ Less) where
-  -- with a document of that sequence number in front there is none behind
+  -- where a document in front has a sequence number, none in the back has it
   apart : (s : ℕ) (d e : Bundle) → P d → d.rank ≡ Some s → Q e → e.rank ≡ Some s → ⊥
   apart s d e p a q b = same_sequence_below s d.rank e.rank a b (below d e p q)
 
+  -- all documents with the sequence number of one in front are in front
   in_front : (c : Clash) (d : Bundle) → P d → d.rank ≡ Some c.sequence → (e : Bundle) → R e → e.rank ≡ Some c.sequence → P e
   in_front c d p a e r b = elim (cut e r) [
     | inl here ↦ here
     | inr there ↦ absurd (apart c.sequence d e p a there b)
   ]
 
+  -- all documents with the sequence number of one in the back are in the back
   in_back : (c : Clash) (d : Bundle) → Q d → d.rank ≡ Some c.sequence → (e : Bundle) → R e → e.rank ≡ Some c.sequence → Q e
   in_back c d q a e r b = elim (cut e r) [
     | inl here ↦ absurd (apart c.sequence e d here b q a)
     | inr there ↦ there
   ]
 
+  -- a conflict in front is one of the whole
   whole_of_front : (c : Clash) → IsClash P c → IsClash R c
   whole_of_front c is =
       let first = first_of c.documents is.several in
@@ -125,6 +136,7 @@ module _ (P Q R : Bundle → Type 0) (cut : (d : Bundle) → R d → P d ⊎ Q d
         kind = is.kind;
       }
 
+  -- a conflict in the back is one of the whole
   whole_of_back : (c : Clash) → IsClash Q c → IsClash R c
   whole_of_back c is =
       let first = first_of c.documents is.several in
@@ -136,6 +148,7 @@ module _ (P Q R : Bundle → Type 0) (cut : (d : Bundle) → R d → P d ⊎ Q d
         kind = is.kind;
       }
 
+  -- a conflict of the whole with a sequence number that is in front is one in front
   front_of_whole : (c : Clash) (e : Bundle) → P e → e.rank ≡ Some c.sequence → IsClash R c → IsClash P c
   front_of_whole c e p a is = record {
     rising = is.rising;
@@ -144,6 +157,7 @@ module _ (P Q R : Bundle → Type 0) (cut : (d : Bundle) → R d → P d ⊎ Q d
     kind = is.kind;
   }
 
+  -- a conflict of the whole with a sequence number that is in the back is one in the back
   back_of_whole : (c : Clash) (e : Bundle) → Q e → e.rank ≡ Some c.sequence → IsClash R c → IsClash Q c
   back_of_whole c e q a is = record {
     rising = is.rising;
@@ -152,6 +166,7 @@ module _ (P Q R : Bundle → Type 0) (cut : (d : Bundle) → R d → P d ⊎ Q d
     kind = is.kind;
   }
 
+  -- each conflict in front is below each in the back
   clash_below : (c d : Clash) → IsClash P c → IsClash Q d → clash_cmp c d ≡ Less
   clash_below c d is js =
       let x = first_of c.documents is.several in
@@ -160,6 +175,7 @@ module _ (P Q R : Bundle → Type 0) (cut : (d : Bundle) → R d → P d ⊎ Q d
       let qy = (js.exactly y.0).0 y.1 in
       sequence_below c.sequence d.sequence x.0.rank y.0.rank px.1 qy.1 (below x.0 y.0 px.0 qy.0)
 
+  -- the conflicts of the whole are those in front and then those in the back
   pub clashes_append : (cs ds : List Clash) → AreClashes P cs → AreClashes Q ds → AreClashes R (cs ++ ds)
   clashes_append cs ds p q = record {
     rising = rising_append clash_cmp cs ds p.rising q.rising (λ c d h k. clash_below c d (p.sound c h) (q.sound d k));
@@ -178,16 +194,18 @@ module _ (P Q R : Bundle → Type 0) (cut : (d : Bundle) → R d → P d ⊎ Q d
 
 -- ---- a group
 
+-- documents are in conflict of one kind at most
 one_kind : (group : List Bundle) (a b : ConflictKind) → IsOfKind group a → IsOfKind group b → a ≡ b
 one_kind group Keys Keys p q = refl
 one_kind group HintOnly HintOnly p q = refl
 one_kind group Keys HintOnly p q = absurd (p.differ (q p.one p.other p.has_one p.has_other))
 one_kind group HintOnly Keys p q = absurd (q.differ (p q.one q.other q.has_one q.has_other))
 
+-- where there is no conflict, the empty list has them all
 no_clash : (P : Bundle → Type 0) → ((c : Clash) → IsClash P c → ⊥) → AreClashes P []
 no_clash P none = record { rising = rising_none clash_cmp; sound = λ c h. absurd (contains_none c h); complete = λ c is. absurd (none c is) }
 
--- without a sequence number there is none
+-- documents without a sequence number are in no conflict
 pub absent_rank : (group : List Bundle) → ((d : Bundle) → Contains group d → d.rank ≡ None) → AreClashes (Contains group) []
 absent_rank group absent = no_clash (Contains group) (λ c is.
     let first = first_of c.documents is.several in
@@ -199,12 +217,13 @@ absent_rank group absent = no_clash (Contains group) (λ c is.
     none_some : (o : Option ℕ) (s : ℕ) → o ≡ None → o ≡ Some s → ⊥
     none_some o s p q = cc
 
--- one document is in no conflict
+-- a group of one document has no conflict
 pub single : (group : List Bundle) → length group < 2 → AreClashes (Contains group) []
 single group few =
     no_clash (Contains group) (λ c is. two_in_one document_cmp document_total c.documents group is.rising is.several
     (λ x h. ((is.exactly x).0 h).0) few)
 
+-- a conflict in a group of one sequence number has all of the group
 same_clash : (group : List Bundle) (s : ℕ) (k : ConflictKind) → IsStrictlySortedBy document_cmp group
     → ((d : Bundle) → Contains group d → d.rank ≡ Some s) → IsOfKind group k
     → (c : Clash) → IsClash (Contains group) c → record { sequence = s; kind = k; documents = group } ≡ c
@@ -238,15 +257,18 @@ one_clash group s k rising ranks many kind =
 
 -- ---- they are the only ones
 
+-- documents have one list of conflicts
 pub one_list : (P : Bundle → Type 0) (cs ds : List Clash) → AreClashes P cs → AreClashes P ds → cs ≡ ds
 one_list P cs ds p q =
     same_list clash_cmp (on_total (λ (c : Clash). c.sequence) nat_cmp_total) cs ds p.rising q.rising
     (λ c h. q.complete c (p.sound c h)) (λ c h. p.complete c (q.sound c h))
 
+-- a configuration has one list of domains
 pub one_domains : (c : Configuration) (xs ys : List (List ℕ)) → AreDomains c xs → AreDomains c ys → xs ≡ ys
 one_domains c xs ys p q =
     same_list domain_cmp (on_texts (λ (x : List ℕ). x)) xs ys p.rising q.rising (λ d h. q.complete d (p.sound d h)) (λ d h. p.complete d (q.sound d h))
 
+-- the lists of conflicts of equal domains are equal
 same_parts : (m : Meaning) (xs ys : List OfDomain) → map (λ (p : OfDomain). p.domain) xs ≡ map (λ (p : OfDomain). p.domain) ys
     → ((p : OfDomain) → Contains xs p → AreConflicts m p.domain p.clashes) → ((p : OfDomain) → Contains ys p → AreConflicts m p.domain p.clashes) → xs ≡ ys
 same_parts m [] [] names p q = refl
@@ -259,6 +281,7 @@ same_parts m (x ∷ xs) (y ∷ ys) names p q =
     let rest : xs ≡ ys = same_parts m xs ys (ap (λ l. drop 1 l) names) (λ z h. p z (contains_later x xs z h)) (λ z h. q z (contains_later y ys z h)) in
     λ i. record { domain = name i; clashes = clashes i } ∷ rest i
 
+-- all conflicts of a replica are one list, as `laws::one_view` says
 pub one_told : (m : Meaning) (cs ds : List ReportedConflict) → AreAllConflicts m cs → AreAllConflicts m ds → cs ≡ ds
 one_told m cs ds p q =
     let parts : p.parts ≡ q.parts = same_parts m p.parts q.parts (one_domains m.config _ _ p.domains q.domains) p.each q.each in

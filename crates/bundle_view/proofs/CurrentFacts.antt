@@ -15,6 +15,7 @@ abbrev IsTop : List Bundle → Option Bundle → Type 0
 IsTop ds None = ⊥
 IsTop ds (Some d) = Contains ds d × ((e : Bundle) → Contains ds e → document_cmp d e ≡ Less → ⊥)
 
+-- the greatest of a list's rest is the greatest of the list, since the first is the least
 top_more : (x : Bundle) (ds : List Bundle) (o : Option Bundle) → IsStrictlySortedBy document_cmp (x ∷ ds) → IsTop ds o → IsTop (x ∷ ds) o
 top_more x ds None rising top = top
 top_more x ds (Some d) rising top = (
@@ -25,6 +26,7 @@ top_more x ds (Some d) rising top = (
   ],
 )
 
+-- the last of a rising list is the greatest
 top_last : (x : Bundle) (ds : List Bundle) → IsStrictlySortedBy document_cmp (x ∷ ds) → IsTop (x ∷ ds) (last_or (Some x) ds)
 top_last x [] rising = (
   contains_first x [],
@@ -35,14 +37,17 @@ top_last x [] rising = (
 )
 top_last x (y ∷ ds) rising = top_more x (y ∷ ds) (last_or (Some y) ds) rising (top_last y ds (rising_rest document_cmp x (y ∷ ds) rising))
 
+-- the greatest of a domain's accepted documents is the current one
 current_of_top : (m : Meaning) (domain : List ℕ) (ds : List Bundle) (o : Option Bundle) → IsAcceptedList m domain ds → IsTop ds o → IsCurrent m domain o
 current_of_top m domain ds None list top = absurd top
 current_of_top m domain ds (Some d) list top = record { accepted = list.sound d top.0; greatest = λ e is. top.1 e (list.complete e is) }
 
+-- the last accepted document is the current one, and with none accepted there is none
 pub last_current : (m : Meaning) (domain : List ℕ) (ds : List Bundle) → IsAcceptedList m domain ds → IsCurrent m domain (last_or None ds)
 last_current m domain [] list = λ d is. contains_none d (list.complete d is)
 last_current m domain (x ∷ ds) list = current_of_top m domain (x ∷ ds) (last_or (Some x) ds) list (top_last x ds list.rising)
 
+-- a domain has one current document at most
 pub one_current : (m : Meaning) (domain : List ℕ) (ds : List Bundle) (a b : Option Bundle) → IsAcceptedList m domain ds
     → IsCurrent m domain a → IsCurrent m domain b → a ≡ b
 one_current m domain ds None None list p q = refl

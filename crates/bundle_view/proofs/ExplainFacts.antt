@@ -22,7 +22,8 @@ use Rattle.bundle_view.specs.Inside.Search.{Stride, IsStride, AreStrides, AreTru
 module _ (m : Meaning) (waiting : List Receipt) (trusted : AreTrusted m waiting) (strides : List Stride) (p : Pair)
     (place : ℕ) (is : IsSearched m.config.seeds waiting strides p place)
     (limit : ℕ) (early : (i : ℕ) (s : Stride) → slice_get strides i ≡ Some s → s.length < limit → i < place) where
-  -- a chain from a document whose offers were followed ends in none that is that early
+  -- no chain that is shorter than the limit leads to the document from one whose offers were
+  -- followed
   not_along : (from : Pair) (d : ℕ) (chain : List Receipt) → AreFollowed waiting strides (offers_of from) (d + 1)
       → AllByRecursion (Contains m.held) chain → Leads m.config m.records from chain p → 0 < length chain
       → d + length chain < limit → ⊥
@@ -41,6 +42,7 @@ module _ (m : Meaning) (waiting : List Receipt) (trusted : AreTrusted m waiting)
       record { place = f.place; stride = f.stride; at = f.at; is = f.is; short = omega (arith, f.short, h.short) })
       held.1 leads.2 (omega arith) (omega (arith, short))
 
+  -- no chain that is shorter than the limit leads from a configured document to the document
   pub not_shorter : (chain : List Receipt) → LeadsTo m p chain → 0 < length chain → length chain < limit → ⊥
   not_shorter chain way some short =
       not_along (pair_of_seed way.seed) 0 chain (is.started way.seed way.configured) way.held way.leads some
@@ -50,21 +52,26 @@ module _ (m : Meaning) (waiting : List Receipt) (trusted : AreTrusted m waiting)
 
 module _ (m : Meaning) (waiting : List Receipt) (valid : IsMeaning m) (trusted : AreTrusted m waiting)
     (strides : List Stride) (stand : AreStrides m.config.seeds waiting strides) (p : Pair) where
-  -- what is left before a chain that leads on
+  -- the chain leads to the document from the step at the place or, where there is none, from a
+  -- configured document
   abbrev IsLeft : Option ℕ → List Receipt → Type 0
   IsLeft None chain = LeadsTo m p chain
   IsLeft (Some place) chain = (s : Stride) → slice_get strides place ≡ Some s
       → AllByRecursion (Contains m.held) chain × Leads m.config m.records (pair_of s.receipt) chain p
 
+  -- the chain to the step at a place has n receipts, and there are none where no step is
   abbrev length_of : Option ℕ → ℕ → Type 0
   length_of None n = n ≡ 0
   length_of (Some place) n = (s : Stride) → slice_get strides place ≡ Some s → s.length ≡ n
 
+  -- a receipt that may be vouched for and whose need a document offers fits, and that document
+  -- vouches for it
   vouched : (from : Pair) (r : Receipt) → Contains waiting r → Contains (offers_of from) (need_of r) → IsFitting m.config r × Vouches m.records from r
   vouched from r waits offered =
       let t = (trusted.exactly r).0 waits in
       (each_has (IsFitting m.config) m.held r valid.fitting (Has-from_contains m.held r t.0), (Vouches-by_offers m.records from r).1 (offered, t.1))
 
+  -- a step's receipt, put in front of a chain that leads on from it, leads on from the step before
   led : (s : Stride) (before : Option ℕ) (chain : List Receipt) → Contains waiting s.receipt
       → IsStride m.config.seeds strides s before → AllByRecursion (Contains m.held) chain
       × Leads m.config m.records (pair_of s.receipt) chain p → IsLeft before (s.receipt ∷ chain)
@@ -79,7 +86,8 @@ module _ (m : Meaning) (waiting : List Receipt) (valid : IsMeaning m) (trusted :
             (v.0, v.1, rest.1),
       )
 
-  -- the receipts back, last first, before a chain that leads on
+  -- the receipts back from a step, turned round and in front of a chain that leads on from it, lead
+  -- to the document
   pub way_back : (at : Option ℕ) (back chain : List Receipt) → IsBackFrom strides at back → IsLeft at chain → LeadsTo m p (reverse back ++ chain)
   way_back None [] chain is left = left
   way_back None (r ∷ back) chain is left = absurd is
@@ -91,6 +99,7 @@ module _ (m : Meaning) (waiting : List Receipt) (valid : IsMeaning m) (trusted :
       (subst (LeadsTo m p) (sym (append_assoc (reverse back) (r ∷ []) chain))
       (way_back s.before back (r ∷ chain) is.3 (subst (λ x. IsLeft s.before (x ∷ chain)) is.2 next)))
 
+  -- as many receipts lead back from a step as its chain has
   pub length_back : (at : Option ℕ) (back : List Receipt) → IsBackFrom strides at back → length_of at (length back)
   length_back None [] is = refl
   length_back None (r ∷ back) is = absurd is
@@ -106,19 +115,21 @@ module _ (m : Meaning) (waiting : List Receipt) (valid : IsMeaning m) (trusted :
 
 -- ---- what is explained
 
--- the configured document
+-- to a configured document the empty chain is a shortest one
 pub shortest_seed : (m : Meaning) (p : Pair) → Any (λ s. pair_of_seed s ≡ p) m.config.seeds → IsShortest m p []
 shortest_seed m p h = record {
   leads = record { seed = h.1; configured = (h.0, h.2, h.3); held = tt; leads = h.4 };
   shortest = λ other way. omega arith;
 }
 
+-- a chain to a document that is not configured has a receipt
 some_receipt : (m : Meaning) (p : Pair) → (Any (λ s. pair_of_seed s ≡ p) m.config.seeds → ⊥) → (chain : List Receipt) → LeadsTo m p chain → 0 < length chain
 some_receipt m p none [] way = absurd (none (way.configured.0, way.seed, way.configured.1, way.configured.2, way.leads))
 some_receipt m p none (r ∷ chain) way = omega arith
 
 module _ (m : Meaning) (waiting : List Receipt) (trusted : AreTrusted m waiting) (strides : List Stride) (p : Pair)
     (unconfigured : Any (λ s. pair_of_seed s ≡ p) m.config.seeds → ⊥) where
+  -- a document that the search did not find is not accepted
   pub none_leads : IsSearched m.config.seeds waiting strides p (length strides) → IsMember m p → ⊥
   none_leads is a =
       let way : LeadsTo m p a.chain = record { seed = a.seed; configured = a.configured; held = a.held; leads = a.leads } in
@@ -126,6 +137,7 @@ module _ (m : Meaning) (waiting : List Receipt) (trusted : AreTrusted m waiting)
       (λ i s at l. slice_get_within strides i s at) a.chain way (some_receipt m p unconfigured a.chain way)
       (omega arith)
 
+  -- the receipts back from the step that was found are a shortest chain
   pub shortest_found : IsMeaning m → (place : ℕ) (chain : List Receipt)
       → SearchFinds m.config.seeds waiting strides p place → IsBackFrom strides (Some place) (reverse chain)
       → IsShortest m p chain
@@ -156,6 +168,7 @@ module _ (m : Meaning) (waiting : List Receipt) (trusted : AreTrusted m waiting)
         | inr after ↦ let rise = found.searched.rising place i found.stride s after found.at at in absurd (omega (arith, rise, l))
       ]
 
+-- the outcome of a search is that of equal configured documents and receipts
 pub searched_moved : (seeds those : List Seed) (waiting there : List Receipt) (strides : List Stride) (p : Pair)
     (o found : Option ℕ) → seeds ≡ those → waiting ≡ there → o ≡ found → HasSearched seeds waiting strides p o
     → HasSearched those there strides p found
@@ -164,11 +177,13 @@ searched_moved seeds those waiting there strides p o found e f h is =
 
 -- ---- a chain to anybody
 
+-- a chain to a document leads on to where it ends
 ends_in : (c : Configuration) (records : List Distrust) (from : Pair) (chain : List Receipt) (to : Pair)
     → Leads c records from chain to → LeadsOn c records from chain
 ends_in c records from [] to h = refl
 ends_in c records from (r ∷ chain) to h = (h.0, h.1, ends_in c records (pair_of r) chain to h.2)
 
+-- a shortest chain with a receipt is a chain for somebody who holds no store
 pub chain_of : (m : Meaning) (p : Pair) (chain : List Receipt) → IsShortest m p chain → 0 < length chain → IsChain m.config m.records chain
 chain_of m p chain is some = record {
   some = some;
@@ -178,20 +193,25 @@ chain_of m p chain is some = record {
       ends_in m.config m.records (pair_of_seed is.leads.seed) chain p is.leads.leads;
 }
 
+-- a chain leads to the document of its last receipt
 end_of : (c : Configuration) (records : List Distrust) (from : Pair) (front : List Receipt) (last : Receipt) (to : Pair)
     → Leads c records from (front ++ last ∷ []) to → pair_of last ≡ to
 end_of c records from [] last to h = h.2
 end_of c records from (r ∷ front) last to h = end_of c records (pair_of r) front last to h.2
 
+-- a shortest chain ends with a receipt of the document, as `laws::explanations` says
 pub ends : (m : Meaning) (p : Pair) (front : List Receipt) (last : Receipt) → IsShortest m p (front ++ last ∷ []) → pair_of last ≡ p
 ends m p front last is = end_of m.config m.records (pair_of_seed is.leads.seed) front last p is.leads.leads
 
+-- a document with a shortest chain is accepted, as `laws::explanations` says
 pub accepted : (m : Meaning) (p : Pair) (chain : List Receipt) → IsShortest m p chain → IsMember m p
 accepted m p chain is = record { seed = is.leads.seed; configured = is.leads.configured; chain = chain; held = is.leads.held; leads = is.leads.leads }
 
+-- to a configured document the shortest chain is empty, as `laws::explanations` says
 pub empty_for_seed : (m : Meaning) (s : Seed) (chain : List Receipt) → Contains m.config.seeds s → IsShortest m (pair_of_seed s) chain → chain ≡ []
 empty_for_seed m s [] has is = refl
 empty_for_seed m s (r ∷ chain) has is = absurd (let l = is.shortest [] (record { seed = s; configured = has; held = tt; leads = refl }) in omega (arith, l))
 
+-- shortest chains to one document have one length, as `laws::explanations` says
 pub one_length : (m : Meaning) (p : Pair) (chain other : List Receipt) → IsShortest m p chain → IsShortest m p other → length chain ≡ length other
 one_length m p chain other a b = let l = a.shortest other b.leads in let r = b.shortest chain a.leads in omega (arith, l, r)

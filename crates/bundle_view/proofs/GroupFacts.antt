@@ -16,6 +16,7 @@ use Rattle.bundle_view.specs.Inside.Groups.{IsGroup, IsGroupLength, AddsClashes,
 use Rattle.bundle_view.proofs.ListFacts.{rising_left, rising_right}
 use Rattle.bundle_view.proofs.ClashFacts.{group_below, clashes_append, clashes_iff, single}
 
+-- the documents from a place on rise
 rising_parts : (documents : List Bundle) (start : ℕ) (rest : List Bundle) → IsStrictlySortedBy document_cmp documents
     → rest ≡ drop start documents → IsStrictlySortedBy document_cmp rest
 rising_parts documents start rest rising e =
@@ -23,12 +24,15 @@ rising_parts documents start rest rising e =
     (rising_right document_cmp (take start documents) (drop start documents)
     (subst (IsStrictlySortedBy document_cmp) (sym (take-append-drop start documents)) rising))
 
+-- rising documents rise also where they are cut in two
 cut_at : (rest : List Bundle) (len : ℕ) → IsStrictlySortedBy document_cmp rest → IsStrictlySortedBy document_cmp (take len rest ++ drop len rest)
 cut_at rest len rising = subst (IsStrictlySortedBy document_cmp) (sym (take-append-drop len rest)) rising
 
+-- the first documents of one rank are not none
 some_taken : (rest : List Bundle) (len : ℕ) → 0 < len → len ≤ length rest → 0 < length (take len rest)
 some_taken rest len low high = omega (arith, length-take-le len rest high)
 
+-- the first documents of one rank are a group
 pub group_at : (documents : List Bundle) (start len : ℕ) (rest : List Bundle)
     → IsStrictlySortedBy document_cmp documents → rest ≡ drop start documents → IsGroupLength rest len
     → IsGroup (take len rest)
@@ -49,6 +53,7 @@ group_first rest len cs ds rising is p q =
     (λ d h. subst (λ (z : List Bundle). Contains z d) (take-append-drop len rest) (Contains-append_right (take len rest) (drop len rest) d h))
     (group_below (take len rest) (drop len rest) (cut_at rest len rising) is.ended) cs ds p q
 
+-- the conflicts of one more group were added: the step of the loop in `add_conflicts`
 pub so_far_step : (domain : List ℕ) (documents : List Bundle) (start len : ℕ) (rest : List Bundle)
     (old new more : List ReportedConflict) → IsStrictlySortedBy document_cmp documents → rest ≡ drop start documents
     → SoFar domain documents start old new → IsGroupLength rest len → AddsClashes domain (take len rest) new more
@@ -71,6 +76,7 @@ so_far_step domain documents start len rest old new more rising e s is a =
           (s.all (a.clashes ++ others) (subst (λ (z : List Bundle). AreClashes (Contains z) (a.clashes ++ others)) e here));
     }
 
+-- after the last group all conflicts were added
 pub so_far_end : (domain : List ℕ) (documents : List Bundle) (start : ℕ) (old new : List ReportedConflict)
     → SoFar domain documents start old new → length documents ≤ start → AddsClashes domain documents old new
 so_far_end domain documents start old new s past =
@@ -83,16 +89,20 @@ so_far_end domain documents start old new s past =
 
 -- ---- the conflicts of several domains
 
+-- the conflicts among a domain's accepted documents are the domain's
 pub conflicts_of : (m : Meaning) (domain : List ℕ) (documents : List Bundle) (cs : List Clash)
     → IsAcceptedList m domain documents → AreClashes (Contains documents) cs → AreConflicts m domain cs
 conflicts_of m domain documents cs list are = clashes_iff (Contains documents) (λ d. IsMember m (document_of domain d)) list.sound list.complete cs are
 
+-- the items up to a place and the one there are the items up to the next place
 pub taken_more : {X : Type 0} (xs : List X) (k : ℕ) (x : X) → k < length xs → x ≡ get_or xs k x → take (k + 1) xs ≡ take k xs ++ x ∷ []
 taken_more xs k x low is = ap (λ n. take n xs) (add-one k) ∙ take-suc xs k x low ∙ ap (λ z. take k xs ++ z ∷ []) (sym is)
 
+-- before the first domain no conflict is found
 pub found_none : (m : Meaning) → AreFoundOf m [] []
 found_none m = record { parts = []; domains_are = refl; each = λ p h. absurd (omega (arith, h.1)); now = refl }
 
+-- the conflicts of one more domain were found: the step of the loop in `conflicts`
 pub found_more : (m : Meaning) (domains : List (List ℕ)) (domain : List ℕ) (documents : List Bundle)
     (old new : List ReportedConflict) → AreFoundOf m domains old → IsAcceptedList m domain documents
     → AddsClashes domain documents old new → AreFoundOf m (domains ++ domain ∷ []) new
@@ -109,6 +119,7 @@ found_more m domains domain documents old new f list a =
           ∙ flat_map_more (λ (p : OfDomain). map (reported_conflict p.domain) p.clashes) [] f.parts part;
     }
 
+-- after the last domain all conflicts are found
 pub found_all : (m : Meaning) (domains : List (List ℕ)) (found : List ReportedConflict) → AreDomains m.config domains
     → AreFoundOf m domains found → AreAllConflicts m found
 found_all m domains found are f = record { parts = f.parts; domains = subst (AreDomains m.config) (sym f.domains_are) are; each = f.each; are = f.now }

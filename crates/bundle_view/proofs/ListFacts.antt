@@ -8,15 +8,19 @@ use Rattle.std.specs.List.Sorted.{IsStrictlySortedBy}
 use Rattle.std.proofs.lemmas.List.Elements.{Contains-append_left, Contains-append_right, Contains-append_cases, Contains-push_cases}
 use Rattle.receipt_core.proofs.RisingFacts.{Contains-from_has, Has-from_contains, each_has, all_from_has, same_members}
 
+-- the first item is a member
 pub contains_first : {T : Type 0} (x : T) (xs : List T) → Contains (x ∷ xs) x
 contains_first x xs = (0, omega arith, refl)
 
+-- a member of the rest is a member
 pub contains_later : {T : Type 0} (x : T) (xs : List T) (y : T) → Contains xs y → Contains (x ∷ xs) y
 contains_later x xs y has = Contains-append_right (x ∷ []) xs y has
 
+-- the empty list has no member
 pub contains_none : {T : Type 0} (x : T) → Contains [] x → ⊥
 contains_none x has = omega (arith, has.1)
 
+-- a member is the first item, or one of the rest
 pub contains_cases : {T : Type 0} (x : T) (xs : List T) (y : T) → Contains (x ∷ xs) y → (x ≡ y) ⊎ Contains xs y
 contains_cases x xs y has = elim (Contains-append_cases (x ∷ []) xs y has) [
   | inl here ↦ elim (Contains-push_cases [] x y here) [
@@ -26,9 +30,11 @@ contains_cases x xs y has = elim (Contains-append_cases (x ∷ []) xs y has) [
   | inr later ↦ inr later
 ]
 
+-- no item is below itself
 pub not_below_itself : {A : Type 0} {cmp : A → A → Ordering} → IsTotalOrder cmp → (x : A) → cmp x x ≡ Less → ⊥
 not_below_itself {A} {cmp} o x h = let same = tied_itself o x in cc
 
+-- no two items are below each other
 pub not_both : {A : Type 0} {cmp : A → A → Ordering} → IsTotalOrder cmp → (x y : A) → cmp x y ≡ Less → cmp y x ≡ Less → ⊥
 not_both {A} {cmp} o x y p q = let above : cmp x y ≡ Greater = o.antisymm x y ∙ ap ordering_reverse q in cc
 
@@ -40,26 +46,32 @@ same_list cmp t xs ys p q there back =
     (λ a h. Has-from_contains xs a (back a (Contains-from_has ys a h)))
 
 module _ {A : Type 0} (cmp : A → A → Ordering) where
+  -- the first of a rising list is below all others
   pub rising_first : (x : A) (xs : List A) (y : A) → IsStrictlySortedBy cmp (x ∷ xs) → Contains xs y → cmp x y ≡ Less
   unfolding IsStrictlySortedBy
   rising_first x xs y p has = each_has (λ z. cmp x z ≡ Less) xs y p.0 (Has-from_contains xs y has)
 
+  -- the rest of a rising list rises
   pub rising_rest : (x : A) (xs : List A) → IsStrictlySortedBy cmp (x ∷ xs) → IsStrictlySortedBy cmp xs
   unfolding IsStrictlySortedBy
   rising_rest x xs p = p.1
 
+  -- a rising list rises with an item in front that is below all of it
   pub rising_cons : (x : A) (xs : List A) → ((y : A) → Contains xs y → cmp x y ≡ Less) → IsStrictlySortedBy cmp xs → IsStrictlySortedBy cmp (x ∷ xs)
   unfolding IsStrictlySortedBy
   rising_cons x xs below p = (all_from_has (λ z. cmp x z ≡ Less) xs (λ a h. below a (Contains-from_has xs a h)), p)
 
+  -- the empty list rises
   pub rising_none : IsStrictlySortedBy cmp []
   unfolding IsStrictlySortedBy
   rising_none = tt
 
+  -- a list of one item rises
   pub rising_one : (x : A) → IsStrictlySortedBy cmp (x ∷ [])
   unfolding IsStrictlySortedBy
   rising_one x = (tt, tt)
 
+  -- two rising lists, all of one below all of the other, rise as one
   pub rising_append : (xs ys : List A) → IsStrictlySortedBy cmp xs → IsStrictlySortedBy cmp ys
       → ((x y : A) → Contains xs x → Contains ys y → cmp x y ≡ Less) → IsStrictlySortedBy cmp (xs ++ ys)
   rising_append [] ys p q below = q
@@ -71,15 +83,18 @@ module _ {A : Type 0} (cmp : A → A → Ordering) where
       ])
       (rising_append xs ys (rising_rest x xs p) q (λ a b h k. below a b (contains_later x xs a h) k))
 
+  -- the back of a rising list rises
   pub rising_right : (xs ys : List A) → IsStrictlySortedBy cmp (xs ++ ys) → IsStrictlySortedBy cmp ys
   rising_right [] ys p = p
   rising_right (x ∷ xs) ys p = rising_right xs ys (rising_rest x (xs ++ ys) p)
 
+  -- the front of a rising list rises
   pub rising_left : (xs ys : List A) → IsStrictlySortedBy cmp (xs ++ ys) → IsStrictlySortedBy cmp xs
   rising_left [] ys p = rising_none
   rising_left (x ∷ xs) ys p =
       rising_cons x xs (λ a h. rising_first x (xs ++ ys) a p (Contains-append_left xs ys a h)) (rising_left xs ys (rising_rest x (xs ++ ys) p))
 
+  -- all in front of a rising list is below all in its back
   pub rising_across : (xs ys : List A) (x y : A) → IsStrictlySortedBy cmp (xs ++ ys) → Contains xs x → Contains ys y → cmp x y ≡ Less
   rising_across [] ys x y p h k = absurd (contains_none x h)
   rising_across (z ∷ xs) ys x y p h k = elim (contains_cases z xs x h) [
@@ -101,7 +116,7 @@ module _ {A : Type 0} (cmp : A → A → Ordering) where
     ]
   ]
 
-  -- one item holds no two
+  -- a list of one item at most does not have all of a rising list of two or more
   pub two_in_one : IsTotalOrder cmp → (xs ys : List A) → IsStrictlySortedBy cmp xs → 2 ≤ length xs
       → ((x : A) → Contains xs x → Contains ys x) → length ys < 2 → ⊥
   two_in_one o [] ys p many within few = omega arith
@@ -119,10 +134,11 @@ module _ {A : Type 0} (cmp : A → A → Ordering) where
     ]
   ]
 
+-- a list of two or more has a member
 pub first_of : {A : Type 0} (xs : List A) → 2 ≤ length xs → (x : A) × Contains xs x
 first_of [] many = absurd (omega arith)
 first_of (x ∷ xs) many = (x, contains_first x xs)
 
--- a text that is added behind another
+-- texts that are added one after the other
 pub joined : (o a b x y : List ℕ) → x ≡ o ++ a → y ≡ x ++ b → y ≡ o ++ (a ++ b)
 joined o a b x y p q = q ∙ ap (λ z. z ++ b) p ∙ append_assoc o a b

@@ -19,11 +19,13 @@ use Rattle.bundle_view.proofs.ObserveFacts.{one_relationship}
 
 module _ (m : Meaning) (domain bytes : List ℕ) (verdict : Verdict) (documents : List Bundle)
     (form : IsConfiguration m.config) (list : IsAcceptedList m verdict.endpoint.domain documents) where
+  -- this is a cause for which the observation is refused
   abbrev Refuses : ObserveError → Type 0
   Refuses = RefusesObservation m domain bytes verdict
 
   -- ---- each cause has what those before it lacked
 
+  -- for all causes but the first the domain has a relationship
   found : (e : ObserveError) → (e ≡ NoRelationship → ⊥) → Refuses e → (x : Relationship) × IsRelationshipOf m.config domain (Some x)
   found NoRelationship n h = absurd (n refl)
   found WrongEndpoint n h = (h.relationship, h.found)
@@ -34,6 +36,7 @@ module _ (m : Meaning) (domain bytes : List ℕ) (verdict : Verdict) (documents 
   found (Take NoMemory) n h = (h.0.1.endpoint.relationship, h.0.1.endpoint.found)
   found (Take e) n h = absurd h
 
+  -- for all causes but the first two the endpoint is the relationship's
   served : (e : ObserveError) → (e ≡ NoRelationship → ⊥) → (e ≡ WrongEndpoint → ⊥) → Refuses e → IsEndpointOf m.config domain verdict.endpoint
   served NoRelationship n o h = absurd (n refl)
   served WrongEndpoint n o h = absurd (o refl)
@@ -44,6 +47,7 @@ module _ (m : Meaning) (domain bytes : List ℕ) (verdict : Verdict) (documents 
   served (Take NoMemory) n o h = h.0.1.endpoint
   served (Take e) n o h = absurd h
 
+  -- for all causes that are not of the verdict the verdict is authentic
   vouched : (e : ObserveError) → (e ≡ NoRelationship → ⊥) → (e ≡ WrongEndpoint → ⊥) → (e ≡ NoVoucherBundle → ⊥)
       → (e ≡ KeyNotInCurrent → ⊥) → Refuses e → IsVouchedFor m domain verdict
   vouched NoRelationship n o p q h = absurd (n refl)
@@ -55,6 +59,7 @@ module _ (m : Meaning) (domain bytes : List ℕ) (verdict : Verdict) (documents 
   vouched (Take NoMemory) n o p q h = h.0
   vouched (Take e) n o p q h = absurd h
 
+  -- for all causes but the first three the endpoint's trust domain has a current document
   some_current : (e : ObserveError) → (e ≡ NoRelationship → ⊥) → (e ≡ WrongEndpoint → ⊥) → (e ≡ NoVoucherBundle → ⊥)
       → Refuses e → (d : Bundle) × IsCurrent m verdict.endpoint.domain (Some d)
   some_current NoRelationship n o p h = absurd (n refl)
@@ -68,9 +73,11 @@ module _ (m : Meaning) (domain bytes : List ℕ) (verdict : Verdict) (documents 
 
   -- ---- so no two stand together
 
+  -- a domain does not both have a relationship and lack one
   no_relationship : IsRelationshipOf m.config domain None → (x : Relationship) → IsRelationshipOf m.config domain (Some x) → ⊥
   no_relationship none x is = none x is.0 is.1
 
+  -- the endpoint of a domain is not both another and this one
   two_endpoints : HasOtherEndpoint m.config domain verdict.endpoint → IsEndpointOf m.config domain verdict.endpoint → ⊥
   two_endpoints other is =
       let same : other.relationship ≡ is.relationship =
@@ -78,9 +85,11 @@ module _ (m : Meaning) (domain bytes : List ℕ) (verdict : Verdict) (documents 
       other.found.1 is.found.1 in
       other.other (ap (λ (x : Relationship). x.endpoint) same ∙ is.endpoint_is)
 
+  -- the endpoint's trust domain has one current document at most
   one_voucher : (a b : Bundle) → IsCurrent m verdict.endpoint.domain (Some a) → IsCurrent m verdict.endpoint.domain (Some b) → a ≡ b
   one_voucher a b p q = let same : Some a ≡ Some b = one_current m verdict.endpoint.domain documents (Some a) (Some b) list p q in cc
 
+  -- a key is not both refused and that of an authentic verdict
   foreign_and_own : Refuses KeyNotInCurrent → IsVouchedFor m domain verdict → ⊥
   foreign_and_own foreign is =
       let same : foreign.voucher ≡ is.0 = one_voucher foreign.voucher is.0 foreign.current is.1.current in
@@ -91,12 +100,15 @@ module _ (m : Meaning) (domain bytes : List ℕ) (verdict : Verdict) (documents 
 
   -- ---- the laws
 
+  -- an observation has one receipt, as `laws::one_observation` says
   pub one_receipt : (r s : Receipt) → IsObservation m domain bytes verdict r → IsObservation m domain bytes verdict s → r ≡ s
   one_receipt r s p q =
       let voucher : p.voucher ≡ q.voucher = one_voucher p.voucher q.voucher p.authentic.current q.authentic.current in
       let document : p.document ≡ q.document = one_document bytes p.document q.document p.read q.read in
       p.is ∙ ap (λ (v : Bundle). receipt_of domain verdict v p.document) voucher ∙ ap (receipt_of domain verdict q.voucher) document ∙ sym q.is
 
+  -- an observation is refused for one cause at most, other than for memory, as
+  -- `laws::one_observation` says
   pub one_cause : (e f : ObserveError) → Refuses e → Refuses f → (e ≡ Take NoMemory → ⊥) → (f ≡ Take NoMemory → ⊥) → e ≡ f
   one_cause NoRelationship NoRelationship p q l k = refl
   one_cause NoRelationship f p q l k = let is : (x : Relationship) × IsRelationshipOf m.config domain (Some x) =
@@ -125,7 +137,7 @@ module _ (m : Meaning) (domain bytes : List ℕ) (verdict : Verdict) (documents 
   one_cause (Take ConfigDiffers) f p q l k = absurd p
   one_cause e (Take f) p q l k = absurd q
 
-  -- what is refused for another cause than the store's is no observation
+  -- what is refused, other than for memory or for being one too many, is no observation
   pub refused_or_observed : (r : Receipt) (e : ObserveError) → IsObservation m domain bytes verdict r → Refuses e
       → (e ≡ Take Full → ⊥) → (e ≡ Take NoMemory → ⊥) → ⊥
   refused_or_observed r NoRelationship is h n k = no_relationship h is.authentic.endpoint.relationship is.authentic.endpoint.found

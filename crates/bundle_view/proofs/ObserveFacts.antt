@@ -40,6 +40,7 @@ use Rattle.bundle_view.proofs.ListFacts.{contains_later, contains_cases, not_bel
 
 -- ---- a record that is another one is passed over
 
+-- a record that is not the one sought is passed over: the step of the loop in `is_distrusted`
 pub passed_over : (all ahead rest : List Distrust) (first x : Distrust) → ahead ≡ first ∷ rest → (first ≡ x → ⊥)
     → (Contains ahead x ↔ Contains all x) → Contains rest x ↔ Contains all x
 passed_over all ahead rest first x e other same = (
@@ -52,6 +53,7 @@ passed_over all ahead rest first x e other same = (
 
 -- ---- one relationship with a domain
 
+-- a domain has one relationship at most
 pub one_relationship : (c : Configuration) (domain : List ℕ) (x y : Relationship) → IsConfiguration c
     → Contains c.relationships x → Contains c.relationships y → x.domain ≡ domain → y.domain ≡ domain → x ≡ y
 one_relationship c domain x y form has_x has_y e f =
@@ -61,21 +63,26 @@ one_relationship c domain x y form has_x has_y e f =
 
 -- ---- what is vouched for and held is accepted
 
+-- receipts are kept as sets
 sets : AreSets IsReceipt receipt_cmp
 sets = AreSets-from_total IsReceipt receipt_cmp receipt_total one_receipt
 
+-- what holds of all items and of one more holds of all with that one at the end
 all_and_one : {A : Type 0} (P : A → Type 0) (xs : List A) (x : A) → AllByRecursion P xs → P x → AllByRecursion P (xs ++ x ∷ [])
 all_and_one P [] x all h = (h, tt)
 all_and_one P (y ∷ ys) x all h = (all.0, all_and_one P ys x all.1 h)
 
+-- receipts that are held stay held where more are
 all_within : (old new : List Receipt) (rs : List Receipt) → ((r : Receipt) → Contains old r → Contains new r)
     → AllByRecursion (Contains old) rs → AllByRecursion (Contains new) rs
 all_within old new [] more all = tt
 all_within old new (r ∷ rs) more all = (more r all.0, all_within old new rs more all.1)
 
+-- the meaning with one more receipt
 abbrev holding : Meaning → Receipt → Meaning
 holding m r = record m { held = with_receipt r m.held }
 
+-- with a receipt that an accepted document vouches for, the receipt's document is accepted
 accepted_then : (m : Meaning) (p : Pair) (r : Receipt) → IsMeaning m → IsReceipt r → IsMember m p → IsFitting m.config r
     → Vouches m.records p r → IsMember (holding m r) (pair_of r)
 accepted_then m p r valid form is fits vouches =
@@ -92,9 +99,11 @@ accepted_then m p r valid form is fits vouches =
 
 -- ---- the receipt of an observation
 
+-- the receipt of an observation, with the id of its voucher
 abbrev observed_of : List ℕ → Verdict → DocId → Bundle → Receipt
 observed_of domain verdict id document = record { domain = domain; endpoint = verdict.endpoint; document = document; voucher = id; key = verdict.key }
 
+-- an authentic verdict and bytes that are a document are an observation with this receipt
 observation : (m : Meaning) (domain bytes : List ℕ) (verdict : Verdict) (id : DocId) (document : Bundle)
     → IsVoucher m domain verdict id → IsDocument bytes document
     → IsObservation m domain bytes verdict (observed_of domain verdict id document)
@@ -106,6 +115,7 @@ observation m domain bytes verdict id document is read = record {
   is = ap (λ (i : DocId). observed_of domain verdict i document) is.is;
 }
 
+-- a receipt of the relationship's domain and endpoint fits
 fits_of : (m : Meaning) (domain : List ℕ) (verdict : Verdict) (r : Receipt)
     → IsEndpointOf m.config domain verdict.endpoint → r.domain ≡ domain → r.endpoint ≡ verdict.endpoint
     → IsFitting m.config r
@@ -116,7 +126,7 @@ fits_of m domain verdict r is e f = record {
   endpoint = is.endpoint_is ∙ sym f;
 }
 
--- the voucher is accepted, and vouches
+-- once the receipt is held, its document is accepted, since the voucher is
 accepted_of : (m : Meaning) (domain bytes : List ℕ) (verdict : Verdict) (id : DocId) (document : Bundle) → IsMeaning m
     → IsReceipt (observed_of domain verdict id document) → IsVoucher m domain verdict id
     → IsMember (holding m (observed_of domain verdict id document)) (pair_of (observed_of domain verdict id document))
@@ -126,13 +136,15 @@ accepted_of m domain bytes verdict id document valid form is =
     (fits_of m domain verdict r is.authentic.endpoint refl refl)
     record { endpoint = refl; voucher = ap (λ (i : DocId). i.0) (sym is.is); key = is.authentic.key; trusted = is.authentic.trusted }
 
--- whether it was held before or not
+-- after the receipt was taken it is held, and nothing else changed, whether it was held before or
+-- not
 meaning_of_took : (old new : HeldAndRoom) (r : Receipt) (taken : Taken) → IsMeaning old.meaning → Took old r new taken → new.meaning ≡ holding old.meaning r
 meaning_of_took old new r (TakenNew n) valid took = took.meaning
 meaning_of_took old new r TakenAlready valid took =
     ap (λ (s : HeldAndRoom). s.meaning) took.same
     ∙ ap (λ (rs : List Receipt). record old.meaning { held = rs }) (sym (sets.present r old.meaning.held valid.rising took.held))
 
+-- where the receipt was taken, the observation is made
 pub observed : (old new : HeldAndRoom) (domain bytes : List ℕ) (verdict : Verdict) (id : DocId) (document : Bundle)
     (copy : Receipt) → IsMeaning old.meaning → IsReceipt (observed_of domain verdict id document)
     → IsVoucher old.meaning domain verdict id → IsDocument bytes document
@@ -150,14 +162,17 @@ observed old new domain bytes verdict id document copy valid form is read kept =
 
 -- ---- refusals
 
+-- a verdict whose voucher was found is authentic
 vouched_for : (m : Meaning) (domain : List ℕ) (verdict : Verdict) (id : DocId) → IsVoucher m domain verdict id → IsVouchedFor m domain verdict
 vouched_for m domain verdict id is = (is.voucher, is.authentic)
 
+-- where memory ran out after the bytes were read, the observation is refused for that
 pub wants_memory : (m : Meaning) (domain bytes : List ℕ) (verdict : Verdict) (id : DocId) (document : Bundle)
     → IsVoucher m domain verdict id → IsDocument bytes document
     → RefusesObservation m domain bytes verdict (Take NoMemory)
 wants_memory m domain bytes verdict id document is read = (vouched_for m domain verdict id is, read.short)
 
+-- where the bytes are no document, the observation is refused for that
 pub unread : (m : Meaning) (domain bytes : List ℕ) (verdict : Verdict) (id : DocId) (e : DocError) → IsVoucher m domain verdict id → RefusesBytes bytes e
     → RefusesObservation m domain bytes verdict (of_document e)
 unread m domain bytes verdict id NoMemoryToRead is refuses = (vouched_for m domain verdict id is, refuses)
@@ -169,7 +184,7 @@ unread m domain bytes verdict id BadSequence is refuses = (vouched_for m domain 
 unread m domain bytes verdict id BadRefreshHint is refuses = (vouched_for m domain verdict id is, (λ h. cc), refuses)
 unread m domain bytes verdict id CanonicalTooLong is refuses = (vouched_for m domain verdict id is, (λ h. cc), refuses)
 
--- the receipt fits, so it is refused for being one too many at most
+-- a receipt of the relationship's endpoint is not refused for another endpoint
 other_endpoint : (m : Meaning) (domain : List ℕ) (verdict : Verdict) (r : Receipt) → IsConfiguration m.config
     → IsEndpointOf m.config domain verdict.endpoint → r.domain ≡ domain → r.endpoint ≡ verdict.endpoint
     → IsOfWrongEndpoint m.config r → ⊥
@@ -179,6 +194,7 @@ other_endpoint m domain verdict r form is e f wrong =
     is.found.1 in
     wrong.other (ap (λ (x : Relationship). x.endpoint) same ∙ is.endpoint_is ∙ sym f)
 
+-- where the receipt was not taken, the observation is refused for that
 untaken : (m : Meaning) (room : Room) (domain bytes : List ℕ) (verdict : Verdict) (id : DocId) (document : Bundle)
     (e : TakeError) → IsConfiguration m.config → IsVoucher m domain verdict id → IsDocument bytes document
     → (e ≡ NoMemory) ⊎ RefusesReceipt m room (observed_of domain verdict id document) e → RefusesTaking m domain bytes verdict e
@@ -193,6 +209,7 @@ untaken m room domain bytes verdict id document Full form is read (inr refuses) 
 untaken m room domain bytes verdict id document NoMemory form is read (inr refuses) = wants_memory m domain bytes verdict id document is read
 untaken m room domain bytes verdict id document ConfigDiffers form is read (inr refuses) = refuses
 
+-- where the receipt was not taken, nothing is observed and nothing lost
 pub not_kept : (old new : HeldAndRoom) (domain bytes : List ℕ) (verdict : Verdict) (id : DocId) (document : Bundle)
     (why : ObserveError) → IsConfiguration old.meaning.config → IsVoucher old.meaning domain verdict id
     → IsDocument bytes document → HasNotKept old (observed_of domain verdict id document) new why → HasNotObserved old domain bytes verdict new why
@@ -202,18 +219,20 @@ not_kept old new domain bytes verdict id document why form is read kept = record
   unchanged = kept.unchanged;
 }
 
+-- a refusal of the endpoint is one of the verdict
 pub refuses_endpoint : (m : Meaning) (domain : List ℕ) (verdict : Verdict) (e : ObserveError)
     → RefusesEndpoint m.config domain verdict.endpoint e → RefusesVerdict m domain verdict e
 refuses_endpoint m domain verdict NoRelationship h = h
 refuses_endpoint m domain verdict WrongEndpoint h = h
 refuses_endpoint m domain verdict e h = absurd h
 
--- nothing was done yet
+-- where nothing was done nothing is changed
 pub unchanged_then : (s : HeldAndRoom) → IsUnchanged s s
 unchanged_then s = record { meaning = refl; room = record { receipts = omega arith; offers = omega arith } }
 
 -- ---- no document of the endpoint's trust domain is accepted
 
+-- that a domain has no current document, in the terms of the meaning and of the verdict
 pub none_current : (m : Meaning) (config : Configuration) (domain home : List ℕ) (endpoint : Id) (o : Option Bundle)
     → IsEndpointOf config domain endpoint → config ≡ m.config → home ≡ endpoint.domain → o ≡ None
     → IsCurrent m home o → IsEndpointOf m.config domain endpoint × IsCurrent m endpoint.domain None
@@ -224,6 +243,7 @@ none_current m config domain home endpoint o is e f none current = (
 
 -- ---- both together
 
+-- the receipt of a copied domain and endpoint is that of the observation
 pub copied : (domain d : List ℕ) (verdict : Verdict) (e : Id) (id : DocId) (document : Bundle) (r : Receipt)
     → r ≡ record { domain = d; endpoint = e; document = document; voucher = id; key = verdict.key }
     → d ≡ domain → e ≡ verdict.endpoint → r ≡ observed_of domain verdict id document
@@ -231,6 +251,7 @@ copied domain d verdict e id document r is same_domain same_endpoint =
     is ∙ ap (λ (n : List ℕ). record { domain = n; endpoint = e; document = document; voucher = id; key = verdict.key }) same_domain
     ∙ ap (λ (i : Id). record { domain = domain; endpoint = i; document = document; voucher = id; key = verdict.key }) same_endpoint
 
+-- what comes of taking the receipt is what comes of the observation
 concluded : (old new : HeldAndRoom) (domain bytes : List ℕ) (verdict : Verdict) (id : DocId) (document : Bundle)
     (result : Result Receipt ObserveError) → IsMeaning old.meaning → IsConfiguration old.meaning.config
     → IsReceipt (observed_of domain verdict id document) → IsVoucher old.meaning domain verdict id → IsDocument bytes document
@@ -241,6 +262,7 @@ concluded old new domain bytes verdict id document (Ok copy) valid config form i
 concluded old new domain bytes verdict id document (Err why) valid config form is read kept =
     not_kept old new domain bytes verdict id document why config is read kept
 
+-- the same for the receipt as the code made it
 pub ended : (old new : HeldAndRoom) (domain bytes : List ℕ) (verdict : Verdict) (id : DocId) (document : Bundle)
     (r : Receipt) (result : Result Receipt ObserveError) → r ≡ observed_of domain verdict id document
     → IsMeaning old.meaning → IsConfiguration old.meaning.config → IsReceipt r → IsVoucher old.meaning domain verdict id → IsDocument bytes document

@@ -24,11 +24,13 @@ use Rattle.bundle_view.proofs.CurrentFacts.{one_current}
 use Rattle.bundle_view.proofs.ClashFacts.{one_list, one_domains}
 use Rattle.bundle_view.proofs.GroupFacts.{conflicts_of}
 
+-- a domain has one list of accepted documents
 one_accepted : (m : Meaning) (domain : List ℕ) (ds es : List Bundle) → IsAcceptedList m domain ds → IsAcceptedList m domain es → ds ≡ es
 one_accepted m domain ds es p q =
     same_list document_cmp document_total ds es p.rising q.rising (λ d h. q.complete d (p.sound d h))
     (λ d h. p.complete d (q.sound d h))
 
+-- a section of a domain is one of an equal domain
 moved : (m : Meaning) (s : Section) (domain : List ℕ) → s.domain ≡ domain → IsSection m s → IsSection m (record s { domain = domain })
 moved m s domain e is = record {
   current = subst (λ (z : List ℕ). IsCurrent m z s.current) e is.current;
@@ -36,6 +38,7 @@ moved m s domain e is = record {
   conflicts = subst (λ (z : List ℕ). AreConflicts m z s.conflicts) e is.conflicts;
 }
 
+-- a domain has one section
 same_section : (m : Meaning) (s t : Section) → s.domain ≡ t.domain → IsSection m s → IsSection m t → s ≡ t
 same_section m s t e p q =
     let here : IsSection m (record s { domain = t.domain }) = moved m s t.domain e p in
@@ -44,6 +47,7 @@ same_section m s t e p q =
     let conflicts : s.conflicts ≡ t.conflicts = one_list (λ d. IsMember m (document_of t.domain d)) s.conflicts t.conflicts here.conflicts q.conflicts in
     λ i. record { domain = e i; current = current i; accepted = accepted i; conflicts = conflicts i }
 
+-- equal domains have equal sections
 same_sections : (m : Meaning) (xs ys : List Section) → map (λ (s : Section). s.domain) xs ≡ map (λ (s : Section). s.domain) ys
     → ((s : Section) → Contains xs s → IsSection m s) → ((s : Section) → Contains ys s → IsSection m s) → xs ≡ ys
 same_sections m [] [] names p q = refl
@@ -54,6 +58,7 @@ same_sections m (x ∷ xs) (y ∷ ys) names p q =
     let rest : xs ≡ ys = same_sections m xs ys (ap (λ l. drop 1 l) names) (λ z h. p z (contains_later x xs z h)) (λ z h. q z (contains_later y ys z h)) in
     λ i. first i ∷ rest i
 
+-- a replica has one report, as `laws::one_view` says
 pub one_report : (m : Meaning) (s t : List ℕ) → ((n k : ℕ) → IsPendingCount m n → IsPendingCount m k → n ≡ k) → IsReport m s → IsReport m t → s ≡ t
 one_report m s t one_pending p q =
     let pending : p.pending ≡ q.pending = one_pending p.pending q.pending p.is_pending q.is_pending in
@@ -62,12 +67,14 @@ one_report m s t one_pending p q =
 
 -- ---- lines
 
+-- the parts that are written of a document are its text
 pub document_made : (domain : List ℕ) (d : Bundle) (id : List ℕ) (rank : Option ℕ) (o x y z : List ℕ) → id ≡ doc_id_of domain d → rank ≡ d.rank
     → x ≡ o ++ encode_lower id → y ≡ x ++ codes " sequence " → z ≡ y ++ sequence_text rank → z ≡ o ++ document_text domain d
 document_made domain d id rank o x y z e f p q r =
     joined o (encode_lower id) (codes " sequence " ++ sequence_text rank) x z p (joined x (codes " sequence ") (sequence_text rank) y z q r)
     ∙ (λ i. o ++ (encode_lower (e i) ++ (codes " sequence " ++ sequence_text (f i))))
 
+-- the parts that are written of an accepted document are its line
 pub accepted_made : (domain : List ℕ) (d : Bundle) (n : ℕ) (o x y z u v : List ℕ) → n ≡ length d.authorities
     → x ≡ o ++ codes "  accepted " → y ≡ x ++ document_text domain d → z ≡ y ++ codes " authorities " → u ≡ z ++ decimal n → v ≡ u ++ codes "\n"
     → v ≡ o ++ accepted_line domain d
@@ -77,6 +84,7 @@ accepted_made domain d n o x y z u v e p q r s t =
     (joined y (codes " authorities ") _ z v r (joined z (decimal n) (codes "\n") u v s t)))
     ∙ (λ i. o ++ (codes "  accepted " ++ (document_text domain d ++ (codes " authorities " ++ (decimal (e i) ++ codes "\n")))))
 
+-- the parts that are written of the head are its text
 pub head_made : (m : Meaning) (pending : ℕ) (id : List ℕ) (n : ℕ) (o x y z u v w t : List ℕ) → id ≡ config_id_of m.config → n ≡ length m.held
     → x ≡ o ++ codes "config " → y ≡ x ++ encode_lower id → z ≡ y ++ codes "\nreceipts " → u ≡ z ++ decimal n
     → v ≡ u ++ codes " pending " → w ≡ v ++ decimal pending → t ≡ w ++ codes "\n"
@@ -89,15 +97,18 @@ head_made m pending id n o x y z u v w t e f p q r s a b k =
     (encode_lower (e i) ++ (codes "\nreceipts " ++
     (decimal (f i) ++ (codes " pending " ++ (decimal pending ++ codes "\n")))))))
 
+-- what is left is the next item and what is left after it
 next_at : {X : Type 0} (xs : List X) (k : ℕ) (x : X) → k < length xs → x ≡ get_or xs k x → drop k xs ≡ x ∷ drop (k + 1) xs
 next_at xs k x low is = drop-cons xs k x low ∙ (λ i. sym is i ∷ drop (sym (add-one k) i) xs)
 
+-- one more line was written: the step of the loops that write lines
 pub lines_more : {X : Type 0} (f : X → List ℕ) (xs : List X) (k : ℕ) (x : X) → k < length xs → x ≡ get_or xs k x → (o n : List ℕ) → n ≡ o ++ f x
     → n ++ flat_map f (drop (k + 1) xs) ≡ o ++ flat_map f (drop k xs)
 lines_more f xs k x low is o n e =
     ap (λ z. z ++ flat_map f (drop (k + 1) xs)) e ∙ append_assoc o (f x) (flat_map f (drop (k + 1) xs))
     ∙ ap (λ ys. o ++ flat_map f ys) (sym (next_at xs k x low is))
 
+-- the same for lines of what items stand for
 pub told_more : {X Y : Type 0} (v : X → Y) (f : Y → List ℕ) (xs : List X) (k : ℕ) (x : X) → k < length xs
     → x ≡ get_or xs k x → (o n : List ℕ) → n ≡ o ++ f (v x)
     → n ++ flat_map f (map v (drop (k + 1) xs)) ≡ o ++ flat_map f (map v (drop k xs))
@@ -108,6 +119,7 @@ told_more v f xs k x low is o n e =
 
 -- ---- sections
 
+-- the parts that are written of a section are its text
 section_made : (records : List Distrust) (s : Section) (o x y z u v : List ℕ)
     → x ≡ o ++ (codes "domain " ++ (s.domain ++ codes "\n")) → y ≡ x ++ current_line s.domain s.current
     → z ≡ y ++ flat_map (accepted_line s.domain) s.accepted
@@ -121,6 +133,7 @@ section_made records s o x y z u v p q r a b =
     (joined z (flat_map conflict_line (map (reported_conflict s.domain) s.conflicts)) (flat_map distrust_line (records_of s.domain records)) u v a b)))
     ∙ ap (λ t. o ++ t) (append_assoc (codes "domain ") (s.domain ++ codes "\n") _ ∙ ap (λ t. codes "domain " ++ t) (append_assoc s.domain (codes "\n") _))
 
+-- what `push_section` writes is the section of the domain
 pub section_added : (m : Meaning) (domain : List ℕ) (documents : List Bundle) (current : Option Bundle)
     (none found : List ReportedConflict) (o x y z u v : List ℕ)
     → IsAcceptedList m domain documents → IsCurrent m domain current → none ≡ [] → AddsClashes domain documents none found
@@ -136,6 +149,7 @@ section_added m domain documents current none found o x y z u v list is_current 
       now = section_made m.records s o x y z u v p q r (a ∙ ap (λ t. z ++ flat_map conflict_line t) told_all) b;
     }
 
+-- after the head no section is written
 pub sections_none : (m : Meaning) (old new : List ℕ) → old ≡ [] → HasReportHead m old new → HasSections m [] new
 sections_none m old new empty head = record {
   pending = head.pending;
@@ -146,6 +160,7 @@ sections_none m old new empty head = record {
   now = head.now ∙ ap (λ t. t ++ head_text m head.pending) empty ∙ sym (append-nil (head_text m head.pending));
 }
 
+-- one more section was written: the step of the loop in `render`
 pub sections_more : (m : Meaning) (domains : List (List ℕ)) (domain : List ℕ) (old new : List ℕ)
     → HasSections m domains old → AddsSection m domain old new → HasSections m (domains ++ domain ∷ []) new
 sections_more m domains domain old new has adds = record {
@@ -161,6 +176,7 @@ sections_more m domains domain old new has adds = record {
       ∙ flat_map_more (section_text m.records) (head_text m has.pending) has.sections adds.section;
 }
 
+-- after the last domain the text is the report
 pub sections_all : (m : Meaning) (domains : List (List ℕ)) (text : List ℕ) → AreDomains m.config domains → HasSections m domains text → IsReport m text
 sections_all m domains text are has = record {
   pending = has.pending;

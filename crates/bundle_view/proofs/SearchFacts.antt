@@ -27,37 +27,45 @@ use Rattle.bundle_view.proofs.ListFacts.{contains_first, contains_none, contains
 
 -- ---- places
 
+-- an item keeps its place when others are added at the end
 pub at_left : {A : Type 0} (xs ys : List A) (i : ℕ) (x : A) → slice_get xs i ≡ Some x → slice_get (xs ++ ys) i ≡ Some x
 at_left [] ys i x e = absurd (none-some x e)
 at_left (a ∷ xs) ys zero x e = e
 at_left (a ∷ xs) ys (suc i) x e = at_left xs ys i x e
 
+-- an item added at the end stands there
 pub at_end : {A : Type 0} (xs : List A) (y : A) → slice_get (xs ++ y ∷ []) (length xs) ≡ Some y
 at_end [] y = refl
 at_end (a ∷ xs) y = at_end xs y
 
+-- a list of one item has it at place 0 alone
 one_at : {A : Type 0} (y : A) (i : ℕ) (x : A) → slice_get (y ∷ []) i ≡ Some x → (i ≡ 0) × (y ≡ x)
 one_at y zero x e = (refl, same_Some y x e)
 one_at y (suc i) x e = absurd (none-some x e)
 
+-- an item of a list with one more at the end was there, or is that one
 pub at_push : {A : Type 0} (xs : List A) (y : A) (i : ℕ) (x : A) → slice_get (xs ++ y ∷ []) i ≡ Some x → (slice_get xs i ≡ Some x) ⊎ ((i ≡ length xs) × (y ≡ x))
 at_push [] y i x e = inr (one_at y i x e)
 at_push (a ∷ xs) y zero x e = inl e
 at_push (a ∷ xs) y (suc i) x e = elim (at_push xs y i x e) [ inl old ↦ inl old | inr new ↦ inr (ap suc new.0, new.1) ]
 
+-- each place within has an item
 pub item_at : {A : Type 0} (xs : List A) (i : ℕ) → i < length xs → (x : A) × (slice_get xs i ≡ Some x)
 item_at [] i l = absurd (omega (arith, l))
 item_at (x ∷ xs) zero l = (x, refl)
 item_at (x ∷ xs) (suc i) l = item_at xs i (omega (arith, l))
 
+-- an item at a place is a member
 pub has_at : {A : Type 0} (xs : List A) (i : ℕ) (x : A) → slice_get xs i ≡ Some x → Contains xs x
 has_at xs i x e = (i, slice_get_within xs i x e, get_or_from_slice_get xs i x x e)
 
+-- a member is at some place
 pub at_of_has : {A : Type 0} (xs : List A) (x : A) → Contains xs x → (i : ℕ) × (slice_get xs i ≡ Some x)
 at_of_has xs x has = (has.0, slice_get-get_or xs has.0 x has.1 ∙ ap Some has.2)
 
 -- ---- what was come to stays
 
+-- a receipt that was come to stays so with more steps, and with a greater limit
 pub more-HasStride : (old new : List Stride) (r : Receipt) (n k : ℕ)
     → ((i : ℕ) (s : Stride) → slice_get old i ≡ Some s → slice_get new i ≡ Some s) → n ≤ k → HasStride old r n
     → HasStride new r k
@@ -71,11 +79,13 @@ more-HasStride old new r n k kept l h =
           omega (arith, l, h.short);
     }
 
+-- what was followed stays so with more steps
 pub more-AreFollowed : (waiting : List Receipt) (old new : List Stride) (offers : List Triple) (n : ℕ)
     → ((i : ℕ) (s : Stride) → slice_get old i ≡ Some s → slice_get new i ≡ Some s) → AreFollowed waiting old offers n
     → AreFollowed waiting new offers n
 more-AreFollowed waiting old new offers n kept f r waits has = more-HasStride old new r n n kept (omega arith) (f r waits has)
 
+-- the flags stand for the steps also with a greater limit
 pub wider : (waiting : List Receipt) (visited : List Bool) (strides : List Stride) (n k : ℕ) → n ≤ k
     → AreVisited waiting visited strides n → AreVisited waiting visited strides k
 wider waiting visited strides n k l v = record {
@@ -90,6 +100,7 @@ wider waiting visited strides n k l v = record {
   together = v.together;
 }
 
+-- where steps were added, those at the old places are the old ones
 pub old_at : (waiting : List Receipt) (offers : List Triple) (before : Option ℕ) (most : ℕ) (old new : List Stride)
     → AppendsSteps waiting offers before most old new → (i : ℕ) (s : Stride) → i < length old → slice_get new i ≡ Some s
     → slice_get old i ≡ Some s
@@ -100,6 +111,7 @@ old_at waiting offers before most old new adds i s l at =
 -- ---- one step more
 
 module _ (waiting : List Receipt) (visited : List Bool) (strides : List Stride) (most : ℕ) (m : AreMarked waiting visited strides most) where
+  -- one step was added and its receipt's flag raised
   pub marked_more : (place : ℕ) (s : Stride) (flags : List Bool) → flags ≡ set visited place true
       → raised_count flags ≡ raised_count visited + 1 → slice_get waiting place ≡ Some s.receipt → s.length ≡ most
       → most ≤ length strides + 1
@@ -139,10 +151,12 @@ module _ (waiting : List Receipt) (visited : List Bool) (strides : List Stride) 
     ];
   }
 
+-- no step was added yet
 pub adds_none : (waiting : List Receipt) (offers : List Triple) (before : Option ℕ) (most : ℕ) (strides : List Stride)
     → AppendsSteps waiting offers before most strides strides
 adds_none waiting offers before most strides = record { longer = omega arith; kept = λ i s h. h; each = λ i s h. inl h }
 
+-- one more step was added
 pub adds_more : (waiting : List Receipt) (offers : List Triple) (before : Option ℕ) (most : ℕ) (old new : List Stride)
     (s : Stride) → AppendsSteps waiting offers before most old new → IsAddedStep waiting offers before most s
     → AppendsSteps waiting offers before most old (new ++ s ∷ [])
@@ -155,6 +169,7 @@ adds_more waiting offers before most old new s adds is = record {
   ];
 }
 
+-- steps that were added in two turns were added in all
 pub adds_both : (waiting : List Receipt) (some others all : List Triple) (before : Option ℕ) (most : ℕ)
     (old mid new : List Stride) → ((t : Triple) → Contains some t → Contains all t)
     → ((t : Triple) → Contains others t → Contains all t)
@@ -173,19 +188,23 @@ adds_both waiting some others all before most old mid new left right a b = recor
 
 -- ---- the receipts that need the same stand together
 
+-- no triple is below itself
 less_itself : (a : Triple) → is_lt (triple_cmp a a) ≡ true → ⊥
 less_itself a h = both_ways (is_lt (triple_cmp a a))
     (sorted_far (λ (x y : Triple). is_lt (triple_cmp x y)) (ranks_by triple_total (λ (t : Triple). t)) (a ∷ [])
     (λ k d low high. absurd (omega (arith, high))) 0 0 a (omega arith) (omega arith)) h
 
+-- what is neither less nor greater ties
 neither : (o : Ordering) → is_lt o ≡ false → is_lt (ordering_reverse o) ≡ false → o ≡ Equal
 neither Less p q = absurd (both_ways true p refl)
 neither Equal p q = refl
 neither Greater p q = absurd (both_ways true q refl)
 
+-- triples of which neither is below the other are equal
 same_triple_from : (a b : Triple) → is_lt (triple_cmp a b) ≡ false → is_lt (triple_cmp b a) ≡ false → a ≡ b
 same_triple_from a b p q = one_triple a b (neither (triple_cmp a b) p (ap is_lt (sym (triple_total.antisymm b a)) ∙ q))
 
+-- an order whose result comes no later than another's finds less where the other does
 index_less : (a b : Ordering) → ordering_index a ≤ ordering_index b → is_lt b ≡ true → is_lt a ≡ true
 index_less Less b l h = refl
 index_less a Equal l h = absurd (both_ways false refl h)
@@ -200,7 +219,7 @@ parted waiting offer sorted i j d l below h =
     index_less (triple_cmp (need_of (get_or waiting i d)) offer) (triple_cmp (need_of (get_or waiting j d)) offer)
     (searchable_from_sorted triple_total need_of waiting offer sorted i j d l below) h
 
--- no flag is raised
+-- where no flag is raised and no step was made, no receipt was come to
 pub visited_none : (waiting : List Receipt) (flags : List Bool) (strides : List Stride)
     → flags ≡ replicate (length waiting) false → strides ≡ [] → AreVisited waiting flags strides 1
 visited_none waiting flags strides is none = record {
@@ -234,6 +253,7 @@ pub record Gathers (waiting : List Receipt) (offer : Triple) (before : Option �
   pub fresh : (k : ℕ) (r : Receipt) → start ≤ k → k < place → slice_get waiting k ≡ Some r → (is_raised visited k ≡ true) × (need_of r ≡ offer)
   pub same : (k : ℕ) → (k < start) ⊎ (place ≤ k) → is_raised visited k ≡ is_raised flags k
 
+-- before the first receipt that needs it nothing was added
 pub gathers_none : (waiting : List Receipt) (offer : Triple) (before : Option ℕ) (most : ℕ) (flags : List Bool)
     (old : List Stride) (start : ℕ) → start ≤ length waiting → AreVisited waiting flags old most
     → Gathers waiting offer before most flags old start start flags old
@@ -249,6 +269,7 @@ gathers_none waiting offer before most flags old start l v = record {
 module _ (waiting : List Receipt) (offer : Triple) (before : Option ℕ) (most : ℕ) (flags : List Bool)
     (old : List Stride) (start place : ℕ) (visited : List Bool) (new : List Stride)
     (g : Gathers waiting offer before most flags old start place visited new) where
+  -- one more receipt that needs it was come to: the step of the loop in `follow_offer`
   pub gathers_more : most ≤ length old + 1 → IsEdgeDue waiting visited offer place → (r : Receipt)
       → slice_get waiting place ≡ Some r → (more : List Bool) → more ≡ set visited place true
       → raised_count more ≡ raised_count visited + 1
@@ -314,6 +335,7 @@ module _ (waiting : List Receipt) (offer : Triple) (before : Option ℕ) (most :
       ]
     ]
 
+    -- a flag that was raised stays so
     kept_raised : (k : ℕ) (r : Receipt) → slice_get waiting k ≡ Some r → is_raised flags k ≡ true → is_raised visited k ≡ true
     kept_raised k r at raised = elim (cases_lt k start) [
       | inl a ↦ g.same k (inl a) ∙ raised
@@ -323,6 +345,7 @@ module _ (waiting : List Receipt) (offer : Triple) (before : Option ℕ) (most :
       ]
     ]
 
+    -- receipts that need the same are come to together
     together : (j k : ℕ) (q r : Receipt) → slice_get waiting j ≡ Some q → slice_get waiting k ≡ Some r
         → need_of q ≡ need_of r → is_raised visited j ≡ true → is_raised visited k ≡ true
     together j k q r atj atk alike raised = elim (cases_lt j start) [
@@ -333,6 +356,7 @@ module _ (waiting : List Receipt) (offer : Triple) (before : Option ℕ) (most :
       ]
     ]
 
+    -- after the last receipt that needs it the offer was followed
     pub gathers_all : FollowsOffers waiting (offer ∷ []) before most old visited new
     gathers_all = record {
       visits = record { marks = g.marks; together = together };
@@ -345,6 +369,7 @@ module _ (waiting : List Receipt) (offer : Triple) (before : Option ℕ) (most :
 
 -- ---- many offers
 
+-- before the first offer none was followed
 pub follows_none : (waiting : List Receipt) (before : Option ℕ) (most : ℕ) (visited : List Bool) (strides : List Stride)
     → AreVisited waiting visited strides most → FollowsOffers waiting [] before most strides visited strides
 follows_none waiting before most visited strides v =
@@ -355,6 +380,7 @@ follows_none waiting before most visited strides v =
           λ r waits has. absurd (contains_none (need_of r) has);
     }
 
+-- one more offer was followed: the step of the loop in `follow`
 pub follows_more : (waiting : List Receipt) (some : List Triple) (offer : Triple) (before : Option ℕ) (most : ℕ)
     (old mid : List Stride) (flags visited : List Bool) (new : List Stride)
     → FollowsOffers waiting some before most old flags mid

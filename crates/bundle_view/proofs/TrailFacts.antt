@@ -16,12 +16,14 @@ use Rattle.bundle_view.proofs.SearchFacts.{more-AreFollowed, wider, old_at}
 
 -- ---- what stands goes on standing
 
+-- a step stands with more steps
 kept_stride : (seeds : List Seed) (old new : List Stride) (s : Stride) (before : Option ℕ)
     → ((i : ℕ) (t : Stride) → slice_get old i ≡ Some t → slice_get new i ≡ Some t) → IsStride seeds old s before
     → IsStride seeds new s before
 kept_stride seeds old new s None kept h = h
 kept_stride seeds old new s (Some place) kept h = record { previous = h.previous; at = kept place h.previous h.at; offers = h.offers; next = h.next }
 
+-- a step stands with one more configured document
 more_seeds : (seeds : List Seed) (x : Seed) (strides : List Stride) (s : Stride) (before : Option ℕ)
     → IsStride seeds strides s before → IsStride (seeds ++ x ∷ []) strides s before
 more_seeds seeds x strides s None h =
@@ -33,6 +35,7 @@ more_seeds seeds x strides s None h =
     }
 more_seeds seeds x strides s (Some place) h = h
 
+-- all steps stand with those that were added, if each of these does
 more_strides : (seeds : List Seed) (waiting : List Receipt) (offers : List Triple) (before : Option ℕ) (most : ℕ)
     (old new : List Stride) → AreStrides seeds waiting old → AppendsSteps waiting offers before most old new
     → ((s : Stride) → IsAddedStep waiting offers before most s → IsStride seeds new s before) → AreStrides seeds waiting new
@@ -46,6 +49,7 @@ more_strides seeds waiting offers before most old new are adds led = record {
 
 -- ---- from the configured documents
 
+-- before the first configured document nothing was followed
 pub begun_none : (waiting : List Receipt) (visited : List Bool) (strides : List Stride) → strides ≡ []
     → AreVisited waiting visited strides 1 → IsSearchBegun [] waiting visited strides
 begun_none waiting visited strides e v = record {
@@ -57,6 +61,7 @@ begun_none waiting visited strides e v = record {
     none : (i : ℕ) (s : Stride) → slice_get strides i ≡ Some s → ⊥
     none i s at = let l = slice_get_within strides i s at in omega (arith, l, ap length e)
 
+-- the offers of one more configured document were followed: the step of the loop in `follow_seeds`
 pub begun_more : (seeds : List Seed) (x : Seed) (waiting : List Receipt) (flags visited : List Bool)
     (old new : List Stride) → IsSearchBegun seeds waiting flags old
     → FollowsOffers waiting (offers_of (pair_of_seed x)) None 1 old visited new
@@ -82,10 +87,12 @@ pub record IsAt (seeds : List Seed) (waiting : List Receipt) (p : Pair) (visited
   pub within : place ≤ length strides
   pub few : length strides ≤ length waiting
 
+-- there are at most as many steps as receipts, since each raises a flag
 few_strides : (waiting : List Receipt) (visited : List Bool) (strides : List Stride) (most : ℕ)
     → AreVisited waiting visited strides most → length strides ≤ length waiting
 few_strides waiting visited strides most v = omega (arith, v.marks.count, v.marks.size, count_by-le-length (λ flag. flag) visited)
 
+-- after the configured documents the search is at the first place
 pub at_start : (seeds : List Seed) (waiting : List Receipt) (p : Pair) (visited : List Bool) (strides : List Stride)
     → IsSearchBegun seeds waiting visited strides → IsAt seeds waiting p visited strides 0
 at_start seeds waiting p visited strides b = record {
@@ -101,6 +108,8 @@ at_start seeds waiting p visited strides b = record {
   few = few_strides waiting visited strides 1 b.visits;
 }
 
+-- the offers of the step at the place were followed, and the search is at the next one: the step of
+-- the loop in `go_on`
 pub at_next : (seeds : List Seed) (waiting : List Receipt) (p : Pair) (flags visited : List Bool)
     (old new : List Stride) (place : ℕ) (s : Stride) → IsAt seeds waiting p flags old place
     → slice_get old place ≡ Some s → (pair_of s.receipt ≡ p → ⊥)
@@ -136,6 +145,7 @@ at_next seeds waiting p flags visited old new place s a at other f =
     earlier i t l there = old_at waiting (offers_of (pair_of s.receipt)) (Some place) (s.length + 1) old new f.adds i t
         (omega (arith, l, slice_get_within old place s at)) there
 
+-- past the last step all were searched
 pub at_last : (seeds : List Seed) (waiting : List Receipt) (p : Pair) (visited : List Bool) (strides : List Stride)
     (place : ℕ) → IsAt seeds waiting p visited strides place → length strides ≤ place
     → IsSearched seeds waiting strides p (length strides)
@@ -145,26 +155,29 @@ at_last seeds waiting p visited strides place a l =
 
 -- ---- back
 
--- the place is one of a step
+-- the place, where there is one, is that of a step
 abbrev pub IsWithin : List Stride → Option ℕ → Type 0
 IsWithin strides None = Unit {0}
 IsWithin strides (Some place) = place < length strides
 
+-- how many receipts the chain to the step at a place has, or 0 where there is none
 abbrev pub length_from : List Stride → ℕ → ℕ
 length_from [] place = 0
 length_from (s ∷ strides) zero = s.length
 length_from (s ∷ strides) (suc place) = length_from strides place
 
--- how many receipts are left
+-- how many receipts there may still be on the way back
 abbrev pub left_from : List Stride → Option ℕ → ℕ
 left_from strides None = 0
 left_from strides (Some place) = length_from strides place + 1
 
+-- the same for a step that is there
 length_at : (strides : List Stride) (place : ℕ) (s : Stride) → slice_get strides place ≡ Some s → length_from strides place ≡ s.length
 length_at [] place s at = absurd (let l = slice_get_within [] place s at in omega (arith, l))
 length_at (t ∷ strides) zero s at = ap (λ (x : Stride). x.length) (same_Some t s at)
 length_at (t ∷ strides) (suc place) s at = length_at strides place s at
 
+-- each step has a chain that is longer by one than that of the step before it
 pub linked : (seeds : List Seed) (waiting : List Receipt) (strides : List Stride) → AreStrides seeds waiting strides → AreLinkedSteps strides
 linked seeds waiting strides are place s at = by_before s.before (are.stands place s at)
   where
@@ -172,18 +185,22 @@ linked seeds waiting strides are place s at = by_before s.before (are.stands pla
     by_before None h = tt
     by_before (Some i) h = (h.previous, h.at, h.next)
 
+-- the step before is one of the steps
 pub before_within : (strides : List Stride) (s : Stride) (before : Option ℕ) → IsShorter strides s before → IsWithin strides before
 before_within strides s None h = tt
 before_within strides s (Some place) h = slice_get_within strides place h.0 h.1
 
+-- at most as many receipts are left at the step before as the step's chain has
 fewer_left : (strides : List Stride) (s : Stride) (before : Option ℕ) → IsShorter strides s before → left_from strides before ≤ s.length
 fewer_left strides s None h = omega arith
 fewer_left strides s (Some place) h = omega (arith, h.2, length_at strides place h.0 h.1)
 
+-- fewer receipts are left with each step back, so the loop in `chain_to` ends
 pub falls_back : (strides : List Stride) (place : ℕ) (s : Stride) → AreLinkedSteps strides
     → slice_get strides place ≡ Some s → left_from strides s.before < left_from strides (Some place)
 falls_back strides place s are at = omega (arith, fewer_left strides s s.before (are place s at), length_at strides place s at)
 
+-- a step's receipt goes in front of those that lead back from the step before
 pub back_more : (strides : List Stride) (at : Option ℕ) (place : ℕ) (s : Stride) (r : Receipt) (rest : List Receipt)
     → at ≡ Some place → slice_get strides place ≡ Some s → s.receipt ≡ r → IsBackFrom strides s.before rest
     → IsBackFrom strides at (r ∷ rest)

@@ -20,6 +20,7 @@ use Rattle.bundle_view.proofs.ListFacts.{contains_first, contains_later, contain
 
 -- ---- a record is among those that rise
 
+-- in rising records none is less than the one before it
 next_above : (xs : List Distrust) (k : ℕ) (d : Distrust) → IsStrictlySortedBy distrust_cmp xs → suc k < length xs
     → is_lt (distrust_cmp (get_or xs (suc k) d) (get_or xs k d)) ≡ false
 next_above [] k d rising l = absurd (omega (arith, l))
@@ -34,11 +35,13 @@ next_above (x ∷ y ∷ ys) zero d rising l =
     not_less Greater h = refl
 next_above (x ∷ y ∷ ys) (suc k) d rising l = next_above (y ∷ ys) k d (rising_rest distrust_cmp x (y ∷ ys) rising) (omega (arith, l))
 
+-- rising records are sorted, as a binary search asks for
 sorted_records : (xs : List Distrust) → IsStrictlySortedBy distrust_cmp xs → IsSorted distrust_cmp xs
 sorted_records xs rising k d low l =
     subst (λ n. is_lt (distrust_cmp (get_or xs n d) (get_or xs k d)) ≡ false) (sym (add-one k))
     (next_above xs k d rising (omega (arith, l)))
 
+-- a binary search decides whether a record is there
 pub found_record : (xs : List Distrust) (x : Distrust) (r : Result ℕ ℕ) → IsStrictlySortedBy distrust_cmp xs
     → IsSearchInRange r (length xs) → IsBinarySearchResult (λ y. distrust_cmp y x) xs r
     → (is_ok r ≡ true) ↔ Contains xs x
@@ -71,6 +74,7 @@ pub record AreSifted (records : List Distrust) (all taken rest : List Receipt) :
   pub coming : (r : Receipt) → Contains rest r → Contains all r
   pub few : length taken + length rest ≤ length all
 
+-- before the first receipt none was taken
 pub sifted_none : (records : List Distrust) (all taken : List Receipt) → taken ≡ [] → AreSifted records all taken all
 sifted_none records all taken e = record {
   there = λ r has t. inr has;
@@ -80,6 +84,7 @@ sifted_none records all taken e = record {
 }
 
 module _ (records : List Distrust) (all taken rest others : List Receipt) (x : Receipt) (is : rest ≡ x ∷ others) (s : AreSifted records all taken rest) where
+  -- the next receipt, which is not distrusted, was taken
   pub sifted_takes : (Contains records (distrust_of x.endpoint.domain x) → ⊥) → AreSifted records all (taken ++ x ∷ []) others
   sifted_takes t = record {
     there = λ r has u. elim (s.there r has u) [
@@ -98,6 +103,7 @@ module _ (records : List Distrust) (all taken rest others : List Receipt) (x : R
     few = omega (arith, s.few, length-append taken (x ∷ []), ap length is);
   }
 
+  -- the next receipt, which is distrusted, was left out
   pub sifted_skips : Contains records (distrust_of x.endpoint.domain x) → AreSifted records all taken others
   sifted_skips d = record {
     there = λ r has u. elim (s.there r has u) [
@@ -112,6 +118,7 @@ module _ (records : List Distrust) (all taken rest others : List Receipt) (x : R
     few = omega (arith, s.few, ap length is);
   }
 
+-- after the last receipt those that were taken are all that may be vouched for
 pub sifted_all : (m : Meaning) (records : List Distrust) (all taken rest : List Receipt) → records ≡ m.records
     → all ≡ m.held → rest ≡ [] → length m.held ≤ 65536 → AreSifted records all taken rest → AreTrusted m taken
 sifted_all m records all taken rest e f none few s = record {
@@ -125,6 +132,7 @@ sifted_all m records all taken rest e f none few s = record {
   few = omega (arith, s.few, few, ap length f, ap length none);
 }
 
+-- the receipts that may be vouched for are the same in another order
 pub trusted_moved : (m : Meaning) (xs ys : List Receipt) → IsPermutation xs ys → AreTrusted m xs → AreTrusted m ys
 trusted_moved m xs ys p t = record {
   exactly = λ r. (

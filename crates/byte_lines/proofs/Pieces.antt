@@ -16,19 +16,19 @@ Appends-piece a b c bytes written count before piece =
     let rest = subst (λ l. Appends b c (take count l)) (take_rest bytes written) piece in
     subst (Appends a c) (sym (take-add written count bytes)) (Appends-trans a b c _ _ before rest)
 
--- a beginning of the first piece
+-- a beginning of the first piece is one of both pieces
 pub AppendsBeginning-first : (a b : Option (List ℕ)) (first second : List ℕ) → AppendsBeginning a b first → AppendsBeginning a b (first ++ second)
 AppendsBeginning-first a b first second (count, appended) =
     let within : min count (length first) ≤ length first = omega arith in
     (min count (length first), subst (Appends a b) (sym (take-append-le (min count (length first)) first second within ∙ take_min count first)) appended)
 
--- the first piece, and a beginning of the second
+-- the first piece and a beginning of the second are a beginning of both
 pub AppendsBeginning-second : (a b c : Option (List ℕ)) (first second : List ℕ) → Appends a b first
     → AppendsBeginning b c second → AppendsBeginning a c (first ++ second)
 AppendsBeginning-second a b c first second before (count, appended) =
     (length first + count, subst (Appends a c) (sym (take-append-add first second count)) (Appends-trans a b c first _ before appended))
 
--- all bytes came, and they were not more than were wanted
+-- where the source ended within the limit, all of its bytes were taken
 pub TakesUpTo-end : (a b : Option (List ℕ)) (limit : ℕ) (taken : List ℕ) → Consumes a b taken → IsAtEnd b → length taken ≤ limit → TakesUpTo a b limit taken
 TakesUpTo-end None b limit taken consumed end within = tt
 TakesUpTo-end (Some x) None limit taken consumed end within = absurd consumed
@@ -52,7 +52,7 @@ unread-copied bytes shown rest buffer position end count room same is copied =
     ∙ ap (λ l. take count buffer ++ l) (drop-drop count position shown) in
     subst (λ l. drop position l ≡ take count buffer ++ drop (position + count) l) same split
 
--- after a fault of the source it has failed, and after a want of memory it is as sound as it was
+-- after a fault of the source it has failed, and out of memory it is as sound as it was
 pub failed_or_kept : (T U : Type 0) (error : DeviceError) (new old initial : Bool) → new ≡ is_source_fault {T = T} (Err error)
     → (is_source_fault {T = T} (Err error) ≡ false → old ≡ false) → old ≡ initial → new ≡ (is_source_fault {T = U} (Err error) || initial)
 failed_or_kept T U Io new old initial is sound kept = is

@@ -6,6 +6,6 @@ use Rattle.byte_lines.specs.Lines.{lines_of}
 pub two_lines : lines_of (codes "a\n\nb") ≡ record { whole = codes "a" ∷ [] ∷ []; rest = codes "b" }
 two_lines = refl
 
--- no rest behind the last line feed
+-- there is no rest after a line feed at the end
 pub no_rest : lines_of (codes "a\n") ≡ record { whole = codes "a" ∷ []; rest = [] }
 no_rest = refl

@@ -13,6 +13,7 @@ record IsCutAt {T : Type 0} (xs : List T) (x : T) : Type 0 where
   pub back : List T
   pub whole : xs ≡ front ++ x ∷ back
 
+-- A list can be cut at each item that it contains.
 cut_at : {T : Type 0} (xs : List T) (x : T) → Contains xs x → IsCutAt xs x
 cut_at [] x has = absurd (contains_none x has)
 cut_at (y ∷ ys) x has = elim (contains_cases y ys x has) [
@@ -22,6 +23,7 @@ cut_at (y ∷ ys) x has = elim (contains_cases y ys x has) [
       record { front = y ∷ cut.front; back = cut.back; whole = subst (λ zs. y ∷ ys ≡ y ∷ zs) cut.whole refl }
 ]
 
+-- When one item is cut out, each other one is still there.
 without : {T : Type 0} (front back : List T) (x y : T) → (x ≡ y → ⊥) → Contains (front ++ x ∷ back) y → Contains (front ++ back) y
 without front back x y other has = elim (Contains-append_cases front (x ∷ back) y has) [
   | inl here ↦ Contains-append_left front back y here
@@ -31,6 +33,7 @@ without front back x y other has = elim (Contains-append_cases front (x ∷ back
   ]
 ]
 
+-- Different items that all stand in a list are no more than the list is long.
 pub no_longer : {T : Type 0} (xs ys : List T) → AreDifferent xs → ((x : T) → Contains xs x → Contains ys x) → length xs ≤ length ys
 no_longer [] ys different within = omega arith
 no_longer {T = T} (x ∷ xs) ys different within =
@@ -65,6 +68,7 @@ no_more {T = T} f (x ∷ xs) ys different within =
       sum_by-cons f x cut.back,
     )
 
+-- Two counts of one property are equal: so a call can return one number alone.
 pub one_count : {T : Type 0} (P : T → Type 0) (n k : ℕ) → IsCount P n → IsCount P k → n ≡ k
 one_count P n k a b =
     let less : length a.items ≤ length b.items = no_longer a.items b.items a.different (λ x has. (b.exactly x).1 ((a.exactly x).0 has)) in

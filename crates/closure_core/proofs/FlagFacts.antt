@@ -26,16 +26,19 @@ pub record Raises (firsts nodes : List ℕ) (old new : List Bool) : Type 0 where
 
 -- ---- the numbers below a bound that pass a test
 
+-- the numbers below a bound that pass a test, from the top down
 abbrev pub passing : (ℕ → Bool) → ℕ → List ℕ
 passing test zero = []
 passing test (suc n) = cond (test n) (n ∷ passing test n) (passing test n)
 
+-- One step of `passing-to`, for either outcome of the test.
 passing-cases : (test : ℕ → Bool) (n : ℕ) (b : Bool) → test n ≡ b → (k : ℕ)
     → Contains (cond b (n ∷ passing test n) (passing test n)) k
     → ((k ≡ n) × (test n ≡ true)) ⊎ Contains (passing test n) k
 passing-cases test n true e k c = elim (contains_cases n (passing test n) k c) [ inl a ↦ inl (sym a, e) | inr d ↦ inr d ]
 passing-cases test n false e k c = inr c
 
+-- A number that is listed is below the bound and passes.
 pub passing-to : (test : ℕ → Bool) (n k : ℕ) → Contains (passing test n) k → (k < n) × (test k ≡ true)
 passing-to test zero k c = absurd (omega (arith, c.1))
 passing-to test (suc n) k c =
@@ -44,14 +47,17 @@ passing-to test (suc n) k c =
       | inr d ↦ let h = passing-to test n k d in (omega (arith, h.0), h.1)
     ]
 
+-- A step never takes a listed number away.
 passing-kept : (test : ℕ → Bool) (n : ℕ) (b : Bool) (k : ℕ) → Contains (passing test n) k → Contains (cond b (n ∷ passing test n) (passing test n)) k
 passing-kept test n true k c = contains_later n (passing test n) k c
 passing-kept test n false k c = c
 
+-- A step lists its own number where that passes.
 passing-here : (test : ℕ → Bool) (n : ℕ) (b : Bool) → b ≡ true → Contains (cond b (n ∷ passing test n) (passing test n)) n
 passing-here test n true e = contains_first n (passing test n)
 passing-here test n false e = absurd (both_ways false refl e)
 
+-- Each number below the bound that passes is listed.
 pub passing-from : (test : ℕ → Bool) (n k : ℕ) → k < n → test k ≡ true → Contains (passing test n) k
 passing-from test zero k l e = absurd (omega (arith, l))
 passing-from test (suc n) k l e =
@@ -60,22 +66,27 @@ passing-from test (suc n) k l e =
       | inr d ↦ passing-kept test n (test n) k (passing-from test n k (omega (arith, l, d)) e)
     ]
 
+-- One step of `passing-differ`, for either outcome of the test.
 passing-differ_if : (test : ℕ → Bool) (n : ℕ) (b : Bool) → AreDifferent (passing test n) → AreDifferent (cond b (n ∷ passing test n) (passing test n))
 passing-differ_if test n true h = (λ c. omega (arith, (passing-to test n n c).0), h)
 passing-differ_if test n false h = h
 
+-- No number is listed twice, so the list's length counts those that pass.
 pub passing-differ : (test : ℕ → Bool) (n : ℕ) → AreDifferent (passing test n)
 passing-differ test zero = tt
 passing-differ test (suc n) = passing-differ_if test n (test n) (passing-differ test n)
 
+-- A step whose number passes makes the list longer by one.
 length-passing_yes : (test : ℕ → Bool) (n : ℕ) (b : Bool) → b ≡ true → length (cond b (n ∷ passing test n) (passing test n)) ≡ suc (length (passing test n))
 length-passing_yes test n true e = refl
 length-passing_yes test n false e = absurd (both_ways false refl e)
 
+-- A step whose number fails leaves the list as long as it was.
 length-passing_no : (test : ℕ → Bool) (n : ℕ) (b : Bool) → b ≡ false → length (cond b (n ∷ passing test n) (passing test n)) ≡ length (passing test n)
 length-passing_no test n true e = absurd (both_ways true e refl)
 length-passing_no test n false e = refl
 
+-- The raised flags before a place are as many as the numbers that are listed for it.
 pub length-passing_flags : (flags : List Bool) (n : ℕ) → n ≤ length flags → length (passing (λ k. is_raised flags k) n) ≡ count_by (λ flag. flag) (take n flags)
 length-passing_flags flags zero l = refl
 length-passing_flags flags (suc n) l =
@@ -92,6 +103,7 @@ length-passing_flags flags (suc n) l =
           length-passing_no (λ k. is_raised flags k) n (is_raised flags n) a ∙ before ∙ sym more ∙ ap (λ k. count_by (λ flag. flag) (take k flags)) (sym e)
     ]
 
+-- All raised flags are as many as the numbers that are listed up to their end.
 pub count-passing : (flags : List Bool) (n : ℕ) → length flags ≤ n → length (passing (λ k. is_raised flags k) n) ≡ raised_count flags
 count-passing flags n l = more n (n - length flags) (omega (arith, l))
   where
@@ -107,9 +119,12 @@ count-passing flags n l = more n (n - length flags) (omega (arith, l))
 
 -- those that pass one test and not a narrower one are the others
 module _ (narrow wide : ℕ → Bool) (within : (k : ℕ) → narrow k ≡ true → wide k ≡ true) where
+  -- what passes the wide test and not the narrow one
   abbrev pub only_wide : ℕ → Bool
   only_wide k = wide k && not (narrow k)
 
+  -- Those that pass the narrow test, and those that pass the wide one alone, add up to all that
+  -- pass the wide one.
   pub length-only_wide : (n : ℕ) → length (passing only_wide n) + length (passing narrow n) ≡ length (passing wide n)
   length-only_wide zero = refl
   length-only_wide (suc n) =
@@ -144,6 +159,7 @@ module _ (narrow wide : ℕ → Bool) (within : (k : ℕ) → narrow k ≡ true 
 
 -- ---- how many are gained
 
+-- Different items have different images where the function keeps them apart.
 pub different-map : {A B : Type 0} (f : A → B) (xs : List A) → AreDifferent xs
     → ((x y : A) → Contains xs x → Contains xs y → f x ≡ f y → x ≡ y) → AreDifferent (map f xs)
 different-map f [] d one = tt
@@ -152,8 +168,8 @@ different-map f (x ∷ xs) d one = (
   different-map f xs d.1 (λ a b ca cb e. one a b (contains_later x xs a ca) (contains_later x xs b cb) e),
 )
 
--- The flags of fewer accepted documents, and those of more: as many more are raised as are accepted in the one and not in
--- the other.
+-- The flags of fewer accepted documents, and those of more: as many more are raised as are accepted
+-- in the one and not in the other.
 module _ (none : Pair) (fewer more : Meaning) (some_pairs pairs : List Pair) (some_numbers numbers : List ℕ) (some_flags flags : List Bool)
     (here : TellsMembers fewer some_pairs some_numbers some_flags) (there : TellsMembers more pairs numbers flags)
     (kept : (n : ℕ) → is_raised some_flags n ≡ true → is_raised flags n ≡ true)
@@ -166,6 +182,8 @@ module _ (none : Pair) (fewer more : Meaning) (some_pairs pairs : List Pair) (so
       in
       (l, slice_get-get_or pairs n none (omega (arith, l, there.size)))
 
+  -- A flag that is raised only among the later ones is that of a document that is accepted in the
+  -- larger meaning alone.
   new-member : (n : ℕ) → is_raised flags n ≡ true → is_raised some_flags n ≡ false
       → IsMember more (get_or pairs n none) × (IsMember fewer (get_or pairs n none) → ⊥)
   new-member n e f =
@@ -178,6 +196,8 @@ module _ (none : Pair) (fewer more : Meaning) (some_pairs pairs : List Pair) (so
             both_ways (is_raised some_flags n) f (ap (λ k. is_raised some_flags k) is ∙ g.1),
       )
 
+  -- The rise of the number of raised flags is how many documents more are accepted: this is what a
+  -- call reports as gained, and turned round as lost.
   pub gain-from_flags : (n : ℕ) → raised_count flags ≡ raised_count some_flags + n → length some_flags ≤ length flags
       → IsCount (λ (p : Pair). IsMember more p × (IsMember fewer p → ⊥)) n
   gain-from_flags n e sizes =
@@ -237,13 +257,16 @@ module _ (none : Pair) (fewer more : Meaning) (some_pairs pairs : List Pair) (so
 
 -- ---- fewer flags, and none
 
+-- A test that nothing passes lists nothing.
 passing-none : (test : ℕ → Bool) (n : ℕ) → ((k : ℕ) → test k ≡ false) → length (passing test n) ≡ 0
 passing-none test zero h = refl
 passing-none test (suc n) h = length-passing_no test n (test n) (h n) ∙ passing-none test n h
 
+-- Where no flag is raised the count is 0.
 pub count-lowered : (flags : List Bool) → ((k : ℕ) → is_raised flags k ≡ false) → raised_count flags ≡ 0
 count-lowered flags h = sym (count-passing flags (length flags) (omega arith)) ∙ passing-none (λ k. is_raised flags k) (length flags) h
 
+-- Where each flag that is raised here is raised there, the count here is no larger.
 pub count-fewer : (fewer more : List Bool) → length fewer ≤ length more
     → ((k : ℕ) → is_raised fewer k ≡ true → is_raised more k ≡ true) → raised_count fewer ≤ raised_count more
 count-fewer fewer more l h =

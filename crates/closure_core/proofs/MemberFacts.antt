@@ -9,16 +9,19 @@ use Rattle.receipt_core.specs.Acceptance.{IsFitting, Vouches, Leads, Meaning, Is
 
 -- ---- a chain goes on by one
 
+-- A chain goes on by a receipt for which the document at its end vouches.
 pub leads_more : (c : Configuration) (records : List Distrust) (from : Pair) (chain : List Receipt) (to : Pair)
     (r : Receipt) → Leads c records from chain to → IsFitting c r → Vouches records to r
     → Leads c records from (chain ++ r ∷ []) (pair_of r)
 leads_more c records from [] to r leads fits vouches = (fits, subst (λ (p : Pair). Vouches records p r) (sym leads) vouches, refl)
 leads_more c records from (s ∷ chain) to r leads fits vouches = (leads.0, leads.1, leads_more c records (pair_of s) chain to r leads.2 fits vouches)
 
+-- What holds of all items of a list, and of one more, holds of the longer list.
 pub all_more : {X : Type 0} (P : X → Type 0) (xs : List X) (x : X) → AllByRecursion P xs → P x → AllByRecursion P (xs ++ x ∷ [])
 all_more P [] x all h = (h, tt)
 all_more P (y ∷ ys) x all h = (all.0, all_more P ys x all.1 h)
 
+-- A held receipt that an accepted document vouches for makes its own document accepted.
 pub member_step : (m : Meaning) (p : Pair) (r : Receipt) → IsMember m p → Contains m.held r → IsFitting m.config r
     → Vouches m.records p r → IsMember m (pair_of r)
 member_step m p r is held fits vouches = record {
@@ -29,28 +32,35 @@ member_step m p r is held fits vouches = record {
   leads = leads_more m.config m.records (pair_of_seed is.seed) is.chain p r is.leads fits vouches;
 }
 
+-- Configured documents are accepted.
 pub member_seed : (m : Meaning) (s : Seed) → Contains m.config.seeds s → IsMember m (pair_of_seed s)
 member_seed m s has = record { seed = s; configured = has; chain = []; held = tt; leads = refl }
 
+-- The accepted documents are closed: they have the configured ones and all that they vouch for.
 pub member_closed : (m : Meaning) → IsClosed m (IsMember m)
 member_closed m = record { seeds = member_seed m; steps = member_step m }
 
+-- The document of a held receipt that has a voucher is accepted.
 pub member_released : (m : Meaning) (r : Receipt) → IsReleased m r → IsMember m (pair_of r)
 member_released m r is = member_step m is.voucher r is.accepted is.held is.fits is.vouches
 
 -- ---- each closed set has every member
 
+-- A chain that begins in a closed set ends in it.
 along : (m : Meaning) (set : Pair → Type 0) → IsClosed m set → (from : Pair) (chain : List Receipt) (to : Pair)
     → set from → AllByRecursion (Contains m.held) chain → Leads m.config m.records from chain to → set to
 along m set closed from [] to h held leads = subst set leads h
 along m set closed from (r ∷ chain) to h held leads =
     along m set closed (pair_of r) chain to (closed.steps from r h held.0 leads.0 leads.1) held.1 leads.2
 
+-- Each closed set has all accepted documents: to show a property of these it is enough that it is
+-- closed.
 pub member_least : (m : Meaning) (set : Pair → Type 0) → IsClosed m set → (p : Pair) → IsMember m p → set p
 member_least m set closed p is = along m set closed (pair_of_seed is.seed) is.chain p (closed.seeds is.seed is.configured) is.held is.leads
 
 -- ---- more receipts and fewer records of distrust
 
+-- With more receipts, and with fewer records of distrust, what was accepted stays so.
 pub member_more : (m n : Meaning) → m.config ≡ n.config → ((r : Receipt) → Contains m.held r → Contains n.held r)
     → ((x : Distrust) → Contains n.records x → Contains m.records x) → (p : Pair) → IsMember m p → IsMember n p
 member_more m n same more fewer =
@@ -66,19 +76,23 @@ member_more m n same more fewer =
 
 -- ---- a member is configured or released
 
+-- the document is that of a held receipt with a voucher
 pub record IsOfRelease (m : Meaning) (p : Pair) : Type 0 where
   pub receipt : Receipt
   pub released : IsReleased m receipt
   pub is : pair_of receipt ≡ p
 
+-- the document is a configured one
 pub record IsOfSeed (m : Meaning) (p : Pair) : Type 0 where
   pub seed : Seed
   pub configured : Contains m.config.seeds seed
   pub is : pair_of_seed seed ≡ p
 
+-- the document is accepted, and it is known by what
 abbrev pub IsGrounded : Meaning → Pair → Type 0
 IsGrounded m p = IsMember m p × (IsOfSeed m p ⊎ IsOfRelease m p)
 
+-- What is accepted for a known reason is closed, so it is all that is accepted.
 grounded : (m : Meaning) → IsClosed m (IsGrounded m)
 grounded m = record {
   seeds = λ s has. (member_seed m s has, inl record { seed = s; configured = has; is = refl });
@@ -92,5 +106,6 @@ grounded m = record {
   );
 }
 
+-- An accepted document is configured, or it is that of a held receipt with a voucher.
 pub member_grounds : (m : Meaning) (p : Pair) → IsMember m p → IsOfSeed m p ⊎ IsOfRelease m p
 member_grounds m p is = (member_least m (IsGrounded m) (grounded m) p is).1

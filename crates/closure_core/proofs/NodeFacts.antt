@@ -9,10 +9,12 @@ use Rattle.std.proofs.lemmas.List.Elements.{All-rest}
 use Rattle.receipt_core.specs.Receipt.{Pair}
 use Rattle.closure_core.specs.Inside.Nodes.{AreNumbers, is_raised, raised_documents, flags_of, count_at}
 
+-- What is left to lend still has flags and documents after one number is lent.
 pub next_kept : (pairs : List Pair) (flags : List Bool) (before after : List ℕ) (n : ℕ) → AreNumbers pairs flags before
     → before ≡ n ∷ after → AreNumbers pairs flags after
 next_kept pairs flags before after n are e = record { flagged = are.flagged; within = All-rest (λ (k : ℕ). k < length pairs) n after before e are.within }
 
+-- A number whose flag is lowered is passed over: the documents left to lend are the same.
 pub next_skips : (pairs : List Pair) (flags : List Bool) (before after : List ℕ) (n : ℕ) → before ≡ n ∷ after
     → is_raised flags n ≡ false → raised_documents pairs flags after ≡ raised_documents pairs flags before
 next_skips pairs flags before after n e lowered =
@@ -20,14 +22,17 @@ next_skips pairs flags before after n e lowered =
     ∙ ap (λ b. cons_option (cond b (option_map (λ p. p.document) (slice_get pairs n)) None)
     (raised_documents pairs flags after)) lowered)
 
+-- whether a count stands for a raised flag
 abbrev pub is_counted : ℕ → Bool
 is_counted count = not (count == 0)
 
 -- ---- flags of counts
 
+-- There are as many flags as counts.
 pub length-flags : (counts : List ℕ) → length (flags_of counts) ≡ length counts
 length-flags counts = length-map counts is_counted
 
+-- A flag is raised exactly where its count is not 0, also past the end.
 pub flag-counted : (counts : List ℕ) (n : ℕ)
     → is_raised (flags_of counts) n ≡ is_counted (count_at counts n)
 flag-counted counts n = elim (cases_lt n (length counts)) [
@@ -36,10 +41,12 @@ flag-counted counts n = elim (cases_lt n (length counts)) [
       ∙ ap is_counted (sym (get_or_past counts n 0 l))
 ]
 
+-- A count that stands for a raised flag is above 0.
 counted-positive : (k : ℕ) → is_counted k ≡ true → 0 < k
 counted-positive zero e = absurd (both_ways false refl e)
 counted-positive (suc k) e = omega arith
 
+-- A count above 0 stands for a raised flag.
 pub positive-counted : (k : ℕ) → 0 < k → is_counted k ≡ true
 positive-counted k l = decide (eqb k 0) refl
   where
@@ -47,14 +54,17 @@ positive-counted k l = decide (eqb k 0) refl
     decide true e = absurd (omega (arith, l, eqb-true k 0 e))
     decide false e = not_from_false (eqb k 0) e
 
+-- Where the flag is raised, the count is above 0.
 pub raised-positive : (counts : List ℕ) (n : ℕ) → is_raised (flags_of counts) n ≡ true
     → 0 < count_at counts n
 raised-positive counts n e = counted-positive (count_at counts n) (sym (flag-counted counts n) ∙ e)
 
+-- Where the count is above 0, the flag is raised.
 pub positive-raised : (counts : List ℕ) (n : ℕ) → 0 < count_at counts n
     → is_raised (flags_of counts) n ≡ true
 positive-raised counts n l = flag-counted counts n ∙ positive-counted (count_at counts n) l
 
+-- Where the count is 0, the flag is lowered: so the loops may look at counts alone.
 pub zero-lowered : (counts : List ℕ) (n : ℕ) → count_at counts n ≡ 0
     → is_raised (flags_of counts) n ≡ false
 zero-lowered counts n e = flag-counted counts n ∙ ap is_counted e

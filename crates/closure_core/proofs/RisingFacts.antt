@@ -12,9 +12,11 @@ use Rattle.std.proofs.lemmas.List.Elements.{All-from_recursion, All-contains}
 use Rattle.receipt_core.specs.Rising.{placed, with_item, with_items}
 use Rattle.closure_core.proofs.ContainsFacts.{contains_first, contains_later, contains_none, contains_cases}
 
+-- What holds of all items holds of one that the list contains.
 pub each_has : {X : Type 0} (P : X → Type 0) (xs : List X) (x : X) → AllByRecursion P xs → Contains xs x → P x
 each_has P xs x all has = All-contains P xs x (All-from_recursion P xs all) has
 
+-- What holds of each item that the list contains holds of all, step by step.
 pub each_from : {X : Type 0} (P : X → Type 0) (xs : List X) → ((x : X) → Contains xs x → P x) → AllByRecursion P xs
 each_from P [] all = tt
 each_from P (y ∷ ys) all = (all y (contains_first y ys), each_from P ys (λ x h. all x (contains_later y ys x h)))
@@ -24,15 +26,19 @@ module _ {X : Type 0} {R : X → X → Ordering} (o : IsTotalOrder R) where
   abbrev pub Below : X → List X → Type 0
   Below x others = AllByRecursion (λ y. R x y ≡ Less) others
 
+  -- No item is below itself.
   not_below_itself : (x : X) → R x x ≡ Less → ⊥
   not_below_itself x h = let same = tied_itself o x in cc
 
+  -- No two items are each below the other.
   not_both : (x y : X) → R x y ≡ Less → R y x ≡ Less → ⊥
   not_both x y p q = let above : R x y ≡ Greater = o.antisymm x y ∙ ap ordering_reverse q in cc
 
+  -- An item that is below all others of a list is not among them.
   pub not_again : (x : X) (others : List X) → Below x others → Contains others x → ⊥
   not_again x others h has = not_below_itself x (each_has _ others x h has)
 
+  -- Two rising lists with the same items begin with the same one.
   same_first : (x y : X) (others more : List X) → Below x others → Below y more → Contains (y ∷ more) x → Contains (x ∷ others) y → x ≡ y
   same_first x y others more p q there back = elim (contains_cases y more x there) [
     | inl e ↦ sym e
@@ -42,6 +48,7 @@ module _ {X : Type 0} {R : X → X → Ordering} (o : IsTotalOrder R) where
     ]
   ]
 
+  -- Where a list with the same first item has all items, its rest has all of the rest.
   tail_has : (x z : X) (others more : List X) → Below x others
       → ((y : X) → Contains (x ∷ others) y → Contains (x ∷ more) y) → Contains others z → Contains more z
   tail_has x z others more below all has = elim (contains_cases x more z (all z (contains_later x others z has))) [
@@ -49,6 +56,7 @@ module _ {X : Type 0} {R : X → X → Ordering} (o : IsTotalOrder R) where
     | inr there ↦ there
   ]
 
+  -- Two rising lists with the same items are equal: a set is kept as one list.
   pub rising_same : (xs ys : List X) → IsStrictlySortedBy R xs → IsStrictlySortedBy R ys
       → ((x : X) → Contains xs x → Contains ys x) → ((x : X) → Contains ys x → Contains xs x) → xs ≡ ys
   unfolding IsStrictlySortedBy
@@ -65,6 +73,7 @@ module _ {X : Type 0} {R : X → X → Ordering} (o : IsTotalOrder R) where
 
   -- ---- one item more
 
+  -- One step of `with_item_has`, for each way the new item stands to the first.
   placed_has : (r : Ordering) (x h y : X) (t longer : List X) → Contains (placed r x h t longer) y
       → (Contains longer y → (x ≡ y) ⊎ Contains t y) → (x ≡ y) ⊎ Contains (h ∷ t) y
   placed_has Less x h y t longer has rest = contains_cases x (h ∷ t) y has
@@ -77,10 +86,12 @@ module _ {X : Type 0} {R : X → X → Ordering} (o : IsTotalOrder R) where
     ]
   ]
 
+  -- Adding an item adds nothing else.
   pub with_item_has : (x : X) (xs : List X) (y : X) → Contains (with_item R x xs) y → (x ≡ y) ⊎ Contains xs y
   with_item_has x [] y has = contains_cases x [] y has
   with_item_has x (h ∷ t) y has = placed_has (R x h) x h y t (with_item R x t) has (with_item_has x t y)
 
+  -- One step of `with_item_keeps`, for each way the new item stands to the first.
   placed_keeps : (r : Ordering) (x h y : X) (t longer : List X) → Contains (h ∷ t) y → (Contains t y → Contains longer y) → Contains (placed r x h t longer) y
   placed_keeps Less x h y t longer has rest = contains_later x (h ∷ t) y has
   placed_keeps Equal x h y t longer has rest = has
@@ -89,27 +100,32 @@ module _ {X : Type 0} {R : X → X → Ordering} (o : IsTotalOrder R) where
     | inr old ↦ contains_later h longer y (rest old)
   ]
 
+  -- Adding an item loses none.
   pub with_item_keeps : (x : X) (xs : List X) (y : X) → Contains xs y → Contains (with_item R x xs) y
   with_item_keeps x [] y has = absurd (contains_none y has)
   with_item_keeps x (h ∷ t) y has = placed_keeps (R x h) x h y t (with_item R x t) has (with_item_keeps x t y)
 
+  -- One step of `with_item_gets`, for each way the new item stands to the first.
   placed_gets : (r : Ordering) (x h : X) (t longer : List X) → (r ≡ Equal → x ≡ h) → Contains longer x → Contains (placed r x h t longer) x
   placed_gets Less x h t longer same rest = contains_first x (h ∷ t)
   placed_gets Equal x h t longer same rest = subst (Contains (h ∷ t)) (sym (same refl)) (contains_first h t)
   placed_gets Greater x h t longer same rest = contains_later h longer x rest
 
-  -- where the order tells apart what differs
+  -- The added item is there afterwards, where the order tells apart what differs.
   pub with_item_gets : (x : X) (xs : List X) → ((y : X) → Contains xs y → R x y ≡ Equal → x ≡ y) → Contains (with_item R x xs) x
   with_item_gets x [] exact = contains_first x []
   with_item_gets x (h ∷ t) exact =
       placed_gets (R x h) x h t (with_item R x t) (exact h (contains_first h t)) (with_item_gets x t (λ y has. exact y (contains_later h t y has)))
 
+  -- What is above an item has that item below it.
   turned : (x y : X) → R x y ≡ Greater → R y x ≡ Less
   turned x y e = o.antisymm y x ∙ ap ordering_reverse e
 
+  -- What is below an item has that item above it.
   pub turned_less : (x y : X) → R x y ≡ Less → R y x ≡ Greater
   turned_less x y e = o.antisymm y x ∙ ap ordering_reverse e
 
+  -- One step of `with_item_rising`, for each way the new item stands to the first.
   placed_rising : (r : Ordering) (x h : X) (t longer : List X) → R x h ≡ r → IsStrictlySortedBy R (h ∷ t)
       → IsStrictlySortedBy R longer → ((y : X) → Contains longer y → (x ≡ y) ⊎ Contains t y)
       → IsStrictlySortedBy R (placed r x h t longer)
@@ -125,25 +141,31 @@ module _ {X : Type 0} {R : X → X → Ordering} (o : IsTotalOrder R) where
     rest,
   )
 
+  -- Adding an item keeps a list rising.
   pub with_item_rising : (x : X) (xs : List X) → IsStrictlySortedBy R xs → IsStrictlySortedBy R (with_item R x xs)
   unfolding IsStrictlySortedBy
   with_item_rising x [] rising = (tt, tt)
   with_item_rising x (h ∷ t) rising = placed_rising (R x h) x h t (with_item R x t) refl rising (with_item_rising x t rising.1) (with_item_has x t)
 
+  -- One step of `with_item_longer`, for each way the new item stands to the first.
   placed_length : (r : Ordering) (x h : X) (t longer : List X) → length longer ≤ length t + 1 → length (placed r x h t longer) ≤ length t + 2
   placed_length Less x h t longer rest = omega arith
   placed_length Equal x h t longer rest = omega arith
   placed_length Greater x h t longer rest = omega arith
 
+  -- Adding an item makes a list longer by one at most: this keeps the limits in sight.
   pub with_item_longer : (x : X) (xs : List X) → length (with_item R x xs) ≤ length xs + 1
   with_item_longer x [] = omega arith
   with_item_longer x (h ∷ t) = let rest = placed_length (R x h) x h t (with_item R x t) (with_item_longer x t) in omega arith
 
   -- ---- an item goes into its gap
 
+  -- The step that adds an item may be computed with the known outcome of the comparison.
   gap_step : (x h : X) (t longer : List X) (r : Ordering) → R x h ≡ r → placed (R x h) x h t longer ≡ placed r x h t longer
   gap_step x h t longer r e = ap (λ s. placed s x h t longer) e
 
+  -- An item is added by putting it where all before are below it and all after above: so a binary
+  -- search finds its place.
   pub with_item_at : (x : X) (xs : List X) (n : ℕ) → n ≤ length xs → AllWithin (λ y. R y x ≡ Less) xs 0 n
       → AllWithin (λ y. R y x ≡ Greater) xs n (length xs) → with_item R x xs ≡ insert xs n x
   with_item_at x [] zero within before after = refl
@@ -159,9 +181,11 @@ module _ {X : Type 0} {R : X → X → Ordering} (o : IsTotalOrder R) where
 
   -- ---- a rising list is sorted
 
+  -- What is above an item is not less than it, in the words of a sorted list.
   falls_back : (x y : X) → R x y ≡ Less → is_lt (R y x) ≡ false
   falls_back x y below = ap is_lt (turned_less x y below)
 
+  -- Each item of a rising list is not less than the one before it.
   sorted_at : (xs : List X) (k : ℕ) (d : X) → IsStrictlySortedBy R xs → suc k < length xs → is_lt (R (get_or xs (suc k) d) (get_or xs k d)) ≡ false
   unfolding IsStrictlySortedBy
   sorted_at [] k d rising below = absurd (omega arith)
@@ -169,19 +193,22 @@ module _ {X : Type 0} {R : X → X → Ordering} (o : IsTotalOrder R) where
   sorted_at (x ∷ y ∷ ys) zero d rising below = falls_back x y rising.0.0
   sorted_at (x ∷ y ∷ ys) (suc k) d rising below = sorted_at (y ∷ ys) k d rising.1 (omega arith)
 
+  -- A rising list is sorted, as the standard library's searches want it.
   pub sorted : (xs : List X) → IsStrictlySortedBy R xs → IsSorted R xs
   sorted xs rising k d low below = subst (λ n. is_lt (R (get_or xs n d) (get_or xs k d)) ≡ false) (sym (add-one k)) (sorted_at xs k d rising (omega arith))
 
-  -- how its items stand to one that is sought
+  -- In a rising list the items below one that is sought come first, and those above it last.
   pub sought : (xs : List X) (x : X) → IsStrictlySortedBy R xs → IsNonDecreasingBy (λ y. ordering_index (R y x)) xs
   sought xs x rising = searchable_from_sorted o (λ y. y) xs x (sorted xs rising)
 
   -- ---- many items more
 
+  -- Adding many items loses none.
   pub with_items_keeps : (items set : List X) (y : X) → Contains set y → Contains (with_items R items set) y
   with_items_keeps [] set y has = has
   with_items_keeps (i ∷ items) set y has = with_items_keeps items (with_item R i set) y (with_item_keeps i set y has)
 
+  -- Adding many items adds nothing else.
   pub with_items_has : (items set : List X) (y : X) → Contains (with_items R items set) y → Contains items y ⊎ Contains set y
   with_items_has [] set y has = inr has
   with_items_has (i ∷ items) set y has = elim (with_items_has items (with_item R i set) y has) [
@@ -192,6 +219,7 @@ module _ {X : Type 0} {R : X → X → Ordering} (o : IsTotalOrder R) where
     ]
   ]
 
+  -- All added items are there afterwards, where the order tells apart what has the property.
   pub with_items_gets : (P : X → Type 0) → ((x y : X) → P x → P y → R x y ≡ Equal → x ≡ y) → (items set : List X)
       → ((x : X) → Contains items x → P x) → ((x : X) → Contains set x → P x) → (x : X) → Contains items x
       → Contains (with_items R items set) x
@@ -207,6 +235,7 @@ module _ {X : Type 0} {R : X → X → Ordering} (o : IsTotalOrder R) where
         | inr later ↦ with_items_gets P exact items (with_item R i set) (λ y more. all y (contains_later i items y more)) each x later
       ]
 
+  -- Adding many items keeps a list rising.
   pub with_items_rising : (items set : List X) → IsStrictlySortedBy R set → IsStrictlySortedBy R (with_items R items set)
   with_items_rising [] set rising = rising
   with_items_rising (i ∷ items) set rising = with_items_rising items (with_item R i set) (with_item_rising i set rising)

@@ -7,21 +7,27 @@ use Rattle.closure_core.specs.Inside.Nodes.{raised_documents}
 use Rattle.closure_core.specs.AcceptedList.{document_cmp, document_of}
 use Rattle.closure_core.proofs.ContainsFacts.{contains_none}
 
+-- documents without a rank, with rank 0 and with rank 1: this one, `first` and `second`
 abbrev unranked : Bundle
 unranked = record { authorities = []; rank = None; hint = None }
 
+-- the document with rank 0
 abbrev first : Bundle
 first = record { authorities = []; rank = Some 0; hint = None }
 
+-- the document with rank 1
 abbrev second : Bundle
 second = record { authorities = []; rank = Some 1; hint = None }
 
+-- An absent rank stands below 0.
 absent_comes_before_zero : document_cmp unranked first ≡ Less
 absent_comes_before_zero = refl
 
+-- A smaller rank stands below a larger one.
 zero_comes_before_one : document_cmp first second ≡ Less
 zero_comes_before_one = refl
 
+-- A rank stands above an absent one: the order can be turned round.
 one_comes_behind_absent : document_cmp second unranked ≡ Greater
 one_comes_behind_absent = refl
 
@@ -30,7 +36,7 @@ raised_alone : raised_documents (document_of [] first ∷ document_of [] second 
     (true ∷ false ∷ true ∷ []) (2 ∷ 1 ∷ 0 ∷ []) ≡ unranked ∷ first ∷ []
 raised_alone = refl
 
--- nothing changes where nothing changes
+-- Nothing is gained where nothing changes.
 no_gain : (m : Meaning) → IsGain m m 0
 no_gain m = record {
   items = [];

@@ -12,6 +12,7 @@ use Rattle.fed_config.specs.Reading.{Fails, IsConfig, IsRead, RefusesConfigBytes
 use Rattle.fed_config.specs.declared.error.ConfigError.{ConfigError}
 use Rattle.fed_config.specs.declared.error.ConfigError.TheVariants.{NotJson, Shape, BadName, BadUrl, BadProfile, DoubleRelationship, BadSeed, TooMany, NoMemory}
 
+-- the empty text is no JSON text
 none_of_nothing : read [] ≡ None
 unfolding serde_json_on_literals
 none_of_nothing = refl
@@ -21,14 +22,18 @@ some_bytes : (bytes : List ℕ) (tree : Data) → IsJson bytes tree → 0 < leng
 some_bytes [] tree json = let both : Some tree ≡ None = sym json.1 ∙ none_of_nothing in absurd (cc)
 some_bytes (b ∷ bytes) tree json = omega arith
 
+-- UTF-8 bytes that read as a value are a JSON text of it
 pub json_of : (bytes text : List ℕ) (tree : Data) → IsUtf8 bytes → text ≡ bytes → read text ≡ Some tree → IsJson bytes tree
 json_of bytes text tree utf8 same found = (utf8, subst (λ t. read t ≡ Some tree) same found)
 
+-- where a value lacks the shape of a configuration, or memory ran out over it, its bytes are
+-- refused
 pub shape_exit : (bytes : List ℕ) (tree : Data) (e : ConfigError) → IsJson bytes tree
     → Fails Shape ((w : Written) × SaysWritten tree w) e → RefusesConfigBytes bytes e
 shape_exit bytes tree e json (inl is) = subst (RefusesConfigBytes bytes) (sym is) (json.0, some_bytes bytes tree json)
 shape_exit bytes tree e json (inr f) = subst (RefusesConfigBytes bytes) (sym f.0) (tree, json, λ w h. f.1 (w, h))
 
+-- a refusal of what is written refuses the bytes that it is written in
 refuses : (bytes : List ℕ) (w : Written) (e : ConfigError) → IsText bytes w → RefusesRead w e → RefusesConfigBytes bytes e
 refuses bytes w NotJson text h = absurd h
 refuses bytes w Shape text h = absurd h
@@ -40,6 +45,7 @@ refuses bytes w BadSeed text h = (w, text, h)
 refuses bytes w TooMany text h = (w, text, h)
 refuses bytes w NoMemory text h = (text.json.0, some_bytes bytes text.tree text.json)
 
+-- what `from_entries` returns of what is written is what `read` returns of the bytes
 pub read_exit : (bytes : List ℕ) (tree : Data) (w : Written) (r : Result Configuration ConfigError) → IsJson bytes tree
     → SaysWritten tree w → MatchResult r (IsRead w) (RefusesRead w)
     → MatchResult r (IsConfig bytes) (RefusesConfigBytes bytes)

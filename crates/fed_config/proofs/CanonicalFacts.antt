@@ -34,25 +34,31 @@ use Rattle.fed_config.proofs.ReadFacts.{map_length, single_in}
 
 -- ---- what the canonical text writes
 
+-- a relationship as it is written in the canonical text
 text_of : Relationship → RelationshipText
 text_of r = record { domain = r.domain; endpoint = r.endpoint.text; profile = codes "https_spiffe"; url = r.url }
 
+-- a seed as it is written in the canonical text
 seed_text_of : Seed → SeedText
 seed_text_of s = record { bundle = document_tree s.document; domain = s.domain }
 
+-- a configuration as it is written in the canonical text
 texts_of : Configuration → Written
 texts_of c = record { relationships = map text_of c.relationships; seeds = map seed_text_of c.seeds }
 
+-- the objects of relationships say their texts
 each_relationship_text : (rs : List Relationship) → AllZip SaysRelationshipText (map relationship_tree rs) (map text_of rs)
 unfolding text_of
 each_relationship_text [] = tt
 each_relationship_text (r ∷ rs) = (record { count = (_, refl, refl); domain = refl; endpoint = refl; profile = refl; url = refl }, each_relationship_text rs)
 
+-- the objects of seeds say their texts
 each_seed_text : (ss : List Seed) → AllZip SaysSeedText (map seed_tree ss) (map seed_text_of ss)
 unfolding seed_text_of
 each_seed_text [] = tt
 each_seed_text (s ∷ ss) = (record { count = (_, refl, refl); bundle = refl; domain = refl }, each_seed_text ss)
 
+-- the value of a configuration says its texts
 says_texts : (c : Configuration) → SaysWritten (config_tree c) (texts_of c)
 unfolding texts_of
 says_texts c = record {
@@ -65,22 +71,26 @@ says_texts c = record {
   each_seed = each_seed_text c.seeds;
 }
 
+-- a text whose bytes pass the test for ASCII is UTF-8: for the names of members
 ascii : (t : List ℕ) → are_ascii t ≡ true → IsUtf8 t
 ascii = IsUtf8-are_ascii
 
 -- ---- how deep it nests
 
+-- the objects of relationships nest one level deep
 shallow_relationships : (rs : List Relationship) → items_depth (items_of (map relationship_tree rs)) ≤ 1
 shallow_relationships [] = omega arith
 shallow_relationships (r ∷ rs) = omega (arith, shallow_relationships rs)
 
 -- ---- URLs
 
+-- a kept URL is UTF-8
 url_utf8 : (url : List ℕ) → IsEndpointUrl url → IsUtf8 url
 url_utf8 url h =
     let keeps : KeepsUrl h.0 url = h.1 in
     IsUtf8-from_ascii url (subst IsAscii (sym keeps.serialized) (IsAscii-serialize keeps.parts keeps.valid))
 
+-- a URL with the scheme `https` is a special one, so that its own text parses to the same parts
 https_kind : (parts : Parts) → parts.scheme ≡ codes "https" → kind_of parts ≡ SpecialNotFile
 unfolding default_port scheme_type
 https_kind parts scheme = ap scheme_type scheme
@@ -105,6 +115,8 @@ keeps_itself url h short =
 
 -- ---- lists of one image
 
+-- lists are equal where their images are, if elements with the property are equal where their
+-- images are
 map_one : {X Y : Type 0} (P : X → Type 0) (f : X → Y) → ((x y : X) → P x → P y → f x ≡ f y → x ≡ y) → (xs ys : List X)
     → AllByRecursion P xs → AllByRecursion P ys → map f xs ≡ map f ys → xs ≡ ys
 map_one P f one [] [] p q e = refl
@@ -115,27 +127,34 @@ map_one P f one (x ∷ xs) (y ∷ ys) p q e =
     let rest : map f xs ≡ map f ys = cc in
     ap₂ (λ z l. z ∷ l) (one x y p.0 q.0 first) (map_one P f one xs ys p.1 q.1 rest)
 
+-- a relationship from its parts
 relationship_of : List ℕ → Id → List ℕ → Relationship
 relationship_of domain endpoint url = record { domain = domain; endpoint = endpoint; url = url }
 
+-- a seed from its parts
 seed_from : List ℕ → Bundle → Seed
 seed_from domain document = record { domain = domain; document = document }
 
+-- a configuration from its parts
 configuration_of : List Relationship → List Seed → Configuration
 configuration_of relationships seeds = record { relationships = relationships; seeds = seeds }
 
+-- relationships with equal parts are equal
 same_relationship : (r s : Relationship) → r.domain ≡ s.domain → r.endpoint ≡ s.endpoint → r.url ≡ s.url → r ≡ s
 unfolding relationship_of
 same_relationship r s a b c = let same : relationship_of r.domain r.endpoint r.url ≡ relationship_of s.domain s.endpoint s.url = cc in same
 
+-- seeds with equal parts are equal
 same_seed : (s u : Seed) → s.domain ≡ u.domain → s.document ≡ u.document → s ≡ u
 unfolding seed_from
 same_seed s u a b = let same : seed_from s.domain s.document ≡ seed_from u.domain u.document = cc in same
 
+-- configurations with equal parts are equal
 same_configuration : (b c : Configuration) → b.relationships ≡ c.relationships → b.seeds ≡ c.seeds → b ≡ c
 unfolding configuration_of
 same_configuration b c p q = let same : configuration_of b.relationships b.seeds ≡ configuration_of c.relationships c.seeds = cc in same
 
+-- a rising list is the list of its own set
 itself : {X : Type 0} (cmp : X → X → Ordering) (xs : List X) → IsStrictlySortedBy cmp xs → IsSetOf cmp xs xs
 itself cmp xs rising = record { rising = rising; members = λ x. (λ h. h, λ h. h) }
 
@@ -144,6 +163,7 @@ module _ (plain_domain : (text : List ℕ) → IsDomainText text → IsPlainText
     → IsPlainText id.text) (plain_document : (b : Bundle) → IsBundle b
     → IsPlain (document_tree b)) (shallow_document : (b : Bundle) → depth (document_tree b) ≤ 4) (reads : (value : Data)
     → IsPlain value → depth value ≤ max_depth → IsJson (compact_text value) value) where
+  -- the object of a relationship is a plain value
   plain_relationship : (r : Relationship) → IsRelationship r → IsPlain (relationship_tree r)
   plain_relationship r h = (
     ascii (codes "domain") refl,
@@ -162,10 +182,12 @@ module _ (plain_domain : (text : List ℕ) → IsDomainText text → IsPlainText
     ),
   )
 
+  -- the objects of relationships are plain values
   plain_relationships : (rs : List Relationship) → AllByRecursion IsRelationship rs → ArePlain (items_of (map relationship_tree rs))
   plain_relationships [] h = tt
   plain_relationships (r ∷ rs) h = (plain_relationship r h.0, plain_relationships rs h.1)
 
+  -- the object of a seed is a plain value
   plain_seed : (s : Seed) → IsSeed s → IsPlain (seed_tree s)
   plain_seed s h = (
     ascii (codes "bundle") refl,
@@ -174,10 +196,12 @@ module _ (plain_domain : (text : List ℕ) → IsDomainText text → IsPlainText
     (ascii (codes "domain") refl, (plain_domain s.domain h.domain).utf8, tt, tt),
   )
 
+  -- the objects of seeds are plain values
   plain_seeds : (ss : List Seed) → AllByRecursion IsSeed ss → ArePlain (items_of (map seed_tree ss))
   plain_seeds [] h = tt
   plain_seeds (s ∷ ss) h = (plain_seed s h.0, plain_seeds ss h.1)
 
+  -- the value of a configuration is plain, so its text is read back as it
   plain_configuration : (c : Configuration) → IsConfiguration c → IsPlain (config_tree c)
   plain_configuration c h = (
     ascii (codes "relationships") refl,
@@ -186,13 +210,16 @@ module _ (plain_domain : (text : List ℕ) → IsDomainText text → IsPlainText
     (ascii (codes "seeds") refl, plain_seeds c.seeds h.each_seed, tt, tt),
   )
 
+  -- the objects of seeds nest five levels deep at most: one more than a document
   shallow_seeds : (ss : List Seed) → items_depth (items_of (map seed_tree ss)) ≤ 5
   shallow_seeds [] = omega arith
   shallow_seeds (s ∷ ss) = omega (arith, shallow_document s.document, shallow_seeds ss)
 
+  -- the value of a configuration nests seven levels deep at most, far below the limit of JSON texts
   shallow : (c : Configuration) → depth (config_tree c) ≤ 7
   shallow c = omega (arith, shallow_relationships c.relationships, shallow_seeds c.seeds)
 
+  -- the canonical text of a configuration is a JSON text that says the configuration's texts
   is_text : (c : Configuration) → IsConfiguration c → IsText (config_text c) (texts_of c)
   unfolding config_text
   is_text c h = record { tree = config_tree c; json = reads (config_tree c) (plain_configuration c h) (omega (arith, shallow c)); says = says_texts c }
@@ -202,18 +229,21 @@ module _ (plain_domain : (text : List ℕ) → IsDomainText text → IsPlainText
   module _ (one_id : (one other : Id) → IsId one → IsId other → one.text ≡ other.text
       → one ≡ other) (one_document : (b c : Bundle) → IsBundle b → IsBundle c → canonical_text b ≡ canonical_text c
       → b ≡ c) where
+    -- relationships with equal texts are equal
     one_relationship : (r s : Relationship) → IsRelationship r → IsRelationship s → text_of r ≡ text_of s → r ≡ s
     unfolding text_of
     one_relationship r s p q e =
         same_relationship r s (ap (λ t. t.domain) e)
         (one_id r.endpoint s.endpoint p.endpoint q.endpoint (ap (λ t. t.endpoint) e)) (ap (λ t. t.url) e)
 
+    -- seeds with equal texts are equal
     one_seed : (s u : Seed) → IsSeed s → IsSeed u → seed_text_of s ≡ seed_text_of u → s ≡ u
     unfolding seed_text_of
     one_seed s u p q e =
         let bundles : document_tree s.document ≡ document_tree u.document = ap (λ t. t.bundle) e in
         same_seed s u (ap (λ t. t.domain) e) (one_document s.document u.document p.bundle q.bundle (ap compact_text bundles))
 
+    -- configurations with equal texts are equal
     one_of : (b c : Configuration) → IsConfiguration b → IsConfiguration c → texts_of b ≡ texts_of c → b ≡ c
     unfolding texts_of
     one_of b c p q e =
@@ -221,6 +251,8 @@ module _ (plain_domain : (text : List ℕ) → IsDomainText text → IsPlainText
         (map_one IsRelationship text_of one_relationship b.relationships c.relationships p.each_relationship q.each_relationship (ap (λ w. w.relationships) e))
         (map_one IsSeed seed_text_of one_seed b.seeds c.seeds p.each_seed q.each_seed (ap (λ w. w.seeds) e))
 
+    -- configurations are equal exactly where their canonical texts are, as `laws::canonical_texts`
+    -- says
     pub one_text : (b c : Configuration) → IsConfiguration b → IsConfiguration c → (b ≡ c) ↔ (config_text b ≡ config_text c)
     one_text b c p q = (
       λ e. ap config_text e,
@@ -230,6 +262,7 @@ module _ (plain_domain : (text : List ℕ) → IsDomainText text → IsPlainText
   -- ---- what is written is read as the configuration
 
   module _ (means_document : (b : Bundle) → IsBundle b → Means (document_tree b) b) where
+    -- the texts of relationships say them, where their URLs are short enough to be read
     each_relationship : (rs : List Relationship) → AllByRecursion IsRelationship rs
         → AllByRecursion (λ r. length r.url ≤ 2048) rs → AllZip SaysRelationship (map text_of rs) rs
     unfolding text_of
@@ -246,6 +279,7 @@ module _ (plain_domain : (text : List ℕ) → IsDomainText text → IsPlainText
       each_relationship rs h.1 short.1,
     )
 
+    -- the texts of seeds say them
     each_seed : (ss : List Seed) → AllByRecursion IsSeed ss → AllZip SaysSeed (map seed_text_of ss) ss
     unfolding seed_text_of
     each_seed [] h = tt
@@ -254,6 +288,7 @@ module _ (plain_domain : (text : List ℕ) → IsDomainText text → IsPlainText
       each_seed ss h.1,
     )
 
+    -- the texts of a configuration mean it
     is_meant : (c : Configuration) → IsConfiguration c → HasShortUrls c → IsMeant (texts_of c) c
     unfolding texts_of
     is_meant c h short = record {
@@ -265,6 +300,8 @@ module _ (plain_domain : (text : List ℕ) → IsDomainText text → IsPlainText
       seed_set = itself _ c.seeds h.rising_seeds;
     }
 
+    -- the canonical text of a configuration with short URLs is a configuration of that meaning, as
+    -- `laws::canonical_texts` says
     pub reads_back : (c : Configuration) → IsConfiguration c → HasShortUrls c → IsConfig (config_text c) c
     unfolding texts_of
     reads_back c h short = record {

@@ -8,7 +8,8 @@ use Rattle.fed_config.specs.declared.error.ConfigError.{ConfigError}
 use Rattle.fed_config.specs.declared.error.ConfigError.TheVariants.{NotJson, Shape, BadName, BadUrl, BadProfile, DoubleRelationship, BadSeed, TooMany, NoMemory}
 use Rattle.fed_config.proofs.MeaningFacts.{same_written}
 
--- of two causes the one that goes before is passed by what is refused for the other
+-- what is refused for a later cause passed the tests of the earlier ones, so what is written has
+-- one cause at most
 one_written_cause : (w : Written) (d e : ConfigError) → RefusesWritten w d → RefusesWritten w e → d ≡ e
 one_written_cause w NotJson e p q = absurd (p.failed tt)
 one_written_cause w Shape e p q = absurd (p.failed tt)
@@ -59,6 +60,7 @@ Cause bytes e =
     ((e ≡ NotJson) × ((tree : Data) → IsJson bytes tree → ⊥))
     ⊎ (((e ≡ Shape) × ((tree : Data) × IsJson bytes tree × ((w : Written) → SaysWritten tree w → ⊥))) ⊎ RefusesConfigText bytes e)
 
+-- each refusal of bytes, other than for memory, is one of these three
 cause_of : (bytes : List ℕ) (e : ConfigError) → RefusesConfigBytes bytes e → (e ≡ NoMemory → ⊥) → Cause bytes e
 cause_of bytes NotJson h other = inl (refl, h)
 cause_of bytes Shape h other = inr (inl (refl, h))
@@ -70,6 +72,7 @@ cause_of bytes BadSeed h other = inr (inr h)
 cause_of bytes TooMany h other = inr (inr h)
 cause_of bytes NoMemory h other = absurd (other refl)
 
+-- bytes are a JSON text of one value at most
 one_tree : (bytes : List ℕ) (s t : Data) → IsJson bytes s → IsJson bytes t → s ≡ t
 one_tree bytes s t p q = let same : Some s ≡ Some t = sym p.1 ∙ q.1 in cc
 
@@ -77,6 +80,7 @@ one_tree bytes s t p q = let same : Some s ≡ Some t = sym p.1 ∙ q.1 in cc
 shapeless : (bytes : List ℕ) (tree : Data) (e : ConfigError) → IsJson bytes tree → ((w : Written) → SaysWritten tree w → ⊥) → RefusesConfigText bytes e → ⊥
 shapeless bytes tree e json none h = none h.0 (subst (λ t. SaysWritten t h.0) (one_tree bytes h.1.tree tree h.1.json json) h.1.says)
 
+-- bytes have one such cause at most
 one_at : (bytes : List ℕ) (d e : ConfigError) → Cause bytes d → Cause bytes e → d ≡ e
 one_at bytes d e (inl p) (inl q) = p.0 ∙ sym q.0
 one_at bytes d e (inl p) (inr (inl q)) = absurd (p.1 q.1.0 q.1.1)
@@ -89,5 +93,6 @@ one_at bytes d e (inr (inr p)) (inr (inl q)) = absurd (shapeless bytes q.1.0 d q
 one_at bytes d e (inr (inr p)) (inr (inr q)) =
     one_written_cause q.0 d e (subst (λ w. RefusesWritten w d) (same_written bytes p.0 q.0 p.1 q.1) p.2) q.2
 
+-- bytes are refused for one cause at most, other than for memory, as `laws::configurations` says
 pub one_cause : (bytes : List ℕ) (d e : ConfigError) → RefusesConfigBytes bytes d → RefusesConfigBytes bytes e → (d ≡ NoMemory → ⊥) → (e ≡ NoMemory → ⊥) → d ≡ e
 one_cause bytes d e p q m n = one_at bytes d e (cause_of bytes d p m) (cause_of bytes e q n)

@@ -8,10 +8,12 @@ use Rattle.serde_json.specs.View.{members_view}
 use Rattle.serde_json.specs.declared.value.Value.{Value}
 use Rattle.fed_config.specs.Written.{count_of, HasCount}
 
+-- an object in memory has as many members as entries
 pub count_of-members : (es : List (String Global × Value)) → count_of (members_view es) ≡ length es
 count_of-members [] = refl
 count_of-members (e ∷ es) = ap suc (count_of-members es)
 
+-- the test of the number of entries decides the number of members
 pub counted : (tree : Data) (es : List (String Global × Value)) (n count : ℕ) → Some (members_view es) ≡ as_object tree
     → n ≡ length es → IsTrue (n == count) ↔ HasCount tree count
 counted tree es n count is len = (

@@ -11,12 +11,15 @@ use Rattle.fed_config.specs.Configuration.{Configuration, AreDomains, IsPlace, r
 use Rattle.fed_config.specs.declared.relationship.Relationship.{Relationship}
 use Rattle.fed_config.proofs.SetFacts.{Has-Contains, Contains-Has, slice_get_at, rising_same, sorted, not_found}
 
+-- the domains of a configuration have one rising list
 pub one_list : (c : Configuration) (ds es : List (List ℕ)) → AreDomains c ds → AreDomains c es → ds ≡ es
 one_list c ds es p q =
     rising_same nat_list_cmp_total ds es p.rising q.rising
     (λ d h. Has-Contains es d (q.complete d (p.sound d (Contains-Has ds d h))))
     (λ d h. Has-Contains ds d (p.complete d (q.sound d (Contains-Has es d h))))
 
+-- a binary search returns the domain's place among the configuration's domains, or none where it is
+-- none of them
 pub place_found : (c : Configuration) (ds : List (List ℕ)) (domain : List ℕ) (r : Result ℕ ℕ) → AreDomains c ds
     → IsSearchInRange r (length ds) → IsBinarySearchResult (λ d. slice_cmp nat_cmp d domain) ds r
     → IsPlace c domain (result_ok r)
@@ -27,6 +30,7 @@ place_found c ds domain (Ok i) are within position =
 place_found c ds domain (Err i) are within position =
     λ h. not_found nat_list_cmp_total (λ d. d) ds domain i (sorted nat_list_cmp_total ds are.rising) position domain (are.complete domain h) refl
 
+-- where a binary search finds none, no relationship has the domain
 pub relationship_not_found : (rs : List Relationship) (domain : List ℕ) (i : ℕ) → IsStrictlySortedBy relationship_cmp rs
     → (IsNonDecreasingBy (λ r. ordering_index (slice_cmp nat_cmp r.domain domain)) rs
     → IsPartitionPoint (λ r. slice_cmp nat_cmp r.domain domain ≡ Less)

@@ -25,12 +25,15 @@ use Rattle.fed_config.proofs.ZipFacts.{each_left, zip_one}
 
 -- ---- what is written
 
+-- the texts of a relationship from their parts
 relationship_text : List ℕ → List ℕ → List ℕ → List ℕ → RelationshipText
 relationship_text domain endpoint profile url = record { domain = domain; endpoint = endpoint; profile = profile; url = url }
 
+-- a value has one text at most under a name
 one_text : (tree : Data) (name s t : List ℕ) → get name tree ≡ Some (string s) → get name tree ≡ Some (string t) → s ≡ t
 one_text tree name s t p q = let both : Some (string s) ≡ Some (string t) = sym p ∙ q in cc
 
+-- a value says the texts of one relationship at most
 one_relationship_text : (tree : Data) (t u : RelationshipText) → SaysRelationshipText tree t → SaysRelationshipText tree u → t ≡ u
 unfolding relationship_text
 one_relationship_text tree t u p q =
@@ -40,9 +43,11 @@ one_relationship_text tree t u p q =
     let d : t.url ≡ u.url = one_text tree (codes "url") t.url u.url p.url q.url in
     let same : relationship_text t.domain t.endpoint t.profile t.url ≡ relationship_text u.domain u.endpoint u.profile u.url = cc in same
 
+-- what is written of a seed, from its parts
 seed_of : Data → List ℕ → SeedText
 seed_of bundle domain = record { bundle = bundle; domain = domain }
 
+-- a value says what is written of one seed at most
 one_seed_text : (tree : Data) (t u : SeedText) → SaysSeedText tree t → SaysSeedText tree u → t ≡ u
 unfolding seed_of
 one_seed_text tree t u p q =
@@ -51,9 +56,11 @@ one_seed_text tree t u p q =
     let b : t.bundle ≡ u.bundle = cc in
     let same : seed_of t.bundle t.domain ≡ seed_of u.bundle u.domain = cc in same
 
+-- what is written of a configuration, from its parts
 written_of : List RelationshipText → List SeedText → Written
 written_of relationships seeds = record { relationships = relationships; seeds = seeds }
 
+-- a value says one configuration's texts at most
 one_written : (tree : Data) (w v : Written) → SaysWritten tree w → SaysWritten tree v → w ≡ v
 unfolding written_of
 one_written tree w v p q =
@@ -67,6 +74,7 @@ one_written tree w v p q =
     (subst (λ l. AllZip SaysSeedText l w.seeds) others p.each_seed) q.each_seed in
     let same : written_of w.relationships w.seeds ≡ written_of v.relationships v.seeds = cc in same
 
+-- bytes are a text of one configuration's texts at most
 pub same_written : (bytes : List ℕ) (w v : Written) → IsText bytes w → IsText bytes v → w ≡ v
 same_written bytes w v p q =
     let both : Some p.tree ≡ Some q.tree = sym p.json.1 ∙ q.json.1 in
@@ -75,17 +83,21 @@ same_written bytes w v p q =
 
 -- ---- the meaning
 
+-- a relationship from its parts
 relationship_of : List ℕ → Id → List ℕ → Relationship
 relationship_of domain endpoint url = record { domain = domain; endpoint = endpoint; url = url }
 
+-- one text is kept as one URL at most
 one_url : (text u v : List ℕ) → KeepsUrl text u → KeepsUrl text v → u ≡ v
 one_url text u v p q =
     let both = sym p.parsed.parses ∙ q.parsed.parses in
     let same : p.parts ≡ q.parts = cc in p.serialized ∙ ap serialize same ∙ sym q.serialized
 
+-- a seed from its parts
 seed_from : List ℕ → Bundle → Seed
 seed_from domain document = record { domain = domain; document = document }
 
+-- a set has one rising list
 same_set : {X : Type 0} {cmp : X → X → Ordering} (o : IsTotalOrder cmp) (xs ys set other : List X) → xs ≡ ys
     → IsSetOf cmp xs set → IsSetOf cmp ys other → set ≡ other
 same_set {X} o xs ys set other e p q =
@@ -93,11 +105,13 @@ same_set {X} o xs ys set other e p q =
     (λ x h. Has-Contains other x ((q.members x).1 (subst (λ l. Contains l x) e ((p.members x).0 (Contains-Has set x h)))))
     (λ x h. Has-Contains set x ((p.members x).1 (subst (λ l. Contains l x) (sym e) ((q.members x).0 (Contains-Has other x h)))))
 
+-- a configuration from its parts
 configuration_of : List Relationship → List Seed → Configuration
 configuration_of relationships seeds = record { relationships = relationships; seeds = seeds }
 
 module _ (one_id : (one other : Id) → IsId one → IsId other → one.text ≡ other.text
     → one ≡ other) (one_bundle : (value : Data) (b c : Bundle) → Means value b → Means value c → b ≡ c) where
+  -- texts say one relationship at most
   one_relationship : (t : RelationshipText) (r s : Relationship) → SaysRelationship t r → SaysRelationship t s → r ≡ s
   unfolding relationship_of
   one_relationship t r s p q =
@@ -106,6 +120,7 @@ module _ (one_id : (one other : Id) → IsId one → IsId other → one.text ≡
       let c : r.url ≡ s.url = one_url t.url r.url s.url p.url q.url in
       let same : relationship_of r.domain r.endpoint r.url ≡ relationship_of s.domain s.endpoint s.url = cc in same
 
+  -- what is written of a seed says one seed at most
   one_seed : (t : SeedText) (s u : Seed) → SaysSeed t s → SaysSeed t u → s ≡ u
   unfolding seed_from
   one_seed t s u p q =
@@ -113,6 +128,7 @@ module _ (one_id : (one other : Id) → IsId one → IsId other → one.text ≡
       let b : s.document ≡ u.document = one_bundle t.bundle s.document u.document p.means q.means in
       let same : seed_from s.domain s.document ≡ seed_from u.domain u.document = cc in same
 
+  -- what is written means one configuration at most
   pub one_meaning : (w : Written) (b c : Configuration) → IsMeant w b → IsMeant w c → b ≡ c
   unfolding configuration_of
   one_meaning w b c p q =
@@ -124,11 +140,13 @@ module _ (one_id : (one other : Id) → IsId one → IsId other → one.text ≡
       let d : b.seeds ≡ c.seeds = same_set seed_cmp_total p.seeds q.seeds b.seeds c.seeds ss p.seed_set q.seed_set in
       let same : configuration_of b.relationships b.seeds ≡ configuration_of c.relationships c.seeds = cc in same
 
+  -- bytes are of one configuration at most, as `laws::configurations` says
   pub one_configuration : (bytes : List ℕ) (b c : Configuration) → IsConfig bytes b → IsConfig bytes c → b ≡ c
   one_configuration bytes b c p q = one_meaning q.written b c (subst (λ w. IsMeant w b) (same_written bytes p.written q.written p.text q.text) p.meant) q.meant
 
   -- ---- what is read has no cause
 
+  -- the texts of a relationship have names in their forms
   named : (t : RelationshipText) (r : Relationship) → SaysRelationship t r → HasName t
   named t r h = record {
     domain = subst IsDomainText h.domain h.is_domain;
@@ -137,6 +155,7 @@ module _ (one_id : (one other : Id) → IsId one → IsId other → one.text ≡
     endpoint = subst (λ text. IsIdText text r.endpoint.domain r.endpoint.path) h.endpoint h.is_id;
   }
 
+  -- what is written of a configuration passes each test
   passes : (bytes : List ℕ) (c : Configuration) (p : IsConfig bytes c) (e : ConfigError) → Passes p.written e
   passes bytes c p BadName = (
     each_left SaysRelationship HasName named p.written.relationships p.meant.relationships p.meant.each_relationship,
@@ -161,9 +180,12 @@ module _ (one_id : (one other : Id) → IsId one → IsId other → one.text ≡
   passes bytes c p Shape = tt
   passes bytes c p NoMemory = tt
 
+  -- what is written and refused is no configuration
   no_cause : (bytes : List ℕ) (e : ConfigError) (c : Configuration) (w : Written) → IsText bytes w → RefusesWritten w e → IsConfig bytes c → ⊥
   no_cause bytes e c w text refuses p = refuses.failed (subst (λ v. Passes v e) (same_written bytes p.written w p.text text) (passes bytes c p e))
 
+  -- bytes that are refused, other than for memory, are no configuration, as `laws::configurations`
+  -- says
   pub refused_none : (bytes : List ℕ) (e : ConfigError) (c : Configuration) → RefusesConfigBytes bytes e → (e ≡ NoMemory → ⊥) → IsConfig bytes c → ⊥
   refused_none bytes NotJson c h other p = h p.text.tree p.text.json
   refused_none bytes Shape c h other p =

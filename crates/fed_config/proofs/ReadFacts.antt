@@ -36,12 +36,15 @@ use Rattle.fed_config.proofs.ZipFacts.{each_left, each_right, each_unmap, zip_ma
 
 -- ---- exits
 
+-- a step that fails refuses what is written: for lack of memory at once, and for its cause if the
+-- failed test does
 pub exits : (w : Written) (cause : ConfigError) (P : Type 0) (e : ConfigError) → Fails cause P e → ((P → ⊥) → RefusesRead w cause) → RefusesRead w e
 exits w cause P e (inl is) go = subst (RefusesRead w) (sym is) tt
 exits w cause P e (inr f) go = subst (RefusesRead w) (sym f.0) (go f.1)
 
 -- ---- what is written has its parts
 
+-- texts whose names were read have names in their forms
 has_name : (t : RelationshipText) (n : Names) → SaysNames t n → HasName t
 has_name t n h = record {
   domain = subst IsDomainText h.domain h.is_domain;
@@ -50,18 +53,22 @@ has_name t n h = record {
   endpoint = subst (λ text. IsIdText text n.endpoint.domain n.endpoint.path) h.endpoint h.is_id;
 }
 
+-- the same for all relationships
 pub names_in : (ts : List RelationshipText) (ns : List Names) → AllZip SaysNames ts ns → AllByRecursion HasName ts
 names_in ts ns = each_left SaysNames HasName has_name ts ns
 
+-- seeds whose domains were read have domain names in their form
 pub domains_in : (es : List SeedEntry) (ds : List (List ℕ)) → AllZip (λ e d. SaysDomain (seed_text e) d) es ds
     → AllByRecursion (λ t. IsDomainText t.domain) (map seed_text es)
 domains_in es ds zip = each_unmap (λ t. IsDomainText t.domain) seed_text es
     (each_left (λ e d. SaysDomain (seed_text e) d) (λ e. IsDomainText (seed_text e).domain)
     (λ e d h. subst IsDomainText h.same h.is) es ds zip)
 
+-- relationships whose URLs were read have URLs that parse
 pub urls_in : (ts : List RelationshipText) (us : List (List ℕ)) → AllZip SaysUrl ts us → AllByRecursion (λ t. (parts : Parts) × IsParsed t.url parts) ts
 urls_in ts us = each_left SaysUrl (λ t. (parts : Parts) × IsParsed t.url parts) (λ t u h. (h.parts, h.parsed)) ts us
 
+-- seeds whose documents were read have documents that fit
 pub documents_in : (es : List SeedEntry) (bs : List Bundle) → AllZip (λ e b. SaysSeedDocument (seed_text e) b) es bs
     → AllByRecursion (λ t. (b : Bundle) × Means t.bundle b × Fits b) (map seed_text es)
 documents_in es bs zip = each_unmap (λ t. (b : Bundle) × Means t.bundle b
@@ -70,6 +77,7 @@ documents_in es bs zip = each_unmap (λ t. (b : Bundle) × Means t.bundle b
 
 -- ---- joined
 
+-- names and URLs that were read in two passes are together the relationships that are written
 pub join_said : (ts : List RelationshipText) (ns : List Names) (us : List (List ℕ)) → AllZip SaysNames ts ns
     → AllZip SaysUrl ts us → AllByRecursion (λ t. IsProfile t.profile) ts
     → AllZip SaysRelationship ts (map joined_relationship (zip ns us))
@@ -82,6 +90,7 @@ join_said (t ∷ ts) (n ∷ ns) (u ∷ us) names urls profiles = (
   join_said ts ns us names.1 urls.1 profiles.1,
 )
 
+-- domains and documents that were read in two passes are together the seeds that are written
 pub join_seeds_said : (es : List SeedEntry) (ds : List (List ℕ)) (bs : List Bundle)
     → AllZip (λ e d. SaysDomain (seed_text e) d) es ds → AllZip (λ e b. SaysSeedDocument (seed_text e) b) es bs
     → AllZip (λ e s. SaysSeed (seed_text e) s) es (map joined_seed (zip ds bs))
@@ -94,15 +103,19 @@ join_seeds_said (e ∷ es) (d ∷ ds) (b ∷ bs) domains documents = (
   join_seeds_said es ds bs domains.1 documents.1,
 )
 
+-- a relationship that is written well is one that a configuration can have
 pub relationship_in : (t : RelationshipText) (r : Relationship) → SaysRelationship t r → IsRelationship r
 relationship_in t r h = record { domain = h.is_domain; endpoint = h.is_id; url = (t.url, h.url) }
 
+-- a seed that is written well is one that a configuration can have
 pub seed_in : (t : SeedText) (s : Seed) → SaysSeed t s → IsSeed s
 seed_in t s h = record { domain = h.is_domain; bundle = h.means.is; fits = h.fits }
 
+-- a property of all elements of a list is one of all members of its set
 pub each_of_set : {X : Type 0} (cmp : X → X → Ordering) (P : X → Type 0) (xs set : List X) → IsSetOf cmp xs set → AllByRecursion P xs → AllByRecursion P set
 each_of_set cmp P xs set is each = each_from_has P set (λ x h. each_has P xs x each (Has-Contains xs x ((is.members x).0 (Contains-Has set x h))))
 
+-- a list, put in another order that rises strictly, is the list of its set
 pub set_of_sorted : (xs ys : List Relationship) → IsPermutation xs ys → IsStrictlySortedBy relationship_cmp ys → IsSetOf relationship_cmp xs ys
 set_of_sorted xs ys moved rising = record {
   rising = rising;
@@ -111,12 +124,15 @@ set_of_sorted xs ys moved rising = record {
 
 -- ---- one relationship a domain
 
+-- 1 for a relationship with the domain, and 0 for any other
 abbrev one_if : List ℕ → Relationship → ℕ
 one_if d r = cond (bytes_eq r.domain d) 1 0
 
+-- each domain is that of one relationship at most
 abbrev pub Single : List Relationship → Type 0
 Single rs = (d : List ℕ) → count_by (λ r. bytes_eq r.domain d) rs ≤ 1
 
+-- as many texts as relationships have the domain
 count_written : (ts : List RelationshipText) (rs : List Relationship) (d : List ℕ) → AllZip SaysRelationship ts rs
     → count_by (λ t. bytes_eq t.domain d) ts ≡ count_by (λ r. bytes_eq r.domain d) rs
 count_written [] [] d zip = refl
@@ -127,6 +143,7 @@ count_written (t ∷ ts) (r ∷ rs) d zip =
     ∙ ap₂ (λ m n. m + n) (ap (λ x. cond (bytes_eq x d) 1 0) (sym zip.0.domain)) (count_written ts rs d zip.1)
     ∙ sym (sum_by-cons (one_if d) r rs)
 
+-- no relationship above one with the domain has it too
 none_above : (r : Relationship) (rs : List Relationship) → AllByRecursion (λ s. relationship_cmp r s ≡ Less) rs
     → (d : List ℕ) → r.domain ≡ d → count_by (λ s. bytes_eq s.domain d) rs ≡ 0
 none_above r [] all d is = refl
@@ -139,6 +156,7 @@ none_above r (s ∷ rs) all d is =
     ] in
     sum_by-cons (one_if d) s rs ∙ ap₂ (λ m n. m + n) (ap (λ b. cond b 1 0) differ) (none_above r rs all.1 d is)
 
+-- relationships that rise strictly have different domains
 strict_single : (rs : List Relationship) → IsStrictlySortedBy relationship_cmp rs → Single rs
 unfolding IsStrictlySortedBy
 strict_single [] rising d = omega arith
@@ -150,6 +168,7 @@ strict_single (r ∷ rs) rising d =
       | inr other ↦ let rest = strict_single rs rising.1 d in let zero_here : one_if d r ≡ 0 = ap (λ b. cond b 1 0) other in omega arith
     ]
 
+-- if the sorted relationships rise strictly, no two that are written have one domain
 pub single_in : (ts : List RelationshipText) (seeds : List SeedText) (rs ys : List Relationship)
     → AllZip SaysRelationship ts rs → IsPermutation rs ys → IsStrictlySortedBy relationship_cmp ys
     → HasSingle (record { relationships = ts; seeds = seeds })
@@ -158,7 +177,7 @@ single_in ts seeds rs ys zip moved rising d =
     count_written ts rs d zip ∙ sym (sum_by-IsPermutation (one_if d) rs ys moved) in
     let few = strict_single ys rising d in subst (λ n. n ≤ 1) (sym counts) few
 
--- sorted relationships with one a domain rise strictly
+-- two relationships with one domain are not all different
 twice : (x y : Relationship) (rs : List Relationship) → bytes_eq x.domain y.domain ≡ true → Single (x ∷ y ∷ rs) → ⊥
 twice x y rs same single =
     let first = sum_by-cons (one_if y.domain) x (y ∷ rs) in
@@ -167,14 +186,17 @@ twice x y rs same single =
     let other : one_if y.domain y ≡ 1 = ap (λ b. cond b 1 0) ((bytes_eq-Decides y.domain y.domain).1 refl) in
     let few = single y.domain in omega arith
 
+-- different domains stay so without the first relationship
 tail_single : (x : Relationship) (rs : List Relationship) → Single (x ∷ rs) → Single rs
 tail_single x rs single d = let counts = sum_by-cons (one_if d) x rs in let few = single d in omega arith
 
+-- a sorted list stays so without its first relationship
 tail_sorted : (x : Relationship) (rs : List Relationship) → IsSorted relationship_cmp (x ∷ rs) → IsSorted relationship_cmp rs
 tail_sorted x rs sorted k d low below = let more : suc k + 1 ≡ suc (k + 1) = omega arith in
     subst (λ n. is_lt (relationship_cmp (get_or (x ∷ rs) n d) (get_or rs k d)) ≡ false) more
     (sorted (suc k) d (omega arith) (omega arith))
 
+-- in a sorted list of different domains the first is below the second
 next_below : (x y : Relationship) (rs : List Relationship) → IsSorted relationship_cmp (x ∷ y ∷ rs) → Single (x ∷ y ∷ rs) → relationship_cmp x y ≡ Less
 next_below x y rs sorted single =
     let differ : bytes_eq x.domain y.domain ≡ false =
@@ -182,6 +204,7 @@ next_below x y rs sorted single =
     [ inl same ↦ absurd (twice x y rs same single) | inr other ↦ other ] in
     below_by x y (relationship_cmp x y) refl (sorted 0 x (omega arith) (omega arith)) differ
 
+-- a sorted list of different domains rises strictly
 sorted_strict : (rs : List Relationship) → IsSorted relationship_cmp rs → Single rs → IsStrictlySortedBy relationship_cmp rs
 unfolding IsStrictlySortedBy
 sorted_strict [] sorted single = tt
@@ -191,6 +214,7 @@ sorted_strict (x ∷ y ∷ rs) sorted single =
     let first = next_below x y rs sorted single in
     ((first, below_all x y rs first rest.0), rest)
 
+-- if the sorted relationships do not rise strictly, two that are written have one domain
 pub not_single_in : (ts : List RelationshipText) (seeds : List SeedText) (rs ys : List Relationship)
     → AllZip SaysRelationship ts rs → IsPermutation rs ys → IsSorted relationship_cmp ys
     → (IsStrictlySortedBy relationship_cmp ys → ⊥) → HasSingle (record { relationships = ts; seeds = seeds }) → ⊥
@@ -199,36 +223,46 @@ not_single_in ts seeds rs ys zip moved sorted none single =
 
 -- ---- all parts
 
+-- what is written, from the texts and entries that the code holds
 abbrev pub written : List RelationshipText → List SeedEntry → Written
 written ts es = record { relationships = ts; seeds = map seed_text es }
 
+-- an image is as long as its list
 pub map_length : {X Y : Type 0} (f : X → Y) (xs : List X) → length (map f xs) ≡ length xs
 map_length f [] = refl
 map_length f (x ∷ xs) = ap suc (map_length f xs)
 
+-- what is said of a slice's elements is said of the list that it shows
 pub zip_at_slice : {X Y : Type 0} (R : X → Y → Type 0) (slice xs : List X) (ys : List Y) → slice ≡ xs → AllZip R slice ys → AllZip R xs ys
 zip_at_slice R slice xs ys e zip = subst (λ l. AllZip R l ys) e zip
 
+-- what holds of each element of a list holds of the slice that shows it
 pub each_at_slice : {X : Type 0} (P : X → Type 0) (slice xs : List X) → slice ≡ xs → AllByRecursion P xs → AllByRecursion P slice
 each_at_slice P slice xs e each = subst (AllByRecursion P) (sym e) each
 
 module _ (ts : List RelationshipText) (es : List SeedEntry) (ns : List Names) (ds : List (List ℕ))
     (names : AllZip SaysNames ts ns) (domains : AllZip (λ e d. SaysDomain (seed_text e) d) es ds) where
+  -- all names that are written were read, so the first test is passed
   pub has_names : HasNames (written ts es)
   has_names = (names_in ts ns names, domains_in es ds domains)
 
+  -- a URL that cannot be read refuses what is written, since the names are passed
   pub bad_url : (HasUrls (written ts es) → ⊥) → RefusesWritten (written ts es) BadUrl
   bad_url none = record { passed = (has_names, tt); failed = none }
 
   module _ (us : List (List ℕ)) (urls : AllZip SaysUrl ts us) where
+    -- another profile refuses what is written, since names and URLs are passed
     pub bad_profile : (HasProfiles (written ts es) → ⊥) → RefusesWritten (written ts es) BadProfile
     bad_profile none = record { passed = (has_names, (urls_in ts us urls, tt)); failed = none }
 
     module _ (profiles : HasProfiles (written ts es)) (rs : List Relationship) (joined : rs ≡ map joined_relationship (zip ns us)) where
+      -- the joined relationships are those that are written
       pub said : AllZip SaysRelationship ts rs
       said = subst (AllZip SaysRelationship ts) (sym joined) (join_said ts ns us names urls profiles)
 
       module _ (ys : List Relationship) (moved : IsPermutation rs ys) where
+        -- a second relationship of a domain refuses what is written, since all tests before are
+        -- passed
         pub double : IsSorted relationship_cmp ys → (IsStrictlySortedBy relationship_cmp ys → ⊥) → RefusesWritten (written ts es) DoubleRelationship
         double sorted none = record {
           passed = (has_names, (urls_in ts us urls, (profiles, tt)));
@@ -236,30 +270,38 @@ module _ (ts : List RelationshipText) (es : List SeedEntry) (ns : List Names) (d
         }
 
         module _ (rising : IsStrictlySortedBy relationship_cmp ys) where
+          -- sorted relationships that rise strictly pass the test for a second one
           pub single : HasSingle (written ts es)
           single = single_in ts (map seed_text es) rs ys said moved rising
 
+          -- a seed that is no document refuses what is written, since all tests before are passed
           pub bad_seed : (HasDocuments (written ts es) → ⊥) → RefusesWritten (written ts es) BadSeed
           bad_seed none = record { passed = (has_names, (urls_in ts us urls, (profiles, (single, tt)))); failed = none }
 
           module _ (bs : List Bundle) (documents : AllZip (λ e b. SaysSeedDocument (seed_text e) b) es bs) where
+            -- too many of something refuse what is written, since all tests before are passed
             pub too_many : (HasFew (written ts es) → ⊥) → RefusesWritten (written ts es) TooMany
             too_many none = record { passed = (has_names, (urls_in ts us urls, (profiles, (single, (documents_in es bs documents, tt))))); failed = none }
 
             module _ (few : length ts ≤ 1024) (few_seeds : length es ≤ 4096) (ss : List Seed) (joined_ss : ss ≡ map joined_seed (zip ds bs)) where
+              -- the joined seeds are those that are written
               said_seeds : AllZip (λ e s. SaysSeed (seed_text e) s) es ss
               said_seeds = subst (AllZip (λ e s. SaysSeed (seed_text e) s) es) (sym joined_ss) (join_seeds_said es ds bs domains documents)
 
+              -- each joined seed is one that a configuration can have
               pub are_seeds : AllByRecursion IsSeed ss
               are_seeds = each_right (λ e s. SaysSeed (seed_text e) s) IsSeed (λ e s h. seed_in (seed_text e) s h) es ss said_seeds
 
               module _ (zs : List Seed) (set : IsSetOf seed_cmp ss zs) (bound : length zs ≤ length ss) where
+                -- the configuration of the two sorted lists
                 abbrev of : Configuration
                 of = record { relationships = ys; seeds = zs }
 
+                -- its relationships are the set of those that are written
                 relationship_set : IsSetOf relationship_cmp rs ys
                 relationship_set = set_of_sorted rs ys moved rising
 
+                -- it is a configuration, but for the number of its domains
                 pub are_sets : HasRisingLists of
                 are_sets = record {
                   rising_relationships = rising;
@@ -272,6 +314,7 @@ module _ (ts : List RelationshipText) (es : List SeedEntry) (ns : List Names) (d
                   few_seeds = let m = zip_length (λ e s. SaysSeed (seed_text e) s) es ss said_seeds in omega arith;
                 }
 
+                -- it is what is written
                 meant : IsMeant (written ts es) of
                 meant = record {
                   relationships = rs;
@@ -282,6 +325,8 @@ module _ (ts : List RelationshipText) (es : List SeedEntry) (ns : List Names) (d
                   seed_set = set;
                 }
 
+                -- the last test, of the number of domains, decides whether what is written is this
+                -- configuration or too much
                 pub finish : (r : Result Configuration ConfigError)
                     → MatchResult r (λ c. (c ≡ of) × IsConfiguration c) (Fails TooMany (HasFewDomains of))
                     → MatchResult r (IsRead (written ts es)) (RefusesRead (written ts es))

@@ -16,18 +16,21 @@ use Rattle.fed_config.specs.Seeds.{same_seed, same_seed_equiv, seed_cmp_total, s
 use Rattle.fed_config.specs.declared.seed.Seed.{Seed}
 use Rattle.fed_config.proofs.SetFacts.{Has-Contains, each_has}
 
+-- an order by two parts finds equal only what both parts find equal
 both_equal : (a b : Ordering) → ordering_then a b ≡ Equal → (a ≡ Equal) × (b ≡ Equal)
 both_equal Less b e = absurd (cc)
 both_equal Equal b e = (refl, e)
 both_equal Greater b e = absurd (cc)
 
+-- bundles with one canonical text are equal: a law of `bundle_doc`
 abbrev pub OneText : Type 0
 OneText = (b c : Bundle) → IsBundle b → IsBundle c → canonical_text b ≡ canonical_text c → b ≡ c
 
+-- a seed from its parts
 seed : List ℕ → Bundle → Seed
 seed domain document = record { domain = domain; document = document }
 
--- seeds that the order does not tell apart are one
+-- seeds that the order does not tell apart are equal
 pub one_seed : OneText → (s t : Seed) → IsSeed s → IsSeed t → seed_cmp s t ≡ Equal → s ≡ t
 unfolding seed
 one_seed one s t p q tied =
@@ -38,6 +41,7 @@ one_seed one s t p q tied =
     (exact_bytes (canonical_text s.document) (canonical_text t.document) both.1) in
     let same : seed s.domain s.document ≡ seed t.domain t.document = cc in same
 
+-- seeds, sorted and each once, are the rising list of their set
 pub IsSetOf-dedup : OneText → (xs ys : List Seed) → AllByRecursion IsSeed xs → IsPermutation xs ys
     → IsSorted seed_cmp ys → IsSetOf seed_cmp xs (dedup same_seed ys)
 IsSetOf-dedup one xs ys each moved sorted =

@@ -16,6 +16,7 @@ use Rattle.fed_config.specs.Configuration.{relationship_cmp}
 use Rattle.fed_config.specs.declared.relationship.Relationship.{Relationship}
 use Rattle.fed_config.proofs.SetFacts.{slice_get_at}
 
+-- the order of relationships is total
 pub relationships_total : IsTotalOrder relationship_cmp
 relationships_total = on_total (λ (r : Relationship). r.domain) nat_list_cmp_total
 
@@ -23,10 +24,11 @@ relationships_total = on_total (λ (r : Relationship). r.domain) nat_list_cmp_to
 pub same_at : {X : Type 0} (xs : List X) (k : ℕ) (d e : X) → k < length xs → get_or xs k d ≡ get_or xs k e
 same_at xs k d e below = let both : Some (get_or xs k d) ≡ Some (get_or xs k e) = sym (slice_get_at xs k d below) ∙ slice_get_at xs k e below in cc
 
--- each is below the next
+-- each of the first n is below the next
 abbrev pub Rises : List Relationship → ℕ → Type 0
 Rises rs n = (k : ℕ) (d : Relationship) → suc k < n → relationship_cmp (get_or rs k d) (get_or rs (suc k) d) ≡ Less
 
+-- in a list that rises strictly each element is below the next
 less_at : (rs : List Relationship) (k : ℕ) (d : Relationship) → IsStrictlySortedBy relationship_cmp rs
     → suc k < length rs → relationship_cmp (get_or rs k d) (get_or rs (suc k) d) ≡ Less
 unfolding IsStrictlySortedBy
@@ -35,7 +37,7 @@ less_at (x ∷ []) k d rising below = absurd (omega arith)
 less_at (x ∷ y ∷ ys) zero d rising below = rising.0.0
 less_at (x ∷ y ∷ ys) (suc k) d rising below = less_at (y ∷ ys) k d rising.1 (omega arith)
 
--- not greater and not the same
+-- a relationship that is not above another and has a different domain is below it
 pub below_by : (a b : Relationship) (o : Ordering) → o ≡ relationship_cmp a b → is_lt (relationship_cmp b a) ≡ false
     → bytes_eq a.domain b.domain ≡ false → relationship_cmp a b ≡ Less
 below_by a b Less is up differ = sym is
@@ -45,6 +47,7 @@ below_by a b Greater is up differ =
     let less : relationship_cmp b a ≡ Less = relationships_total.antisymm b a ∙ ap ordering_reverse (sym is) in
     let falls : is_lt (relationship_cmp b a) ≡ true = ap is_lt less in absurd (cc)
 
+-- where the next two domains differ, the list rises one element further
 more_at : (rs : List Relationship) (n : ℕ) (a b : Relationship) → IsSorted relationship_cmp rs → suc n < length rs
     → a ≡ get_or rs n a → b ≡ get_or rs (suc n) b → bytes_eq a.domain b.domain ≡ false → Rises rs (suc n)
     → Rises rs (suc n + 1)
@@ -68,6 +71,7 @@ more_at rs n a b sorted below first second differ rises k d within =
     (subst (λ (x : Relationship). relationship_cmp a x ≡ Less) (sym right) less))
     (cases_lt (suc k) (suc n))
 
+-- the same with the index that the loop in `are_single` has
 pub single_more : (rs : List Relationship) (place : ℕ) (a b : Relationship) → IsSorted relationship_cmp rs → 1 ≤ place
     → place < length rs → a ≡ get_or rs (place - 1) a → b ≡ get_or rs place b → bytes_eq a.domain b.domain ≡ false
     → Rises rs place → Rises rs (place + 1)
@@ -76,6 +80,7 @@ single_more rs (suc n) a b sorted some below first second differ rises =
     let before : suc n - 1 ≡ n = omega arith in
     more_at rs n a b sorted below (subst (λ m. a ≡ get_or rs m a) before first) second differ rises
 
+-- where the next two domains are the same, the list does not rise strictly
 pub not_single : (rs : List Relationship) (place : ℕ) (a b : Relationship) → IsStrictlySortedBy relationship_cmp rs
     → 1 ≤ place → place < length rs → a ≡ get_or rs (place - 1) a → b ≡ get_or rs place b
     → bytes_eq a.domain b.domain ≡ true → ⊥
@@ -91,11 +96,13 @@ not_single rs (suc n) a b rising some below first second same =
     let domains : a.domain ≡ b.domain = (bytes_eq-Decides a.domain b.domain).0 same in
     let tied : relationship_cmp a b ≡ Equal = subst (λ d. slice_cmp nat_cmp a.domain d ≡ Equal) domains (tied_itself nat_list_cmp_total a.domain) in cc
 
+-- what is below the first of a rising list is below all of it
 pub below_all : (x y : Relationship) (ys : List Relationship) → relationship_cmp x y ≡ Less
     → AllByRecursion (λ z. relationship_cmp y z ≡ Less) ys → AllByRecursion (λ z. relationship_cmp x z ≡ Less) ys
 below_all x y [] less all = tt
 below_all x y (z ∷ ys) less all = (relationships_total.trans x y z less all.0, below_all x y ys less all.1)
 
+-- a list whose elements rise one by one rises strictly
 pub strict_from : (rs : List Relationship) → Rises rs (length rs) → IsStrictlySortedBy relationship_cmp rs
 unfolding IsStrictlySortedBy
 strict_from [] rises = tt
@@ -105,5 +112,6 @@ strict_from (x ∷ y ∷ ys) rises =
     let first : relationship_cmp x y ≡ Less = rises 0 x (omega arith) in
     ((first, below_all x y ys first rest.0), rest)
 
+-- a loop that comes to the end found a list that rises strictly
 pub single_all : (rs : List Relationship) (place : ℕ) → length rs ≤ place → Rises rs place → IsTrue true ↔ IsStrictlySortedBy relationship_cmp rs
 single_all rs place past rises = (λ h. strict_from rs (λ k d below. rises k d (omega arith)), λ h. refl)

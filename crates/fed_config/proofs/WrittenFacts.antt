@@ -12,24 +12,29 @@ use Rattle.fed_config.specs.declared.error.ConfigError.TheVariants.{Shape}
 use Rattle.fed_config.specs.declared.written.SeedEntry.{SeedEntry}
 use Rattle.fed_config.proofs.ZipFacts.{zip_map, zip_unmap, zip_map_right}
 
+-- items come from one list at most
 one_items : (xs ys : List Data) → items_of xs ≡ items_of ys → xs ≡ ys
 one_items [] [] e = refl
 one_items [] (y ∷ ys) e = absurd (cc)
 one_items (x ∷ xs) [] e = absurd (cc)
 one_items (x ∷ xs) (y ∷ ys) e = let first : x ≡ y = cc in let rest : items_of xs ≡ items_of ys = cc in ap₂ (λ z l. z ∷ l) first (one_items xs ys rest)
 
+-- a value has one array at most under a name
 pub one_array : (tree : Data) (name : List ℕ) (xs ys : List Data) → HasArray tree name xs → HasArray tree name ys → xs ≡ ys
 one_array tree name xs ys p q =
     let both : Some (array (items_of xs)) ≡ Some (array (items_of ys)) = sym p ∙ q in
     let same : items_of xs ≡ items_of ys = cc in one_items xs ys same
 
+-- the value says some configuration's texts
 abbrev SomeWritten : Data → Type 0
 SomeWritten tree = (w : Written) × SaysWritten tree w
 
+-- what fails for the lack of one property fails for the lack of a stronger one
 pub narrower : (P Q : Type 0) (e : ConfigError) → (Q → P) → Fails Shape P e → Fails Shape Q e
 narrower P Q e go (inl is) = inl is
 narrower P Q e go (inr f) = inr (f.0, λ q. f.1 (go q))
 
+-- if the value says some texts, the elements of its first array say relationships
 pub relationships_of : (tree : Data) (values : List Value) → HasArray tree (codes "relationships") (map view values)
     → SomeWritten tree → (ts : List RelationshipText)
     × AllZip (λ value t. SaysRelationshipText (view value) t) values ts
@@ -42,6 +47,7 @@ relationships_of tree values has h =
           says.each_relationship),
     )
 
+-- if the value says some texts, the elements of its second array say seeds
 pub seeds_of : (tree : Data) (values : List Value) → HasArray tree (codes "seeds") (map view values) → SomeWritten tree
     → (ts : List SeedText) × AllZip (λ value t. SaysSeedText (view value) t) values ts
 seeds_of tree values has h =
@@ -52,6 +58,7 @@ seeds_of tree values has h =
           (one_array tree (codes "seeds") says.seeds (map view values) says.has_seeds has) says.each_seed),
     )
 
+-- the parts that were read one after another are what the value says
 pub says : (tree : Data) (values others : List Value) (ts : List RelationshipText) (es : List SeedEntry)
     → HasCount tree 2 → HasArray tree (codes "relationships") (map view values)
     → HasArray tree (codes "seeds") (map view others)

@@ -1,4 +1,4 @@
--- What is told, line by line.
+-- Complaints, line by line.
 use Rattle.std.proofs.Common.{◌≡◌, ℕ, zero, suc, ◌+◌, ◌<◌, ◌≤◌, List, [], ◌∷◌, ◌++◌, length, ◌⊎◌, inl, inr, Some, refl, sym, ap, ◌∙◌, subst, arith}
 use Rattle.std.specs.Prelude.{Contains, slice_get}
 use Rattle.std.specs.declared.cmp.Ordering.{Ordering}
@@ -19,26 +19,31 @@ use Rattle.fedbundle.proofs.TakenFacts.{one_cause}
 
 -- ---- places
 
+-- an item keeps its place when others are added at the end
 get_front : {A : Type 0} (xs ys : List A) (k : ℕ) (x : A) → slice_get xs k ≡ Some x → slice_get (xs ++ ys) k ≡ Some x
 get_front [] ys k x e = absurd (cc)
 get_front (z ∷ xs) ys zero x e = e
 get_front (z ∷ xs) ys (suc k) x e = get_front xs ys k x e
 
+-- an item at a place of the front is an item of the front
 get_back : {A : Type 0} (xs ys : List A) (k : ℕ) (x : A) → k < length xs → slice_get (xs ++ ys) k ≡ Some x → slice_get xs k ≡ Some x
 get_back [] ys k x low e = absurd (omega arith)
 get_back (z ∷ xs) ys zero x low e = e
 get_back (z ∷ xs) ys (suc k) x low e = get_back xs ys k x (omega arith) e
 
+-- an item added at the end stands there
 get_last : {A : Type 0} (xs : List A) (y : A) → slice_get (xs ++ y ∷ []) (length xs) ≡ Some y
 get_last [] y = refl
 get_last (z ∷ xs) y = get_last xs y
 
 -- ---- rising lists
 
+-- what holds of all items and of one more holds of all with that one at the end
 all_push : {A : Type 0} (P : A → Type 0) (xs : List A) (y : A) → AllByRecursion P xs → P y → AllByRecursion P (xs ++ y ∷ [])
 all_push P [] y all p = (p, tt)
 all_push P (x ∷ xs) y all p = (all.0, all_push P xs y all.1 p)
 
+-- a rising list rises with an item at the end that is above all of it
 rising_push : {A : Type 0} (cmp : A → A → Ordering) (xs : List A) (y : A) → IsStrictlySortedBy cmp xs
     → ((x : A) → Has xs x → cmp x y ≡ Less) → IsStrictlySortedBy cmp (xs ++ y ∷ [])
 unfolding IsStrictlySortedBy
@@ -54,9 +59,11 @@ rising_push cmp (x ∷ xs) y rising below = (
 abbrev pub only : List (List ℕ) → Lines
 only texts = record { whole = texts; rest = [] }
 
+-- lines without a rest have no complaint of one
 none_of_rest : (texts : List (List ℕ)) (x : Complaint) → IsOfRest (only texts) x → ⊥
 none_of_rest texts x is = let more = is.more in omega arith
 
+-- a complaint of a line stays so when lines are added after it
 of_line_before : (c : Configuration) (texts more : List (List ℕ)) (x : Complaint) → IsOfLine c texts x → IsOfLine c (texts ++ more) x
 of_line_before c texts more x is = record {
   place = is.place;
@@ -67,9 +74,11 @@ of_line_before c texts more x is = record {
   refused = is.refused;
 }
 
+-- a complaint of a line has a number that is within the lines
 of_line_low : (c : Configuration) (texts : List (List ℕ)) (x : Complaint) → IsOfLine c texts x → x.number ≤ length texts
 of_line_low c texts x is = let low = slice_get_within texts is.place is.text is.stands in let at = is.number in omega arith
 
+-- a complaint whose number is within the first lines is one of these
 of_line_back : (c : Configuration) (texts more : List (List ℕ)) (x : Complaint) → x.number ≤ length texts → IsOfLine c (texts ++ more) x → IsOfLine c texts x
 of_line_back c texts more x low is =
     let at = is.number in
@@ -82,6 +91,7 @@ whole_sound c texts xs x are has = elim (are.sound x has) [ inl is ↦ is | inr 
 
 -- ---- one line more
 
+-- no lines have no complaints
 pub complaints_none : (c : Configuration) → AreComplaints c (only []) []
 unfolding IsStrictlySortedBy
 complaints_none c = record {
@@ -120,6 +130,7 @@ last_cases c texts text x is =
     below_or_last zero (suc n) h = inl (omega arith)
     below_or_last (suc k) (suc n) h = elim (below_or_last k n (omega arith)) [ inl low ↦ inl (omega arith) | inr e ↦ inr (ap suc e) ]
 
+-- a line that is not refused adds no complaint
 pub complaints_same : (c : Configuration) (texts : List (List ℕ)) (text : List ℕ) (xs : List Complaint)
     → AreComplaints c (only texts) xs → ((why : LineFault) → IsRefusedLine c text why → ⊥)
     → AreComplaints c (only (texts ++ text ∷ [])) xs
@@ -135,15 +146,18 @@ complaints_same c texts text xs are none = record {
   ];
 }
 
+-- a complaint of the line with this number
 abbrev pub at_number : ℕ → LineFault → Complaint
 at_number n why = record { number = n; why = why }
 
+-- complaints rise with one of the next line at the end
 low_rising : (c : Configuration) (texts : List (List ℕ)) (xs : List Complaint) (why : LineFault) → AreComplaints c (only texts) xs
     → IsStrictlySortedBy complaint_cmp (xs ++ at_number (length texts + 1) why ∷ [])
 low_rising c texts xs why are =
     rising_push complaint_cmp xs (at_number (length texts + 1) why) are.rising
     (λ x has. let low = of_line_low c texts x (whole_sound c texts xs x are (Contains-from_has xs x has)) in cmp_less x.number (length texts + 1) (omega arith))
 
+-- a refused line adds one complaint, at the end
 pub complaints_more : (c : Configuration) (texts : List (List ℕ)) (text : List ℕ) (why : LineFault)
     (xs : List Complaint) → AreComplaints c (only texts) xs → IsRefusedLine c text why
     → AreComplaints c (only (texts ++ text ∷ [])) (xs ++ at_number (length texts + 1) why ∷ [])
@@ -166,6 +180,7 @@ complaints_more c texts text why xs are refused = record {
 
 -- ---- the rest
 
+-- a rest that is not empty adds one complaint, at the end
 pub complaints_rest : (c : Configuration) (texts : List (List ℕ)) (rest : List ℕ) (xs : List Complaint) → AreComplaints c (only texts) xs → 0 < length rest
     → AreComplaints c (record { whole = texts; rest = rest }) (xs ++ at_number (length texts + 1) Cut ∷ [])
 complaints_rest c texts rest xs are more = record {
@@ -183,9 +198,11 @@ complaints_rest c texts rest xs are more = record {
 
 -- ---- the first of them
 
+-- the first complaints may be all of them
 pub first_all : (c : Configuration) (lines : Lines) (xs : List Complaint) → AreComplaints c lines xs → AreFirstComplaints c lines xs
 first_all c lines xs are = record { rising = are.rising; sound = are.sound; before = λ x y has is low. are.complete y is }
 
+-- the complaints of the first lines are the first of all
 pub first_whole : (c : Configuration) (texts more : List (List ℕ)) (lines : Lines) (xs : List Complaint)
     → lines.whole ≡ texts ++ more → AreComplaints c (only texts) xs → AreFirstComplaints c lines xs
 first_whole c texts more lines xs e are = record {

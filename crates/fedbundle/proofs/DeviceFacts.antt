@@ -1,4 +1,5 @@
--- Lemmas on devices: where an error is not told as a failed device, the device is as sound as it was.
+-- Lemmas on devices: where an error is not reported as that of a failed device, the device is as
+-- sound as it was.
 use Rattle.std.proofs.Common.{◌≡◌, ◌||◌, Bool, Err, refl}
 use Rattle.byte_lines.specs.Device.{is_source_fault}
 use Rattle.byte_lines.specs.declared.error.DeviceError.{DeviceError}
@@ -20,18 +21,22 @@ use Rattle.fedbundle.specs.Status.{of_read}
 use Rattle.fedbundle.specs.declared.error.CommandError.TheVariants.{Io}
 use Rattle.fedbundle.specs.declared.run_error.RunError.TheVariants.{Io as RunIo}
 
+-- where an error of reading a whole input is not reported as `Io`, the source is as sound as it was
 pub read_sound : (T : Type 0) (e : DeviceError) (new old : Bool) → (of_read e ≡ Io → ⊥) → new ≡ (is_source_fault {T = T} (Err e) || old) → new ≡ old
 read_sound T SourceFailed new old unless fault = absurd (unless refl)
 read_sound T NoMemoryForBytes new old unless fault = fault
 
+-- the same for an error of reading a line
 pub line_sound : (T : Type 0) (e : DeviceError) (new old : Bool) → (of_line e ≡ RunIo → ⊥) → new ≡ (is_source_fault {T = T} (Err e) || old) → new ≡ old
 line_sound T SourceFailed new old unless fault = absurd (unless refl)
 line_sound T NoMemoryForBytes new old unless fault = fault
 
+-- the same for an error of writing a report and its sink
 pub report_sound : (T : Type 0) (e : ReportError) (new old : Bool) → (of_report e ≡ RunIo → ⊥) → new ≡ (is_report_fault {T = T} (Err e) || old) → new ≡ old
 report_sound T SinkFailed new old unless fault = absurd (unless refl)
 report_sound T NoMemoryForReport new old unless fault = fault
 
+-- the same for an error of reading what a replica wrote
 pub stream_sound : (T : Type 0) (e : SyncError) (new old : Bool) → (e ≡ StreamFailed → ⊥) → new ≡ (is_io {T = T} (Err e) || old) → new ≡ old
 stream_sound T StreamFailed new old unless fault = absurd (unless refl)
 stream_sound T BadHeader new old unless fault = fault

@@ -16,15 +16,17 @@ use Rattle.bundle_view.proofs.ListFacts.{not_below_itself, not_both, same_list}
 use Rattle.fedbundle.specs.Stream.{AreTaken, OverfillStore, Complaint, complaint_cmp, AreComplaints, AreFirstComplaints}
 
 module _ {A : Type 0} (cmp : A → A → Ordering) (total : IsTotalOrder cmp) where
+  -- the first of a rising list is below all others
   first_below : (x : A) (xs : List A) (y : A) → IsStrictlySortedBy cmp (x ∷ xs) → Has xs y → cmp x y ≡ Less
   unfolding IsStrictlySortedBy
   first_below x xs y rising has = each_has (λ z. cmp x z ≡ Less) xs y rising.0 has
 
+  -- the rest of a rising list rises
   tail_rises : (x : A) (xs : List A) → IsStrictlySortedBy cmp (x ∷ xs) → IsStrictlySortedBy cmp xs
   unfolding IsStrictlySortedBy
   tail_rises x xs rising = rising.1
 
-  -- the first item of the one is the first of the other, or all of the one is behind it
+  -- where the first item is not the first of the other list, all items come after that one
   behind_first : (x : A) (xs : List A) (y : A) (ys : List A) → IsStrictlySortedBy cmp (x ∷ xs)
       → IsStrictlySortedBy cmp (y ∷ ys) → ((a : A) → Has (x ∷ xs) a → Has (y ∷ ys) a)
       → Has ys x → (a : A) → Has (x ∷ xs) a → Has ys a
@@ -36,12 +38,14 @@ module _ {A : Type 0} (cmp : A → A → Ordering) (total : IsTotalOrder cmp) wh
     ]
   ]
 
+  -- a list within another with the same first item has its rest within the other's rest
   tail_within : (x : A) (xs ys : List A) → IsStrictlySortedBy cmp (x ∷ xs) → ((a : A) → Has (x ∷ xs) a → Has (x ∷ ys) a) → (a : A) → Has xs a → Has ys a
   tail_within x xs ys p within a has = elim (within a (inr has)) [
     | inl e ↦ absurd (not_below_itself total x (subst (λ z. cmp x z ≡ Less) (sym e) (first_below x xs a p has)))
     | inr later ↦ later
   ]
 
+  -- a rising list within another is no longer than it
   pub no_longer : (xs ys : List A) → IsStrictlySortedBy cmp xs → IsStrictlySortedBy cmp ys → ((a : A) → Has xs a → Has ys a) → length xs ≤ length ys
   no_longer [] ys p q within = omega arith
   no_longer (x ∷ xs) [] p q within = absurd (within x (inl refl))
@@ -55,7 +59,8 @@ module _ {A : Type 0} (cmp : A → A → Ordering) (total : IsTotalOrder cmp) wh
         omega (arith, rest)
   ]
 
-  -- a list that has, with an item, all of the other that are below it, is a beginning of the other
+  -- a list that has, with each of its items, all of the other's that are below that is a beginning
+  -- of the other
   pub is_beginning : (xs ys : List A) → IsStrictlySortedBy cmp xs → IsStrictlySortedBy cmp ys → ((a : A) → Has xs a → Has ys a)
       → ((a b : A) → Has xs a → Has ys b → cmp b a ≡ Less → Has xs b) → (rest : List A) × (ys ≡ xs ++ rest)
   is_beginning [] ys p q within closed = (ys, refl)
@@ -75,19 +80,23 @@ module _ {A : Type 0} (cmp : A → A → Ordering) (total : IsTotalOrder cmp) wh
     ])
   ]
 
+-- the order of complaints is total
 complaint_total : IsTotalOrder complaint_cmp
 complaint_total = on_total (λ (x : Complaint). x.number) nat_cmp_total
 
+-- a complaint below another has a lesser number
 below_number : (x y : Complaint) → complaint_cmp x y ≡ Less → x.number < y.number
 below_number x y less =
     by_order_of (λ a b. nat_cmp a b ≡ Less → a < b) x.number y.number (λ low l. low)
     (λ same l. absurd (let e = cmp_equal x.number y.number same in cc))
     (λ above l. absurd (let g = cmp_greater x.number y.number above in cc)) less
 
+-- lines have one list of complaints, as `laws::one_telling` says
 pub one_telling : (c : Configuration) (lines : Lines) (xs ys : List Complaint) → AreComplaints c lines xs → AreComplaints c lines ys → xs ≡ ys
 one_telling c lines xs ys p q =
     same_list complaint_cmp complaint_total xs ys p.rising q.rising (λ x has. q.complete x (p.sound x has)) (λ x has. p.complete x (q.sound x has))
 
+-- first complaints are a beginning of all, as `laws::one_telling` says
 pub first_telling : (c : Configuration) (lines : Lines) (xs ys : List Complaint) → AreFirstComplaints c lines xs
     → AreComplaints c lines ys → (rest : List Complaint) × (ys ≡ xs ++ rest)
 first_telling c lines xs ys p q =
@@ -97,6 +106,8 @@ first_telling c lines xs ys p q =
     (p.before x y (Contains-from_has xs x has) (q.sound y (Contains-from_has ys y others))
     (below_number y x below)))
 
+-- where some receipts to take are more than a closure holds, all of them are, as `laws::too_many`
+-- says
 pub too_many_for_all : (c : Configuration) (texts : List (List ℕ)) (rs : List Receipt) → OverfillStore c texts → AreTaken c texts rs → 65536 < length rs
 too_many_for_all c texts rs many taken =
     let fewer = no_longer receipt_cmp receipt_total many.some rs many.rising taken.rising

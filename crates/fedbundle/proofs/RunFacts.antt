@@ -40,10 +40,12 @@ Passed None left read = ⊤
 Passed (Some xs) None read = ⊥
 Passed (Some xs) (Some ys) read = lines_of xs ≡ record { whole = read ++ (lines_of ys).whole; rest = (lines_of ys).rest }
 
+-- before the first line none was read
 passed_none : (a : Option (List ℕ)) (kept : List ℕ) → kept ≡ [] → Passed a (prepend_known kept a) []
 passed_none None kept none = tt
 passed_none (Some xs) kept none = ap (λ k. lines_of (k ++ xs)) (sym none)
 
+-- one more line was read
 passed_line : (a b d : Option (List ℕ)) (read : List (List ℕ)) (text : List ℕ) → Passed a b read → HasLine b d text → Passed a d (read ++ text ∷ [])
 passed_line None b d read text passed has = tt
 passed_line (Some xs) None d read text passed has = absurd passed
@@ -53,14 +55,16 @@ passed_line (Some xs) (Some ys) (Some zs) read text passed has =
     passed ∙ (λ i. record { whole = read ++ (first i).whole; rest = (first i).rest })
     ∙ (λ i. record { whole = sym (append_assoc read (text ∷ []) (lines_of zs).whole) i; rest = (lines_of zs).rest })
 
--- ---- what is told
+-- ---- complaints that are written
 
+-- one more complaint was written, after all before it
 told_more : (a b d : Option (List ℕ)) (xs : List Complaint) (x : Complaint) → Appends a b (flat_map complaint_text xs) → Appends b d (complaint_text x)
     → Appends a d (flat_map complaint_text (xs ++ x ∷ []))
 told_more a b d xs x before here =
     subst (Appends a d) (sym (flat_map-append complaint_text xs (x ∷ []) ∙ ap (λ t. flat_map complaint_text xs ++ t) (append-nil (complaint_text x))))
     (Appends-trans a b d (flat_map complaint_text xs) (complaint_text x) before here)
 
+-- a beginning of one more complaint was written, after all before it
 begun_more : (a b d : Option (List ℕ)) (xs : List Complaint) (x : Complaint) → Appends a b (flat_map complaint_text xs)
     → AppendsBeginning b d (complaint_text x)
     → AppendsBeginning a d (flat_map complaint_text (xs ++ x ∷ []))
@@ -75,18 +79,20 @@ begun_more a b d xs x before (count, here) =
           (Appends-trans a b d texts (take count text) before here),
     )
 
+-- a whole text is a beginning of it
 begun_all : (a b : Option (List ℕ)) (text : List ℕ) → Appends a b text → AppendsBeginning a b text
 begun_all a b text all = (length text, subst (Appends a b) (sym (take-length text)) all)
 
 -- ---- so far
 
--- Lines were read, and judged.
+-- So far some lines were read, and what is held and written is what comes of them.
 pub record SoFar (c : Configuration) (stream left : Option (List ℕ)) (m : Meaning) (told tells : Option (List ℕ)) (number count : ℕ) : Type 0 where
   pub read : List (List ℕ)
   pub passed : Passed stream left read
   pub numbered : number ≡ length read
   pub judged : HasJudged c (only read) m told tells count
 
+-- before the first line nothing is taken and no complaint is written
 pub so_far_none : (c : Configuration) (stream : Option (List ℕ)) (kept : List ℕ) (m : Meaning) (told : Option (List ℕ))
     → kept ≡ [] → m.config ≡ c → m.held ≡ [] → m.records ≡ []
     → SoFar c stream (prepend_known kept stream) m told told 0 0
@@ -106,7 +112,8 @@ so_far_none c stream kept m told empty config held records = record {
   };
 }
 
--- the receipt of a line is held
+-- a line whose receipt is taken is not refused, and what is held is what is taken of the lines with
+-- that one
 taken_on : (c : Configuration) (read : List (List ℕ)) (text : List ℕ) (old new : HeldAndRoom) → IsConfiguration c
     → old.meaning.config ≡ c → AreTaken c read old.meaning.held → length old.meaning.held ≤ 65536
     → TakesReceiptText old text new
@@ -148,6 +155,7 @@ taken_on c read text old new valid config taken few takes = by_case takes.taken 
           λ why refused. unrefused c text r why valid takes.is fits refused,
         )
 
+-- one more line was read, whose receipt was taken
 pub so_far_taken : (c : Configuration) (stream left next : Option (List ℕ)) (old new : HeldAndRoom)
     (told tells now : Option (List ℕ)) (number count : ℕ) (text : List ℕ)
     → IsConfiguration c → SoFar c stream left old.meaning told tells number count → HasLine left next text → TakesReceiptText old text new → now ≡ tells
@@ -170,6 +178,7 @@ so_far_taken c stream left next old new told tells now number count text valid s
       };
     }
 
+-- one more line was read, which is refused, and its complaint was written
 pub so_far_told : (c : Configuration) (stream left next : Option (List ℕ)) (old new : Meaning)
     (told tells now : Option (List ℕ)) (number count : ℕ) (text : List ℕ) (why : LineFault)
     → IsConfiguration c → SoFar c stream left old told tells number count → HasLine left next text
@@ -197,15 +206,18 @@ so_far_told c stream left next old new told tells now number count text why vali
 
 -- ---- the end
 
+-- equal lines are judged alike
 judged_at : (c : Configuration) (lines other : Lines) (m : Meaning) (told tells : Option (List ℕ)) (n : ℕ)
     → other ≡ lines → HasJudged c lines m told tells n → HasJudged c other m told tells n
 judged_at c lines other m told tells n e judged = subst (λ (l : Lines). HasJudged c l m told tells n) (sym e) judged
 
+-- after the last line feed the lines are those that were read, and the rest is what is left
 rest_after : (xs ys : List ℕ) (read : List (List ℕ)) → Passed (Some xs) (Some ys) read → HasNoLine (Some ys) → lines_of xs ≡ record { whole = read; rest = ys }
 rest_after xs ys read passed none =
     let rest : lines_of ys ≡ record { whole = []; rest = ys } = lines_of-rest ys none in
     passed ∙ (λ i. record { whole = read ++ (rest i).whole; rest = (rest i).rest }) ∙ (λ i. record { whole = append-nil read i; rest = ys })
 
+-- at the end of a stream with a rest, the complaint of the rest was written last
 pub judged_rest : (c : Configuration) (stream left : Option (List ℕ)) (m : Meaning) (told tells now : Option (List ℕ))
     (number count : ℕ) → SoFar c stream left m told tells number count
     → HasNoLine left → HasMore left → Appends tells now (complaint_text (at_number (number + 1) Cut))
@@ -228,9 +240,11 @@ judged_rest c (Some xs) (Some ys) m told tells now number count so none more her
 
 -- ---- faults
 
+-- the lines that were read are a front of all lines
 whole_after : (xs ys : List ℕ) (read : List (List ℕ)) → Passed (Some xs) (Some ys) read → (lines_of xs).whole ≡ read ++ (lines_of ys).whole
 whole_after xs ys read passed = ap (λ (l : Lines). l.whole) passed
 
+-- at any time the complaints so far are a beginning of all
 pub begun_so_far : (c : Configuration) (stream left : Option (List ℕ)) (m : Meaning) (told tells now : Option (List ℕ))
     (number count : ℕ) → SoFar c stream left m told tells number count → now ≡ tells
     → IfSome stream (λ bytes. BeginsTelling c (lines_of bytes) told now)
@@ -242,6 +256,7 @@ begun_so_far c (Some xs) (Some ys) m told tells now number count so kept = recor
   begun = begun_all told now _ (subst (λ (t : Option (List ℕ)). Appends told t (flat_map complaint_text so.judged.complaints)) (sym kept) so.judged.telling);
 }
 
+-- with a beginning of a refused line's complaint after those so far, a beginning of all is written
 pub begun_line : (c : Configuration) (stream left next : Option (List ℕ)) (m : Meaning)
     (told tells now : Option (List ℕ)) (number count : ℕ) (text : List ℕ) (why : LineFault)
     → SoFar c stream left m told tells number count → HasLine left next text → IsRefusedLine c text why
@@ -263,6 +278,7 @@ begun_line c (Some xs) (Some ys) (Some zs) m told tells now number count text wh
       begun = begun_more told tells now so.judged.complaints x so.judged.telling here_at;
     }
 
+-- the same for the complaint of a rest
 pub begun_rest : (c : Configuration) (stream left : Option (List ℕ)) (m : Meaning) (told tells now : Option (List ℕ))
     (number count : ℕ) → SoFar c stream left m told tells number count
     → HasNoLine left → HasMore left → AppendsBeginning tells now (complaint_text (at_number (number + 1) Cut))
@@ -280,6 +296,7 @@ begun_rest c (Some xs) (Some ys) m told tells now number count so none more here
       begun = begun_more told tells now so.judged.complaints x so.judged.telling here_at;
     })
 
+-- where a receipt is one too many, the lines have more to take than a closure holds
 pub too_many : (c : Configuration) (stream left next : Option (List ℕ)) (old : HeldAndRoom) (told tells : Option (List ℕ)) (number count : ℕ) (text : List ℕ)
     → SoFar c stream left old.meaning told tells number count → HasLine left next text → IsTextTooMany old text
     → IfSome stream (λ bytes. OverfillStore c (lines_of bytes).whole)
@@ -299,13 +316,15 @@ too_many c (Some xs) (Some ys) (Some zs) old told tells number count text so has
       many = let size = one_longer c so.read r old.meaning.held so.judged.taken full.is.is full.full.unheld in let low = full.full.full in omega arith;
     }
 
--- ---- the answers to a line
+-- ---- what comes of a line
 
+-- a line that is refused under the configuration of what is held is refused under the run's
 refused_here : (c : Configuration) (stream left : Option (List ℕ)) (old : HeldAndRoom) (told tells : Option (List ℕ))
     (number count : ℕ) (text : List ℕ) (why : LineFault)
     → SoFar c stream left old.meaning told tells number count → IsRefusedLine old.meaning.config text why → IsRefusedLine c text why
 refused_here c stream left old told tells number count text why so refused = subst (λ (d : Configuration). IsRefusedLine d text why) so.judged.config refused
 
+-- one more line was judged: the step of the loop in `take_lines`
 pub so_far_text : (c : Configuration) (stream left next : Option (List ℕ)) (old new : HeldAndRoom)
     (told tells now : Option (List ℕ)) (number count : ℕ) (text : List ℕ) (failed : Bool) (n : ℕ)
     → IsConfiguration c → SoFar c stream left old.meaning told tells number count → HasLine left next text
@@ -323,10 +342,12 @@ so_far_text c stream left next old new told tells now number count text failed n
       (refused_here c stream left old told tells number count text tellings.why so tellings.refuses.refused) tellings.refuses.same tellings.now)
 ]
 
+-- a line has one complaint at most, so the count stays within the number of lines
 pub at_most_one : (old new : HeldAndRoom) (text : List ℕ) (number : ℕ) (tells now : Option (List ℕ)) (failed : Bool)
     (n : ℕ) → TriesText old text number new tells now failed (Ok n) → n ≤ 1
 at_most_one old new text number tells now failed n tried = elim tried [ inl (takes, kept, none) ↦ omega arith | inr (tellings, one) ↦ omega arith ]
 
+-- an error of reading a line stops the judging after a beginning of the complaints
 pub stops_line : (c : Configuration) (stream told tells : Option (List ℕ)) (e : DeviceError)
     → IfSome stream (λ bytes. BeginsTelling c (lines_of bytes) told tells)
     → IfSome stream (λ bytes. StopsJudging c (lines_of bytes) told tells (of_line e))
@@ -334,6 +355,7 @@ stops_line c None told tells e begins = tt
 stops_line c (Some xs) told tells SourceFailed begins = begins
 stops_line c (Some xs) told tells NoMemoryForLine begins = begins
 
+-- so does one receipt too many
 full_too : (c : Configuration) (stream told tells : Option (List ℕ))
     → IfSome stream (λ bytes. OverfillStore c (lines_of bytes).whole)
     → IfSome stream (λ bytes. BeginsTelling c (lines_of bytes) told tells)
@@ -341,11 +363,13 @@ full_too : (c : Configuration) (stream told tells : Option (List ℕ))
 full_too c None told tells many begins = tt
 full_too c (Some xs) told tells many begins = (many, begins)
 
+-- so does a fault of a device
 pub stops_io : (c : Configuration) (stream told tells : Option (List ℕ)) → IfSome stream (λ bytes. BeginsTelling c (lines_of bytes) told tells)
     → IfSome stream (λ bytes. StopsJudging c (lines_of bytes) told tells Io)
 stops_io c None told tells begins = tt
 stops_io c (Some xs) told tells begins = begins
 
+-- an error at a line stops the judging after a beginning of the complaints
 pub stops_text : (c : Configuration) (stream left next : Option (List ℕ)) (old new : HeldAndRoom)
     (told tells now : Option (List ℕ)) (number count : ℕ) (text : List ℕ) (failed : Bool) (e : RunError)
     → SoFar c stream left old.meaning told tells number count → HasLine left next text → TriesText old text (number + 1) new tells now failed (Err e)
@@ -363,6 +387,7 @@ stops_text c stream left next old new told tells now number count text failed Io
 
 -- ---- the whole run
 
+-- nothing written is a beginning of the complaints
 pub begun_none : (c : Configuration) (lines : Lines) (told : Option (List ℕ)) → BeginsTelling c lines told told
 unfolding IsStrictlySortedBy
 begun_none c lines told = record {
@@ -371,16 +396,19 @@ begun_none c lines told = record {
   begun = (0, Appends-nil told);
 }
 
+-- what holds of all bytes holds also where a source may not tell them
 pub if_some : (stream : Option (List ℕ)) (P : List ℕ → Type 0) → ((bytes : List ℕ) → P bytes) → IfSome stream P
 if_some None P all = tt
 if_some (Some xs) P all = all xs
 
+-- a stream at its end has its source there
 pub end_of : (kept : List ℕ) (a : Option (List ℕ)) → IsAtEnd (prepend_known kept a) → IsAtEnd a
 end_of [] None end = tt
 end_of (x ∷ kept) None end = tt
 end_of [] (Some xs) end = end
 end_of (x ∷ kept) (Some xs) end = absurd (cc)
 
+-- all complaints are a beginning of them
 pub begun_judged : (c : Configuration) (lines : Lines) (m : Meaning) (told tells : Option (List ℕ)) (n : ℕ)
     → HasJudged c lines m told tells n → BeginsTelling c lines told tells
 begun_judged c lines m told tells n judged =
@@ -391,15 +419,18 @@ begun_judged c lines m told tells n judged =
           begun_all told tells _ judged.telling;
     }
 
+-- a meaning without records is that of its receipts
 meaning_is : (c : Configuration) (m : Meaning) → m.config ≡ c → m.records ≡ [] → m ≡ meaning_of_receipts c m.held
 meaning_is c m config records = λ i. record { config = config i; held = m.held; records = records i }
 
+-- the same as `begun_judged`, where a source may not tell its bytes
 pub told_whole : (c : Configuration) (stream : Option (List ℕ)) (m : Meaning) (told tells : Option (List ℕ)) (n : ℕ)
     → IfSome stream (λ bytes. HasJudged c (lines_of bytes) m told tells n)
     → IfSome stream (λ bytes. BeginsTelling c (lines_of bytes) told tells)
 told_whole c None m told tells n judged = tt
 told_whole c (Some xs) m told tells n judged = begun_judged c (lines_of xs) m told tells n judged
 
+-- a beginning of the report of what is held is one of the report of the receipts taken
 pub reporting : (c : Configuration) (stream : Option (List ℕ)) (m : Meaning) (told tells held holds : Option (List ℕ))
     (n : ℕ) → IfSome stream (λ bytes. HasJudged c (lines_of bytes) m told tells n)
     → BeginsReport m held holds → IfSome stream (λ bytes. BeginsReporting c (lines_of bytes) held holds)
@@ -410,6 +441,7 @@ reporting c (Some xs) m told tells held holds n judged begins = record {
   begun = subst (λ (z : Meaning). BeginsReport z held holds) (meaning_is c m judged.config judged.records) begins;
 }
 
+-- the report of what is held is that of the receipts taken, and all complaints are written
 pub reported : (c : Configuration) (stream : Option (List ℕ)) (m : Meaning) (told tells held holds : Option (List ℕ))
     (n : ℕ) → IfSome stream (λ bytes. HasJudged c (lines_of bytes) m told tells n)
     → WritesReport m held holds → IfSome stream (λ bytes. Reports c (lines_of bytes) held holds told tells n)
@@ -425,6 +457,7 @@ reported c (Some xs) m told tells held holds n judged writes = record {
   counted = judged.counted;
 }
 
+-- only a fault of the sink counts as one of a device
 pub only_io : (e : ReportError) → of_report e ≡ Io → e ≡ SinkFailed
 only_io SinkFailed same = refl
 only_io NoMemoryForReport same = absurd (cc)

@@ -25,6 +25,7 @@ use Rattle.fedbundle.specs.declared.complaint.LineFault.TheVariants.{NotCanonica
 
 -- ---- one relationship a domain
 
+-- of two items of a rising list one is below the other, or they are equal
 either_below : {A : Type 0} (cmp : A → A → Ordering) (xs : List A) (a b : A) → IsStrictlySortedBy cmp xs → Has xs a → Has xs b
     → (a ≡ b) ⊎ ((cmp a b ≡ Less) ⊎ (cmp b a ≡ Less))
 unfolding IsStrictlySortedBy
@@ -40,6 +41,7 @@ either_below cmp (x ∷ xs) a b rising p q = elim p [
   ]
 ]
 
+-- a domain has one relationship at most
 one_relationship : (c : Configuration) (a b : Relationship) → IsConfiguration c → Contains c.relationships a
     → Contains c.relationships b → a.domain ≡ b.domain → a ≡ b
 one_relationship c a b is p q same =
@@ -54,6 +56,7 @@ one_relationship c a b is p q same =
 
 -- ---- what is refused is not taken
 
+-- a refused line is not the line of a receipt that fits
 pub untaken : (c : Configuration) (text : List ℕ) (why : LineFault) → IsConfiguration c → IsRefusedLine c text why
     → (r : Receipt) → IsReceipt r → IsFitting c r → text ≡ line r → ⊥
 untaken c text NotCanonical is refused r receipt fits e = refused.1 r (record { is = receipt; text = e })
@@ -68,7 +71,7 @@ untaken c text WrongEndpoint is (s, read, wrong) r receipt fits e =
     wrong.other (ap (λ (x : Relationship). x.endpoint) one ∙ fits.endpoint ∙ ap (λ (x : Receipt). x.endpoint) same)
 untaken c text Cut is refused r receipt fits e = absurd refused
 
--- a line is refused for one cause
+-- a line is refused for one cause at most
 pub one_cause : (c : Configuration) (text : List ℕ) (a b : LineFault) → IsRefusedLine c text a → IsRefusedLine c text b → a ≡ b
 one_cause c text NotCanonical NotCanonical p q = refl
 one_cause c text NotCanonical TooLong p q = absurd (omega (arith, p.0, q))
@@ -96,13 +99,14 @@ one_cause c text TooLong Cut p q = absurd q
 one_cause c text UnknownDomain Cut p q = absurd q
 one_cause c text WrongEndpoint Cut p q = absurd q
 
--- a refused line isn't that of a receipt that fits
+-- the line of a receipt that fits is not refused
 pub unrefused : (c : Configuration) (text : List ℕ) (r : Receipt) (why : LineFault) → IsConfiguration c → IsLine text r
     → IsFitting c r → IsRefusedLine c text why → ⊥
 unrefused c text r why is read fits refused = untaken c text why is refused r read.is fits read.text
 
 -- ---- one line more
 
+-- of no lines nothing is taken
 pub taken_none : (c : Configuration) → AreTaken c [] []
 unfolding IsStrictlySortedBy
 taken_none c = record {
@@ -111,12 +115,15 @@ taken_none c = record {
   complete = λ r taken. absurd (let has = taken.stands in omega (arith, has.1));
 }
 
+-- a receipt that is taken of lines is taken of more
 taken_before : (c : Configuration) (texts more : List (List ℕ)) (r : Receipt) → IsTaken c texts r → IsTaken c (texts ++ more) r
 taken_before c texts more r taken = record { is = taken.is; fits = taken.fits; stands = Contains-append_left texts more (line r) taken.stands }
 
+-- the same for lines that begin with those
 pub taken_within : (c : Configuration) (texts more whole : List (List ℕ)) (r : Receipt) → whole ≡ texts ++ more → IsTaken c texts r → IsTaken c whole r
 taken_within c texts more whole r e taken = subst (λ (t : List (List ℕ)). IsTaken c t r) (sym e) (taken_before c texts more r taken)
 
+-- a line without a receipt that fits adds nothing to take
 pub taken_same : (c : Configuration) (texts : List (List ℕ)) (text : List ℕ) (receipts : List Receipt) → AreTaken c texts receipts
     → ((r : Receipt) → IsReceipt r → IsFitting c r → text ≡ line r → ⊥) → AreTaken c (texts ++ text ∷ []) receipts
 taken_same c texts text receipts taken none = record {
@@ -128,12 +135,15 @@ taken_same c texts text receipts taken none = record {
   ];
 }
 
+-- receipts are kept as sets
 sets : AreSets IsReceipt receipt_cmp
 sets = AreSets-from_total IsReceipt receipt_cmp receipt_total one_receipt
 
+-- all that is taken are receipts in their form
 pub all_receipts : (c : Configuration) (texts : List (List ℕ)) (receipts : List Receipt) → AreTaken c texts receipts → AllByRecursion IsReceipt receipts
 all_receipts c texts receipts taken = all_from_has IsReceipt receipts (λ r has. (taken.sound r (Contains-from_has receipts r has)).is)
 
+-- a line with a receipt that fits adds it to what is taken
 pub taken_more : (c : Configuration) (texts : List (List ℕ)) (text : List ℕ) (r : Receipt) (receipts : List Receipt)
     → AreTaken c texts receipts → IsLine text r → IsFitting c r
     → AreTaken c (texts ++ text ∷ []) (with_receipt r receipts)
@@ -157,10 +167,12 @@ taken_more c texts text r receipts taken read fits =
       ]);
     }
 
+-- a receipt that was taken already changes nothing
 pub held_already : (c : Configuration) (texts : List (List ℕ)) (r : Receipt) (receipts : List Receipt)
     → AreTaken c texts receipts → Contains receipts r → with_receipt r receipts ≡ receipts
 held_already c texts r receipts taken has = sets.present r receipts taken.rising has
 
+-- a new receipt makes what is held one longer
 pub one_longer : (c : Configuration) (texts : List (List ℕ)) (r : Receipt) (receipts : List Receipt)
     → AreTaken c texts receipts → IsReceipt r → (Contains receipts r → ⊥)
     → length (with_receipt r receipts) ≡ length receipts + 1

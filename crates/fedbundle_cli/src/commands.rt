@@ -23,6 +23,9 @@ pub(crate) fn run(rt: &HostRuntime) -> Result<u8, Exit> {
 }
 
 fn carry_out(rt: &HostRuntime, call: &Call<'_>) -> Result<u8, Exit> {
+    if has_empty_path(call) {
+        return Err(Exit::Usage);
+    }
     match (call.name, call.texts.as_slice()) {
         (CommandName::Canon, [domain]) => canon(rt, domain),
         (CommandName::Serve, [config, state, address, sessions]) => {
@@ -36,6 +39,17 @@ fn carry_out(rt: &HostRuntime, call: &Call<'_>) -> Result<u8, Exit> {
         }
         _ => Err(Exit::Usage),
     }
+}
+
+// The paths of the configuration and of the state are the first options of all commands but
+// `canon`.
+fn has_empty_path(call: &Call<'_>) -> bool {
+    let paths = match call.name {
+        CommandName::Canon => 0,
+        CommandName::Report => 1,
+        _ => 2,
+    };
+    call.texts.iter().take(paths).any(|path| path.is_empty())
 }
 
 fn carry_out_under(

@@ -14,6 +14,10 @@ const MAX_IDLE_SECONDS: u64 = 30;
 /// later.
 const MAX_SESSION_SECONDS: u64 = 600;
 
+/// How often one read or write is begun again after a signal, as when the process was stopped and
+/// goes on, or a debugger was attached.
+const MAX_INTERRUPTIONS: u32 = 1_000_000;
+
 /// A connection with another replica, for one session.
 #[derive(Drop)]
 pub(crate) struct Connection {
@@ -74,22 +78,39 @@ impl Direction<'_> {
 
 impl Read for Direction<'_> {
     fn read(&mut self, buffer: &mut [u8]) -> io::Result<usize> {
-        self.check_time()?;
-        let mut stream = &self.connection.stream;
-        stream.read(buffer)
+        for _ in 0..MAX_INTERRUPTIONS {
+            self.check_time()?;
+            let mut stream = &self.connection.stream;
+            match stream.read(buffer) {
+                Err(error) if is_interruption(&error) => {}
+                done => return done,
+            }
+        }
+        Err(io::Error::from(ErrorKind::Interrupted))
     }
 }
 
 impl Write for Direction<'_> {
     fn write(&mut self, bytes: &[u8]) -> io::Result<usize> {
-        self.check_time()?;
-        let mut stream = &self.connection.stream;
-        stream.write(bytes)
+        for _ in 0..MAX_INTERRUPTIONS {
+            self.check_time()?;
+            let mut stream = &self.connection.stream;
+            match stream.write(bytes) {
+                Err(error) if is_interruption(&error) => {}
+                done => return done,
+            }
+        }
+        Err(io::Error::from(ErrorKind::Interrupted))
     }
 
     fn flush(&mut self) -> io::Result<()> {
         Ok(())
     }
+}
+
+// A signal came before any byte moved.
+fn is_interruption(error: &io::Error) -> bool {
+    error.kind() == ErrorKind::Interrupted
 }
 
 // Of all faults of the system lack of memory alone has a name of its own.

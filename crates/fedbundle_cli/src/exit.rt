@@ -8,14 +8,14 @@ use std::alloc::AllocError;
 pub(crate) enum Exit {
     /// The words are not those of a command, or ask for its help or version.
     Words(clap::Error),
-    /// A word is not text, the subcommand or an option is missing, or `--sessions` is not a number
-    /// from 1 to 1,000,000.
+    /// A word is not text, the subcommand or an option is missing, the path of a file is empty, or
+    /// `--sessions` is not a number from 1 to 1,000,000.
     Usage,
     /// `--key` is not 64 lower-case hexadecimal digits.
     BadKey,
     /// `--now` is not a moment.
     BadMoment,
-    /// `--listen` or `--peer` is not the address of a socket.
+    /// `--listen` or `--peer` is not the address of a socket, or has port 0.
     BadAddress,
     /// The domain has no current bundle.
     NoBundle,

@@ -57,9 +57,13 @@ pub(crate) fn moment(text: &str) -> Result<Timestamp, Exit> {
     Timestamp::from_second(seconds).map_err(|_| Exit::BadMoment)
 }
 
-/// The address of an IP address and a port.
+/// The address of an IP address and a port. At port 0 the system would choose a port, which nobody
+/// is told.
 pub(crate) fn address(text: &str) -> Result<SocketAddr, Exit> {
-    text.parse::<SocketAddr>().map_err(|_| Exit::BadAddress)
+    match text.parse::<SocketAddr>() {
+        Ok(address) if address.port() != 0 => Ok(address),
+        _ => Err(Exit::BadAddress),
+    }
 }
 
 /// How many sessions are served.

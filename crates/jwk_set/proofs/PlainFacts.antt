@@ -27,6 +27,7 @@ use Rattle.jwk_set.specs.Json.{IsJson, IsBelowNames, IsPlain, ArePlain, HasPlain
 -- ---- the depth of the outline
 
 mutual
+  -- a value nests as deep as its tree of tokens, so the reader's limit on depth is one on the value
   depth-outline : (d : Data) → tree.depth (outline d) ≡ depth d
   depth-outline null = refl
   depth-outline (boolean b) = refl
@@ -35,10 +36,12 @@ mutual
   depth-outline (array ds) = ap (λ n. suc n) (items_depth-outline ds)
   depth-outline (object ms) = ap (λ n. suc n) (members_depth-outline ms)
 
+  -- the same for the items of an array
   items_depth-outline : (ds : Items) → tree.items_depth (items_outline ds) ≡ items_depth ds
   items_depth-outline no_items = refl
   items_depth-outline (item d ds) = ap₂ (λ a b. max a b) (depth-outline d) (items_depth-outline ds)
 
+  -- the same for the members of an object
   members_depth-outline : (ms : Members) → tree.members_depth (members_outline ms) ≡ members_depth ms
   members_depth-outline no_members = refl
   members_depth-outline (member k d ms) = ap₂ (λ a b. max a b) (depth-outline d) (members_depth-outline ms)
@@ -46,6 +49,7 @@ mutual
 -- ---- its numbers can be printed
 
 mutual
+  -- the numbers of a plain value are written as JSON numbers, so its tree can be printed
   HasNumbers-outline : (d : Data) → IsPlain d → tree.HasNumbers (outline d)
   HasNumbers-outline null h = tt
   HasNumbers-outline (boolean b) h = tt
@@ -56,20 +60,24 @@ mutual
   HasNumbers-outline (array ds) h = ItemsHaveNumbers-outline ds h
   HasNumbers-outline (object ms) h = MembersHaveNumbers-outline ms h
 
+  -- the same for the items of an array
   ItemsHaveNumbers-outline : (ds : Items) → ArePlain ds → tree.ItemsHaveNumbers (items_outline ds)
   ItemsHaveNumbers-outline no_items h = tt
   ItemsHaveNumbers-outline (item d ds) h = (HasNumbers-outline d h.0, ItemsHaveNumbers-outline ds h.1)
 
+  -- the same for the members of an object
   MembersHaveNumbers-outline : (ms : Members) → HasPlainMembers ms → tree.MembersHaveNumbers (members_outline ms)
   MembersHaveNumbers-outline no_members h = tt
   MembersHaveNumbers-outline (member k d ms) h = (HasNumbers-outline d h.1, MembersHaveNumbers-outline ms h.3)
 
 -- ---- members that come in order go last
 
+-- the members of one list and then of the other
 abbrev join : Members → Members → Members
 join no_members ms = ms
 join (member k d found) ms = member k d (join found ms)
 
+-- joined with none, the members stay as they are
 join_nil : (found : Members) → join found no_members ≡ found
 join_nil no_members = refl
 join_nil (member k d found) = ap (member k d) (join_nil found)
@@ -79,22 +87,26 @@ abbrev Apart : Members → Members → Type 0
 Apart no_members ms = ⊤
 Apart (member k d found) ms = IsBelowNames k ms × Apart found ms
 
+-- a name above all that were found is put last
 put_last : (found : Members) (k : List ℕ) (d : Data) (ms : Members) → Apart found (member k d ms) → put k d found ≡ join found (member k d no_members)
 put_last no_members k d ms h = refl
 put_last (member l e found) k d ms h =
     let above : slice_cmp nat_cmp k l ≡ Greater = nat_list_cmp_total.antisymm k l ∙ ap ordering_reverse h.0.0 in
     rw above (ap (member l e) (put_last found k d ms h.1))
 
+-- a member may be joined to either list
 join_one : (found : Members) (k : List ℕ) (d : Data) (ms : Members) → join (join found (member k d no_members)) ms ≡ join found (member k d ms)
 join_one no_members k d ms = refl
 join_one (member l e found) k d ms = ap (member l e) (join_one found k d ms)
 
+-- the lists stay apart when the first name that comes is found
 Apart_one : (found : Members) (k : List ℕ) (d : Data) (ms : Members) → Apart found (member k d ms) → IsBelowNames k ms
     → Apart (join found (member k d no_members)) ms
 Apart_one no_members k d ms h below = (below, tt)
 Apart_one (member l e found) k d ms h below = (h.0.1, Apart_one found k d ms h.1 below)
 
 mutual
+  -- the tree of a plain value is read as that value
   of_json-outline : (d : Data) → IsPlain d → of_json (outline d) ≡ Some d
   of_json-outline null h = refl
   of_json-outline (boolean b) h = refl
@@ -105,10 +117,12 @@ mutual
   of_json-outline (array ds) h = ap (option_map array) (of_items-outline ds h)
   of_json-outline (object ms) h = ap (option_map object) (of_members-outline ms no_members h tt)
 
+  -- the same for the items of an array
   of_items-outline : (ds : Items) → ArePlain ds → of_items (items_outline ds) ≡ Some ds
   of_items-outline no_items h = refl
   of_items-outline (item d ds) h = rw (of_json-outline d h.0, of_items-outline ds h.1)
 
+  -- the same for the members of an object, after those that were found before
   of_members-outline : (ms found : Members) → HasPlainMembers ms → Apart found ms → of_members (members_outline ms) found ≡ Some (join found ms)
   of_members-outline no_members found h apart = ap Some (sym (join_nil found))
   of_members-outline (member k d ms) found h apart =
@@ -119,14 +133,17 @@ mutual
 
 -- ---- the text is UTF-8
 
+-- a comma between two items is UTF-8
 IsUtf8-comma_if : (later : Bool) → IsUtf8 (comma_if later)
 IsUtf8-comma_if true = IsUtf8-are_ascii (44 ∷ []) refl
 IsUtf8-comma_if false = IsUtf8-nil
 
+-- UTF-8 stays so after an ASCII byte
 ascii : (x : ℕ) (xs : List ℕ) → are_ascii (x ∷ []) ≡ true → IsUtf8 xs → IsUtf8 (x ∷ xs)
 ascii x xs e h = IsUtf8-append (x ∷ []) xs (IsUtf8-are_ascii (x ∷ []) e) h
 
 mutual
+  -- the compact text of a plain value is UTF-8
   IsUtf8-compact_text : (d : Data) → IsPlain d → IsUtf8 (compact_text d)
   IsUtf8-compact_text null h = IsUtf8-are_ascii _ refl
   IsUtf8-compact_text (boolean b) h = IsUtf8-boolean b
@@ -137,11 +154,13 @@ mutual
   IsUtf8-compact_text (array ds) h = ascii 91 _ refl (IsUtf8-items_text false ds h)
   IsUtf8-compact_text (object ms) h = ascii 123 _ refl (IsUtf8-members_text false ms h)
 
+  -- the same for the items of an array
   IsUtf8-items_text : (later : Bool) (ds : Items) → ArePlain ds → IsUtf8 (items_text later ds)
   IsUtf8-items_text later no_items h = IsUtf8-are_ascii (93 ∷ []) refl
   IsUtf8-items_text later (item d ds) h =
       IsUtf8-append _ _ (IsUtf8-comma_if later) (IsUtf8-append _ _ (IsUtf8-compact_text d h.0) (IsUtf8-items_text true ds h.1))
 
+  -- the same for the members of an object
   IsUtf8-members_text : (later : Bool) (ms : Members) → HasPlainMembers ms → IsUtf8 (members_text later ms)
   IsUtf8-members_text later no_members h = IsUtf8-are_ascii (125 ∷ []) refl
   IsUtf8-members_text later (member k d ms) h =
@@ -150,21 +169,25 @@ mutual
 
 -- ---- together
 
+-- the compact text of a plain value has the tokens of its tree
 tokens-compact_text : (d : Data) → IsPlain d → tokens (compact_text d) ≡ tree.json_tokens (outline d)
 tokens-compact_text d h = ap tokens (sym (print-outline d)) ∙ tokens-print _ (ArePrintable-json_tokens (outline d) (HasNumbers-outline d h))
 
+-- the compact text of a plain value is read as that value
 pub read-compact_text : (d : Data) → IsPlain d → depth d ≤ max_depth → read (compact_text d) ≡ Some d
 read-compact_text d h shallow =
     ap (λ r. option_and_then of_json (option_and_then (λ p. json.if_last p.0 p.1) r))
     (ap (json.value max_depth) (tokens-compact_text d h ∙ sym (append-nil _)) ∙ value-json_tokens (outline d) max_depth [] (rw (depth-outline d) shallow))
     ∙ of_json-outline d h
 
+-- the compact text of a plain value is a JSON text of it, as `laws::compact_texts` says
 pub IsJson-compact_text : (d : Data) → IsPlain d → depth d ≤ max_depth → IsJson (compact_text d) d
 IsJson-compact_text d h shallow = (IsUtf8-compact_text d h, read-compact_text d h shallow)
 
 -- ---- no float
 
 mutual
+  -- a plain value has no float, as `laws::compact_texts` says
   pub has_float-plain : (d : Data) → IsPlain d → has_float d ≡ false
   has_float-plain null h = refl
   has_float-plain (boolean b) h = refl
@@ -175,10 +198,12 @@ mutual
   has_float-plain (array ds) h = items_have_float-plain ds h
   has_float-plain (object ms) h = members_have_float-plain ms h
 
+  -- the same for the items of an array
   items_have_float-plain : (ds : Items) → ArePlain ds → items_have_float ds ≡ false
   items_have_float-plain no_items h = refl
   items_have_float-plain (item d ds) h = rw (has_float-plain d h.0) (items_have_float-plain ds h.1)
 
+  -- the same for the members of an object
   members_have_float-plain : (ms : Members) → HasPlainMembers ms → members_have_float ms ≡ false
   members_have_float-plain no_members h = refl
   members_have_float-plain (member k d ms) h = rw (has_float-plain d h.1) (members_have_float-plain ms h.3)

@@ -32,26 +32,32 @@ use Rattle.poll_log.proofs.MemberFacts.{not_below_itself, contains_first, contai
 
 -- ---- tests of names
 
+-- equal bytes pass the test
 same_bytes : (a : List ℕ) → bytes_eq a a ≡ true
 same_bytes a = (bytes_eq-Decides a a).1 refl
 
+-- a test that is not passed has the result `false`
 not_true : (q : Bool) → (q ≡ true → ⊥) → q ≡ false
 not_true true isnt = absurd (isnt refl)
 not_true false isnt = refl
 
+-- different bytes fail the test
 other_bytes : (a b : List ℕ) → (a ≡ b → ⊥) → bytes_eq a b ≡ false
 other_bytes a b differ = not_true (bytes_eq a b) (λ e. differ ((bytes_eq-Decides a b).0 e))
 
 -- ---- one more poll
 
+-- one more poll is one more of its own domain and none of another
 polls_of-more : (domain : List ℕ) (polls : List Poll) (p : Poll) (q : Bool) → is_of_domain domain p ≡ q
     → polls_of domain (polls ++ p ∷ []) ≡ polls_of domain polls ++ cond q (p ∷ []) []
 polls_of-more domain polls p q is = filter-append (is_of_domain domain) polls (p ∷ []) ∙ ap (λ b. polls_of domain polls ++ cond b (p ∷ []) []) is
 
+-- failures counted to twelve one by one are all of them, cut off at twelve
 counted : (n : ℕ) (ok : Bool) → min 12 (cond (not ok) (1 + n) 0) ≡ (if ok then 0 else min (min 12 n) 11 + 1)
 counted n true = refl
 counted n false = omega arith
 
+-- what one more poll changes in what is kept of its domain
 standing_of-same : (polls : List Poll) (p : Poll) → standing_of (polls ++ p ∷ []) p.domain ≡ after (standing_of polls p.domain) p.moment p.ok
 standing_of-same polls p =
     let qs : List Poll = polls_of p.domain polls in
@@ -62,6 +68,7 @@ standing_of-same polls p =
     ap (λ l. min 12 (prefix_len has_failed l)) turned ∙ counted (prefix_len has_failed (reverse qs)) p.ok in
     λ i. record { domain = p.domain; last = last i; failures = failures i }
 
+-- what is kept of another domain stays
 standing_of-other : (polls : List Poll) (p : Poll) (domain : List ℕ) → (p.domain ≡ domain → ⊥) → standing_of (polls ++ p ∷ []) domain ≡ standing_of polls domain
 standing_of-other polls p domain differ =
     let more : polls_of domain (polls ++ p ∷ []) ≡ polls_of domain polls =
@@ -70,19 +77,23 @@ standing_of-other polls p domain differ =
 
 -- ---- a log
 
+-- a log has the domains that it is the log of
 pub domains_of-log : (domains : List (List ℕ)) (polls : List Poll) → polled_domains (log_of domains polls) ≡ domains
 domains_of-log [] polls = refl
 domains_of-log (d ∷ ds) polls = ap (λ l. d ∷ l) (domains_of-log ds polls)
 
+-- a domain that is below another is not that one
 differs : (a b : List ℕ) → domain_cmp a b ≡ Less → a ≡ b → ⊥
 differs a b below same = not_below_itself nat_list_cmp_total b (subst (λ x. domain_cmp x b ≡ Less) same below)
 
+-- a poll changes nothing for the domains above its own
 log_of-others : (domains : List (List ℕ)) (polls : List Poll) (p : Poll)
     → AllByRecursion (λ y. domain_cmp p.domain y ≡ Less) domains
     → log_of domains (polls ++ p ∷ []) ≡ log_of domains polls
 log_of-others [] polls p all = refl
 log_of-others (d ∷ ds) polls p all = ap₂ (λ s l. s ∷ l) (standing_of-other polls p d (differs p.domain d all.0)) (log_of-others ds polls p all.1)
 
+-- what holds of each item holds of the one at a place
 each_at : {A : Type 0} (P : A → Type 0) (xs : List A) (k : ℕ) (x : A) → AllByRecursion P xs → slice_get xs k ≡ Some x → P x
 each_at P [] k x all at = cc
 each_at P (y ∷ ys) zero x all at = let same : y ≡ x = cc in subst P same all.0
@@ -104,9 +115,11 @@ log_of-more (x ∷ xs) polls p (suc k) d rising at =
     let below : domain_cmp x p.domain ≡ Less = each_at (λ y. domain_cmp x y ≡ Less) xs k p.domain rising.0 at in
     ap₂ (λ s l. s ∷ l) (sym (standing_of-other polls p x (λ e. differs x p.domain below (sym e)))) (log_of-more xs polls p k d rising.1 at)
 
+-- the domains of a log rise
 pub rising_of : (log : List Standing) → IsLog log → IsStrictlySortedBy domain_cmp (polled_domains log)
 rising_of log is = subst (IsStrictlySortedBy domain_cmp) (sym (ap polled_domains is.is ∙ domains_of-log is.domains is.polls)) is.rising
 
+-- the change that the code makes at the domain's place records the poll
 pub Adds-at : (log : List Standing) (p : Poll) (k : ℕ) (d : Standing) → IsLog log
     → slice_get (polled_domains log) k ≡ Some p.domain
     → RecordsPoll log p (set log k (after (get_or log k d) p.moment p.ok))
@@ -116,6 +129,7 @@ Adds-at log p k d is at domains polls log_is =
     ap (λ l. set l k (after (get_or l k d) p.moment p.ok)) log_is
     ∙ log_of-more domains polls p k d rising (subst (λ l. slice_get l k ≡ Some p.domain) own at)
 
+-- a log in which one more poll was recorded is a log
 pub IsLog-more : (old new : List Standing) (p : Poll) → IsLog old → RecordsPoll old p new → IsLog new
 IsLog-more old new p is adds = record {
   domains = is.domains;
@@ -127,6 +141,7 @@ IsLog-more old new p is adds = record {
 
 -- ---- searches
 
+-- what the log keeps for a domain stands at the domain's place
 pub standing_in-at : (log : List Standing) (domain : List ℕ) (k : ℕ) (d : Standing)
     → IsStrictlySortedBy domain_cmp (polled_domains log) → slice_get (polled_domains log) k ≡ Some domain
     → standing_in log domain ≡ Some (get_or log k d)
@@ -141,6 +156,7 @@ standing_in-at (s ∷ log) domain (suc k) d rising at =
     let test : bytes_eq s.domain domain ≡ false = other_bytes s.domain domain (differs s.domain domain below) in
     ap (λ q. cond q (Some s) (standing_in log domain)) test ∙ standing_in-at log domain k d rising.1 at
 
+-- the log keeps nothing for a domain that it lacks
 pub standing_in-none : (log : List Standing) (domain : List ℕ) → (Contains (polled_domains log) domain → ⊥) → standing_in log domain ≡ None
 standing_in-none [] domain lacks = refl
 standing_in-none (s ∷ log) domain lacks =
@@ -149,9 +165,11 @@ standing_in-none (s ∷ log) domain lacks =
     ∙ standing_in-none log domain (λ has. lacks (suc has.0, omega (arith, has.1), has.2))
 
 module _ {X : Type 0} (key : X → List ℕ) where
+  -- what is above is not less
   falls_back : (x y : List ℕ) → domain_cmp x y ≡ Less → is_lt (domain_cmp y x) ≡ false
   falls_back x y below = let above : domain_cmp y x ≡ Greater = nat_list_cmp_total.antisymm y x ∙ ap ordering_reverse below in ap is_lt above
 
+  -- items whose keys rise are sorted by their keys, as a binary search asks for
   sorted_by_key : (xs : List X) → IsStrictlySortedBy domain_cmp (map key xs) → IsSorted (λ a b. domain_cmp (key a) (key b)) xs
   sorted_by_key xs rising k d low below =
       let size : length (map key xs) ≡ length xs = length-map xs key in
@@ -185,22 +203,25 @@ module _ {X : Type 0} (key : X → List ℕ) where
       (λ (behind : i ≤ has.0). let greater = split.1 has.0 y behind has.1 in cc)
       (cases_lt has.0 i)
 
+  -- the key at a place is that of the item there
   slice_get_key : (xs : List X) (k : ℕ) (x : List ℕ) → k < length xs → ((d : X) → key (get_or xs k d) ≡ x) → slice_get (map key xs) k ≡ Some x
   slice_get_key [] k x below here = absurd (omega arith)
   slice_get_key (y ∷ xs) zero x below here = ap Some (here y)
   slice_get_key (y ∷ xs) (suc k) x below here = slice_get_key xs k x (omega arith) here
 
+  -- a binary search returns the place of the key, or none where no item has it
   pub place_found : (xs : List X) (x : List ℕ) (r : Result ℕ ℕ) → IsStrictlySortedBy domain_cmp (map key xs)
       → IsSearchInRange r (length xs) → IsBinarySearchResult (λ y. domain_cmp (key y) x) xs r
       → IsIn (map key xs) x (result_ok r)
   place_found xs x (Ok k) rising within found = slice_get_key xs k x within (λ d. exact_bytes (key (get_or xs k d)) x (found d))
   place_found xs x (Err i) rising within splits = not_found xs x i rising splits
 
+-- the domains of a log are those of the standings in memory
 domains_of-kept : (xs : List held.Standing) → polled_domains (map kept_standing xs) ≡ map (λ (s : held.Standing). s.domain) xs
 domains_of-kept [] = refl
 domains_of-kept (x ∷ xs) = ap (λ l. x.domain ∷ l) (domains_of-kept xs)
 
--- a search in the standings as they are held
+-- the same for a search in the standings in memory
 pub standing_found : (xs : List held.Standing) (log : List Standing) (x : List ℕ) (r : Result ℕ ℕ)
     → map kept_standing xs ≡ log → IsLog log → IsSearchInRange r (length xs)
     → IsBinarySearchResult (λ (s : held.Standing). slice_cmp nat_cmp s.domain x) xs r → IsPlaceOf log x (result_ok r)
@@ -211,16 +232,19 @@ standing_found xs log x r log_is is within answer =
 
 -- ---- a new log
 
+-- a relationship that is below others has its domain below theirs
 below_names : (x : Relationship) (rs : List Relationship) → AllByRecursion (λ y. relationship_cmp x y ≡ Less) rs
     → AllByRecursion (λ y. domain_cmp x.domain y ≡ Less) (map (λ r. r.domain) rs)
 below_names x [] all = tt
 below_names x (r ∷ rs) all = (all.0, below_names x rs all.1)
 
+-- the domains of relationships in order rise
 rising_names : (rs : List Relationship) → IsStrictlySortedBy relationship_cmp rs → IsStrictlySortedBy domain_cmp (map (λ r. r.domain) rs)
 unfolding IsStrictlySortedBy
 rising_names [] rising = tt
 rising_names (r ∷ rs) rising = (below_names r rs rising.0, rising_names rs rising.1)
 
+-- the domains of relationships are domain names
 pub each_name : (rs : List Relationship) → AllByRecursion IsRelationship rs → (domain : List ℕ) → Contains (map (λ r. r.domain) rs) domain → IsDomainText domain
 each_name [] all domain has = absurd (omega (arith, has.1))
 each_name (r ∷ rs) all domain has = elim (contains_cases r.domain (map (λ r. r.domain) rs) domain has) [
@@ -228,6 +252,7 @@ each_name (r ∷ rs) all domain has = elim (contains_cases r.domain (map (λ r. 
   | inr later ↦ each_name rs all.1 domain later
 ]
 
+-- a log of no polls, with a place for each relationship, is a log
 pub IsLog-new : (c : Configuration) (rs : List Relationship) (log : List Standing) → IsConfiguration c
     → rs ≡ c.relationships → log ≡ log_of (map (λ r. r.domain) rs) [] → IsLog log
 IsLog-new c rs log form same is = record {
@@ -240,11 +265,13 @@ IsLog-new c rs log form same is = record {
 
 -- ---- the standings as they are held
 
+-- the standing at a place in memory is the log's at that place
 kept_at : (items : List held.Standing) (log : List Standing) (k : ℕ) (x : held.Standing) → map kept_standing items ≡ log
     → x ≡ get_or items k x → k < length items → get_or log k (kept_standing x) ≡ kept_standing x
 kept_at items log k x log_is there within = ap (λ l. get_or l k (kept_standing x)) (sym log_is)
     ∙ get_or-map kept_standing items k x (kept_standing x) within ∙ ap kept_standing (sym there)
 
+-- a standing that is replaced in memory is replaced in the log
 pub kept-set : (items : List held.Standing) (log : List Standing) (k : ℕ) (x y : held.Standing) (moment : ℤ) (ok : Bool)
     → map kept_standing items ≡ log → x ≡ get_or items k x → k < length log
     → kept_standing y ≡ after (kept_standing x) moment ok
@@ -253,6 +280,7 @@ kept-set items log k x y moment ok log_is there within changed =
     let inside : k < length items = omega (arith, ap length log_is, length-map items kept_standing) in
     map-set kept_standing items k y ∙ ap₂ (λ l s. set l k s) log_is (changed ∙ ap (λ s. after s moment ok) (sym (kept_at items log k x log_is there inside)))
 
+-- what the log keeps for a domain is the standing in memory at the domain's place
 pub standing_in-held : (items : List held.Standing) (log : List Standing) (domain : List ℕ) (k : ℕ) (x : held.Standing)
     → map kept_standing items ≡ log → IsLog log → slice_get (polled_domains log) k ≡ Some domain → x ≡ get_or items k x
     → k < length items
@@ -269,18 +297,22 @@ within_log (s ∷ log) (suc k) domain at = omega (arith, within_log log k domain
 
 -- ---- what is refused is not due
 
+-- where there is no moment for the next poll, none is due
 not_due_after : (hint : Option ℕ) (failures : ℕ) (last : Option ℤ) (now : ℤ) (e : PollError)
     → IsNextAfter hint failures last (Err e) → IsDueAfter hint failures last now → ⊥
 not_due_after hint failures None now e refused due = cc
 not_due_after hint failures (Some last) now e refused due = refused.1 due.0
 
+-- the same for a domain of which there may be no standing
 pub not_due : (hint : Option ℕ) (s : Option Standing) (now : ℤ) (e : PollError) → IsNext hint s (Err e) → IsPollDue hint s now → ⊥
 not_due hint None now e refused due = due
 not_due hint (Some s) now e refused due = not_due_after hint s.failures s.last now e refused due
 
+-- the domain at a place is that of the standing there
 pub slice_get-domain : (log : List Standing) (k : ℕ) (s : Standing) → k < length log → slice_get (polled_domains log) k ≡ Some (get_or log k s).domain
 slice_get-domain log k s within = slice_get-map (λ (x : Standing). x.domain) log k
     ∙ ap (option_map (λ (x : Standing). x.domain)) (slice_get-get_or log k s within)
 
+-- the domains of a log are domain names
 pub names_of : (log : List Standing) → IsLog log → AreNames (polled_domains log)
 names_of log is = subst AreNames (sym (ap polled_domains is.is ∙ domains_of-log is.domains is.polls)) is.names

@@ -13,12 +13,14 @@ use Rattle.poll_log.proofs.PollFacts.{each_name}
 use Rattle.poll_log.proofs.PollLineFacts.{one_word, plain_name, plain_outcome}
 use Rattle.poll_log.proofs.SecondsFacts.{one_text}
 
+-- outcomes with one text are equal
 one_outcome : (a b : Bool) → outcome_text a ≡ outcome_text b → a ≡ b
 one_outcome true true e = refl
 one_outcome true false e = cc
 one_outcome false true e = cc
 one_outcome false false e = refl
 
+-- a line tells one thing at most
 one_told : (domains : List (List ℕ)) (text : List ℕ) (s t : ToldPoll) → AreNames domains → Tells domains text s → Tells domains text t → s ≡ t
 one_told domains text s t names p q =
     let words = one_word s.domain t.domain _ _ (plain_name s.domain (names s.domain p.known))
@@ -29,9 +31,11 @@ one_told domains text s t names p q =
     let seconds : s.seconds ≡ t.seconds = one_text s.seconds t.seconds p.within q.within parts.1 in
     λ i. record { domain = words.0 i; ok = ok i; seconds = seconds i }
 
+-- a line says one poll at most
 one_poll : (domains : List (List ℕ)) (text : List ℕ) (p q : Poll) → AreNames domains → SaysPoll domains text p → SaysPoll domains text q → p ≡ q
 one_poll domains text p q names a b = a.is ∙ ap poll_of (one_told domains text a.told b.told names a.tells b.tells) ∙ sym b.is
 
+-- lines say one list of polls at most
 one_list : (domains : List (List ℕ)) (lines : List (List ℕ)) (ps qs : List Poll) → AreNames domains
     → AllZip (SaysPoll domains) lines ps → AllZip (SaysPoll domains) lines qs → ps ≡ qs
 one_list domains [] [] [] names a b = refl
@@ -41,15 +45,17 @@ one_list domains (l ∷ ls) [] qs names a b = absurd a
 one_list domains (l ∷ ls) (p ∷ ps) [] names a b = absurd b
 one_list domains (l ∷ ls) (p ∷ ps) (q ∷ qs) names a b = ap₂ (λ x l. x ∷ l) (one_poll domains l p q names a.0 b.0) (one_list domains ls ps qs names a.1 b.1)
 
+-- the domains that a configuration polls are domain names
 names_in : (c : Configuration) → IsConfiguration c → AreNames (polled c)
 names_in c form = each_name c.relationships form.each_relationship
 
+-- bytes have one log at most, as `laws::one_log` says
 pub one_log : (c : Configuration) (bytes : List ℕ) (a b : List Standing) → IsConfiguration c → IsLogOf (polled c) bytes a → IsLogOf (polled c) bytes b → a ≡ b
 one_log c bytes a b form p q =
     p.is ∙ ap (log_of (polled c)) (one_list (polled c) (lines_of bytes).whole p.polls q.polls (names_in c form) p.say
     q.say) ∙ sym q.is
 
--- the line behind the front says a poll too
+-- the line after the front says a poll too
 said_there : (domains : List (List ℕ)) (front : List (List ℕ)) (text : List ℕ) (later : List (List ℕ)) (ps : List Poll)
     → AllZip (SaysPoll domains) (front ++ text ∷ later) ps → (p : Poll) × SaysPoll domains text p
 said_there domains [] text later [] say = absurd say
@@ -57,6 +63,7 @@ said_there domains [] text later (p ∷ ps) say = (p, say.0)
 said_there domains (l ∷ front) text later [] say = absurd say
 said_there domains (l ∷ front) text later (p ∷ ps) say = said_there domains front text later ps say.1
 
+-- where bytes have a log, also the line with the fault says a poll
 found : (domains : List (List ℕ)) (bytes : List ℕ) (log : List Standing) (n : ℕ) (Fault : List ℕ → Type 0)
     → (bad : FirstBad domains (lines_of bytes).whole n Fault) → IsLogOf domains bytes log
     → (p : Poll) × SaysPoll domains bad.text p
@@ -64,6 +71,8 @@ found domains bytes log n Fault bad is =
     said_there domains bad.front bad.text bad.later is.polls
     (subst (λ ls. AllZip (SaysPoll domains) ls is.polls) bad.whole is.say)
 
+-- bytes that are refused, other than for memory or a fault of the source, have no log, as
+-- `laws::one_log` says
 pub no_log : (c : Configuration) (bytes : List ℕ) (e : PollError) (log : List Standing) → IsConfiguration c
     → RefusesPolls (polled c) bytes e → (e ≡ NoMemory → ⊥) → (e ≡ Io → ⊥) → IsLogOf (polled c) bytes log → ⊥
 no_log c bytes NoMemory log form refused memory io is = memory refl

@@ -16,19 +16,24 @@ use Rattle.poll_log.proofs.MemberFacts.{contains_later}
 
 -- ---- spaces
 
+-- a space fails the test for other bytes
 is_space : (b : ℕ) → b ≡ 32 → is_no_space b ≡ true → ⊥
 is_space b same passes = let no : is_no_space 32 ≡ true = subst (λ x. is_no_space x ≡ true) same passes in cc
 
+-- a text without a space has none after its first byte
 all_later : (b : ℕ) (bs : List ℕ) → AllPass is_no_space (b ∷ bs) → AllPass is_no_space bs
 all_later b bs plain k d below = plain (suc k) d (omega arith)
 
+-- no byte of a domain name is a space
 no_space : (b : ℕ) (q : Bool) → (b == 32) ≡ q → is_domain_byte b ≡ true → not q ≡ true
 no_space b true space named = let no : is_domain_byte 32 ≡ true = subst (λ x. is_domain_byte x ≡ true) (eqb-true b 32 space) named in cc
 no_space b false space named = refl
 
+-- a domain name has no space, so it is a word of a line
 pub plain_name : (domain : List ℕ) → IsDomainText domain → AllPass is_no_space domain
 plain_name domain name k d below = no_space (get_or domain k d) (get_or domain k d == 32) refl (name.bytes k d below)
 
+-- the text of an outcome has no space, so it is a word of a line
 pub plain_outcome : (ok : Bool) → AllPass is_no_space (outcome_text ok)
 plain_outcome true zero d below = refl
 plain_outcome true (suc zero) d below = refl
@@ -39,6 +44,7 @@ plain_outcome false (suc (suc zero)) d below = refl
 plain_outcome false (suc (suc (suc zero))) d below = refl
 plain_outcome false (suc (suc (suc (suc k)))) d below = absurd (omega arith)
 
+-- a word and a space after it have a space
 has_space : (word rest : List ℕ) → AllPass is_no_space (word ++ (32 ∷ rest)) → ⊥
 has_space [] rest plain = is_space 32 refl (plain 0 0 (omega arith))
 has_space (b ∷ word) rest plain = has_space word rest (all_later b (word ++ (32 ∷ rest)) plain)
@@ -56,32 +62,39 @@ one_word (b ∷ word) (c ∷ other) rest more p q e =
 
 -- ---- what a line tells
 
+-- the domain that a line tells of is its first word, and the outcome and the seconds are the rest
 told_words : (domains : List (List ℕ)) (text word rest : List ℕ) (t : ToldPoll) → AreNames domains → IsWord text word rest → Tells domains text t
     → (t.domain ≡ word) × (outcome_text t.ok ++ (32 ∷ signed_decimal t.seconds) ≡ rest)
 told_words domains text word rest t names split tells =
     one_word t.domain word _ rest (plain_name t.domain (names t.domain tells.known)) split.plain (sym tells.is ∙ split.whole)
 
+-- a line without a space tells of no poll
 pub no_words : (domains : List (List ℕ)) (text : List ℕ) → AllPass is_no_space text → TellsNothing domains text
 no_words domains text plain t tells = has_space t.domain (outcome_text t.ok ++ (32 ∷ signed_decimal t.seconds)) (subst (AllPass is_no_space) tells.is plain)
 
 module _ (domains : List (List ℕ)) (text word rest : List ℕ) (names : AreNames domains) (split : IsWord text word rest) where
+  -- a line whose first word is no polled domain tells of no poll
   pub no_domain : (Contains domains word → ⊥) → TellsNothing domains text
   no_domain lacks t tells = lacks (subst (Contains domains) (told_words domains text word rest t names split tells).0 tells.known)
 
+  -- a line without an outcome after its first word tells of no poll
   pub no_outcome : ((ok : Bool) (more : List ℕ) → rest ≡ outcome_text ok ++ (32 ∷ more) → ⊥) → TellsNothing domains text
   no_outcome none t tells = none t.ok (signed_decimal t.seconds) (sym (told_words domains text word rest t names split tells).1)
 
+  -- a line without a number of seconds after its outcome tells of no poll
   pub no_seconds : (ok : Bool) (seconds : List ℕ) → rest ≡ outcome_text ok ++ (32 ∷ seconds) → ReadsSeconds seconds None → TellsNothing domains text
   no_seconds ok seconds is none t tells =
       let both = one_word (outcome_text t.ok) (outcome_text ok) (signed_decimal t.seconds) seconds (plain_outcome t.ok)
       (plain_outcome ok) ((told_words domains text word rest t names split tells).1 ∙ is) in
       none t.seconds tells.within (sym both.1)
 
+-- an item at a place is a member
 contains_at : {X : Type 0} (xs : List X) (k : ℕ) (x : X) → slice_get xs k ≡ Some x → Contains xs x
 contains_at [] k x at = cc
 contains_at (y ∷ xs) zero x at = let same : y ≡ x = cc in (0, omega arith, same)
 contains_at (y ∷ xs) (suc k) x at = contains_later y xs x (contains_at xs k x at)
 
+-- a line whose parts were all read tells of these parts
 pub tells_parts : (domains : List (List ℕ)) (text word rest seconds : List ℕ) (parts : Parts) → IsWord text word rest
     → slice_get domains parts.place ≡ Some word → rest ≡ outcome_text parts.ok ++ (32 ∷ seconds)
     → seconds ≡ signed_decimal parts.seconds → FitsSigned w64 parts.seconds → TellsParts domains text parts

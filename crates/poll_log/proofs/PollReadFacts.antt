@@ -17,6 +17,7 @@ use Rattle.poll_log.specs.declared.error.PollError.{PollError}
 use Rattle.poll_log.proofs.PollFacts.{domains_of-log, each_name}
 use Rattle.poll_log.proofs.SecondsFacts.{length-seconds}
 
+-- one more of each, side by side
 zip_more : {X Y : Type 0} (R : X → Y → Type 0) (xs : List X) (ys : List Y) (x : X) (y : Y) → AllZip R xs ys → R x y → AllZip R (xs ++ x ∷ []) (ys ++ y ∷ [])
 zip_more R [] [] x y zip one = (one, tt)
 zip_more R [] (b ∷ ys) x y zip one = absurd zip
@@ -25,19 +26,23 @@ zip_more R (a ∷ xs) (b ∷ ys) x y zip one = (zip.0, zip_more R xs ys x y zip.
 
 -- ---- the beginning
 
+-- before the first line no poll is read
 begin : (domains : List (List ℕ)) (a : Option (List ℕ)) → ReadTo domains a (prepend_known [] a) [] 0
 begin domains None = tt
 begin domains (Some xs) = record { front = []; say = tt; whole = refl; rest = refl; counted = refl }
 
+-- before the first line the log is that of no polls
 pub HasRead-none : (domains : List (List ℕ)) (a : Option (List ℕ)) (log : List Standing) → log ≡ log_of domains []
     → HasRead domains a (prepend_known [] a) log 0
 HasRead-none domains a log is = record { polls = []; is = is; lines = begin domains a }
 
 -- ---- one more line
 
+-- the first line of bytes comes before the lines of what follows it
 first_line : (ys zs text : List ℕ) → HasLine (Some ys) (Some zs) text → lines_of ys ≡ with_line text (lines_of zs)
 first_line ys zs text line = ap lines_of line.1 ∙ lines_of-line text zs line.0
 
+-- one more line was read, which says a poll
 passed : (domains : List (List ℕ)) (a b c : Option (List ℕ)) (polls : List Poll) (n : ℕ) (text : List ℕ) (p : Poll)
     → ReadTo domains a b polls n → HasLine b c text → SaysPoll domains text p
     → ReadTo domains a c (polls ++ p ∷ []) (n + 1)
@@ -54,6 +59,7 @@ passed domains (Some xs) (Some ys) (Some zs) polls n text p read line says =
       counted = omega (arith, read.counted, length-append read.front (text ∷ []));
     }
 
+-- one more line was recorded: the step of the loop in `read_polls`
 pub HasRead-line : (domains : List (List ℕ)) (a b c : Option (List ℕ)) (old new : List Standing) (n : ℕ) (text : List ℕ)
     → HasRead domains a b old n → HasLine b c text → AddsLine old text new → HasRead domains a c new (n + 1)
 HasRead-line domains a b c old new n text read line added =
@@ -65,11 +71,13 @@ HasRead-line domains a b c old new n text read line added =
           (record { told = added.told; tells = subst (λ ds. Tells ds text added.told) own added.tells; moment = added.moment; is = refl });
     }
 
+-- a log that is read keeps the domains that it began with
 pub own_domains : (domains : List (List ℕ)) (a b : Option (List ℕ)) (log : List Standing) (n : ℕ) → HasRead domains a b log n → polled_domains log ≡ domains
 own_domains domains a b log n read = ap polled_domains read.is ∙ domains_of-log domains read.polls
 
 -- ---- the first bad line
 
+-- a line with a fault after lines that say polls is the first bad one
 bad : (domains : List (List ℕ)) (a b c : Option (List ℕ)) (log : List Standing) (n : ℕ) (text : List ℕ) (Fault : List ℕ
     → Type 0) → HasRead domains a b log n → HasLine b c text → Fault text
     → IfSome a (λ xs. FirstBad domains (lines_of xs).whole (n + 1) Fault)
@@ -89,10 +97,12 @@ bad domains (Some xs) (Some ys) (Some zs) log n text Fault read line fault =
       counted = omega (arith, read.lines.counted);
     }
 
+-- what follows from a property of bytes holds also where a source may not tell them
 if_some : (a : Option (List ℕ)) (P Q : List ℕ → Type 0) → ((xs : List ℕ) → P xs → Q xs) → IfSome a P → IfSome a Q
 if_some None P Q f h = tt
 if_some (Some xs) P Q f h = f xs h
 
+-- a line that tells of no poll refuses the bytes, by its number
 pub RefusesPolls-line : (domains : List (List ℕ)) (a b c : Option (List ℕ)) (log : List Standing) (n : ℕ)
     (text : List ℕ) → HasRead domains a b log n → HasLine b c text → TellsNothing (polled_domains log) text
     → IfSome a (λ xs. RefusesPolls domains xs (BadLine (n + 1)))
@@ -100,17 +110,20 @@ RefusesPolls-line domains a b c log n text read line nothing =
     if_some a _ _ (λ xs first. inl first)
     (bad domains a b c log n text (TellsNothing domains) read line (subst (λ ds. TellsNothing ds text) (own_domains domains a b log n read) nothing))
 
+-- a line that tells of a poll at no moment refuses the bytes, by its number
 pub RefusesPolls-moment : (domains : List (List ℕ)) (a b c : Option (List ℕ)) (log : List Standing) (n : ℕ)
     (text : List ℕ) → HasRead domains a b log n → HasLine b c text → TellsNoMoment (polled_domains log) text
     → IfSome a (λ xs. RefusesPolls domains xs (BadMoment (n + 1)))
 RefusesPolls-moment domains a b c log n text read line none =
     bad domains a b c log n text (TellsNoMoment domains) read line (subst (λ ds. TellsNoMoment ds text) (own_domains domains a b log n read) none)
 
--- no poll line is longer than a line may be
+-- the text of an outcome has four bytes at most
 length-outcome : (ok : Bool) → length (outcome_text ok) ≤ 4
 length-outcome true = omega arith
 length-outcome false = omega arith
 
+-- a poll's line has a name, an outcome and a number, so one that is too long for a line tells of no
+-- poll
 pub too_long : (domains : List (List ℕ)) (text : List ℕ) → AreNames domains → 8388608 < length text → TellsNothing domains text
 too_long domains text names long t tells =
     let name = (names t.domain tells.known).limit in
@@ -126,6 +139,7 @@ too_long domains text names long t tells =
 
 -- ---- the end
 
+-- bytes after the last line feed refuse the bytes
 pub RefusesPolls-cut : (domains : List (List ℕ)) (a b : Option (List ℕ)) (log : List Standing) (n : ℕ)
     → HasRead domains a b log n → HasNoLine b → HasMore b → IfSome a (λ xs. RefusesPolls domains xs (BadLine (n + 1)))
 RefusesPolls-cut domains None b log n read none more = tt
@@ -141,6 +155,7 @@ RefusesPolls-cut domains (Some xs) (Some ys) log n read none more =
       counted = omega (arith, read.lines.counted, ap length whole);
     })
 
+-- at the end of the stream the log is that of all its lines
 pub IsLogOf-end : (domains : List (List ℕ)) (a b : Option (List ℕ)) (log : List Standing) (n : ℕ)
     → HasRead domains a b log n → IsAtEnd b → IfSome a (λ xs. IsLogOf domains xs log)
 IsLogOf-end domains None b log n read end = tt
@@ -156,6 +171,7 @@ IsLogOf-end domains (Some xs) (Some ys) log n read end =
       is = read.is;
     }
 
+-- a stream at its end has its source there
 pub IsAtEnd-source : (kept : List ℕ) (a : Option (List ℕ)) → IsAtEnd (prepend_known kept a) → IsAtEnd a
 IsAtEnd-source kept None end = tt
 IsAtEnd-source [] (Some xs) end = end
@@ -163,6 +179,7 @@ IsAtEnd-source (b ∷ kept) (Some xs) end = cc
 
 -- ---- the refusals of a line
 
+-- what `record_line` refuses a line for refuses the bytes
 pub RefusesPolls-record : (domains : List (List ℕ)) (a b c : Option (List ℕ)) (log new : List Standing) (n : ℕ)
     (text : List ℕ) (e : PollError) → HasRead domains a b log n → HasLine b c text
     → RecordsLine log text (n + 1) new (Err e)
@@ -176,6 +193,7 @@ RefusesPolls-record domains a b c log new n text PastRange read line refused = a
 RefusesPolls-record domains a b c log new n text NoMemory read line refused = absurd refused
 RefusesPolls-record domains a b c log new n text Io read line refused = absurd refused
 
+-- a line that is too long refuses the bytes
 pub RefusesPolls-long : (config : Configuration) (a b c : Option (List ℕ)) (log : List Standing) (n : ℕ) (text : List ℕ)
     → IsConfiguration config → HasRead (polled config) a b log n → HasLine b c text → 8388608 < length text
     → IfSome a (λ xs. RefusesPolls (polled config) xs (BadLine (n + 1)))

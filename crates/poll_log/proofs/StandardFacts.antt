@@ -4,35 +4,46 @@ use Rattle.poll_log.specs.Polling.{interval_of, wait_of, standing_of}
 
 -- ---- intervals and waits
 
+-- without a hint the interval is five minutes
 no_hint : interval_of None ≡ 300
 no_hint = refl
 
+-- the interval is a minute at least
 least_hint : interval_of (Some 0) ≡ 60
 least_hint = refl
 
+-- between the limits the interval is the hint
 own_hint : interval_of (Some 61) ≡ 61
 own_hint = refl
 
+-- the interval is a day at most
 greatest_hint : interval_of (Some 18446744073709551615) ≡ 86400
 greatest_hint = refl
 
+-- after one failure the wait is 30 seconds
 one_failure : wait_of None 1 ≡ 30
 one_failure = refl
 
+-- each further failure doubles the wait
 four_failures : wait_of None 4 ≡ 240
 four_failures = refl
 
+-- the wait is never above the interval
 five_failures : wait_of None 5 ≡ 300
 five_failures = refl
 
+-- up to the twelfth failure each doubles the wait
 twelve_failures : wait_of (Some 86400) 12 ≡ 61440
 twelve_failures = refl
 
+-- the thirteenth failure doubles it no more
 thirteen_failures : wait_of (Some 86400) 13 ≡ 61440
 thirteen_failures = refl
 
 -- ---- standings: the last poll of the domain counts, and the failures since its last success
 
+-- two failures in a row count, whatever comes before and of other domains; the last poll's moment
+-- is kept, also where it is not the latest
 two_failures : standing_of (record { domain = codes "a"; moment = pos 9; ok = true } ∷ record {
   domain = codes "a";
   moment = pos 7;
@@ -46,6 +57,7 @@ two_failures : standing_of (record { domain = codes "a"; moment = pos 9; ok = tr
     ≡ record { domain = codes "a"; last = Some (pos 5); failures = 2 }
 two_failures = refl
 
+-- a success ends the count of failures
 then_ok : standing_of (record { domain = codes "a"; moment = pos 7; ok = false } ∷ record {
   domain = codes "a";
   moment =
@@ -54,5 +66,6 @@ then_ok : standing_of (record { domain = codes "a"; moment = pos 7; ok = false }
 } ∷ []) (codes "a") ≡ record { domain = codes "a"; last = Some (pos 9); failures = 0 }
 then_ok = refl
 
+-- of a domain that was never polled there is no moment and no failure
 never : standing_of [] (codes "a") ≡ record { domain = codes "a"; last = None; failures = 0 }
 never = refl

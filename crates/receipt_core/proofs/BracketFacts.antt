@@ -12,9 +12,10 @@ use Rattle.serde_json.specs.Written.{compact_text, items_text, members_text, com
 use Rattle.jwk_set.specs.Json.{IsPlain, ArePlain, HasPlainMembers}
 use Rattle.receipt_core.proofs.OrderFacts.{Apart}
 
--- What follows the bracket that closes the outermost one, where so many more are open, outside of strings, in one, and
--- behind a backslash in one.
+-- A reader of bytes with n brackets open inside of the outermost one. Its result is what follows
+-- the bracket that closes the outermost one.
 abbrev mutual
+  -- outside of strings
   outside : ℕ → List ℕ → List ℕ
   outside n [] = []
   outside n (b ∷ bytes) =
@@ -23,10 +24,12 @@ abbrev mutual
       (cond ((b == 93) || (b == 125)) (elim n [ zero ↦ bytes | suc k ↦ outside k bytes ])
       (outside n bytes)))
 
+  -- in a string
   inside : ℕ → List ℕ → List ℕ
   inside n [] = []
   inside n (b ∷ bytes) = cond (b == 34) (outside n bytes) (cond (b == 92) (escaped n bytes) (inside n bytes))
 
+  -- in a string, after a backslash
   escaped : ℕ → List ℕ → List ℕ
   escaped n [] = []
   escaped n (b ∷ bytes) = inside n bytes
@@ -42,9 +45,12 @@ closed (suc n) rest = outside n rest
 abbrev IsCalm : ℕ → Type 0
 IsCalm b = ((b == 34) ≡ false) × ((b == 92) ≡ false)
 
+-- a calm byte in a string leaves the reader in it
 calm : (n b : ℕ) (rest : List ℕ) → IsCalm b → inside n (b ∷ rest) ≡ inside n rest
 calm n b rest h = let quote = h.0 in let slash = h.1 in rw (quote, slash) refl
 
+-- each of the three spellings of a byte leaves the reader in the string: a short escape, one by
+-- digits, and the byte itself
 in_cases : (n : ℕ) (short control : Bool) (b letter high low : ℕ) (rest : List ℕ)
     → (control ≡ true → IsCalm high × IsCalm low) → (short ≡ false → IsCalm b)
     → inside n (cond short (92 ∷ letter ∷ []) (cond control (92 ∷ 117 ∷ 48 ∷ 48 ∷ high ∷ low ∷ []) (b ∷ [])) ++ rest) ≡ inside n rest
@@ -52,27 +58,33 @@ in_cases n true control b letter high low rest h k = refl
 in_cases n false true b letter high low rest h k = calm n high (low ∷ rest) (h refl).0 ∙ calm n low rest (h refl).1
 in_cases n false false b letter high low rest h k = calm n b rest (k refl)
 
+-- a hexadecimal digit is calm
 calm_digit : (x : ℕ) → x < 16 → IsCalm (digit_char x)
 calm_digit x h = (grind (arith, nat_tests), grind (arith, nat_tests))
 
+-- both digits of a control character are calm
 calm_hex : (b : ℕ) → nat_lt b 32 ≡ true → IsCalm (digit_char (b / 16)) × IsCalm (digit_char (b % 16))
 calm_hex b h =
     let small : b < 32 = grind (arith, nat_tests) in
     (calm_digit (b / 16) (omega arith), calm_digit (b % 16) (omega arith))
 
+-- where the letter of an escape is 0, the byte is none of the two marks, since each of these is its
+-- own letter
 chosen : (marked : Bool) (b other : ℕ) → 0 < b → nat_lt 0 (cond marked b other) ≡ false → marked ≡ false
 chosen true b other h k = grind (arith, nat_tests)
 chosen false b other h k = refl
 
+-- if neither of two is so, the first is not
 first_false : (p q : Bool) → (p || q) ≡ false → p ≡ false
 first_false true q h = cc
 first_false false q h = refl
 
+-- if neither of two is so, the second is not
 second_false : (p q : Bool) → (p || q) ≡ false → q ≡ false
 second_false true q h = cc
 second_false false q h = h
 
--- a byte without a short escape
+-- a byte without a short escape is calm
 unescaped : (b : ℕ) → nat_lt 0 (escape_letter b) ≡ false → IsCalm b
 unescaped b h =
     let zero_or_calm : (0 < b) → ((b == 34) || (b == 92)) ≡ false = λ some. chosen ((b == 34) || (b == 92)) b _ some h in
@@ -86,24 +98,29 @@ unescaped b h =
     calm_slash zero k = refl
     calm_slash (suc b) k = second_false (suc b == 34) (suc b == 92) (k (omega arith))
 
+-- an escaped byte leaves the reader in the string
 inside_byte : (n b : ℕ) (rest : List ℕ) → inside n (escape_byte b ++ rest) ≡ inside n rest
 unfolding escape_byte
 inside_byte n b rest = in_cases n (nat_lt 0 (escape_letter b)) (nat_lt b 32) b (escape_letter b) (digit_char (b / 16))
     (digit_char (b % 16)) rest (calm_hex b) (unescaped b)
 
+-- an escaped text and the quotation mark after it lead out of the string
 inside_escape : (n : ℕ) (s rest : List ℕ) → inside n (escape s ++ 34 ∷ rest) ≡ outside n rest
 inside_escape n [] rest = refl
 inside_escape n (b ∷ s) rest =
     ap (inside n) (append_assoc (escape_byte b) (escape s) (34 ∷ rest)) ∙ inside_byte n b (escape s ++ 34 ∷ rest) ∙ inside_escape n s rest
 
+-- a quoted text leaves the reader where it was, with as many brackets open
 outside_quoted : (n : ℕ) (s rest : List ℕ) → outside n (quoted s ++ rest) ≡ outside n rest
 outside_quoted n s rest = ap (inside n) (append_assoc (escape s) (34 ∷ []) rest) ∙ inside_escape n s rest
 
 -- ---- numbers
 
+-- the text leaves the reader outside of strings, with as many brackets open
 Passes : List ℕ → Type 0
 Passes text = (n : ℕ) (rest : List ℕ) → outside n (text ++ rest) ≡ outside n rest
 
+-- a digit leaves the reader where it was
 digit_passes : (d n : ℕ) (rest : List ℕ) → d < 10 → outside n ((48 + d) ∷ rest) ≡ outside n rest
 digit_passes d n rest h =
     let quote : ((48 + d) == 34) ≡ false = grind (arith, nat_tests) in
@@ -111,6 +128,7 @@ digit_passes d n rest h =
     let closes : (((48 + d) == 93) || ((48 + d) == 125)) ≡ false = grind (arith, nat_tests) in
     rw (quote, opens, closes) refl
 
+-- so does a number in digits
 decimal_passes : (m : ℕ) → m < 2 ^ 64 → (n : ℕ) (rest : List ℕ) → outside n (decimal m ++ rest) ≡ outside n rest
 decimal_passes =
     decimal_by_steps (λ m ds. (n : ℕ) (rest : List ℕ) → outside n (ds ++ rest) ≡ outside n rest)
@@ -118,6 +136,7 @@ decimal_passes =
     (λ m ds h before n rest. ap (outside n) (append_assoc ds ((48 + m % 10) ∷ []) rest)
     ∙ before n ((48 + m % 10) ∷ rest) ∙ digit_passes (m % 10) n rest (omega arith))
 
+-- so does a comma, or none
 comma_passes : (later : Bool) (n : ℕ) (rest : List ℕ) → outside n (comma_if later ++ rest) ≡ outside n rest
 comma_passes true n rest = refl
 comma_passes false n rest = refl
@@ -125,6 +144,7 @@ comma_passes false n rest = refl
 -- ---- values
 
 mutual
+  -- so does the compact text of a plain value
   passes : (d : Data) → IsPlain d → (n : ℕ) (rest : List ℕ) → outside n (compact_text d ++ rest) ≡ outside n rest
   passes null h n rest = refl
   passes (boolean true) h n rest = refl
@@ -136,6 +156,7 @@ mutual
   passes (array ds) h n rest = items_close false ds h (suc n) rest
   passes (object ms) h n rest = members_close false ms h (suc n) rest
 
+  -- the items of an array and its closing bracket close one bracket
   items_close : (later : Bool) (ds : Items) → ArePlain ds → (n : ℕ) (rest : List ℕ) → outside n (items_text later ds ++ rest) ≡ closed n rest
   items_close later no_items h zero rest = refl
   items_close later no_items h (suc n) rest = refl
@@ -145,6 +166,7 @@ mutual
       ∙ ap (outside n) (append_assoc (compact_text d) (items_text true ds) rest) ∙ passes d h.0 n (items_text true ds ++ rest)
       ∙ items_close true ds h.1 n rest
 
+  -- the members of an object and its closing bracket close one bracket
   members_close : (later : Bool) (ms : Members) → HasPlainMembers ms → (n : ℕ) (rest : List ℕ) → outside n (members_text later ms ++ rest) ≡ closed n rest
   members_close later no_members h zero rest = refl
   members_close later no_members h (suc n) rest = refl

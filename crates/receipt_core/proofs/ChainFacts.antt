@@ -13,21 +13,27 @@ use Rattle.receipt_core.specs.Acceptance.{IsFitting, Vouches, Leads, Meaning, Is
 use Rattle.receipt_core.specs.Chain.{HasVoucher, IsChain, IsFirst, LeadsOn, last_pair}
 use Rattle.receipt_core.proofs.VouchingFacts.{Vouches-by_offers}
 
+-- a member is an element with the property of being it; the code's searches say it so
 pub any_from_contains : {A : Type 0} (xs : List A) (a : A) → Contains xs a → Any (λ x. x ≡ a) xs
 any_from_contains xs a h = (h.0, a, h.1, h.2, refl)
 
+-- the other way round
 pub contains_from_any : {A : Type 0} (xs : List A) (a : A) → Any (λ x. x ≡ a) xs → Contains xs a
 contains_from_any {A} xs a h = (h.0, h.2, subst (λ (y : A). get_or xs h.0 y ≡ y) h.4 h.3)
 
+-- a search over an equal list for an equal triple has the same outcome
 pub any_moved : (xs ys : List Triple) (a b : Triple) (r : Bool) → xs ≡ ys → a ≡ b → (IsTrue r ↔ Any (λ t. t ≡ a) xs) → IsTrue r ↔ Any (λ t. t ≡ b) ys
 any_moved xs ys a b r e f h = subst (λ (zs : List Triple). IsTrue r ↔ Any (λ t. t ≡ b) zs) e (subst (λ (z : Triple). IsTrue r ↔ Any (λ t. t ≡ z) xs) f h)
 
+-- a receipt fits where a relationship has its domain and its endpoint
 fits_any : (c : Configuration) (r : Receipt) → Any (λ x. (x.domain ≡ r.domain) × (x.endpoint ≡ r.endpoint)) c.relationships → IsFitting c r
 fits_any c r h = record { relationship = h.1; has = (h.0, h.2, h.3); domain = h.4.0; endpoint = h.4.1 }
 
+-- the other way round
 any_fits : (c : Configuration) (r : Receipt) → IsFitting c r → Any (λ x. (x.domain ≡ r.domain) × (x.endpoint ≡ r.endpoint)) c.relationships
 any_fits c r h = (h.has.0, h.relationship, h.has.1, h.has.2, (h.domain, h.endpoint))
 
+-- the search for such a relationship decides whether a receipt fits
 pub fitting_told : (c : Configuration) (rs : List Relationship) (r : Receipt) (b : Bool) → rs ≡ c.relationships
     → (IsTrue b ↔ Any (λ x. (x.domain ≡ r.domain) × (x.endpoint ≡ r.endpoint)) rs) → IsTrue b ↔ IsFitting c r
 fitting_told c rs r b e h =
@@ -35,7 +41,8 @@ fitting_told c rs r b e h =
     subst (λ (zs : List Relationship). IsTrue b ↔ Any (λ x. (x.domain ≡ r.domain) × (x.endpoint ≡ r.endpoint)) zs) e h in
     (λ t. fits_any c r (told.0 t), λ f. told.1 (any_fits c r f))
 
--- where the key isn't distrusted
+-- where the key is not distrusted, the search for the need among the offers decides whether a
+-- document vouches
 pub next_told : (records : List Distrust) (p : Pair) (r : Receipt) (b : Bool) → (Any (λ x. x ≡ distrust_of r.endpoint.domain r) records → ⊥)
     → (IsTrue b ↔ Any (λ t. t ≡ need_of r) (offers_of p)) → IsTrue b ↔ Vouches records p r
 next_told records p r b trusted h = (
@@ -46,12 +53,16 @@ next_told records p r b trusted h = (
   λ v. h.1 (any_from_contains (offers_of p) (need_of r) ((Vouches-by_offers records p r).0 v).0),
 )
 
+-- where the key is distrusted, no document vouches
 pub distrusted_told : (records : List Distrust) (p : Pair) (r : Receipt) → Any (λ x. x ≡ distrust_of r.endpoint.domain r) records → Vouches records p r → ⊥
 distrusted_told records p r h v = ((Vouches-by_offers records p r).0 v).1 (contains_from_any records (distrust_of r.endpoint.domain r) h)
 
+-- the configured document has what the receipt needs
 abbrev pub IsVoucher : Receipt → Seed → Type 0
 IsVoucher r s = (s.domain ≡ r.endpoint.domain) × HasKeyId s.document.authorities r.key × (doc_id_of s.domain s.document ≡ r.voucher.0)
 
+-- where the key is not distrusted, the search among configured documents decides whether one
+-- vouches
 pub seeded_told : (c : Configuration) (seeds : List Seed) (records : List Distrust) (r : Receipt) (b : Bool)
     → seeds ≡ c.seeds → (Any (λ x. x ≡ distrust_of r.endpoint.domain r) records → ⊥)
     → (IsTrue b ↔ Any (IsVoucher r) seeds) → IsTrue b ↔ HasVoucher c records r
@@ -72,6 +83,7 @@ seeded_told c seeds records r b e trusted h = (
       (f.configured.0, f.seed, f.configured.1, f.configured.2, (f.vouches.endpoint, f.vouches.key, f.vouches.voucher))),
 )
 
+-- where the key is distrusted, no configured document vouches
 pub distrusted_seeded : (c : Configuration) (records : List Distrust) (r : Receipt)
     → Any (λ x. x ≡ distrust_of r.endpoint.domain r) records → HasVoucher c records r → ⊥
 distrusted_seeded c records r h f = distrusted_told records (pair_of_seed f.seed) r h f.vouches
@@ -84,18 +96,21 @@ chain_told c records r rest b f h = (
   λ k. h.1 k.leads.2,
 )
 
+-- where the first receipt starts no chain, there is none
 pub no_first : (c : Configuration) (records : List Distrust) (r : Receipt) (rest : List Receipt) → (IsFirst c records r → ⊥) → IsChain c records (r ∷ rest) → ⊥
 no_first c records r rest none k = none (k.leads.0, record { seed = k.seed; configured = k.configured; vouches = k.leads.1 })
 
--- an answer no, where nothing is so
+-- where nothing is so, `false` is the right result
 pub told_no : (P : Type 0) (b : Bool) → b ≡ false → (P → ⊥) → IsTrue b ↔ P
 told_no P b e none = (λ t. absurd (cc), λ p. absurd (none p))
 
+-- where a test has the result `false`, nothing is so
 pub not_told : (P : Type 0) (b : Bool) → (IsTrue b ↔ P) → b ≡ false → P → ⊥
 not_told P b h e p = let yes = h.1 p in cc
 
 -- ---- the end of a chain is accepted
 
+-- a chain leads on also under fewer records of distrust
 fewer_records : (c : Configuration) (records fewer : List Distrust) (from to : Pair) (chain : List Receipt)
     → ((x : Distrust) → Contains fewer x → Contains records x)
     → Leads c records from chain to → Leads c fewer from chain to
@@ -106,6 +121,7 @@ fewer_records c records fewer from to (r ∷ chain) within h = (
   fewer_records c records fewer (pair_of r) to chain within h.2,
 )
 
+-- a document that a chain of held receipts leads to is accepted
 pub IsMember-chain : (m : Meaning) (records : List Distrust) (chain : List Receipt) (h : IsChain m.config records chain)
     → AllByRecursion (Contains m.held) chain
     → ((x : Distrust) → Contains m.records x → Contains records x) → IsMember m (last_pair (pair_of_seed h.seed) chain)
@@ -117,10 +133,12 @@ IsMember-chain m records chain h held within = record {
   leads = fewer_records m.config records m.records (pair_of_seed h.seed) (last_pair (pair_of_seed h.seed) chain) chain within h.leads;
 }
 
+-- a chain with one more receipt ends in that one's document
 last_pair-push : (from : Pair) (front : List Receipt) (r : Receipt) → last_pair from (front ++ r ∷ []) ≡ pair_of r
 last_pair-push from [] r = refl
 last_pair-push from (x ∷ front) r = last_pair-push (pair_of x) front r
 
+-- the document of the last receipt of a chain is accepted, as `laws::chains` says
 pub accepted_end : (m : Meaning) (records : List Distrust) (front : List Receipt) (r : Receipt)
     → IsChain m.config records (front ++ r ∷ []) → AllByRecursion (Contains m.held) (front ++ r ∷ [])
     → ((x : Distrust) → Contains m.records x → Contains records x) → IsMember m (pair_of r)

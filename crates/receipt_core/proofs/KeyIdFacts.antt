@@ -13,6 +13,7 @@ use Rattle.receipt_core.specs.Receipt.{key_ids, with_key_id, Pair, offer_of}
 use Rattle.receipt_core.specs.declared.triple.Triple.{Triple}
 use Rattle.receipt_core.specs.Rising.{with_item, placed}
 
+-- the two spellings of where an item goes, the library's and that of `with_item`, are the same
 placed_same : {K : Type 0} (o : Ordering) (k x : K) (xs longer : List K) → match_ordering o (k ∷ x ∷ xs) (x ∷ xs) (x ∷ longer) ≡ placed o k x xs longer
 placed_same Less k x xs longer = refl
 placed_same Equal k x xs longer = refl
@@ -23,7 +24,7 @@ pub insert_key-with_item : {K : Type 0} (cmp : K → K → Ordering) (ks : List 
 insert_key-with_item cmp [] k = refl
 insert_key-with_item cmp (x ∷ xs) k = placed_same (cmp k x) k x xs _ ∙ ap (placed (cmp k x) k x xs) (insert_key-with_item cmp xs k)
 
--- one authority more
+-- the key ids of one more authority: the step of the loop in `key_ids`
 pub key_ids-more : (authorities : List Authority) (i : ℕ) (a : Authority) → i < length authorities → a ≡ get_or authorities i a
     → key_ids (take (i + 1) authorities) ≡ with_key_id (key_id_of a) (key_ids (take i authorities))
 key_ids-more authorities i a h e =
@@ -32,7 +33,7 @@ key_ids-more authorities i a h e =
     ∙ fold-append (λ keys authority. with_key_id (key_id_of authority) keys) [] (take i authorities) (get_or authorities i a ∷ [])
     ∙ ap (λ x. with_key_id (key_id_of x) (key_ids (take i authorities))) (λ j. sym e j)
 
--- one offer more
+-- one more offer was made: the step of the loop in `offers_of`
 pub offers_more : (p : Pair) (k : KeyId) (t : Triple) (keys others : List KeyId) (before after all : List Triple)
     → keys ≡ k ∷ others → t ≡ offer_of p k → after ≡ before ++ t ∷ [] → before ++ map (offer_of p) keys ≡ all → after ++ map (offer_of p) others ≡ all
 offers_more p k t keys others before after all split is pushed so_far =

@@ -9,12 +9,13 @@ use Rattle.std.specs.Cmp.{nat_cmp_total, tied_itself}
 use Rattle.std.specs.Cmp.Lexicographic.{slice_cmp}
 use Rattle.std.specs.List.{AllByRecursion}
 
+-- it makes no difference how three orders in turn are bracketed
 pub then_assoc : (a b c : Ordering) → ordering_then (ordering_then a b) c ≡ ordering_then a (ordering_then b c)
 then_assoc Less b c = refl
 then_assoc Equal b c = refl
 then_assoc Greater b c = refl
 
--- a chain of orders is equal where each is
+-- two orders in turn tie only where both do
 pub both_equal : (a b : Ordering) → ordering_then a b ≡ Equal → (a ≡ Equal) × (b ≡ Equal)
 both_equal Less b h = absurd (cc)
 both_equal Equal b h = (refl, h)
@@ -25,6 +26,7 @@ pub behind : (front x y : List ℕ) → slice_cmp nat_cmp (front ++ x) (front ++
 behind [] x y = refl
 behind (b ∷ front) x y = ap (λ o. ordering_then o (slice_cmp nat_cmp (front ++ x) (front ++ y))) (tied_itself nat_cmp_total b) ∙ behind front x y
 
+-- bytes that tie are equal
 pub equal_bytes : (b c : ℕ) → nat_cmp b c ≡ Equal → b ≡ c
 equal_bytes b c h = grind (arith, nat_tests)
 
@@ -32,11 +34,14 @@ equal_bytes b c h = grind (arith, nat_tests)
 abbrev pub Apart : List ℕ → List ℕ → Type 0
 Apart x y = (u v : List ℕ) → x ++ u ≡ y ++ v → x ≡ y
 
+-- texts of which neither is a proper beginning of the other stay so without an equal first byte
 apart_tails : (b c : ℕ) (x y : List ℕ) → b ≡ c → Apart (b ∷ x) (c ∷ y) → Apart x y
 apart_tails b c x y e h = λ u v same.
     let whole : b ∷ x ≡ c ∷ y = h u v (λ i. e i ∷ same i) in
     cc
 
+-- the induction step of the orders of whole texts: what follows the first bytes counts only where
+-- these tie
 by_order : (o whole inner outer : Ordering) → (o ≡ Equal → whole ≡ ordering_then inner outer)
     → ordering_then o whole ≡ ordering_then (ordering_then o inner) outer
 by_order Less whole inner outer h = refl
@@ -51,15 +56,19 @@ first_apart (b ∷ x) [] u v h = let bad : b ∷ x ≡ [] = h [] (b ∷ x) (appe
 first_apart (b ∷ x) (c ∷ y) u v h =
     by_order (nat_cmp b c) _ _ _ (λ e. first_apart x y u v (apart_tails b c x y (equal_bytes b c e) h))
 
+-- a lesser number is found less; the next two say the same of a greater and of an equal one
 pub cmp_less : (b c : ℕ) → b < c → nat_cmp b c ≡ Less
 cmp_less b c h = grind (arith, nat_tests)
 
+-- a greater number is found greater
 pub cmp_greater : (b c : ℕ) → c < b → nat_cmp b c ≡ Greater
 cmp_greater b c h = grind (arith, nat_tests)
 
+-- equal numbers tie
 pub cmp_equal : (b c : ℕ) → b ≡ c → nat_cmp b c ≡ Equal
 cmp_equal b c e = grind (arith, nat_tests)
 
+-- what holds where one number is less, equal or greater holds of any two
 pub by_order_of : (P : ℕ → ℕ → Type 0) (b c : ℕ) → (b < c → P b c) → (b ≡ c → P b c) → (c < b → P b c) → P b c
 by_order_of P b c less equal greater = elim (cases_lt b c) [ inl h ↦ less h | inr h ↦ elim (cases_lt c b) [ inl k ↦ greater k | inr k ↦ equal (omega arith) ] ]
 
@@ -67,7 +76,7 @@ by_order_of P b c less equal greater = elim (cases_lt b c) [ inl h ↦ less h | 
 abbrev pub Above : ℕ → List ℕ → Type 0
 Above mark = AllByRecursion (λ b. mark < b)
 
--- so do texts with a mark behind each that is below all their bytes
+-- texts with a mark after each that is below all their bytes decide, and else what follows does
 pub first_marked : (mark : ℕ) (x y u v : List ℕ) → Above mark x → Above mark y
     → slice_cmp nat_cmp (x ++ mark ∷ u) (y ++ mark ∷ v) ≡ ordering_then (slice_cmp nat_cmp x y) (slice_cmp nat_cmp u v)
 first_marked mark [] [] u v p q = ap (λ o. ordering_then o (slice_cmp nat_cmp u v)) (tied_itself nat_cmp_total mark)
@@ -76,12 +85,13 @@ first_marked mark (b ∷ x) [] u v p q = ap (λ o. ordering_then o (slice_cmp na
 first_marked mark (b ∷ x) (c ∷ y) u v p q =
     by_order (nat_cmp b c) _ _ _ (λ _. first_marked mark x y u v p.1 q.1)
 
+-- a tie that comes second changes nothing
 pub then_equal : (o : Ordering) → ordering_then o Equal ≡ o
 then_equal Less = refl
 then_equal Equal = refl
 then_equal Greater = refl
 
--- an order's answer `Equal` as a test of sameness
+-- an order that finds two things equal exactly where they are is a test of sameness
 pub tells_same : {A : Type 0} (x y : A) (o : Ordering) (b : Bool) → b ≡ (ordering_index o == 1) → (o ≡ Equal → x ≡ y) → (x ≡ y → o ≡ Equal) → IsTrue b ↔ (x ≡ y)
 tells_same x y Less b e p q = (λ t. absurd (cc), λ same. let no = q same in absurd (cc))
 tells_same x y Equal b e p q = (λ t. p refl, λ same. e)

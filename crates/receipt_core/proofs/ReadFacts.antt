@@ -25,10 +25,12 @@ use Rattle.receipt_core.proofs.LineFacts.{line_text, distrust_line_text}
 
 -- ---- lengths
 
+-- the length of a line from those of its parts
 length-pieces : (d n e k v : List ℕ) → length (pieces d n e k v) ≡ 56 + length d + length n + length e + length k + length v
 unfolding pieces
 length-pieces d n e k v = simp length-append (omega arith)
 
+-- no receipt's line is longer than 1,051,063 bytes
 pub length-line : (r : Receipt) → IsReceipt r → length (line r) ≤ 1051063
 length-line r h =
     let whole = ap length (line_text r h) ∙ length-pieces (canonical_text r.document) r.domain r.endpoint.text
@@ -47,12 +49,15 @@ length-line r h =
 
 -- ---- the tree
 
+-- the digits of a digest are UTF-8
 utf8_digits : (digest : List ℕ) → IsDigest digest → IsUtf8 (encode_lower digest)
 utf8_digits digest h = IsUtf8-encode_lower digest h.octets
 
+-- a text whose bytes pass the test for ASCII is UTF-8: for the names of members
 ascii : (t : List ℕ) → are_ascii t ≡ true → IsUtf8 t
 ascii = IsUtf8-are_ascii
 
+-- the value of a receipt is plain where its parts are
 plain_tree : (d : Data) (n e k v : List ℕ) → IsPlain d → IsUtf8 n → IsUtf8 e → IsUtf8 k → IsUtf8 v
     → IsPlain (object (member (codes "doc") d
     (member (codes "domain") (string n)
@@ -80,6 +85,7 @@ plain_tree d n e k v pd pn pe pk pv = (
   ),
 )
 
+-- the value of a receipt nests within the limit of JSON texts
 shallow_tree : (d : Data) (n e k v : List ℕ) → depth d ≤ 4
     → depth (object (member (codes "doc") d
     (member (codes "domain") (string n)
@@ -87,6 +93,7 @@ shallow_tree : (d : Data) (n e k v : List ℕ) → depth d ≤ 4
     (member (codes "key") (string k) (member (codes "voucher") (string v) no_members)))))) ≤ max_depth
 shallow_tree d n e k v h = omega arith
 
+-- a receipt's line is a JSON text of its value
 pub IsJson-line : (r : Receipt) → IsReceipt r → IsJson (line r) (receipt_tree r)
 unfolding line
 IsJson-line r h =
@@ -96,6 +103,7 @@ IsJson-line r h =
     (utf8_digits r.key.0 h.key) (utf8_digits r.voucher.0 h.voucher))
     (shallow_tree (document_tree r.document) r.domain r.endpoint.text (encode_lower r.key.0) (encode_lower r.voucher.0) (depth-document_tree r.document))
 
+-- the value of a receipt says it
 says_line : (r : Receipt) → IsReceipt r → SaysReceipt (receipt_tree r) r
 says_line r h = record {
   document = (document_tree r.document, refl, Means-document_tree r.document h.document, h.fits);
@@ -106,22 +114,25 @@ says_line r h = record {
   is = h;
 }
 
+-- a value has one text at most under a name
 one_text : (tree : Data) (name s t : List ℕ) → HasText tree name s → HasText tree name t → s ≡ t
 one_text tree name s t p q = cc
 
+-- a value says one document at most
 pub one_document : (tree : Data) (b c : Bundle) → SaysDocument tree b → SaysDocument tree c → b ≡ c
 one_document tree b c p q =
     let found : Some p.0 ≡ Some q.0 = sym p.1 ∙ q.1 in
     let same : p.0 ≡ q.0 = cc in
     one_meaning p.0 b c p.2 (subst (λ t. Means t c) (sym same) q.2)
 
+-- a value has one digest at most under a name, since its digits decode to it
 one_digest : (tree : Data) (name a b : List ℕ) → HasText tree name (encode_lower a) → HasText tree name (encode_lower b) → IsDigest a → IsDigest b → a ≡ b
 one_digest tree name a b p q pa qb =
     let texts : encode_lower a ≡ encode_lower b = one_text tree name (encode_lower a) (encode_lower b) p q in
     let both : Ok a ≡ Ok b = sym (decode_sized-encode_lower a pa) ∙ ap (λ t. decode_sized t 32) texts ∙ decode_sized-encode_lower b qb in
     cc
 
--- a value says one receipt
+-- a value says one receipt at most
 one_said : (tree : Data) (r s : Receipt) → SaysReceipt tree r → SaysReceipt tree s → r ≡ s
 one_said tree r s p q =
     let documents = one_document tree r.document s.document p.document q.document in
@@ -142,23 +153,27 @@ says_of_line bytes tree r json is =
     unwrapped : (a b : Data) → Some a ≡ Some b → a ≡ b
     unwrapped a b e = cc
 
+-- bytes whose value says no receipt are no line
 pub no_line_said : (bytes : List ℕ) (tree : Data) → IsJson bytes tree → ((r : Receipt) → SaysReceipt tree r → ⊥) → IsNoLine bytes
 no_line_said bytes tree json none = λ r is. none r (says_of_line bytes tree r json is)
 
+-- bytes whose value says a receipt with another line are no line
 pub another_line : (bytes : List ℕ) (tree : Data) (s : Receipt) → IsJson bytes tree → SaysReceipt tree s → (line s ≡ bytes → ⊥) → IsNoLine bytes
 another_line bytes tree s json says other = λ r is.
     let same : s ≡ r = one_said tree s r says (says_of_line bytes tree r json is) in
     other (ap line same ∙ sym is.text)
 
+-- bytes that are no JSON text are no line
 pub no_line_parsed : (bytes : List ℕ) (e : LineError) → Unless e (IsNoJson bytes) → Unless e (IsNoLine bytes)
 no_line_parsed bytes NotCanonical h = λ r is. h (receipt_tree r) (subst (λ t. IsJson t (receipt_tree r)) (sym is.text) (IsJson-line r is.is))
 no_line_parsed bytes TooLong h = h
 no_line_parsed bytes NoMemory h = tt
 
+-- bytes longer than the longest line are no line
 pub no_long_line : (bytes : List ℕ) → 1051063 < length bytes → IsNoLine bytes
 no_long_line bytes long = λ r is. let short = length-line r is.is in let same = ap length is.text in absurd (omega arith)
 
--- the line of parts that were read from its pieces
+-- parts that were read from the pieces of a line are the receipt of that line
 pub IsLine-pieces : (b : Bundle) (n : List ℕ) (id : Id) (k v dt nt et kt vt : List ℕ) → IsStoredDocument b dt
     → (n ≡ nt) × IsDomainText n → (id.text ≡ et) × IsId id → (encode_lower k ≡ kt) × IsDigest k
     → (encode_lower v ≡ vt) × IsDigest v
@@ -180,10 +195,12 @@ IsLine-pieces b n id k v dt nt et kt vt document domain endpoint key voucher =
 
 -- ---- records of distrust
 
+-- the length of a record's line from those of its parts
 length-distrust_pieces : (k n : List ℕ) → length (distrust_pieces k n) ≡ 27 + length k + length n
 unfolding distrust_pieces
 length-distrust_pieces k n = simp length-append (omega arith)
 
+-- no record's line is longer than 346 bytes
 length-distrust_line : (x : Distrust) → IsDistrust x → length (distrust_line x) ≤ 346
 length-distrust_line x h =
     let whole = ap length (distrust_line_text x h) ∙ length-distrust_pieces (encode_lower x.key.0) x.domain in
@@ -193,27 +210,33 @@ length-distrust_line x h =
     within : (k n w : ℕ) → w ≡ 27 + k + n → k ≡ 64 → n ≤ 255 → w ≤ 346
     within k n w whole pk pn = omega arith
 
+-- the value of a record is plain where its parts are UTF-8
 plain_record : (k n : List ℕ) → IsUtf8 k → IsUtf8 n → IsPlain (object (member (codes "distrust") (string k) (member (codes "domain") (string n) no_members)))
 plain_record k n pk pn = (ascii (codes "distrust") refl, pk, (refl, tt), (ascii (codes "domain") refl, pn, tt, tt))
 
+-- the value of a record nests within the limit of JSON texts
 shallow_record : (k n : List ℕ) → depth (object (member (codes "distrust") (string k) (member (codes "domain") (string n) no_members))) ≤ max_depth
 shallow_record k n = omega arith
 
+-- a record's line is a JSON text of its value
 IsJson-distrust_line : (x : Distrust) → IsDistrust x → IsJson (distrust_line x) (distrust_tree x)
 unfolding distrust_line
 IsJson-distrust_line x h =
     IsJson-compact_text (distrust_tree x) (plain_record (encode_lower x.key.0) x.domain (utf8_digits x.key.0 h.key) (IsPlainText-domain x.domain h.domain).utf8)
     (shallow_record (encode_lower x.key.0) x.domain)
 
+-- the value of a record says it
 says_record : (x : Distrust) → IsDistrust x → SaysDistrust (distrust_tree x) x
 says_record x h = record { key = refl; domain = refl; is = h }
 
+-- a value says one record at most
 one_record_said : (tree : Data) (x y : Distrust) → SaysDistrust tree x → SaysDistrust tree y → x ≡ y
 one_record_said tree x y p q =
     let domains = one_text tree (codes "domain") x.domain y.domain p.domain q.domain in
     let keys = one_digest tree (codes "distrust") x.key.0 y.key.0 p.key q.key p.is.key q.is.key in
     λ i. record { domain = domains i; key = record { 0 = keys i } }
 
+-- the value of a record's line says it
 says_of_record : (bytes : List ℕ) (tree : Data) (x : Distrust) → IsJson bytes tree → IsRecord bytes x → SaysDistrust tree x
 says_of_record bytes tree x json is =
     let both : Some tree ≡ Some (distrust_tree x) = sym json.1 ∙ ap read is.text ∙ (IsJson-distrust_line x is.is).1 in
@@ -223,23 +246,28 @@ says_of_record bytes tree x json is =
     unwrapped : (a b : Data) → Some a ≡ Some b → a ≡ b
     unwrapped a b e = cc
 
+-- bytes whose value says no record are no record's line
 pub no_record_said : (bytes : List ℕ) (tree : Data) → IsJson bytes tree → ((x : Distrust) → SaysDistrust tree x → ⊥) → IsNoRecord bytes
 no_record_said bytes tree json none = λ x is. none x (says_of_record bytes tree x json is)
 
+-- bytes whose value says a record with another line are no record's line
 pub another_record : (bytes : List ℕ) (tree : Data) (y : Distrust) → IsJson bytes tree → SaysDistrust tree y → (distrust_line y ≡ bytes → ⊥) → IsNoRecord bytes
 another_record bytes tree y json says other = λ x is.
     let same : y ≡ x = one_record_said tree y x says (says_of_record bytes tree x json is) in
     other (ap distrust_line same ∙ sym is.text)
 
+-- where bytes within the bound are no record's line, or memory ran out, they are refused
 pub refused_record : (bytes : List ℕ) (e : LineError) → length bytes ≤ 346 → Unless e (IsNoRecord bytes) → RefusesRecord bytes e
 refused_record bytes NotCanonical short h = (omega arith, h)
 refused_record bytes TooLong short h = absurd h
 refused_record bytes NoMemory short h = short
 
+-- bytes that are no JSON text are no record's line
 pub no_record_parsed : (bytes : List ℕ) (e : LineError) → Unless e (IsNoJson bytes) → Unless e (IsNoRecord bytes)
 no_record_parsed bytes NotCanonical h = λ x is. h (distrust_tree x) (subst (λ t. IsJson t (distrust_tree x)) (sym is.text) (IsJson-distrust_line x is.is))
 no_record_parsed bytes TooLong h = h
 no_record_parsed bytes NoMemory h = tt
 
+-- bytes longer than the longest record's line are none
 pub no_long_record : (bytes : List ℕ) → 346 < length bytes → IsNoRecord bytes
 no_long_record bytes long = λ x is. let short = length-distrust_line x is.is in let same = ap length is.text in absurd (omega arith)

@@ -13,38 +13,47 @@ use Rattle.receipt_core.specs.Sets.{AreSets}
 
 -- ---- membership, by recursion
 
+-- the item is a member, by recursion
 abbrev pub Has : {A : Type 0} → List A → A → Type 0
 Has [] a = ⊥
 Has (b ∷ others) a = (b ≡ a) ⊎ Has others a
 
+-- a member by recursion is at some index
 pub Contains-from_has : {A : Type 0} (xs : List A) (a : A) → Has xs a → Contains xs a
 Contains-from_has [] a h = absurd h
 Contains-from_has (x ∷ xs) a h = elim h [ inl e ↦ (0, omega arith, e) | inr k ↦ let rest = Contains-from_has xs a k in (suc rest.0, omega arith, rest.2) ]
 
+-- the item at an index is a member by recursion
 has_at : {A : Type 0} (xs : List A) (a : A) (k : ℕ) → k < length xs → get_or xs k a ≡ a → Has xs a
 has_at [] a k lt e = absurd (omega arith)
 has_at (x ∷ xs) a zero lt e = inl e
 has_at (x ∷ xs) a (suc k) lt e = inr (has_at xs a k (omega arith) e)
 
+-- a member is one by recursion
 pub Has-from_contains : {A : Type 0} (xs : List A) (a : A) → Contains xs a → Has xs a
 Has-from_contains xs a h = has_at xs a h.0 h.1 h.2
 
+-- what holds of each item holds of a member
 pub each_has : {A : Type 0} (P : A → Type 0) (xs : List A) (a : A) → AllByRecursion P xs → Has xs a → P a
 each_has P [] a h k = absurd k
 each_has P (x ∷ xs) a h k = elim k [ inl e ↦ subst P e h.0 | inr later ↦ each_has P xs a h.1 later ]
 
+-- what holds of all members holds of each item
 pub all_from_has : {A : Type 0} (P : A → Type 0) (xs : List A) → ((a : A) → Has xs a → P a) → AllByRecursion P xs
 all_from_has P [] h = tt
 all_from_has P (x ∷ xs) h = (h x (inl refl), all_from_has P xs (λ a k. h a (inr k)))
 
 -- ---- orders
 
+-- what is below an item has it above
 pub turned : {A : Type 0} {cmp : A → A → Ordering} → IsTotalOrder cmp → (a b : A) → cmp a b ≡ Less → cmp b a ≡ Greater
 turned {A} {cmp} o a b h = o.antisymm b a ∙ ap ordering_reverse h
 
+-- what is above an item has it below
 unturned : {A : Type 0} {cmp : A → A → Ordering} → IsTotalOrder cmp → (a b : A) → cmp a b ≡ Greater → cmp b a ≡ Less
 unturned {A} {cmp} o a b h = o.antisymm b a ∙ ap ordering_reverse h
 
+-- no item is below itself
 no_less_itself : {A : Type 0} {cmp : A → A → Ordering} → IsTotalOrder cmp → (a : A) → cmp a a ≡ Less → ⊥
 no_less_itself {A} {cmp} o a h = let tied : cmp a a ≡ Equal = tied_itself o a in cc
 
@@ -54,17 +63,20 @@ below_all : {A : Type 0} (cmp : A → A → Ordering) → IsTotalOrder cmp → (
 below_all cmp o a head [] h all = tt
 below_all cmp o a head (x ∷ rest) h all = (o.trans a head x h all.0, below_all cmp o a head rest h all.1)
 
+-- a rising list rises with an item in front that is below all of it
 rises : {A : Type 0} (cmp : A → A → Ordering) (head : A) (rest : List A) → AllByRecursion (λ y. cmp head y ≡ Less) rest
     → IsStrictlySortedBy cmp rest → IsStrictlySortedBy cmp (head ∷ rest)
 unfolding IsStrictlySortedBy
 rises cmp head rest all rising = (all, rising)
 
+-- the empty list rises
 rises_empty : {A : Type 0} (cmp : A → A → Ordering) → IsStrictlySortedBy cmp []
 unfolding IsStrictlySortedBy
 rises_empty cmp = tt
 
 -- ---- one item more
 
+-- what holds of the item and of all others holds wherever the item goes; for `with_item-all`
 placed_all : {A : Type 0} (Q : A → Type 0) (o : Ordering) (item head : A) (rest longer : List A) → Q item → Q head
     → AllByRecursion Q rest → AllByRecursion Q longer → AllByRecursion Q (placed o item head rest longer)
 placed_all Q Less item head rest longer p q r l = (p, (q, r))
@@ -79,6 +91,7 @@ with_item-all Q cmp item (head ∷ rest) p h =
     placed_all Q (cmp item head) item head rest (with_item cmp item rest) p h.0 h.1
     (with_item-all Q cmp item rest p h.1)
 
+-- the list rises wherever the item goes; for `with_item-rising`
 placed_rises : {A : Type 0} (cmp : A → A → Ordering) → IsTotalOrder cmp → (o : Ordering) (item head : A) (rest longer : List A) → o ≡ cmp item head
     → AllByRecursion (λ y. cmp head y ≡ Less) rest → IsStrictlySortedBy cmp rest
     → (cmp head item ≡ Less → AllByRecursion (λ y. cmp head y ≡ Less) longer) → IsStrictlySortedBy cmp longer
@@ -89,7 +102,7 @@ placed_rises cmp t Equal item head rest longer e above rising above_longer longe
 placed_rises cmp t Greater item head rest longer e above rising above_longer longer_rises =
     rises cmp head longer (above_longer (unturned t item head (sym e))) longer_rises
 
--- the list still rises
+-- a rising list still rises with the item
 pub with_item-rising : {A : Type 0} (cmp : A → A → Ordering) → IsTotalOrder cmp → (item : A) (set : List A)
     → IsStrictlySortedBy cmp set → IsStrictlySortedBy cmp (with_item cmp item set)
 with_item-rising cmp t item [] h = rises cmp item [] tt (rises_empty cmp)
@@ -99,6 +112,7 @@ with_item-rising cmp t item (head ∷ rest) h =
     placed_rises cmp t (cmp item head) item head rest (with_item cmp item rest) refl above rising
     (λ less. with_item-all (λ y. cmp head y ≡ Less) cmp item rest less above) (with_item-rising cmp t item rest rising)
 
+-- a member is the item or was one, wherever the item goes; for `with_item-has`
 placed_has : {A : Type 0} (o : Ordering) (item head a : A) (rest longer : List A)
     → (Has longer a → (item ≡ a) ⊎ Has rest a) → Has (placed o item head rest longer) a
     → (item ≡ a) ⊎ Has (head ∷ rest) a
@@ -111,6 +125,7 @@ pub with_item-has : {A : Type 0} (cmp : A → A → Ordering) (item : A) (set : 
 with_item-has cmp item [] a h = h
 with_item-has cmp item (head ∷ rest) a h = placed_has (cmp item head) item head a rest (with_item cmp item rest) (with_item-has cmp item rest a) h
 
+-- what was a member is one, wherever the item goes; for `with_item-keeps`
 placed_keeps : {A : Type 0} (o : Ordering) (item head a : A) (rest longer : List A) → (Has rest a → Has longer a)
     → Has (head ∷ rest) a → Has (placed o item head rest longer) a
 placed_keeps Less item head a rest longer k h = inr h
@@ -122,6 +137,7 @@ pub with_item-keeps : {A : Type 0} (cmp : A → A → Ordering) (item : A) (set 
 with_item-keeps cmp item [] a h = absurd h
 with_item-keeps cmp item (head ∷ rest) a h = placed_keeps (cmp item head) item head a rest (with_item cmp item rest) (with_item-keeps cmp item rest a) h
 
+-- the item is a member, wherever it goes; for `with_item-new`
 placed_new : {A : Type 0} (o : Ordering) (item head : A) (rest longer : List A) → (o ≡ Equal → head ≡ item)
     → Has longer item → Has (placed o item head rest longer) item
 placed_new Less item head rest longer same k = inl refl
@@ -139,6 +155,7 @@ with_item-new P cmp exact item [] p h = inl refl
 with_item-new P cmp exact item (head ∷ rest) p h =
     placed_new (cmp item head) item head rest (with_item cmp item rest) (λ e. sym (exact item head p h.0 e)) (with_item-new P cmp exact item rest p h.1)
 
+-- a member that is put in again changes nothing; for `with_item-present`
 placed_present : {A : Type 0} (cmp : A → A → Ordering) → IsTotalOrder cmp → (o : Ordering) (item head : A) (rest longer : List A) → o ≡ cmp item head
     → AllByRecursion (λ y. cmp head y ≡ Less) rest → Has (head ∷ rest) item → (Has rest item → longer ≡ rest) → placed o item head rest longer ≡ head ∷ rest
 placed_present {A} cmp t Less item head rest longer e above h k =
@@ -161,6 +178,7 @@ with_item-present cmp t item (head ∷ rest) h k =
     placed_present cmp t (cmp item head) item head rest (with_item cmp item rest) refl (sorted_head cmp head rest h) k
     (with_item-present cmp t item rest (sorted_tail cmp head rest h))
 
+-- a new item makes the list one longer, wherever it goes; for `with_item-length`
 placed_length : {A : Type 0} (o : Ordering) (item head : A) (rest longer : List A) → (o ≡ Equal → ⊥)
     → length longer ≡ length rest + 1 → length (placed o item head rest longer) ≡ length (head ∷ rest) + 1
 placed_length Less item head rest longer absent e = omega arith
@@ -178,7 +196,7 @@ with_item-length P cmp exact item (head ∷ rest) p h absent =
 
 -- ---- equal sets
 
--- the heads of two rising lists with the same members
+-- the heads of two rising lists with the same members are equal
 same_heads : {A : Type 0} (cmp : A → A → Ordering) → IsTotalOrder cmp → (x y : A) (xs ys : List A)
     → AllByRecursion (λ z. cmp x z ≡ Less) xs → AllByRecursion (λ z. cmp y z ≡ Less) ys
     → Has (y ∷ ys) x → Has (x ∷ xs) y → x ≡ y
@@ -193,6 +211,7 @@ same_heads cmp t x y xs ys above_x above_y in_ys in_xs =
       ]
     ]
 
+-- what is above the head of a list and is a member of it is a member of the rest
 rest_has : {A : Type 0} (cmp : A → A → Ordering) → IsTotalOrder cmp → (x y a : A) (ys : List A) → x ≡ y → cmp x a ≡ Less → Has (y ∷ ys) a → Has ys a
 rest_has {A} cmp t x y a ys same less h =
     elim h [ inl e ↦ absurd (no_less_itself t a (subst (λ (z : A). cmp z a ≡ Less) (same ∙ e) less)) | inr later ↦ later ]
@@ -237,16 +256,19 @@ with_item-swap P cmp t exact a b set p q all h =
 
 -- ---- many items more
 
+-- what holds of all items and of the set holds of both together
 pub with_items-all : {A : Type 0} (Q : A → Type 0) (cmp : A → A → Ordering) (items set : List A)
     → AllByRecursion Q items → AllByRecursion Q set → AllByRecursion Q (with_items cmp items set)
 with_items-all Q cmp [] set p h = h
 with_items-all Q cmp (x ∷ items) set p h = with_items-all Q cmp items (with_item cmp x set) p.1 (with_item-all Q cmp x set p.0 h)
 
+-- the set with all items rises
 pub with_items-rising : {A : Type 0} (cmp : A → A → Ordering) → IsTotalOrder cmp → (items set : List A)
     → IsStrictlySortedBy cmp set → IsStrictlySortedBy cmp (with_items cmp items set)
 with_items-rising cmp t [] set h = h
 with_items-rising cmp t (x ∷ items) set h = with_items-rising cmp t items (with_item cmp x set) (with_item-rising cmp t x set h)
 
+-- a member of both together is one of the items or was a member
 pub with_items-has : {A : Type 0} (cmp : A → A → Ordering) (items set : List A) (a : A) → Has (with_items cmp items set) a → Has items a ⊎ Has set a
 with_items-has cmp [] set a h = inr h
 with_items-has cmp (x ∷ items) set a h =
@@ -255,10 +277,12 @@ with_items-has cmp (x ∷ items) set a h =
       | inr k ↦ elim (with_item-has cmp x set a k) [ inl e ↦ inl (inl e) | inr old ↦ inr old ]
     ]
 
+-- what was a member is one
 pub with_items-keeps : {A : Type 0} (cmp : A → A → Ordering) (items set : List A) (a : A) → Has set a → Has (with_items cmp items set) a
 with_items-keeps cmp [] set a h = h
 with_items-keeps cmp (x ∷ items) set a h = with_items-keeps cmp items (with_item cmp x set) a (with_item-keeps cmp x set a h)
 
+-- each of the items is a member
 pub with_items-new : {A : Type 0} (P : A → Type 0) (cmp : A → A → Ordering) → IsExactOn P cmp → (items set : List A)
     → AllByRecursion P items → AllByRecursion P set → (a : A) → Has items a → Has (with_items cmp items set) a
 with_items-new P cmp exact [] set p h a k = absurd k
@@ -270,6 +294,7 @@ with_items-new {A} P cmp exact (x ∷ items) set p h a k =
 
 -- ---- together
 
+-- rising lists are sets under a total order that tells apart what differs, as `laws::sets` says
 pub AreSets-from_total : {A : Type 0} (P : A → Type 0) (cmp : A → A → Ordering) → IsTotalOrder cmp → IsExactOn P cmp → AreSets P cmp
 AreSets-from_total P cmp t exact = record {
   total = t;

@@ -9,9 +9,11 @@ use Rattle.receipt_core.specs.Rising.{with_item, with_items}
 
 -- ---- needs and offers
 
+-- a document that has one JWT authority alone
 abbrev signing : Bundle
 signing = record { authorities = Jwt (codes "k") (Rsa (codes "AQ") (codes "Aw")) ∷ []; rank = None; hint = None }
 
+-- a receipt of one domain from an endpoint of another
 abbrev served : Receipt
 served = record {
   domain = codes "b.example";

@@ -17,9 +17,11 @@ use Rattle.receipt_core.proofs.RisingFacts.{Has, Contains-from_has, Has-from_con
 
 -- ---- key ids
 
+-- key ids that the order does not tell apart are equal
 one_key : IsExactOn Always key_cmp
 one_key a b p q e = let bytes : a.0 ≡ b.0 = exact_bytes a.0 b.0 e in λ i. record { 0 = bytes i }
 
+-- `Always` holds of all key ids: lemmas on sets ask for a property
 always : (keys : List KeyId) → AllByRecursion Always keys
 always keys = all_from_has Always keys (λ a h. tt)
 
@@ -28,12 +30,14 @@ abbrev HasKey : List Authority → KeyId → Type 0
 HasKey [] k = ⊥
 HasKey (a ∷ others) k = (key_id_of a ≡ Some k) ⊎ HasKey others k
 
+-- an authority with the key id at an index is found by recursion
 has_key_at : (authorities : List Authority) (k : KeyId) (n : ℕ) (a : Authority) → n < length authorities
     → get_or authorities n a ≡ a → key_id_of a ≡ Some k → HasKey authorities k
 has_key_at [] k n a lt e h = absurd (omega arith)
 has_key_at (x ∷ xs) k zero a lt e h = inl (ap key_id_of e ∙ h)
 has_key_at (x ∷ xs) k (suc n) a lt e h = inr (has_key_at xs k n a (omega arith) e h)
 
+-- an authority with the key id by recursion is at some index
 HasKeyId-from_recursion : (authorities : List Authority) (k : KeyId) → HasKey authorities k → HasKeyId authorities k
 HasKeyId-from_recursion [] k h = absurd h
 HasKeyId-from_recursion (x ∷ xs) k h =
@@ -43,20 +47,25 @@ HasKeyId-from_recursion (x ∷ xs) k h =
           (suc rest.0, rest.1, omega arith, rest.3, rest.4)
     ]
 
+-- the key ids with that of one more authority: the step of `key_ids`
 abbrev more : List KeyId → Authority → List KeyId
 more keys authority = with_key_id (key_id_of authority) keys
 
+-- a key id is the authority's or was there
 with_key_id-has : (o : Option KeyId) (keys : List KeyId) (k : KeyId) → Has (with_key_id o keys) k → (o ≡ Some k) ⊎ Has keys k
 with_key_id-has None keys k h = inr h
 with_key_id-has (Some key) keys k h = elim (with_item-has key_cmp key keys k h) [ inl e ↦ inl (ap Some e) | inr later ↦ inr later ]
 
+-- what was there stays
 with_key_id-keeps : (o : Option KeyId) (keys : List KeyId) (k : KeyId) → Has keys k → Has (with_key_id o keys) k
 with_key_id-keeps None keys k h = h
 with_key_id-keeps (Some key) keys k h = with_item-keeps key_cmp key keys k h
 
+-- the authority's key id is there
 with_key_id-new : (o : Option KeyId) (keys : List KeyId) (k : KeyId) → o ≡ Some k → Has (with_key_id o keys) k
 with_key_id-new o keys k e = subst (λ x. Has (with_key_id x keys) k) (sym e) (with_item-new Always key_cmp one_key k keys tt (always keys))
 
+-- the key ids after all steps are those of the authorities, or were there
 fold_has : (authorities : List Authority) (keys : List KeyId) (k : KeyId) → Has (fold more keys authorities) k → HasKey authorities k ⊎ Has keys k
 fold_has [] keys k h = inr h
 fold_has (a ∷ others) keys k h =
@@ -65,10 +74,12 @@ fold_has (a ∷ others) keys k h =
       | inr k' ↦ elim (with_key_id-has (key_id_of a) keys k k') [ inl e ↦ inl (inl e) | inr old ↦ inr old ]
     ]
 
+-- what was there stays through all steps
 fold_keeps : (authorities : List Authority) (keys : List KeyId) (k : KeyId) → Has keys k → Has (fold more keys authorities) k
 fold_keeps [] keys k h = h
 fold_keeps (a ∷ others) keys k h = fold_keeps others (more keys a) k (with_key_id-keeps (key_id_of a) keys k h)
 
+-- the key id of each authority is there after all steps
 fold_new : (authorities : List Authority) (keys : List KeyId) (k : KeyId) → HasKey authorities k → Has (fold more keys authorities) k
 fold_new [] keys k h = absurd h
 fold_new (a ∷ others) keys k h =
@@ -83,14 +94,17 @@ key_ids-members authorities k = (
 
 -- ---- offers
 
+-- each offer is that of a key id
 map_has : (p : Pair) (keys : List KeyId) (t : Triple) → Has (map (offer_of p) keys) t → (k : KeyId) × Has keys k × (offer_of p k ≡ t)
 map_has p [] t h = absurd h
 map_has p (x ∷ keys) t h = elim h [ inl e ↦ (x, inl refl, e) | inr later ↦ let rest = map_has p keys t later in (rest.0, inr rest.1, rest.2) ]
 
+-- each key id has its offer
 has_map : (p : Pair) (keys : List KeyId) (k : KeyId) → Has keys k → Has (map (offer_of p) keys) (offer_of p k)
 has_map p [] k h = absurd h
 has_map p (x ∷ keys) k h = elim h [ inl e ↦ inl (ap (offer_of p) e) | inr later ↦ inr (has_map p keys k later) ]
 
+-- an offer that equals the need agrees with the receipt in domain, document and key
 needed : (p : Pair) (r : Receipt) (k : KeyId) → offer_of p k ≡ need_of r
     → (p.domain ≡ r.endpoint.domain) × (doc_id_of p.domain p.document ≡ r.voucher.0) × (k ≡ r.key)
 needed p r k e = (ap (λ (t : Triple). t.domain) e, ap (λ (t : Triple). t.document.0) e, ap (λ (t : Triple). t.key) e)

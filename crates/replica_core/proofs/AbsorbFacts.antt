@@ -11,18 +11,22 @@ use Rattle.replica_core.specs.declared.entry.Entry.TheVariants.{Record}
 use Rattle.std.proofs.lemmas.List.{length-map}
 use Rattle.replica_core.proofs.JudgeFacts.{with-records}
 
+-- Holding two lists of entries is holding one after the other.
 with-append : (xs ys : List Entry) (m : Meaning) → with_entries (xs ++ ys) m ≡ with_entries ys (with_entries xs m)
 with-append [] ys m = refl
 with-append (x ∷ xs) ys m = with-append xs ys (with_entry x m)
 
+-- Where a list is welcome, and another once that is held, both together are.
 pub welcome-append : (m : Meaning) (xs ys : List Entry) → AreWelcome m xs → AreWelcome (with_entries xs m) ys → AreWelcome m (xs ++ ys)
 welcome-append m [] ys front back = back
 welcome-append m (x ∷ xs) ys front back = (front.0, welcome-append (with_entry x m) xs ys front.1 back)
 
+-- Where both together are welcome, the first list is.
 pub welcome-front : (m : Meaning) (xs ys : List Entry) → AreWelcome m (xs ++ ys) → AreWelcome m xs
 welcome-front m [] ys all = tt
 welcome-front m (x ∷ xs) ys all = (all.0, welcome-front (with_entry x m) xs ys all.1)
 
+-- Where both together are welcome, the second list is once the first is held.
 pub welcome-back : (m : Meaning) (xs ys : List Entry) → AreWelcome m (xs ++ ys) → AreWelcome (with_entries xs m) ys
 welcome-back m [] ys all = all
 welcome-back m (x ∷ xs) ys all = welcome-back (with_entry x m) xs ys all.1
@@ -33,6 +37,7 @@ pub receipts-welcome : (m : Meaning) (xs : List Distrust) (rs : List Receipt)
     → AreWelcome (record m { records = with_items distrust_cmp xs m.records }) (of_receipts rs)
 receipts-welcome m xs rs all = subst (λ (k : Meaning). AreWelcome k (of_receipts rs)) (with-records xs m) (welcome-back m (of_records xs) (of_receipts rs) all)
 
+-- Welcome records, and receipts that are welcome once those are held, make a welcome answer.
 pub all-welcome : (m : Meaning) (xs : List Distrust) (rs : List Receipt) → AreWelcome m (of_records xs)
     → AreWelcome (record m { records = with_items distrust_cmp xs m.records }) (of_receipts rs)
     → AreWelcome m (of_records xs ++ of_receipts rs)
@@ -41,6 +46,7 @@ all-welcome m xs rs front back =
 
 -- ---- the first one that is refused
 
+-- The first entry refused of the second list is the first of both, further on by the first list.
 first-back : (m : Meaning) (xs ys : List Entry) (number : ℕ) (why : TakeError) → AreWelcome m xs
     → IsFirstRefused (with_entries xs m) ys number why → IsFirstRefused m (xs ++ ys) (length xs + number) why
 first-back m xs ys number why front first =
@@ -57,6 +63,7 @@ first-back m xs ys number why front first =
       named = first.named;
     }
 
+-- The first receipt that is refused is the first line of the answer that is, after all its records.
 pub first-receipt : (m : Meaning) (xs : List Distrust) (rs : List Receipt) (records number : ℕ) (why : TakeError)
     → records ≡ length xs → AreWelcome m (of_records xs)
     → IsFirstRefused (record m { records = with_items distrust_cmp xs m.records }) (of_receipts rs) number why
@@ -67,6 +74,7 @@ first-receipt m xs rs records number why size front first =
     (first-back m (of_records xs) (of_receipts rs) number why front
     (subst (λ (k : Meaning). IsFirstRefused k (of_receipts rs) number why) (sym (with-records xs m)) first))
 
+-- The number of a refused line is within those of the answer, so it does not overflow.
 pub first-bound : (m : Meaning) (xs : List Entry) (number : ℕ) (why : TakeError) → IsFirstRefused m xs number why → number < length xs + 2
 first-bound m xs number why first =
     let place = first.place in

@@ -1,4 +1,4 @@
--- Replicas that have had each other's answers in quiet hold the same.
+-- Replicas that took each other's answers in quiet hold the same.
 use Rattle.std.proofs.Common.{◌≡◌, ◌≢◌, ℕ, ◌<◌, ◌≤◌, ◌⊎◌, inl, inr, List, ◌∷◌, ◌++◌, length, arith, refl, sym, ap, ap₂, ◌∙◌, subst}
 use Rattle.std.specs.Prelude.{Contains, slice_get, Some, ⊤}
 use Rattle.std.proofs.lemmas.Bool.{cases_eq, cases_lt}
@@ -22,6 +22,7 @@ use Rattle.replica_core.proofs.Buckets.{bucket-small}
 
 -- ---- the parts of a course
 
+-- An event of one part is an event of the whole.
 course-parts : (i j b : ℕ) (before asked answered after : List Event) (q a : ℕ) (event : Event)
     → (Contains before event ⊎ (Contains asked event ⊎ (Contains answered event ⊎ Contains after event)))
     → Contains (before ++ (Ask i b ∷ asked ++ (Answer j q ∷ answered ++ (Absorb i a ∷ after)))) event
@@ -37,12 +38,14 @@ course-parts i j b before asked answered after q a event h =
       ]))
     ]
 
+-- An event of one part of a course is one of its events.
 in-course : (i j b : ℕ) (events : List Event) (c : Course i j b events) (event : Event)
     → (Contains c.before event ⊎ (Contains c.asked event ⊎ (Contains c.answered event ⊎ Contains c.after event))) → Contains events event
 in-course i j b events c event h =
     subst (λ es. Contains es event) (sym c.order)
     (course-parts i j b c.before c.asked c.answered c.after c.question_place c.answer_place event h)
 
+-- All events of a course come to what its last part does to the world after the taking.
 course-run : (i j b : ℕ) (events : List Event) (rules : Rules) (start : World) (c : Course i j b events)
     → run_from rules start events ≡ run_from rules (after_taking rules start c) c.after
 course-run i j b events rules start c =
@@ -53,6 +56,7 @@ course-run i j b events rules start c =
 
 -- ---- what is quiet
 
+-- A quiet event keeps what is so of all that is held and of what was sent since.
 quiet-admits : (rules : Rules) (P : Receipt → Type 0) (Q : Distrust → Type 0) (place : ℕ) (event : Event) → IsQuiet place event → Admits rules P Q place ⊥ event
 quiet-admits rules P Q place (Take i r) h = absurd h
 quiet-admits rules P Q place (Revoke i x) h = absurd h
@@ -64,6 +68,7 @@ quiet-admits rules P Q place (Join i j) h = tt
 quiet-admits rules P Q place (Save i) h = tt
 quiet-admits rules P Q place (Restart i) h = h
 
+-- A quiet event also keeps what is so of all that is held, saved and was ever sent.
 quiet-admits_all : (rules : Rules) (P : Receipt → Type 0) (Q : Distrust → Type 0) (place : ℕ) (event : Event) → IsQuiet place event → Admits rules P Q 0 ⊤ event
 quiet-admits_all rules P Q place (Take i r) h = absurd h
 quiet-admits_all rules P Q place (Revoke i x) h = absurd h
@@ -81,16 +86,19 @@ pub record IsStart (rules : Rules) (w : World) : Type 0 where
   pub tidy : Throughout (λ i state. IsTidy state) w
   pub outside : Throughout (IsOutside rules) w
 
--- held, or distrusted, somewhere
+-- some replica holds the receipt
 abbrev pub IsHeld : World → Receipt → Type 0
 IsHeld w r = (j : ℕ) × Contains (w.now j).held r
 
+-- some replica holds the record
 abbrev pub IsRecorded : World → Distrust → Type 0
 IsRecorded w x = (j : ℕ) × Contains (w.now j).records x
 
+-- There is no message past the last.
 none-past : (w : World) (n : ℕ) (message : Message) → length w.sent ≤ n → slice_get w.sent n ≡ Some message → ⊥
 none-past w n message l e = let within = slice_get_within w.sent n message e in omega arith
 
+-- At the start all that is held is held somewhere at the start, and no message has been sent since.
 held-start : (w : World) → IsKept (IsHeld w) (IsRecorded w) (length w.sent) ⊥ w
 held-start w = record {
   now = λ i. record { receipts = λ r c. (i, c); records = λ x c. (i, c) };
@@ -98,6 +106,7 @@ held-start w = record {
   sent = λ n message l e. absurd (none-past w n message l e);
 }
 
+-- In quiet no replica restarts.
 no-restart : (rules : Rules) (w : World) (since : List Event) (i : ℕ) → Settles rules w since → Lacks since (Restart i)
 no-restart rules w since i s c = s.quiet (Restart i) c
 
@@ -128,6 +137,7 @@ course-forms laws rules i j b events w c h a =
           (λ event d. a event (in-course i j b events c event (inr (inr (inl d))))),
     )
 
+-- In the end a replica has all that another one held of a bucket at the start.
 pub from-other : (laws : Laws) (rules : Rules) (w : World) (since : List Event) (i j b : ℕ) → IsStart rules w
     → Settles rules w since → i < rules.replicas → j < rules.replicas → i ≢ j → b ≤ 255
     → HasAll b (w.now j) ((run_from rules w since).now i)
@@ -172,6 +182,7 @@ all-receipts laws rules w since i start s l r h =
       ]
     ]
 
+-- In the end a replica holds all records that were held anywhere.
 all-records : (laws : Laws) (rules : Rules) (w : World) (since : List Event) (i : ℕ) → IsStart rules w → Settles rules w since → i < rules.replicas
     → (x : Distrust) → IsRecorded w x → Contains ((run_from rules w since).now i).records x
 all-records laws rules w since i start s l x h =
@@ -183,6 +194,8 @@ all-records laws rules w since i start s l x h =
       ]
     ]
 
+-- So any two replicas hold the same: both hold what was held anywhere at the start, and nothing
+-- else.
 pub agree : (laws : Laws) (rules : Rules) (w : World) (since : List Event) (i j : ℕ) → IsStart rules w
     → Throughout (λ k state. IsTidy state) (run_from rules w since)
     → Settles rules w since → i < rules.replicas → j < rules.replicas → (run_from rules w since).now i ≡ (run_from rules w since).now j

@@ -22,9 +22,11 @@ asked-here rules w i b l m =
     ap (λ t. slice_get (apply w (where_so t (sends (question i b (ids_held (w.now i) b))))).sent (length w.sent)) e
     ∙ get-new w.sent (question i b (ids_held (w.now i) b))
 
+-- what a replica answers to a question about the bucket that names the ids
 abbrev content_of : State → ℕ → List (List ℕ) → State
 content_of state b ids = record { held = receipts_lacking state b ids; records = state.records }
 
+-- The answer stands at its place.
 answered-here : (rules : Rules) (w : World) (i j b k : ℕ) (ids : List (List ℕ)) → j < rules.replicas → slice_get w.sent k ≡ Some (question i b ids)
     → slice_get (happens rules w (Answer j k)).sent (length w.sent) ≡ Some (answer j k (content_of (w.now j) b ids))
 answered-here rules w i j b k ids l e =
@@ -32,6 +34,7 @@ answered-here rules w i j b k ids l e =
     ∙ ap (λ f. slice_get (apply w (replies (w.now j) j k f)).sent (length w.sent)) e
     ∙ get-new w.sent (answer j k (content_of (w.now j) b ids))
 
+-- The taking of an answer within the limits joins its content.
 absorbed-here : (rules : Rules) (w : World) (i j n k : ℕ) (content : State) → i < rules.replicas → slice_get w.sent n ≡ Some (answer j k content)
     → is_within_limits (joined (w.now i) content) ≡ true → (happens rules w (Absorb i n)).now i ≡ joined (w.now i) content
 absorbed-here rules w i j n k content l e t =
@@ -53,6 +56,7 @@ named-held state b r e =
       | inr c ↦ absurd (contains-none found.0 c)
     ]
 
+-- whether the receipt is of the bucket and not among those that the asker named
 abbrev lacking : State → ℕ → Receipt → Bool
 lacking asking b r = is_of_bucket b r && not (is_named (ids_held asking b) r)
 
@@ -79,7 +83,7 @@ gives laws i b asking given before part forms own = record {
       (each-to IsDistrust before.records own.records) c;
 }
 
--- The asker has then what the answerer held.
+-- After the exchange the asker has what the answerer held of the bucket.
 pub exchange-gives : (laws : Laws) (rules : Rules) (start : World) (i j b : ℕ) (events : List Event) → i < rules.replicas → j < rules.replicas → b ≤ 255
     → (x : Exchange rules start i j b events) → Keeps IsReceipt IsDistrust ((at_answer rules start x.course).now j)
     → Keeps IsReceipt IsDistrust ((at_taking rules start x.course).now i)

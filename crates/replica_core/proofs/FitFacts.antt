@@ -13,6 +13,7 @@ use Rattle.std.specs.Cmp.Lexicographic.{on_texts}
 use Rattle.replica_core.proofs.RisingLists.{rising_head, rising_tail}
 use Rattle.std.specs.Cmp.{tied_itself}
 
+-- A rising list of relationships has only one with a domain.
 same_relationship : (xs : List Relationship) (a b : Relationship) → IsStrictlySortedBy relationship_cmp xs
     → Contains xs a → Contains xs b → a.domain ≡ b.domain → a ≡ b
 same_relationship [] a b rising has holds e = absurd (contains-none a has)
@@ -42,6 +43,7 @@ same_relationship (x ∷ xs) a b rising has holds e =
       ]
     ]
 
+-- A receipt that fits has no wrong endpoint.
 pub fits_right : (c : Configuration) (r : Receipt) → IsConfiguration c → IsFitting c r → IsOfWrongEndpoint c r → ⊥
 fits_right c r is fits wrong =
     let one : fits.relationship ≡ wrong.relationship =

@@ -38,8 +38,9 @@ use Rattle.replica_core.proofs.Members.{contains-cases, contains-none, each-from
 use Rattle.replica_core.proofs.RisingLists.{all_back, at_end, rising_head, rising_tail}
 use Rattle.replica_core.proofs.FitFacts.{fits_right}
 
--- ---- whether a receipt fits, told both ways
+-- ---- what fits and what is known passes the tests of a world
 
+-- Where an item of the list passes, the test of the list does.
 any-to : {X : Type 0} (p : X → Bool) (xs : List X) (x : X) → Contains xs x → p x ≡ true → list_any p xs ≡ true
 any-to p [] x c e = absurd (contains-none x c)
 any-to p (y ∷ ys) x c e =
@@ -51,6 +52,7 @@ any-to p (y ∷ ys) x c e =
       ]
     ]
 
+-- The test of ids finds equal ids equal.
 same-id-to : (a b : Id) → a ≡ b → same_id a b ≡ true
 same-id-to a b e =
     and_from (bytes_eq a.text b.text && bytes_eq a.domain b.domain) (bytes_eq a.path b.path)
@@ -59,6 +61,7 @@ same-id-to a b e =
     ((bytes_eq-Decides a.domain b.domain).1 (ap (λ (i : Id). i.domain) e)))
     ((bytes_eq-Decides a.path b.path).1 (ap (λ (i : Id). i.path) e))
 
+-- A receipt that fits passes the world's test.
 pub fits-to : (config : Configuration) (r : Receipt) → IsFitting config r → is_fitting config r ≡ true
 fits-to config r fits =
     any-to (λ (o : Relationship). bytes_eq o.domain r.domain && same_id o.endpoint r.endpoint) config.relationships fits.relationship fits.has
@@ -66,6 +69,7 @@ fits-to config r fits =
     ((bytes_eq-Decides fits.relationship.domain r.domain).1 fits.domain)
     (same-id-to fits.relationship.endpoint r.endpoint fits.endpoint))
 
+-- A test that finds one of three finds them.
 known-to : (a b c : Bool) → (a ≡ true) ⊎ ((b ≡ true) ⊎ (c ≡ true)) → cond a true (cond b true c) ≡ true
 known-to true b c h = refl
 known-to false true c h = refl
@@ -73,6 +77,7 @@ known-to false false c (inl e) = absurd (let no : false ≡ true = e in cc)
 known-to false false c (inr (inl e)) = absurd (let no : false ≡ true = e in cc)
 known-to false false c (inr (inr e)) = e
 
+-- A domain of the configuration passes the world's test.
 pub knows-to : (config : Configuration) (domain : List ℕ) → HasDomain config domain → is_known config domain ≡ true
 knows-to config domain h =
     known-to (list_any (λ (r : Relationship). bytes_eq r.domain domain) config.relationships)
@@ -89,6 +94,7 @@ knows-to config domain h =
 
 -- ---- lists that rise
 
+-- In a rising list each item is above all before it.
 above-seen : {A : Type 0} (cmp : A → A → Ordering) → IsTotalOrder cmp → (x : A) (seen later : List A)
     → IsStrictlySortedBy cmp (seen ++ x ∷ later) → AllByRecursion (λ y. cmp x y ≡ Greater) seen
 above-seen cmp total x [] later rising = tt
@@ -97,6 +103,7 @@ above-seen cmp total x (y ∷ seen) later rising = (
   above-seen cmp total x seen later (rising_tail cmp y (seen ++ x ∷ later) rising),
 )
 
+-- In a rising list no item comes twice.
 not-seen : {A : Type 0} (cmp : A → A → Ordering) → IsTotalOrder cmp → (x : A) (seen later : List A)
     → IsStrictlySortedBy cmp (seen ++ x ∷ later) → Contains seen x → ⊥
 not-seen cmp total x seen later rising c =
@@ -104,10 +111,12 @@ not-seen cmp total x seen later rising c =
     let tied : cmp x x ≡ Equal = tied_itself total x in
     cc
 
+-- An item above all others of a set is added at its end.
 next-one : {A : Type 0} (cmp : A → A → Ordering) → IsTotalOrder cmp → (x : A) (seen later : List A)
     → IsStrictlySortedBy cmp (seen ++ x ∷ later) → with_item cmp x seen ≡ seen ++ x ∷ []
 next-one cmp total x seen later rising = at_end cmp x seen (above-seen cmp total x seen later rising)
 
+-- Items that rise above a set are added at its end, in their order.
 all-next : {A : Type 0} (cmp : A → A → Ordering) → IsTotalOrder cmp → (items seen : List A)
     → IsStrictlySortedBy cmp (seen ++ items) → with_items cmp items seen ≡ seen ++ items
 all-next cmp total [] seen rising = sym (append-nil seen)
@@ -128,6 +137,7 @@ refusal-none old r Full is h other fits few = let full = h.full in omega arith
 refusal-none old r NoMemory is h other fits few = other refl
 refusal-none old r ConfigDiffers is h other fits few = h
 
+-- The part before an item is shorter than the limit of the whole.
 fewer : {A : Type 0} (seen : List A) (x : A) (later : List A) {n : ℕ} → length (seen ++ x ∷ later) ≤ n → length seen < n
 fewer seen x later {n} few = let long : length (seen ++ x ∷ later) ≡ length seen + length (x ∷ later) =
     length-append seen (x ∷ later) in let more : length (x ∷ later) ≡ length later + 1 = omega arith in
@@ -135,12 +145,14 @@ fewer seen x later {n} few = let long : length (seen ++ x ∷ later) ≡ length 
 
 -- ---- one receipt
 
+-- A receipt that does not fit changes nothing.
 pub unfit-taken : (old new : Closed) (r s : Receipt) (taken : Taken) → s ≡ r → Took old s new taken
     → is_fitting old.meaning.config r ≡ false → new.meaning ≡ old.meaning
 unfit-taken old new r s (TakenNew n) e h f =
     absurd (let fits : is_fitting old.meaning.config r ≡ true = fits-to old.meaning.config r (subst (IsFitting old.meaning.config) e h.fits) in cc)
 unfit-taken old new r s TakenAlready e h f = ap (λ (c : Closed). c.meaning) h.same
 
+-- The next receipt of a list that can be held comes last.
 pub next-taken : (old new : Closed) (r s : Receipt) (taken : Taken) (later : List Receipt) → s ≡ r
     → Took old s new taken → CanHold old.meaning.config (old.meaning.held ++ r ∷ later)
     → new.meaning ≡ record old.meaning { held = old.meaning.held ++ r ∷ [] }
@@ -151,6 +163,7 @@ next-taken old new r s (TakenNew n) later e h can =
 next-taken old new r s TakenAlready later e h can =
     absurd (not-seen receipt_cmp receipt_total r old.meaning.held later can.rising (subst (Contains old.meaning.held) e h.held))
 
+-- The next receipt of a list that can be held is refused for lack of memory alone.
 pub next-refused : (old new : Closed) (r s : Receipt) (refused : Refused) (later : List Receipt) → s ≡ r
     → IsConfiguration old.meaning.config → HasRefused old s new refused → refused.why ≢ NoMemory
     → CanHold old.meaning.config (old.meaning.held ++ r ∷ later) → ⊥
@@ -162,12 +175,14 @@ next-refused old new r s refused later e is h other can =
 
 -- ---- one record
 
+-- A record of an unknown domain changes nothing.
 pub unfit-distrusted : (old new : Meaning) (x : Distrust) (result : Result Distrusted TakeError)
     → TakesDistrust old x new result → is_known old.config x.domain ≡ false → new ≡ old
 unfit-distrusted old new x (Ok (DistrustedNew n)) h f = absurd (let known : is_known old.config x.domain ≡ true = knows-to old.config x.domain h.domain in cc)
 unfit-distrusted old new x (Ok DistrustedAlready) h f = h.meaning
 unfit-distrusted old new x (Err why) h f = h.meaning
 
+-- A record of a known domain is not refused while there is a place.
 record-refused : (old : Meaning) (x : Distrust) (why : TakeError) → RefusesDistrust old x why → HasDomain old.config x.domain → length old.records < 4096 → ⊥
 record-refused old x UnknownDomain h known few = h known
 record-refused old x WrongEndpoint h known few = h
@@ -175,6 +190,7 @@ record-refused old x Full h known few = let full = h.full in omega arith
 record-refused old x NoMemory h known few = h
 record-refused old x ConfigDiffers h known few = h
 
+-- The next record of a list that can be held comes last.
 pub next-distrusted : (old new : Meaning) (x : Distrust) (result : Result Distrusted TakeError) (later : List Distrust)
     → TakesDistrust old x new result → CanHoldRecords old.config (old.records ++ x ∷ later)
     → new ≡ record old { records = old.records ++ x ∷ [] }
@@ -188,6 +204,8 @@ next-distrusted old new x (Err why) later h can =
 
 -- ---- all of another closure
 
+-- Two meanings of one configuration are not merged for lack of memory, or because they are too
+-- many.
 merge-refused : (m other : Meaning) (why : TakeError) → IsConfiguration m.config
     → AllByRecursion (IsFitting m.config) other.held → AllByRecursion (λ x. HasDomain m.config x.domain) other.records
     → config_id_of m.config ≡ config_id_of other.config → RefusesMerge m other why → why ≢ NoMemory → AreTooMany m other
@@ -202,6 +220,7 @@ merge-refused m other Full is fitting domains same h n = h.1
 merge-refused m other NoMemory is fitting domains same h n = absurd (n refl)
 merge-refused m other ConfigDiffers is fitting domains same h n = absurd (h same)
 
+-- What is too many is not within the limits.
 too-many : (a b : ℕ) → (65536 < a) ⊎ (4096 < b) → (nat_le a 65536 && nat_le b 4096) ≡ false
 too-many a b h =
     elim (cases_Bool (nat_le a 65536 && nat_le b 4096)) [
@@ -213,6 +232,8 @@ too-many a b h =
       | inr f ↦ f
     ]
 
+-- Where a merge is refused but not for lack of memory, both together are too many, so nothing is
+-- gained.
 pub grow-refused : (old new : Closed) (other : Meaning) (why : TakeError) → IsConfiguration other.config
     → IsMeaning other → HasRefusedMerge old other new why → old.meaning.config ≡ other.config → why ≢ NoMemory
     → new.meaning ≡ meaning_of_state old.meaning.config (grown (state_of old.meaning) (state_of other))
@@ -226,6 +247,7 @@ grow-refused old new other why is valid h same n =
 
 -- ---- copies
 
+-- A closure without anything that gains all of a meaning holds that meaning.
 grown-nothing : (m : Meaning) → IsMeaning m → meaning_of_state m.config (grown no_state (state_of m)) ≡ m
 grown-nothing m valid =
     let held : with_items receipt_cmp m.held [] ≡ m.held = all-next receipt_cmp receipt_total m.held [] valid.rising in
@@ -236,20 +258,24 @@ grown-nothing m valid =
     (le-leb (length m.held) 65536 valid.few) (le-leb (length m.records) 4096 valid.few_records) in
     ap (λ s. meaning_of_state m.config (cond (is_within_limits s) s no_state)) same ∙ ap (λ b. meaning_of_state m.config (cond b (state_of m) no_state)) within
 
+-- So a copy means what was copied.
 pub copy-same : (m copy new : Meaning) → IsMeaning m → copy ≡ empty_of m.config
     → new ≡ meaning_of_state copy.config (grown (state_of copy) (state_of m)) → new ≡ m
 copy-same m copy new valid e h = h ∙ ap (λ (c : Meaning). meaning_of_state c.config (grown (state_of c) (state_of m))) e ∙ grown-nothing m valid
 
 -- ---- one after another
 
+-- A list is what stands before a place, the item there, and the rest.
 front-split : {A : Type 0} (xs : List A) (k : ℕ) (x : A) → k < length xs → x ≡ get_or xs k x → take k xs ++ x ∷ drop (suc k) xs ≡ xs
 front-split xs k x l e = ap (λ rest. take k xs ++ rest) (sym (drop-cons xs k x l ∙ ap (λ y. y ∷ drop (suc k) xs) (sym e))) ∙ take-append-drop k xs
 
+-- The front that is longer by one has the item there at its end.
 front-more : {A : Type 0} (xs : List A) (k : ℕ) (x : A) → k < length xs → x ≡ get_or xs k x → take (k + 1) xs ≡ take k xs ++ x ∷ []
 front-more xs k x l e =
     let one : k + 1 ≡ suc k = omega arith in
     ap (λ n. take n xs) one ∙ take-suc xs k x l ∙ ap (λ y. take k xs ++ y ∷ []) (sym e)
 
+-- The step of the loop that offers records.
 pub record-passed : (first old new : Meaning) (xs : List Distrust) (k : ℕ) (x : Distrust) → k < length xs
     → x ≡ get_or xs k x → old ≡ record first { records = take k xs }
     → ((later : List Distrust) → CanHoldRecords old.config (old.records ++ x ∷ later) → new ≡ record old { records = old.records ++ x ∷ [] })
@@ -260,6 +286,7 @@ record-passed first old new xs k x l e so next can =
     (drop (suc k) xs) (subst (CanHoldRecords first.config) (sym (front-split xs k x l e)) can)
     ∙ ap (λ records. record first { records = records }) (sym (front-more xs k x l e))
 
+-- The step of the loop that offers receipts.
 pub receipt-passed : (first old new : Meaning) (rs : List Receipt) (k : ℕ) (r : Receipt) → k < length rs
     → r ≡ get_or rs k r → old ≡ record first { held = take k rs }
     → ((later : List Receipt) → CanHold old.config (old.held ++ r ∷ later) → new ≡ record old { held = old.held ++ r ∷ [] })
@@ -269,6 +296,7 @@ receipt-passed first old new rs k r l e so next can =
     (drop (suc k) rs) (subst (CanHold first.config) (sym (front-split rs k r l e)) can)
     ∙ ap (λ held. record first { held = held }) (sym (front-more rs k r l e))
 
+-- When all records and receipts were offered, all of them are held.
 pub gathered-all : (config : Configuration) (fresh between whole : Meaning) (rs : List Receipt) (xs : List Distrust)
     → CanHold config rs → CanHoldRecords config xs → fresh ≡ empty_of config
     → (fresh.records ≡ [] → CanHoldRecords fresh.config xs → between ≡ record fresh { records = xs })

@@ -12,12 +12,15 @@ use Rattle.replica_core.specs.declared.event.Event.TheVariants.{Take, Revoke, As
 use Rattle.replica_core.proofs.Members.{contains-here, contains-later, get-kept}
 use Rattle.replica_core.proofs.Joins.{Laws}
 
+-- A state is part of itself.
 pub part-refl : (state : State) → IsPartOf state state
 part-refl state = record { receipts = λ r c. c; distrusts = λ x c. c }
 
+-- A part of a part is a part.
 pub part-trans : (a b c : State) → IsPartOf a b → IsPartOf b c → IsPartOf a c
 part-trans a b c p q = record { receipts = λ r h. q.receipts r (p.receipts r h); distrusts = λ x h. q.distrusts x (p.distrusts x h) }
 
+-- What is held is part of what it is after a gain.
 pub part-joined : (laws : Laws) (state gain : State) → IsPartOf state (joined state gain)
 part-joined laws state gain = record {
   receipts = λ r c. laws.receipts.old gain.held state.held r c;
@@ -26,12 +29,15 @@ part-joined laws state gain = record {
 
 -- ---- one replica's place
 
+-- The replica has the new state.
 pub at-here : (i : ℕ) (state : State) (states : ℕ → State) → at_replica i state states i ≡ state
 at-here i state states = ap (λ b. cond b state (states i)) (eq-eqb i i refl)
 
+-- Each other replica has its old state.
 pub at-other : (i k : ℕ) (state : State) (states : ℕ → State) → i ≢ k → at_replica k state states i ≡ states i
 at-other i k state states d = ap (λ b. cond b state (states i)) (ne_eqb i k d)
 
+-- Where one replica's state grows, no replica's shrinks.
 part-at : (i k : ℕ) (state : State) (states : ℕ → State) → IsPartOf (states k) state → IsPartOf (states i) (at_replica k state states i)
 part-at i k state states p =
     elim (cases_eq i k) [
@@ -39,6 +45,7 @@ part-at i k state states p =
       | inr d ↦ subst (IsPartOf (states i)) (sym (at-other i k state states d)) (part-refl (states i))
     ]
 
+-- Where a replica gains, no replica's state shrinks, whether the gain is within the limits or not.
 part-gained : (b : Bool) (w : World) (i k : ℕ) (state : State) → IsPartOf (w.now k) state → IsPartOf (w.now i) ((gained b w k state).now i)
 part-gained true w i k state p = part-at i k state w.now p
 part-gained false w i k state p = part-refl (w.now i)
@@ -51,26 +58,32 @@ pub record Covers (rules : Rules) (event : Event) (P : Effect → Type 0) : Type
   pub kept : (k : ℕ) → is_replica rules k ≡ true → event ≡ Save k → P (saves k)
   pub again : (k : ℕ) → is_replica rules k ≡ true → event ≡ Restart k → P (restarts k)
 
+-- An event that depends on a test has its effect or none.
 covered-where : (P : Effect → Type 0) (b : Bool) (effect : Effect) → P nothing → (b ≡ true → P effect) → P (where_so b effect)
 covered-where P true effect n h = h refl
 covered-where P false effect n h = n
 
+-- The effects of an answer.
 covered-replies : (P : Effect → Type 0) (state : State) (j k : ℕ) (found : Option Message) → P nothing
     → ((message : Message) → P (sends message)) → P (replies state j k found)
 covered-replies P state j k None n h = n
 covered-replies P state j k (Some (question asker bucket ids)) n h = h _
 covered-replies P state j k (Some (answer answerer place content)) n h = n
 
+-- The effects of taking a whole answer.
 covered-whole : (P : Effect → Type 0) (j : ℕ) (found : Option Message) → P nothing → ((gain : State) → P (gains j gain)) → P (takes_whole j found)
 covered-whole P j None n h = n
 covered-whole P j (Some (question asker bucket ids)) n h = n
 covered-whole P j (Some (answer answerer place content)) n h = h content
 
+-- The effects of taking part of an answer.
 covered-part : (P : Effect → Type 0) (j m : ℕ) (found : Option Message) → P nothing → ((gain : State) → P (gains j gain)) → P (takes_part j m found)
 covered-part P j m None n h = n
 covered-part P j m (Some (question asker bucket ids)) n h = n
 covered-part P j m (Some (answer answerer place content)) n h = h (first_of m content)
 
+-- What is so of every effect that an event can have is so of the one that it has: so proofs go over
+-- five kinds of effect and not over nine kinds of event.
 pub covered : (rules : Rules) (w : World) (event : Event) (P : Effect → Type 0) → Covers rules event P → P (effect_of rules w event)
 covered rules w (Take k r) P c =
     covered-where P (is_replica rules k && rules.fits r) _ c.idle (λ e. c.more k _ (and_parts (is_replica rules k) (rules.fits r) e).0)
@@ -85,6 +98,7 @@ covered rules w (Join k j) P c =
 covered rules w (Save k) P c = covered-where P (is_replica rules k) _ c.idle (λ e. c.kept k e refl)
 covered rules w (Restart k) P c = covered-where P (is_replica rules k) _ c.idle (λ e. c.again k e refl)
 
+-- No event but its own restart takes anything from a replica.
 pub part-event : (laws : Laws) (rules : Rules) (w : World) (i : ℕ) (event : Event) → event ≢ Restart i → IsPartOf (w.now i) ((happens rules w event).now i)
 part-event laws rules w i event d =
     covered rules w event (λ effect. IsPartOf (w.now i) ((apply w effect).now i)) (record {
@@ -106,13 +120,16 @@ part-run laws rules i (event ∷ events) w l =
 
 -- ---- messages stay
 
+-- The case of an effect that sends nothing.
 front-refl : (w : World) → (rest : List Message) × (w.sent ≡ w.sent ++ rest)
 front-refl w = ([], sym (append-nil w.sent))
 
+-- A gain sends nothing.
 sent-gained : (b : Bool) (w : World) (k : ℕ) (state : State) → (gained b w k state).sent ≡ w.sent
 sent-gained true w k state = refl
 sent-gained false w k state = refl
 
+-- No effect takes back a message.
 sent-applied : (w : World) (effect : Effect) → (rest : List Message) × ((apply w effect).sent ≡ w.sent ++ rest)
 sent-applied w nothing = front-refl w
 sent-applied w (gains k gain) = ([], sent-gained (is_within_limits (joined (w.now k) gain)) w k (joined (w.now k) gain) ∙ sym (append-nil w.sent))
@@ -120,6 +137,7 @@ sent-applied w (sends message) = (message ∷ [], refl)
 sent-applied w (saves k) = front-refl w
 sent-applied w (restarts k) = front-refl w
 
+-- No list of events takes back a message.
 pub sent-run : (rules : Rules) (events : List Event) (w : World) → (rest : List Message) × ((run_from rules w events).sent ≡ w.sent ++ rest)
 sent-run rules [] w = front-refl w
 sent-run rules (event ∷ events) w =
@@ -127,6 +145,7 @@ sent-run rules (event ∷ events) w =
     let later = sent-run rules events (happens rules w event) in
     (first.0 ++ later.0, later.1 ∙ ap (λ s. s ++ later.0) first.1 ∙ append_assoc w.sent first.0 later.0)
 
+-- So each message stays at its place.
 pub sent-stays : (rules : Rules) (events : List Event) (w : World) (n : ℕ) (message : Message)
     → slice_get w.sent n ≡ Some message → slice_get (run_from rules w events).sent n ≡ Some message
 sent-stays rules events w n message e =
@@ -135,10 +154,12 @@ sent-stays rules events w n message e =
 
 -- ---- what was saved stays until the next save
 
+-- A gain saves nothing.
 saved-gained : (b : Bool) (w : World) (i k : ℕ) (state : State) → (gained b w k state).saved i ≡ w.saved i
 saved-gained true w i k state = refl
 saved-gained false w i k state = refl
 
+-- No event but its own save changes what a replica saved.
 saved-event : (rules : Rules) (w : World) (i : ℕ) (event : Event) → event ≢ Save i → (happens rules w event).saved i ≡ w.saved i
 saved-event rules w i event d =
     covered rules w event (λ effect. (apply w effect).saved i ≡ w.saved i) (record {
@@ -149,6 +170,7 @@ saved-event rules w i event d =
       again = λ k e s. refl;
     })
 
+-- What a replica saved stays until its next save.
 pub saved-run : (rules : Rules) (i : ℕ) (events : List Event) (w : World) → Lacks events (Save i) → (run_from rules w events).saved i ≡ w.saved i
 saved-run rules i [] w l = refl
 saved-run rules i (event ∷ events) w l =
@@ -157,11 +179,14 @@ saved-run rules i (event ∷ events) w l =
 
 -- ---- saves and restarts of a replica
 
+-- A number below that of the replicas passes the world's test.
 pub replica-true : (rules : Rules) (i : ℕ) → i < rules.replicas → is_replica rules i ≡ true
 replica-true rules i l = le-leb (i + 1) rules.replicas (omega arith)
 
+-- A save keeps what the replica holds.
 pub saved-here : (rules : Rules) (i : ℕ) (w : World) → i < rules.replicas → (happens rules w (Save i)).saved i ≡ w.now i
 saved-here rules i w l = ap (λ b. (apply w (where_so b (saves i))).saved i) (replica-true rules i l) ∙ at-here i (w.now i) w.saved
 
+-- A restart gives what the replica saved last.
 pub restarted-here : (rules : Rules) (i : ℕ) (w : World) → i < rules.replicas → (happens rules w (Restart i)).now i ≡ w.saved i
 restarted-here rules i w l = ap (λ b. (apply w (where_so b (restarts i))).now i) (replica-true rules i l) ∙ at-here i (w.saved i) w.now

@@ -18,7 +18,7 @@ use Rattle.replica_core.specs.State.{id_cmp}
 use Rattle.replica_core.proofs.Members.{contains-none, map-from, map-to}
 use Rattle.replica_core.proofs.QuestionFacts.{bytes_of, bytes-rising, named_cmp}
 
--- one id more of those that are still to come
+-- The step of the loop: one id more is gathered, and the others are still to come.
 pub more-gathered : (r : Receipt) (id : ReceiptId) (rest others : List Receipt) (old new : List ReceiptId)
     (all : List (List ℕ)) → rest ≡ r ∷ others → id.0 ≡ receipt_id_of r → new ≡ old ++ id ∷ []
     → map bytes_of old ++ map receipt_id_of rest ≡ all → map bytes_of new ++ map receipt_id_of others ≡ all
@@ -31,17 +31,21 @@ more-gathered r id rest others old new all e i n h =
 
 -- ---- sets of ids
 
+-- Ids make sets: their order tells any two apart.
 sets : AreSets Always id_cmp
 sets = AreSets-from_total Always id_cmp (on_texts (λ (t : List ℕ). t)) (λ a b p q e. exact_bytes a b e)
 
+-- What holds always holds of all ids.
 always : (ids : List (List ℕ)) → AllByRecursion Always ids
 always [] = tt
 always (id ∷ ids) = (tt, always ids)
 
+-- The empty list of ids rises.
 none-rises : IsStrictlySortedBy id_cmp []
 unfolding IsStrictlySortedBy
 none-rises = tt
 
+-- whether two ids have the same bytes
 abbrev same : ReceiptId → ReceiptId → Bool
 same a b = bytes_eq a.0 b.0
 
@@ -49,12 +53,14 @@ same a b = bytes_eq a.0 b.0
 
 module _ (rs : List Receipt) (gathered sorted : List ReceiptId) (all : map bytes_of gathered ≡ map receipt_id_of rs)
     (moved : IsPermutation gathered sorted) where
+  -- Each id that is kept is that of a receipt.
   kept-is : (id : List ℕ) → Contains (map bytes_of (dedup same sorted)) id → Contains (map receipt_id_of rs) id
   kept-is id has =
       let m = map-from bytes_of (dedup same sorted) id has in
       let before = Contains-permutation sorted gathered m.0 (IsPermutation-sym gathered sorted moved) (Contains-from_dedup same sorted m.0 m.1) in
       subst (λ ids. Contains ids id) all (subst (Contains (map bytes_of gathered)) m.2 (map-to bytes_of gathered m.0 before))
 
+  -- The id of each receipt is kept.
   is-kept : (id : List ℕ) → Contains (map receipt_id_of rs) id → Contains (map bytes_of (dedup same sorted)) id
   is-kept id has =
       let m = map-from bytes_of gathered id (subst (λ ids. Contains ids id) (sym all) has) in
@@ -62,6 +68,7 @@ module _ (rs : List Receipt) (gathered sorted : List ReceiptId) (all : map bytes
       let there = map-to bytes_of (dedup same sorted) found.1 (found.0, found.2, found.3) in
       subst (Contains (map bytes_of (dedup same sorted))) (sym ((bytes_eq-Decides m.0.0 found.1.0).0 found.4) ∙ m.2) there
 
+  -- The ids that are kept are the rising list of the receipts' ids, which a question names.
   pub are-held : IsSorted named_cmp sorted → map bytes_of (dedup same sorted) ≡ with_items id_cmp (map receipt_id_of rs) []
   are-held up =
       let ids = map receipt_id_of rs in

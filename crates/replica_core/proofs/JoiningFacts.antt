@@ -20,26 +20,31 @@ use Rattle.replica_core.specs.Absorbing.{with_entry, AreWelcome, IsWelcome, of_r
 use Rattle.replica_core.specs.declared.entry.Entry.TheVariants.{Record, Receipt as AReceipt}
 use Rattle.replica_core.proofs.JudgeFacts.{take-next, with_items-push}
 
+-- What is left from a place on is the item there and what is left after it.
 drop-suc : {X : Type 0} (xs : List X) (i : ℕ) (x : X) → i < length xs → get_or xs i x ≡ x → drop i xs ≡ x ∷ drop (suc i) xs
 drop-suc [] i x l e = absurd (omega (arith, l))
 drop-suc (y ∷ ys) zero x l e = ap (λ z. z ∷ ys) e
 drop-suc (y ∷ ys) (suc i) x l e = drop-suc ys i x (omega (arith, l)) e
 
+-- What is left from a place on is the item there and what is left from the next place on.
 drop-next : {X : Type 0} (xs : List X) (i : ℕ) (x : X) → i < length xs → get_or xs i x ≡ x → drop i xs ≡ x ∷ drop (i + 1) xs
 drop-next xs i x l e = let one : suc i ≡ i + 1 = omega arith in drop-suc xs i x l e ∙ ap (λ n. x ∷ drop n xs) one
 
+-- A list of length 0 is empty.
 pub none-left : {X : Type 0} (xs : List X) → length xs ≡ 0 → xs ≡ []
 none-left [] e = refl
 none-left (x ∷ xs) e = absurd (omega (arith, e))
 
 -- ---- one record
 
+-- After a record was distrusted, or was held, it is held.
 distrusts-held : (now new : Meaning) (x : Distrust) (done : Distrusted) → AreSets Always distrust_cmp → IsMeaning now
     → Distrusts now x new done → new ≡ with_entry (Record x) now
 distrusts-held now new x (DistrustedNew lost) sets is h = h.meaning
 distrusts-held now new x DistrustedAlready sets is h =
     h.meaning ∙ (λ i. record now { records = sym (sets.present x now.records is.records_rising h.held) i })
 
+-- A welcome record is not refused.
 distrusts-refused : (now : Meaning) (x : Distrust) (why : TakeError) → IsWelcome now (Record x) → RefusesDistrust now x why → ⊥
 distrusts-refused now x UnknownDomain welcome h = welcome UnknownDomain (λ e. absurd (cc)) h
 distrusts-refused now x WrongEndpoint welcome h = h
@@ -47,6 +52,7 @@ distrusts-refused now x Full welcome h = welcome Full (λ e. absurd (cc)) h
 distrusts-refused now x NoTakeMemory welcome h = h
 distrusts-refused now x OtherConfig welcome h = h
 
+-- A welcome record is held after the call.
 distrusted : (now new : Meaning) (x : Distrust) (result : Result Distrusted TakeError) → AreSets Always distrust_cmp
     → IsMeaning now → IsWelcome now (Record x) → TakesDistrust now x new result
     → new ≡ with_entry (Record x) now
@@ -61,6 +67,7 @@ pub record IsDistrusting (start now : ClosureState) (all : List Distrust) (i : �
   pub room : now.room ≡ start.room
   pub welcome : AreWelcome now.meaning (of_records (drop i all))
 
+-- The step of the loop over records.
 pub IsDistrusting-next : (start now new : ClosureState) (all : List Distrust) (i : ℕ) (x : Distrust)
     (result : Result Distrusted TakeError) → AreSets Always distrust_cmp → IsMeaning now.meaning
     → IsDistrusting start now all i → i < length all → get_or all i x ≡ x → new.room ≡ now.room
@@ -88,6 +95,7 @@ record IsTaken (now : ClosureState) (r : Receipt) (new : ClosureState) : Type 0 
   pub receipts : now.room.receipts ≤ new.room.receipts + 1
   pub offers : now.room.offers ≤ new.room.offers + length (offers_of (pair_of r))
 
+-- After a receipt was taken, or was held, it is held and has taken its own room at most.
 takes-held : (now new : ClosureState) (r : Receipt) (taken : Taken) → AreSets IsReceipt receipt_cmp
     → IsMeaning now.meaning → Took now r new taken → IsTaken now r new
 takes-held now new r (TakenNew count) sets is h = record { meaning = h.meaning; receipts = h.receipts; offers = h.offers }
@@ -99,6 +107,7 @@ takes-held now new r TakenAlready sets is h =
     } in
     subst (λ (s : ClosureState). IsTaken now r s) (sym h.same) stays
 
+-- A welcome receipt that has room is not refused.
 takes-refused : (now : ClosureState) (r : Receipt) (why : TakeError) → IsWelcome now.meaning (AReceipt r)
     → 0 < now.room.receipts → length (offers_of (pair_of r)) ≤ now.room.offers
     → RefusesReceipt now.meaning now.room r why → ⊥
@@ -108,6 +117,7 @@ takes-refused now r Full welcome some ample h = welcome Full (λ e. absurd (cc))
 takes-refused now r NoTakeMemory welcome some ample h = h.beyond some ample
 takes-refused now r OtherConfig welcome some ample h = h
 
+-- A welcome receipt that has room is held after the call.
 taken : (now new : ClosureState) (r : Receipt) (result : Result Taken Refused) → AreSets IsReceipt receipt_cmp
     → IsMeaning now.meaning → IsWelcome now.meaning (AReceipt r) → 0 < now.room.receipts
     → length (offers_of (pair_of r)) ≤ now.room.offers → Takes now r new result → IsTaken now r new
@@ -123,13 +133,16 @@ pub record IsJoining (start now : ClosureState) (all rest : List Receipt) : Type
   pub welcome : AreWelcome now.meaning (of_receipts rest)
   pub room : IsRoomier (room_for rest) now.room
 
+-- Before the first receipt all are left: the loop's beginning.
 pub IsJoining-start : (start : ClosureState) (all : List Receipt) → AreWelcome start.meaning (of_receipts all)
     → IsRoomier (room_for all) start.room → IsJoining start start all all
 IsJoining-start start all welcome room = record { meaning = refl; welcome = welcome; room = room }
 
+-- The offers of a list are those of its first receipt and of the later ones.
 offers-first : (r : Receipt) (later : List Receipt) → offers_count (r ∷ later) ≡ length (offers_of (pair_of r)) + offers_count later
 offers-first r later = sum_by-cons (λ s. length (offers_of (pair_of s))) r later
 
+-- When the first of those left is held, the later ones are left.
 joined-first : (start now new : ClosureState) (all later : List Receipt) (r : Receipt) (result : Result Taken Refused)
     → AreSets IsReceipt receipt_cmp → IsMeaning now.meaning → IsJoining start now all (r ∷ later)
     → Takes now r new result → IsJoining start new all later
@@ -146,6 +159,7 @@ joined-first start now new all later r result sets is so h =
       room = record { receipts = omega (arith, receipts, less); offers = omega (arith, offers, first, fewer) };
     }
 
+-- The step of the loop over receipts.
 pub IsJoining-next : (start now new : ClosureState) (all rest later : List Receipt) (r : Receipt)
     (result : Result Taken Refused) → AreSets IsReceipt receipt_cmp → IsMeaning now.meaning
     → IsJoining start now all rest
@@ -153,6 +167,7 @@ pub IsJoining-next : (start now new : ClosureState) (all rest later : List Recei
 IsJoining-next start now new all rest later r result sets is so e h =
     joined-first start now new all later r result sets is (subst (IsJoining start now all) e so) h
 
+-- Where none is left, all are held.
 pub IsJoining-end : (start now : ClosureState) (all rest : List Receipt) → IsJoining start now all rest → rest ≡ []
     → now.meaning ≡ record start.meaning { held = with_items receipt_cmp all start.meaning.held }
 IsJoining-end start now all rest so e =

@@ -20,13 +20,16 @@ pub record JoinLaws {A : Type 0} (cmp : A → A → Ordering) (P : A → Type 0)
   pub rising : (items set : List A) → IsStrictlySortedBy cmp set → IsStrictlySortedBy cmp (with_items cmp items set)
   pub one : (set other : List A) → IsStrictlySortedBy cmp set → IsStrictlySortedBy cmp other → ((x : A) → Contains set x ↔ Contains other x) → set ≡ other
 
+-- what the proofs about worlds know of sets of receipts and of records
 pub record Laws : Type 0 where
   pub receipts : JoinLaws receipt_cmp IsReceipt
   pub records : JoinLaws distrust_cmp IsDistrust
 
+-- Adding items to a set loses none of it.
 pub joined-old : {A : Type 0} (cmp : A → A → Ordering) (items set : List A) (x : A) → Contains set x → Contains (with_items cmp items set) x
 joined-old cmp items set x c = Contains-from_has (with_items cmp items set) x (with_items-keeps cmp items set x (Has-from_contains set x c))
 
+-- Adding items to a set adds nothing else.
 pub joined-only : {A : Type 0} (cmp : A → A → Ordering) (items set : List A) (x : A) → Contains (with_items cmp items set) x → Contains items x ⊎ Contains set x
 joined-only cmp items set x c =
     elim (with_items-has cmp items set x (Has-from_contains (with_items cmp items set) x c)) [
@@ -34,11 +37,12 @@ joined-only cmp items set x c =
       | inr h ↦ inr (Contains-from_has set x h)
     ]
 
+-- What holds of all items holds of them in weaker words.
 all-map : {A : Type 0} (P Q : A → Type 0) → ((x : A) → P x → Q x) → (xs : List A) → AllByRecursion P xs → AllByRecursion Q xs
 all-map P Q pq [] h = tt
 all-map P Q pq (x ∷ xs) h = (pq x h.0, all-map P Q pq xs h.1)
 
--- what the sets of the crate below are
+-- The sets of the crate below keep the laws of joins.
 pub joins-of : {A : Type 0} (cmp : A → A → Ordering) (P Q : A → Type 0) → ((x : A) → P x → Q x) → AreSets Q cmp → JoinLaws cmp P
 joins-of cmp P Q pq sets = record {
   old = joined-old cmp;
@@ -53,6 +57,7 @@ pub record Keeps (P : Receipt → Type 0) (Q : Distrust → Type 0) (state : Sta
   pub receipts : (r : Receipt) → Contains state.held r → P r
   pub records : (x : Distrust) → Contains state.records x → Q x
 
+-- What holds of a state and of a gain holds of both together.
 pub keeps-joined : (laws : Laws) (P : Receipt → Type 0) (Q : Distrust → Type 0) (state gain : State) → Keeps P Q state
     → Keeps P Q gain → Keeps P Q (joined state gain)
 keeps-joined laws P Q state gain s g = record {
@@ -60,6 +65,7 @@ keeps-joined laws P Q state gain s g = record {
   records = λ x c. elim (laws.records.only gain.records state.records x c) [ inl a ↦ g.records x a | inr b ↦ s.records x b ];
 }
 
+-- What holds of an answer holds of its first entries.
 pub keeps-first : (P : Receipt → Type 0) (Q : Distrust → Type 0) (count : ℕ) (gain : State) → Keeps P Q gain → Keeps P Q (first_of count gain)
 keeps-first P Q count gain g = record {
   receipts = λ r c. g.receipts r (take-from (count - length gain.records) gain.held r c);

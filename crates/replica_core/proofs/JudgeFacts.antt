@@ -24,54 +24,65 @@ use Rattle.replica_core.proofs.FitFacts.{fits_right}
 
 -- ---- lists
 
+-- A list is what stands before a place, the item there, and the rest.
 cut : {X : Type 0} (xs : List X) (i : ℕ) (x : X) → i < length xs → get_or xs i x ≡ x → xs ≡ take i xs ++ x ∷ drop (suc i) xs
 cut [] i x l e = absurd (omega (arith, l))
 cut (y ∷ ys) zero x l e = ap (λ z. z ∷ ys) e
 cut (y ∷ ys) (suc i) x l e = ap (λ zs. y ∷ zs) (cut ys i x (omega (arith, l)) e)
 
+-- The front that is longer by one has the item there at its end.
 pub take-next : {X : Type 0} (xs : List X) (i : ℕ) (x : X) → i < length xs → get_or xs i x ≡ x → take (i + 1) xs ≡ take i xs ++ x ∷ []
 take-next xs i x l e =
     let one : i + 1 ≡ suc i = omega arith in
     ap (λ n. take n xs) one ∙ take-suc xs i x l ∙ ap (λ y. take i xs ++ y ∷ []) e
 
+-- Adding one more item comes last.
 pub with_items-push : {X : Type 0} (cmp : X → X → Ordering) (items set : List X) (x : X)
     → with_items cmp (items ++ x ∷ []) set ≡ with_item cmp x (with_items cmp items set)
 with_items-push cmp [] set x = refl
 with_items-push cmp (y ∷ items) set x = with_items-push cmp items (with_item cmp y set) x
 
+-- What stands at a place is contained.
 get-contains : {X : Type 0} (xs : List X) (n : ℕ) (x : X) → slice_get xs n ≡ Some x → Contains xs x
 get-contains [] n x e = absurd (let f : None ≡ Some x = e in cc)
 get-contains {X} (y ∷ ys) zero x e = subst (Contains (y ∷ ys)) (let s : Some y ≡ Some x = e in cc) (contains-here y ys)
 get-contains (y ∷ ys) (suc n) x e = contains-later y ys x (get-contains ys n x e)
 
+-- What holds of all items, and of one more, holds of the longer list.
 pub all-push : {X : Type 0} (P : X → Type 0) (xs : List X) (x : X) → AllByRecursion P xs → P x → AllByRecursion P (xs ++ x ∷ [])
 all-push P [] x h p = (p, tt)
 all-push P (y ∷ ys) x h p = (h.0, all-push P ys x h.1 p)
 
 -- ---- what is welcome
 
+-- Welcome entries with one more that is welcome once they are held.
 pub welcome-push : (m : Meaning) (entries : List Entry) (entry : Entry) → AreWelcome m entries
     → IsWelcome (with_entries entries m) entry → AreWelcome m (entries ++ entry ∷ [])
 welcome-push m [] entry welcome is = (is, tt)
 welcome-push m (first ∷ entries) entry welcome is = (welcome.0, welcome-push (with_entry first m) entries entry welcome.1 is)
 
+-- The meaning that holds a list of records, by its parts.
 pub with-records : (xs : List Distrust) (m : Meaning) → with_entries (of_records xs) m ≡ record m { records = with_items distrust_cmp xs m.records }
 with-records [] m = refl
 with-records (x ∷ xs) m = with-records xs (with_entry (Record x) m)
 
+-- The meaning that holds a list of receipts, by its parts.
 pub with-receipts : (rs : List Receipt) (m : Meaning) → with_entries (of_receipts rs) m ≡ record m { held = with_items receipt_cmp rs m.held }
 with-receipts [] m = refl
 with-receipts (r ∷ rs) m = with-receipts rs (with_entry (AReceipt r) m)
 
+-- A domain that has a place is one of the configuration.
 pub known : (c : Configuration) (domain : List ℕ) (domains : List (List ℕ)) (place : Option ℕ) → AreDomains c domains
     → IsPlace c domain place → is_some place ≡ true → HasDomain c domain
 known c domain domains None are at e = absurd (cc)
 known c domain domains (Some n) are at e = are.sound domain (get-contains domains n domain (at domains are))
 
+-- A domain without a place is none of the configuration.
 pub unknown : (c : Configuration) (domain : List ℕ) (place : Option ℕ) → IsPlace c domain place → is_some place ≡ false → HasDomain c domain → ⊥
 unknown c domain None at e = at
 unknown c domain (Some n) at e = absurd (cc)
 
+-- A record of a known domain is welcome where it is held or there is a place.
 record-welcome : (m : Meaning) (x : Distrust) → HasDomain m.config x.domain
     → Contains m.records x ⊎ (length m.records < 4096) → (why : TakeError) → why ≢ NoTakeMemory
     → RefusesEntry m (Record x) why → ⊥
@@ -81,6 +92,7 @@ record-welcome m x domain place Full ample h = elim place [ inl has ↦ h.unheld
 record-welcome m x domain place NoTakeMemory ample h = h
 record-welcome m x domain place OtherConfig ample h = h
 
+-- A receipt that fits is welcome where it is held or there is a place.
 receipt-welcome : (m : Meaning) (r : Receipt) → IsConfiguration m.config → IsFitting m.config r
     → Contains m.held r ⊎ (length m.held < 65536) → (why : TakeError) → why ≢ NoTakeMemory
     → RefusesEntry m (AReceipt r) why → ⊥
@@ -92,6 +104,7 @@ receipt-welcome m r form fits place OtherConfig ample h = h
 
 -- ---- one record more
 
+-- A record of a known domain with a place is the next welcome one: the loop's step.
 pub record-judged : (m : Meaning) (all : List Distrust) (i : ℕ) (x : Distrust) → i < length all → get_or all i x ≡ x
     → AreWelcome m (of_records (take i all)) → HasDomain m.config x.domain
     → Contains (with_items distrust_cmp (take i all) m.records) x
@@ -105,6 +118,7 @@ record-judged m all i x l e welcome domain place =
     (welcome-push m (of_records (take i all)) (Record x) welcome
     (subst (λ (k : Meaning). IsWelcome k (Record x)) (sym (with-records (take i all) m)) (record-welcome (record m { records = set }) x domain place)))
 
+-- A receipt that fits and has a place is the next welcome one: the loop's step.
 pub receipt-judged : (m : Meaning) (all : List Receipt) (i : ℕ) (r : Receipt) → i < length all → get_or all i r ≡ r
     → AreWelcome m (of_receipts (take i all)) → IsConfiguration m.config → IsFitting m.config r
     → Contains (with_items receipt_cmp (take i all) m.held) r
@@ -117,6 +131,7 @@ receipt-judged m all i r l e welcome form fits place =
     (welcome-push m (of_receipts (take i all)) (AReceipt r) welcome
     (subst (λ (k : Meaning). IsWelcome k (AReceipt r)) (sym (with-receipts (take i all) m)) (receipt-welcome (record m { held = set }) r form fits place)))
 
+-- The places that are free for the items left, after one more.
 pub places-next : {X : Type 0} (cmp : X → X → Ordering) (limit : ℕ) (all set : List X) (i more : ℕ) (x : X) → i < length all → get_or all i x ≡ x
     → HasPlaces limit (length (with_item cmp x (with_items cmp (take i all) set))) more (length all - i - 1)
     → HasPlaces limit (length (with_items cmp (take (i + 1) all) set)) more (length all - (i + 1))
@@ -129,6 +144,7 @@ places-next {X} cmp limit all set i more x l e places =
 
 -- ---- the first one that is refused
 
+-- The record at a place is the first that is refused.
 pub record-refused : (m : Meaning) (all : List Distrust) (i : ℕ) (x : Distrust) (why : TakeError) → i < length all
     → get_or all i x ≡ x → AreWelcome m (of_records (take i all))
     → RefusesEntry (record m { records = with_items distrust_cmp (take i all) m.records }) (Record x) why
@@ -147,6 +163,7 @@ record-refused m all i x why l e welcome cause named =
       named = named;
     }
 
+-- The receipt at a place is the first that is refused.
 pub receipt-refused : (m : Meaning) (all : List Receipt) (i : ℕ) (r : Receipt) (why : TakeError) → i < length all
     → get_or all i r ≡ r → AreWelcome m (of_receipts (take i all))
     → RefusesEntry (record m { held = with_items receipt_cmp (take i all) m.held }) (AReceipt r) why

@@ -12,16 +12,20 @@ use Rattle.replica_core.specs.declared.event.Event.TheVariants.{Take, Revoke, As
 use Rattle.replica_core.proofs.Members.{contains-here, contains-later, contains-cases, contains-none, filter-from, get-cases}
 use Rattle.replica_core.proofs.Joins.{Laws, Keeps, keeps-joined, keeps-first}
 
+-- what an answer brings has the properties
 abbrev pub KeepsMessage : (Receipt → Type 0) → (Distrust → Type 0) → Message → Type 0
 KeepsMessage P Q (question asker bucket ids) = ⊤
 KeepsMessage P Q (answer answerer place content) = Keeps P Q content
 
--- All that is held has the properties, and so have the messages from a place on and, where A, what is saved.
+-- All that is held has the properties, and so have the messages from a place on and, where A, what
+-- is saved.
 pub record IsKept (P : Receipt → Type 0) (Q : Distrust → Type 0) (place : ℕ) (A : Type 0) (w : World) : Type 0 where
   pub now : (i : ℕ) → Keeps P Q (w.now i)
   pub saved : A → (i : ℕ) → Keeps P Q (w.saved i)
   pub sent : (n : ℕ) (message : Message) → place ≤ n → slice_get w.sent n ≡ Some message → KeepsMessage P Q message
 
+-- The event keeps them: what is taken or revoked has them, an answer that is taken is one from the
+-- place on, and a replica restarts only where A.
 abbrev pub Admits : Rules → (Receipt → Type 0) → (Distrust → Type 0) → ℕ → Type 0 → Event → Type 0
 Admits rules P Q place A (Take i r) = is_replica rules i ≡ true → rules.fits r ≡ true → P r
 Admits rules P Q place A (Revoke i x) = is_replica rules i ≡ true → rules.knows x.domain ≡ true → Q x
@@ -33,10 +37,12 @@ Admits rules P Q place A (Join i j) = ⊤
 Admits rules P Q place A (Save i) = ⊤
 Admits rules P Q place A (Restart i) = A
 
+-- What holds of two states holds of the one that a test chooses.
 keeps-at : (P : Receipt → Type 0) (Q : Distrust → Type 0) (b : Bool) (state other : State) → Keeps P Q state → Keeps P Q other → Keeps P Q (cond b state other)
 keeps-at P Q true state other s o = s
 keeps-at P Q false state other s o = o
 
+-- It stays so when one replica's state is replaced by one that has the properties.
 kept-state : (P : Receipt → Type 0) (Q : Distrust → Type 0) (place : ℕ) (A : Type 0) (w : World) (i : ℕ) (state : State)
     → IsKept P Q place A w → Keeps P Q state → IsKept P Q place A (with_state w i state)
 kept-state P Q place A w i state h s = record {
@@ -45,17 +51,20 @@ kept-state P Q place A w i state h s = record {
   sent = h.sent;
 }
 
+-- It stays so after a gain, whether that is within the limits or not.
 kept-gained : (P : Receipt → Type 0) (Q : Distrust → Type 0) (place : ℕ) (A : Type 0) (b : Bool) (w : World) (i : ℕ)
     (state : State) → IsKept P Q place A w → Keeps P Q state → IsKept P Q place A (gained b w i state)
 kept-gained P Q place A true w i state h s = kept-state P Q place A w i state h s
 kept-gained P Q place A false w i state h s = h
 
+-- It stays so when a replica gains what has the properties.
 kept-gains : (laws : Laws) (P : Receipt → Type 0) (Q : Distrust
     → Type 0) (place : ℕ) (A : Type 0) (w : World) (i : ℕ) (gain : State) → IsKept P Q place A w → Keeps P Q gain
     → IsKept P Q place A (apply w (gains i gain))
 kept-gains laws P Q place A w i gain h g =
     kept-gained P Q place A (is_within_limits (joined (w.now i) gain)) w i (joined (w.now i) gain) h (keeps-joined laws P Q (w.now i) gain (h.now i) g)
 
+-- It stays so when a message is sent that has the properties.
 kept-sends : (P : Receipt → Type 0) (Q : Distrust → Type 0) (place : ℕ) (A : Type 0) (w : World) (message : Message)
     → IsKept P Q place A w → KeepsMessage P Q message → IsKept P Q place A (apply w (sends message))
 kept-sends P Q place A w message h m = record {
@@ -64,6 +73,7 @@ kept-sends P Q place A w message h m = record {
   sent = λ n other l e. elim (get-cases w.sent message n other e) [ inl s ↦ h.sent n other l s | inr s ↦ subst (KeepsMessage P Q) (sym s.1) m ];
 }
 
+-- It stays so when a replica saves.
 kept-saves : (P : Receipt → Type 0) (Q : Distrust → Type 0) (place : ℕ) (A : Type 0) (w : World) (i : ℕ)
     → IsKept P Q place A w → IsKept P Q place A (apply w (saves i))
 kept-saves P Q place A w i h = record {
@@ -72,12 +82,14 @@ kept-saves P Q place A w i h = record {
   sent = h.sent;
 }
 
+-- It stays so where an effect depends on a test, and it does when the test passes.
 kept-where : (P : Receipt → Type 0) (Q : Distrust → Type 0) (place : ℕ) (A : Type 0) (b : Bool) (w : World)
     (effect : Effect) → IsKept P Q place A w → (b ≡ true → IsKept P Q place A (apply w effect))
     → IsKept P Q place A (apply w (where_so b effect))
 kept-where P Q place A true w effect h g = g refl
 kept-where P Q place A false w effect h g = h
 
+-- It stays so when a replica answers.
 kept-replies : (P : Receipt → Type 0) (Q : Distrust
     → Type 0) (place : ℕ) (A : Type 0) (w : World) (state : State) (j k : ℕ) (message : Option Message)
     → IsKept P Q place A w → Keeps P Q state → IsKept P Q place A (apply w (replies state j k message))
@@ -89,6 +101,7 @@ kept-replies P Q place A w state j k (Some (question asker bucket ids)) h s =
     })
 kept-replies P Q place A w state j k (Some (answer answerer other content)) h s = h
 
+-- It stays so when a replica takes a whole answer that has the properties.
 kept-whole : (laws : Laws) (P : Receipt → Type 0) (Q : Distrust
     → Type 0) (place : ℕ) (A : Type 0) (w : World) (i : ℕ) (found : Option Message) → IsKept P Q place A w
     → ((message : Message) → found ≡ Some message → KeepsMessage P Q message)
@@ -97,6 +110,7 @@ kept-whole laws P Q place A w i None h s = h
 kept-whole laws P Q place A w i (Some (question asker bucket ids)) h s = h
 kept-whole laws P Q place A w i (Some (answer answerer other content)) h s = kept-gains laws P Q place A w i content h (s (answer answerer other content) refl)
 
+-- It stays so when a replica takes part of an answer that has the properties.
 kept-part : (laws : Laws) (P : Receipt → Type 0) (Q : Distrust
     → Type 0) (place : ℕ) (A : Type 0) (w : World) (i m : ℕ) (found : Option Message) → IsKept P Q place A w
     → ((message : Message) → found ≡ Some message → KeepsMessage P Q message)
@@ -106,18 +120,21 @@ kept-part laws P Q place A w i m (Some (question asker bucket ids)) h s = h
 kept-part laws P Q place A w i m (Some (answer answerer other content)) h s =
     kept-gains laws P Q place A w i (first_of m content) h (keeps-first P Q m content (s (answer answerer other content) refl))
 
+-- A state of one receipt has the properties where the receipt has.
 one-receipt : (P : Receipt → Type 0) (Q : Distrust → Type 0) (r : Receipt) → P r → Keeps P Q (record { held = r ∷ []; records = [] })
 one-receipt P Q r p = record {
   receipts = λ s c. elim (contains-cases r [] s c) [ inl e ↦ subst P (sym e) p | inr d ↦ absurd (contains-none s d) ];
   records = λ x c. absurd (contains-none x c);
 }
 
+-- A state of one record has the properties where the record has.
 one-record : (P : Receipt → Type 0) (Q : Distrust → Type 0) (x : Distrust) → Q x → Keeps P Q (record { held = []; records = x ∷ [] })
 one-record P Q x q = record {
   receipts = λ r c. absurd (contains-none r c);
   records = λ y c. elim (contains-cases x [] y c) [ inl e ↦ subst Q (sym e) q | inr d ↦ absurd (contains-none y d) ];
 }
 
+-- It stays so over each event that is admitted.
 pub kept-event : (laws : Laws) (P : Receipt → Type 0) (Q : Distrust
     → Type 0) (place : ℕ) (A : Type 0) (rules : Rules) (w : World) (event : Event) → IsKept P Q place A w
     → Admits rules P Q place A event → IsKept P Q place A (happens rules w event)
@@ -151,6 +168,7 @@ kept-event laws P Q place A rules w (Save i) h a =
 kept-event laws P Q place A rules w (Restart i) h a =
     kept-where P Q place A (is_replica rules i) w (restarts i) h (λ e. kept-state P Q place A w i (w.saved i) h (h.saved a i))
 
+-- So it stays so over each list of events that are admitted.
 pub kept-run : (laws : Laws) (P : Receipt → Type 0) (Q : Distrust
     → Type 0) (place : ℕ) (A : Type 0) (rules : Rules) (events : List Event) (w : World) → IsKept P Q place A w
     → ((event : Event) → Contains events event → Admits rules P Q place A event)

@@ -22,6 +22,7 @@ pub record IsSought {X : Type 0} (all rest : List X) (x : X) : Type 0 where
   pub within : Contains rest x → Contains all x
   pub left : Contains all x → Contains rest x
 
+-- To pass another item by changes nothing of the search.
 pub IsSought-next : {X : Type 0} (all rest later : List X) (y x : X) → IsSought all rest x → rest ≡ y ∷ later → y ≢ x → IsSought all later x
 IsSought-next {X} all rest later y x sought e other = record {
   within = λ h. sought.within (subst (λ (xs : List X). Contains xs x) (sym e) (contains-later y later x h));
@@ -31,17 +32,20 @@ IsSought-next {X} all rest later y x sought e other = record {
   ];
 }
 
+-- An item that equals the one that is sought shows that it is there.
 pub IsSought-found : {X : Type 0} (all rest later : List X) (y x : X) → IsSought all rest x → rest ≡ y ∷ later → y ≡ x → Contains all x
 IsSought-found {X} all rest later y x sought e same =
     sought.within (subst (λ (xs : List X). Contains xs x) (sym e) (subst (Contains (y ∷ later)) same (contains-here y later)))
 
+-- Where nothing is left, the item that is sought is not there.
 pub IsSought-end : {X : Type 0} (all rest : List X) (x : X) → IsSought all rest x → rest ≡ [] → Contains all x → ⊥
 IsSought-end {X} all rest x sought e h = contains-none x (subst (λ (xs : List X). Contains xs x) e (sought.left h))
 
+-- What a test denies does not hold.
 pub refuted : (b : Bool) (Q : Type 0) → b ≡ false → IsTrue b ↔ Q → Q → ⊥
 refuted b Q e iff q = let t = iff.1 q in let f : false ≡ true = sym e ∙ t in absurd (cc)
 
--- who is looked for among those of its bucket is looked for among all
+-- A receipt that is held is among those of its bucket.
 pub bucket-has : (all held : List Receipt) (r : Receipt) (id : List ℕ) → id ≡ receipt_id_of r
     → all ≡ receipts_in (slice_index_or id 0 0) held → Contains held r → Contains all r
 bucket-has all held r id i e has =
@@ -49,24 +53,29 @@ bucket-has all held r id i e has =
     subst (λ (xs : List Receipt). Contains xs r) (sym e)
     (filter-to (is_in_bucket first) held r has (eq-eqb (slice_index_or (receipt_id_of r) 0 0) first (ap (λ t. slice_index_or t 0 0) (sym i))))
 
+-- A receipt that is among those of its bucket is held.
 pub bucket-only : (all held : List Receipt) (r : Receipt) (id : List ℕ) → all ≡ receipts_in (slice_index_or id 0 0) held → Contains all r → Contains held r
 bucket-only all held r id e has =
     (filter-from (is_in_bucket (slice_index_or id 0 0)) held r (subst (λ (xs : List Receipt). Contains xs r) e has)).0
 
 -- ---- whether it is among those before it, or held
 
+-- What holds always holds of all records.
 pub always : (xs : List Distrust) → AllByRecursion Always xs
 always [] = tt
 always (x ∷ xs) = (tt, always xs)
 
+-- Where the first test passes, one of both does.
 or-first : (a b : Bool) → a ≡ true → (a || b) ≡ true
 or-first true b e = refl
 or-first false b e = absurd (cc)
 
+-- Where the second test passes, one of both does.
 or-second : (a b : Bool) → b ≡ true → (a || b) ≡ true
 or-second true b e = refl
 or-second false b e = e
 
+-- Where an item of the list passes, the test of the list does.
 has-any : {X : Type 0} (p : X → Bool) (xs : List X) (x : X) → p x ≡ true → Contains xs x → list_any p xs ≡ true
 has-any p [] x e has = absurd (contains-none x has)
 has-any p (y ∷ ys) x e has = elim (contains-cases y ys x has) [
@@ -75,26 +84,31 @@ has-any p (y ∷ ys) x e has = elim (contains-cases y ys x has) [
 ]
 
 module _ {X : Type 0} (P : X → Type 0) (cmp : X → X → Ordering) (sets : AreSets P cmp) where
-  -- items that are not told apart are the same
+  -- Items that tie are equal.
   pub tied-same : (a b : X) → P a → P b → eq_by_cmp cmp a b ≡ true → a ≡ b
   tied-same a b p q e = sets.exact a b p q ((Equal-is (cmp a b)).0 e)
 
+  -- Equal items tie.
   pub same-tied : (a b : X) → a ≡ b → eq_by_cmp cmp a b ≡ true
   same-tied a b e = ap is_eq (ap (λ y. cmp a y) (sym e) ∙ tied_itself sets.total a)
 
+  -- The comparison says whether two items are the same.
   pub same-iff : (a b : X) (found : Bool) → P a → P b → found ≡ eq_by_cmp cmp a b → IsTrue found ↔ (a ≡ b)
   same-iff a b found p q value = (λ t. tied-same a b p q (sym value ∙ t), λ e. value ∙ same-tied a b e)
 
+  -- Where the item is held, it is among those before it or held.
   pub among-held : (before set : List X) (x : X) (b : Bool) → AllByRecursion P before → AllByRecursion P set → b ≡ true → IsTrue b ↔ Contains set x
       → IsTrue true ↔ Contains (with_items cmp before set) x
   among-held before set x b all these e iff = (λ t. (sets.all_members before set x all these).1 (inr (iff.0 e)), λ h. refl)
 
+  -- Where the comparison finds an item before it, it is there.
   any-same : (before : List X) (x : X) → AllByRecursion P before → P x → list_any (λ y. eq_by_cmp cmp y x) before ≡ true → Contains before x
   any-same [] x all p e = absurd (cc)
   any-same (y ∷ ys) x all p e =
       let found = any-from (λ z. eq_by_cmp cmp z x) (y ∷ ys) e in
       subst (Contains (y ∷ ys)) (tied-same found.0 x (each-from P (y ∷ ys) all found.0 found.1) p found.2) found.1
 
+  -- Where the item is not held, the comparison with those before it says whether it is among both.
   pub among-before : (before set : List X) (x : X) (b found : Bool) → AllByRecursion P before → AllByRecursion P set
       → P x → b ≡ false → IsTrue b ↔ Contains set x
       → found ≡ list_any (λ y. eq_by_cmp cmp y x) before → IsTrue found ↔ Contains (with_items cmp before set) x
@@ -108,6 +122,7 @@ module _ {X : Type 0} (P : X → Type 0) (cmp : X → X → Ordering) (sets : Ar
 
 -- ---- places
 
+-- One step of `with_item-grows`, for each way the item stands to the first.
 placed_grows : {X : Type 0} (o : Ordering) (x h : X) (t longer : List X) → length t ≤ length longer → length longer ≤ length t + 1
     → (length t + 1 ≤ length (placed o x h t longer)) × (length (placed o x h t longer) ≤ length t + 2)
 placed_grows Less x h t longer more few = (omega arith, omega arith)
@@ -123,12 +138,13 @@ with_item-grows cmp x (h ∷ t) =
     let all = placed_grows (cmp x h) x h t (with_item cmp x t) rest.0 rest.1 in
     (omega (arith, all.0), omega (arith, all.1))
 
+-- Adding many items makes no set smaller.
 pub with_items-grows : {X : Type 0} (cmp : X → X → Ordering) (items xs : List X) → length xs ≤ length (with_items cmp items xs)
 with_items-grows cmp [] xs = omega arith
 with_items-grows cmp (i ∷ items) xs = let first = with_item-grows cmp i xs in let rest =
     with_items-grows cmp items (with_item cmp i xs) in omega (arith, first.0)
 
--- there are enough places, whether or not it is held
+-- Where there is a place for each item left, the next one has a place, whether or not it is held.
 pub place-ample : {X : Type 0} (cmp : X → X → Ordering) (limit : ℕ) (set : List X) (x : X) (free left : ℕ) → 0 < left
     → HasPlaces limit (length set) free left → left ≤ free
     → HasPlace cmp limit set x left (free - 1)
@@ -140,7 +156,7 @@ place-ample cmp limit set x free left some places ample =
       after = record { few = omega (arith, few, grows.1); exact = inl (omega (arith, ample)) };
     }
 
--- it is held, and takes no place
+-- An item that is held takes no place.
 pub place-held : {X : Type 0} (cmp : X → X → Ordering) (limit : ℕ) (set : List X) (x : X) (free left : ℕ)
     → HasPlaces limit (length set) free left → Contains set x → with_item cmp x set ≡ set
     → HasPlace cmp limit set x left free
@@ -155,7 +171,7 @@ place-held {X} cmp limit set x free left places has same =
       };
     }
 
--- it is new, and takes one
+-- A new item takes a place.
 pub place-new : {X : Type 0} (cmp : X → X → Ordering) (limit : ℕ) (set : List X) (x : X) (free left : ℕ)
     → HasPlaces limit (length set) free left → free < left → free ≢ 0
     → length (with_item cmp x set) ≡ length set + 1 → HasPlace cmp limit set x left (free - 1)
@@ -169,7 +185,7 @@ place-new cmp limit set x free left places scarce some longer =
       };
     }
 
--- it is new, and there is none
+-- Where no place is free, a new item has none.
 pub place-none : {X : Type 0} (limit : ℕ) (set : List X) (x : X) (free left : ℕ)
     → HasPlaces limit (length set) free left → free < left → free ≡ 0 → (Contains set x → ⊥) → HasNoPlace limit set x
 place-none limit set x free left places scarce none lacks = record {

@@ -26,6 +26,7 @@ use Rattle.replica_core.proofs.Whole.{fits-from, knows-from}
 
 -- ---- replicas
 
+-- To give a replica the state that it has changes nothing.
 stays : (i : ℕ) (states : ℕ → State) (j : ℕ) → at_replica i (states i) states j ≡ states j
 stays i states j =
     elim (cases_eq j i) [
@@ -36,10 +37,12 @@ stays i states j =
 -- ---- what is sent, saved, and read back
 
 module _ {A : Type 0} (meaning : A → Meaning) (config : Configuration) (n : ℕ) where
+  -- What holds of all items, and of one more, holds of the longer list.
   all-more : {X : Type 0} (P : X → Type 0) (xs : List X) (x : X) → AllByRecursion P xs → P x → AllByRecursion P (xs ++ x ∷ [])
   all-more P [] x h p = (p, tt)
   all-more P (y ∷ xs) x h p = (h.0, all-more P xs x h.1 p)
 
+  -- The closures still stand for the world after a replica sent a message.
   pub plays-sends : (old new : Playing A) (w : World) (i : ℕ) (told : Sent) (message : Message) → i < n → Plays meaning config n old w
       → new.held.items ≡ old.held.items → new.saved.items ≡ old.saved.items
       → new.sent.items ≡ old.sent.items ++ told ∷ [] → message_of told ≡ message → IsSound config message
@@ -52,6 +55,7 @@ module _ {A : Type 0} (meaning : A → Meaning) (config : Configuration) (n : �
         sound = all-more (IsSound config) w.sent message h.sound sound;
       })
 
+  -- The closures still stand for the world after a replica saved.
   pub plays-saves : (b : Bool) (old new : Playing A) (w : World) (i : ℕ) → Plays meaning config n old w
       → new.held.items ≡ old.held.items → new.sent.items ≡ old.sent.items
       → AreOf meaning config n new.saved.items (cond b (at_replica i (w.now i) w.saved) w.saved) → Plays meaning config n new (apply w (where_so b (saves i)))
@@ -68,6 +72,7 @@ module _ {A : Type 0} (meaning : A → Meaning) (config : Configuration) (n : �
     sound = h.sound;
   }
 
+  -- The closures still stand for the world after a replica restarted.
   pub plays-restarts : (b : Bool) (old new : Playing A) (w : World) (i : ℕ) → Plays meaning config n old w
       → new.saved.items ≡ old.saved.items → new.sent.items ≡ old.sent.items
       → AreOf meaning config n new.held.items (cond b (at_replica i (w.saved i) w.now) w.now) → Plays meaning config n new (apply w (where_so b (restarts i)))
@@ -86,6 +91,7 @@ module _ {A : Type 0} (meaning : A → Meaning) (config : Configuration) (n : �
 
 -- ---- what events come to
 
+-- What a call does in each world that the closures stand for is what the event does.
 pub on-all : {E : Type 0} {V : Type 0} {A : Type 0} (meaning : A → Meaning) (config : Configuration) (old new : Playing A) (event : Event) (result : Result V E)
     → ((n : ℕ) (w : World) → Plays meaning config n old w
     → OnOk result (Plays meaning config n new (happens (rules_of config n) w event)))
@@ -93,15 +99,17 @@ pub on-all : {E : Type 0} {V : Type 0} {A : Type 0} (meaning : A → Meaning) (c
 on-all meaning config old new event (Ok v) h = λ n w p. h n w p
 on-all meaning config old new event (Err e) h = tt
 
+-- To gain nothing changes nothing, whether that is within the limits or not.
 nothing-kept : (w : World) (i : ℕ) (b : Bool) → gained b w i (w.now i) ≡ w
 nothing-kept w i true = (λ ι. record w { now = λ j. stays i w.now j ι })
 nothing-kept w i false = refl
 
+-- To gain nothing, where a test passes, changes nothing.
 nothing-gained : (w : World) (i : ℕ) (b : Bool) → apply w (where_so b (gains i no_state)) ≡ w
 nothing-gained w i true = nothing-kept w i (is_within_limits (joined (w.now i) no_state))
 nothing-gained w i false = refl
 
--- a gain that depends on a test
+-- A gain that is nothing where a test fails is one that depends on the test.
 gains-where : (w : World) (i : ℕ) (b fit : Bool) (gain whole : State) → (fit ≡ true → gain ≡ whole) → (fit ≡ false → gain ≡ no_state)
     → apply w (where_so b (gains i gain)) ≡ apply w (where_so (b && fit) (gains i whole))
 gains-where w i true true gain whole h k = ap (λ s. apply w (gains i s)) (h refl)
@@ -109,6 +117,7 @@ gains-where w i false true gain whole h k = refl
 gains-where w i true false gain whole h k = ap (λ s. apply w (gains i s)) (k refl) ∙ nothing-gained w i true
 gains-where w i false false gain whole h k = refl
 
+-- What a closure with one receipt holds is what the event of taking it gains.
 pub receipt-gains : (config : Configuration) (n : ℕ) (w : World) (i : ℕ) (r : Receipt) (fresh more : Meaning) → fresh ≡ empty_of config
     → (is_fitting fresh.config r ≡ false → more ≡ fresh)
     → ((later : List Receipt) → CanHold fresh.config (fresh.held ++ r ∷ later) → more ≡ record fresh { held = fresh.held ++ r ∷ [] })
@@ -124,6 +133,7 @@ receipt-gains config n w i r fresh more e unfit next =
           (record { held = r ∷ []; records = [] }) (λ t. ap state_of (with t)) (λ f. ap state_of (without f)),
     )
 
+-- What a closure with one record holds is what the event of distrusting it gains.
 pub record-gains : (config : Configuration) (n : ℕ) (w : World) (i : ℕ) (x : Distrust) (fresh more : Meaning) → fresh ≡ empty_of config
     → (is_known fresh.config x.domain ≡ false → more ≡ fresh)
     → ((later : List Distrust) → CanHoldRecords fresh.config (fresh.records ++ x ∷ later) → more ≡ record fresh { records = fresh.records ++ x ∷ [] })
@@ -140,7 +150,7 @@ record-gains config n w i x fresh more e unfit next =
           (record { held = []; records = x ∷ [] }) (λ t. ap state_of (with t)) (λ f. ap state_of (without f)),
     )
 
--- a gain that is the event's
+-- A call that does to each world what a gain does stands for the event that gains that.
 pub gain-follows : {E : Type 0} {V : Type 0} {A : Type 0} (meaning : A
     → Meaning) (config : Configuration) (old new : Playing A) (event : Event) (i : ℕ) (more : Meaning)
     (result : Result V E)
@@ -156,13 +166,15 @@ gain-follows meaning config old new event i more result h same =
     on-all meaning config old new event result (λ n w p.
     on_ok_weaker result (subst (Plays meaning config n new) (same n w p).1) (h n w config (same n w p).0 p))
 
--- ---- what is told
+-- ---- what an answer brings
 
+-- To take a whole answer is to gain its content.
 pub some-taken : (i : ℕ) (found : Option Message) (content : State) → answered found ≡ Some content → takes_whole i found ≡ gains i content
 some-taken i None content e = absurd (let no : None ≡ Some content = e in cc)
 some-taken i (Some (question asker bucket ids)) content e = absurd (let no : None ≡ Some content = e in cc)
 some-taken i (Some (answer answerer place other)) content e = ap (gains i) (let same : Some other ≡ Some content = e in cc)
 
+-- To take part of an answer is to gain the first entries of its content.
 pub some-parted : (i m : ℕ) (found : Option Message) (content : State) → answered found ≡ Some content → takes_part i m found ≡ gains i (first_of m content)
 some-parted i m None content e = absurd (let no : None ≡ Some content = e in cc)
 some-parted i m (Some (question asker bucket ids)) content e = absurd (let no : None ≡ Some content = e in cc)
@@ -170,6 +182,7 @@ some-parted i m (Some (answer answerer place other)) content e = ap (λ s. gains
 
 -- ---- answers
 
+-- To answer a question is to send what it does not name.
 pub replied : (state : State) (j k bucket : ℕ) (ids : List (List ℕ)) (found : Option Message) → asked found ≡ Some (bucket, ids)
     → replies state j k found ≡ sends (answer j k (record { held = receipts_lacking state bucket ids; records = state.records }))
 replied state j k bucket ids None e = absurd (let no : None ≡ Some (bucket, ids) = e in cc)
@@ -178,12 +191,14 @@ replied state j k bucket ids (Some (question asker b is)) e =
     ap (λ (q : ℕ × List (List ℕ)). sends (answer j k (record { held = receipts_lacking state q.0 q.1; records = state.records }))) both
 replied state j k bucket ids (Some (answer answerer place content)) e = absurd (let no : None ≡ Some (bucket, ids) = e in cc)
 
--- ---- events that gain what others hold or told
+-- ---- events that gain what others hold or answered
 
+-- A second test that passes leaves the first.
 and-right : (a b : Bool) → b ≡ true → (a && b) ≡ a
 and-right true b e = e
 and-right false b e = refl
 
+-- What another replica holds is what the event of joining it gains.
 pub join-gains : (config : Configuration) (n : ℕ) (w : World) (i j : ℕ) (found more : Meaning) → j < n
     → found ≡ meaning_of_state config (w.now j) → more ≡ found
     → (more.config ≡ config) × (apply w (where_so (is_replica (rules_of config n) i) (gains i (state_of more))) ≡ happens (rules_of config n) w (Join i j))
@@ -196,6 +211,7 @@ join-gains config n w i j found more l f m =
           (replica-true (rules_of config n) j l))),
     )
 
+-- What is gathered of a whole answer is what the event of taking it gains.
 pub absorb-gains : (config : Configuration) (n : ℕ) (w : World) (i k : ℕ) (content : State) (rs : List Receipt)
     (xs : List Distrust) (more : Meaning) → AllByRecursion (IsSound config) w.sent
     → answered (slice_get w.sent k) ≡ Some content → rs ≡ content.held → xs ≡ content.records
@@ -211,6 +227,7 @@ absorb-gains config n w i k content rs xs more sound a re xe built =
           ∙ ap (λ (effect : Effect). apply w (where_so (is_replica (rules_of config n) i) effect)) (sym (some-taken i (slice_get w.sent k) content a)),
     )
 
+-- What is gathered of the first entries of an answer is what the event of taking these gains.
 pub part-gains : (config : Configuration) (n : ℕ) (w : World) (i k count : ℕ) (content : State) (rs : List Receipt)
     (xs : List Distrust) (more : Meaning) → AllByRecursion (IsSound config) w.sent
     → answered (slice_get w.sent k) ≡ Some content → rs ≡ take (count - length content.records) content.held → xs ≡ take count content.records
@@ -229,9 +246,11 @@ part-gains config n w i k count content rs xs more sound a re xe built =
           ∙ ap (λ (effect : Effect). apply w (where_so (is_replica (rules_of config n) i) effect)) (sym (some-parted i count (slice_get w.sent k) content a)),
     )
 
+-- the answer of a replica to a question about the bucket that names the ids
 abbrev reply_to : ℕ → ℕ → ℕ → List (List ℕ) → State → Message
 reply_to i k bucket ids s = answer i k (record { held = receipts_lacking s bucket ids; records = s.records })
 
+-- The closures still stand for the world after a replica answered.
 pub answer-follows : {A : Type 0} (meaning : A → Meaning) (config : Configuration) (n : ℕ) (old new : Playing A)
     (w : World) (i k : ℕ) (m : Meaning) (bucket : ℕ) (ids : List (List ℕ)) (told : Sent) → i < n
     → Plays meaning config n old w
@@ -247,6 +266,7 @@ answer-follows meaning config n old new w i k m bucket ids told l p e valid a sa
     (plays-sends meaning config n old new w i told (reply_to i k bucket ids (w.now i)) l p held saved sent (says ∙ ap (reply_to i k bucket ids) same)
     (subst (λ (s : State). IsSound config (reply_to i k bucket ids s)) same (sound-reply config m bucket ids (ap (λ (m : Meaning). m.config) e) valid)))
 
+-- A closure means what the state of its number says.
 pub here : {A : Type 0} (meaning : A → Meaning) (config : Configuration) (n : ℕ) (closures given : List A) (states : ℕ
     → State) (i : ℕ) (c : A) → AreOf meaning config n closures states → given ≡ closures → i < length given
     → c ≡ get_or given i c → (i < n) × (meaning c ≡ meaning_of_state config (states i))

@@ -25,26 +25,31 @@ use Rattle.receipt_core.specs.Receipt.{Receipt, receipt_id_of}
 use Rattle.std.specs.List.{filter}
 use Rattle.replica_core.specs.State.{State, id_cmp, ids_held, is_of_bucket}
 
--- the order of ids is that of their bytes
+-- an id as its bytes
 abbrev pub bytes_of : ReceiptId → List ℕ
 bytes_of id = id.0
 
+-- the order of ids, which is that of their bytes
 abbrev pub named_cmp : ReceiptId → ReceiptId → Ordering
 named_cmp a b = slice_cmp nat_cmp a.0 b.0
 
 -- ---- where an id stands
 
+-- The order of ids' bytes is total.
 id_total : IsTotalOrder id_cmp
 id_total = on_texts (λ (t : List ℕ). t)
 
+-- The order of ids is total.
 named_total : IsTotalOrder named_cmp
 named_total = on_texts bytes_of
 
+-- What stands before all ids by bytes does so as an id.
 all-bytes : (x : ReceiptId) (ids : List ReceiptId) → AllByRecursion (λ y. id_cmp x.0 y ≡ Less) (map bytes_of ids)
     → AllByRecursion (λ y. named_cmp x y ≡ Less) ids
 all-bytes x [] a = tt
 all-bytes x (h ∷ t) a = (a.0, all-bytes x t a.1)
 
+-- Ids whose bytes rise do rise.
 named-rising : (ids : List ReceiptId) → IsStrictlySortedBy id_cmp (map bytes_of ids) → IsStrictlySortedBy named_cmp ids
 unfolding IsStrictlySortedBy
 named-rising [] r = tt
@@ -69,7 +74,7 @@ apart ids x place split item has same =
     let both : Greater ≡ Equal = sym greater ∙ tied in cc)
     (cases_lt has.0 place)
 
--- what a binary search answers
+-- What a binary search returns says whether the id is there.
 pub id_found : (ids : List ReceiptId) (x : ReceiptId) (r : Result ℕ ℕ) → IsStrictlySortedBy id_cmp (map bytes_of ids)
     → IsSearchInRange r (length ids) → IsBinarySearchResult (λ y. named_cmp y x) ids r
     → IsTrue (is_ok r) ↔ Contains (map bytes_of ids) x.0
@@ -91,25 +96,29 @@ held-rising state bucket = with_items-rising id_cmp id_total (map receipt_id_of 
 
 -- ---- whether ids rise
 
+-- whether the earlier id stands before the later one
 abbrev pub below : ReceiptId → ReceiptId → Bool
 below earlier later = is_lt (named_cmp earlier later)
 
+-- What the test finds less is less.
 less : (o : Ordering) → is_lt o ≡ true → o ≡ Less
 less Less e = refl
 less Equal e = absurd (let f : false ≡ true = e in cc)
 less Greater e = absurd (let f : false ≡ true = e in cc)
 
+-- What stands before all ids does so by bytes.
 bytes-all : (x : ReceiptId) (ids : List ReceiptId) → AllByRecursion (λ y. named_cmp x y ≡ Less) ids
     → AllByRecursion (λ y. id_cmp x.0 y ≡ Less) (map bytes_of ids)
 bytes-all x [] a = tt
 bytes-all x (h ∷ t) a = (a.0, bytes-all x t a.1)
 
+-- The bytes of ids that rise do rise.
 pub bytes-rising : (ids : List ReceiptId) → IsStrictlySortedBy named_cmp ids → IsStrictlySortedBy id_cmp (map bytes_of ids)
 unfolding IsStrictlySortedBy
 bytes-rising [] r = tt
 bytes-rising (h ∷ t) r = (bytes-all h t r.0, bytes-rising t r.1)
 
--- what the comparison of neighbours tells
+-- The comparison of all neighbours says whether ids rise.
 pub rising_told : (ids : List ReceiptId) (told : Bool) → IsAllAdjacentAnswer (λ x y b. b ≡ below x y) ids told
     → IsTrue told ↔ IsStrictlySortedBy id_cmp (map bytes_of ids)
 unfolding IsStrictlySortedBy
@@ -128,19 +137,22 @@ rising_told (first ∷ others) false (k, within, falls) = (
       absurd (let f : false ≡ true = falls first ∙ rises in cc),
 )
 
--- Each of the first so many is below the one after it.
+-- The ids before the place rise: each is below the next.
 pub record RisesTo (ids : List ReceiptId) (place : ℕ) : Type 0 where
   pub some : 0 < place
   pub each : (k : ℕ) (d : ReceiptId) → k + 1 < place → true ≡ below (get_or ids k d) (get_or ids (k + 1) d)
 
+-- Where the place is the end, all ids rise.
 pub rises-all : (ids : List ReceiptId) (place : ℕ) → RisesTo ids place → length ids ≤ place → IsStrictlySortedBy id_cmp (map bytes_of ids)
 rises-all ids place r h = (rising_told ids true (λ k d within. r.each k d (omega arith))).0 refl
 
+-- Within the list a comparison reads the same with any default.
 same-pair : (ids : List ReceiptId) (j k : ℕ) (d e : ReceiptId) → j < length ids → k < length ids
     → below (get_or ids j d) (get_or ids k d) ≡ below (get_or ids j e) (get_or ids k e)
 same-pair ids j k d e hj hk =
     ap (λ x. below x (get_or ids k d)) (get_or_default ids j d e hj) ∙ ap (below (get_or ids j e)) (get_or_default ids k d e hk)
 
+-- Where one id is not below the next, the ids do not rise.
 pub falls-at : (ids : List ReceiptId) (place : ℕ) (other : ReceiptId) → 0 < place → place < length ids
     → false ≡ below (get_or ids (place - 1) other) (get_or ids place other)
     → IsStrictlySortedBy id_cmp (map bytes_of ids) → ⊥

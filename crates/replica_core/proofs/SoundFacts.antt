@@ -20,14 +20,17 @@ use Rattle.replica_core.proofs.RisingLists.{rising_head, rising_tail}
 
 -- ---- lists that rise
 
+-- A list of one item rises.
 pub one-rising : {X : Type 0} (cmp : X → X → Ordering) (x : X) → IsStrictlySortedBy cmp (x ∷ [])
 unfolding IsStrictlySortedBy
 one-rising cmp x = (tt, tt)
 
+-- The empty list rises.
 none-rising : {X : Type 0} (cmp : X → X → Ordering) → IsStrictlySortedBy cmp []
 unfolding IsStrictlySortedBy
 none-rising cmp = tt
 
+-- An item below all others, before a rising list, makes a rising list.
 more-rising : {X : Type 0} (cmp : X → X → Ordering) (x : X) (xs : List X) → AllByRecursion (λ y. cmp x y ≡ Less) xs
     → IsStrictlySortedBy cmp xs → IsStrictlySortedBy cmp (x ∷ xs)
 unfolding IsStrictlySortedBy
@@ -35,6 +38,7 @@ more-rising cmp x xs above rising = (above, rising)
 
 -- ---- what is answered at a place
 
+-- What a sound answer brings can be held.
 sound-here : (config : Configuration) (message : Message) (content : State) → IsSound config message
     → answered (Some message) ≡ Some content → CanHold config content.held × CanHoldRecords config content.records
 sound-here config (question asker bucket ids) content h e = absurd (let no : None ≡ Some content = e in cc)
@@ -42,6 +46,7 @@ sound-here config (answer answerer place other) content h e =
     let same : other ≡ content = (let some : Some other ≡ Some content = e in cc) in
     subst (λ (s : State). CanHold config s.held × CanHoldRecords config s.records) same h
 
+-- What the answer at a place brings can be held.
 pub sound-at : (config : Configuration) (sent : List Message) (k : ℕ) (content : State)
     → AllByRecursion (IsSound config) sent → answered (slice_get sent k) ≡ Some content
     → CanHold config content.held × CanHoldRecords config content.records
@@ -51,11 +56,13 @@ sound-at config (message ∷ sent) (suc k) content h e = sound-at config sent k 
 
 -- ---- parts of what can be held
 
+-- What holds of all items holds of the front.
 all-take : {X : Type 0} (P : X → Type 0) (k : ℕ) (xs : List X) → AllByRecursion P xs → AllByRecursion P (take k xs)
 all-take P zero xs h = tt
 all-take P (suc k) [] h = tt
 all-take P (suc k) (x ∷ xs) h = (h.0, all-take P k xs h.1)
 
+-- The front of a rising list rises.
 rising-take : {X : Type 0} (cmp : X → X → Ordering) (k : ℕ) (xs : List X) → IsStrictlySortedBy cmp xs → IsStrictlySortedBy cmp (take k xs)
 rising-take cmp zero xs h = none-rising cmp
 rising-take cmp (suc k) [] h = none-rising cmp
@@ -63,9 +70,11 @@ rising-take cmp (suc k) (x ∷ xs) h =
     more-rising cmp x (take k xs) (all-take (λ y. cmp x y ≡ Less) k xs (rising_head cmp x xs h))
     (rising-take cmp k xs (rising_tail cmp x xs h))
 
+-- The front is within the limit of the whole.
 few-take : {X : Type 0} (k : ℕ) (xs : List X) (m : ℕ) → length xs ≤ m → length (take k xs) ≤ m
 few-take k xs m l = let e : length (take k xs) ≡ min k (length xs) = length-take k xs in omega (arith, e, l)
 
+-- The front of receipts that can be held can be held.
 pub can-take : (config : Configuration) (k : ℕ) (rs : List Receipt) → CanHold config rs → CanHold config (take k rs)
 can-take config k rs h = record {
   fitting = all-take (IsFitting config) k rs h.fitting;
@@ -74,6 +83,7 @@ can-take config k rs h = record {
   few = few-take k rs 65536 h.few;
 }
 
+-- The front of records that can be held can be held.
 pub knows-take : (config : Configuration) (k : ℕ) (xs : List Distrust) → CanHoldRecords config xs → CanHoldRecords config (take k xs)
 knows-take config k xs h = record {
   domains = all-take (λ x. HasDomain config x.domain) k xs h.domains;
@@ -82,17 +92,21 @@ knows-take config k xs h = record {
   few = few-take k xs 4096 h.few;
 }
 
+-- What holds of all items holds of those that are kept.
 all-filter : {X : Type 0} (P : X → Type 0) (p : X → Bool) (xs : List X) → AllByRecursion P xs → AllByRecursion P (filter p xs)
 all-filter P p xs h = each-to P (filter p xs) (λ x c. each-from P xs h x (filter-from p xs x c).0)
 
+-- One step of `fewer-filtered`, for either outcome of the test.
 fewer-kept : {X : Type 0} (b : Bool) (x : X) (ys : List X) (m : ℕ) → length ys ≤ m → length (cond b (x ∷ ys) ys) ≤ suc m
 fewer-kept true x ys m l = omega (arith, l)
 fewer-kept false x ys m l = omega (arith, l)
 
+-- A filter keeps no more than there are.
 fewer-filtered : {X : Type 0} (p : X → Bool) (xs : List X) → length (filter p xs) ≤ length xs
 fewer-filtered p [] = omega arith
 fewer-filtered p (x ∷ xs) = fewer-kept (p x) x (filter p xs) (length xs) (fewer-filtered p xs)
 
+-- What a closure answers can be held.
 pub sound-reply : (config : Configuration) (m : Meaning) (bucket : ℕ) (ids : List (List ℕ)) → m.config ≡ config → IsMeaning m
     → CanHold config (receipts_lacking (state_of m) bucket ids) × CanHoldRecords config m.records
 sound-reply config m bucket ids e h = (

@@ -2,6 +2,6 @@
 use Rattle.std.proofs.Common.{◌≡◌, refl}
 use Rattle.replica_core.specs.State.{joined, no_state}
 
--- nothing is gained from nothing
+-- Nothing is gained from nothing.
 pub joined_with_nothing : joined no_state no_state ≡ no_state
 joined_with_nothing = refl

@@ -9,6 +9,7 @@ use Rattle.replica_core.specs.declared.event.Event.{Event}
 use Rattle.replica_core.proofs.Joins.{Laws}
 use Rattle.replica_core.proofs.Growing.{covered, at-here, at-other}
 
+-- two rising lists within the limits
 pub record IsTidy (state : State) : Type 0 where
   pub rising : IsStrictlySortedBy receipt_cmp state.held
   pub records_rising : IsStrictlySortedBy distrust_cmp state.records
@@ -19,6 +20,7 @@ pub record Throughout (P : ℕ → State → Type 0) (w : World) : Type 0 where
   pub now : (i : ℕ) → P i (w.now i)
   pub saved : (i : ℕ) → P i (w.saved i)
 
+-- It stays so when one replica's state is replaced by one that has the property.
 throughout-at : (P : ℕ → State → Type 0) (i k : ℕ) (state : State) (states : ℕ → State) → P k state → P i (states i) → P i (at_replica k state states i)
 throughout-at P i k state states here there =
     elim (cases_eq i k) [
@@ -26,15 +28,18 @@ throughout-at P i k state states here there =
       | inr d ↦ subst (P i) (sym (at-other i k state states d)) there
     ]
 
+-- It stays so after a gain, where that keeps the property or is beyond the limits.
 throughout-gained : (P : ℕ → State → Type 0) (b : Bool) (w : World) (k : ℕ) (state : State) → Throughout P w
     → (b ≡ true → P k state) → Throughout P (gained b w k state)
 throughout-gained P true w k state h s = record { now = λ i. throughout-at P i k state w.now (s refl) (h.now i); saved = h.saved }
 throughout-gained P false w k state h s = h
 
--- Saves and restarts keep every property that is the same for all replicas or concerns none: a gain has to show it.
+-- Saves and restarts keep every property that is the same for all replicas or concerns none: a gain
+-- has to show it.
 pub record IsKeptByGains (rules : Rules) (P : ℕ → State → Type 0) : Type 0 where
   pub gain : (k : ℕ) (state more : State) → is_replica rules k ≡ true → P k state → is_within_limits (joined state more) ≡ true → P k (joined state more)
 
+-- It stays so over each event, where gains keep the property.
 pub throughout-event : (rules : Rules) (P : ℕ → State → Type 0) → IsKeptByGains rules P → (w : World) (event : Event)
     → Throughout P w → Throughout P (happens rules w event)
 throughout-event rules P kept w event h =
@@ -47,6 +52,7 @@ throughout-event rules P kept w event h =
       again = λ k e s. record { now = λ i. throughout-at P i k (w.saved k) w.now (h.saved k) (h.now i); saved = h.saved };
     })
 
+-- So it stays so over each list of events.
 pub throughout-run : (rules : Rules) (P : ℕ → State → Type 0) → IsKeptByGains rules P
     → (events : List Event) (w : World) → Throughout P w → Throughout P (run_from rules w events)
 throughout-run rules P kept [] w h = h
@@ -54,6 +60,7 @@ throughout-run rules P kept (event ∷ events) w h = throughout-run rules P kept
 
 -- ---- rising lists within the limits
 
+-- A gain within the limits joins rising lists into rising lists.
 pub tidy-kept : (laws : Laws) (rules : Rules) → IsKeptByGains rules (λ i state. IsTidy state)
 tidy-kept laws rules = record {
   gain = λ k state more e t b. record {
@@ -63,6 +70,7 @@ tidy-kept laws rules = record {
   };
 }
 
+-- At the beginning all lists are empty, so they rise.
 pub tidy-empty : Throughout (λ i state. IsTidy state) empty_world
 unfolding IsStrictlySortedBy
 tidy-empty = record {
@@ -72,13 +80,16 @@ tidy-empty = record {
 
 -- ---- what is no replica
 
+-- what is no replica holds nothing
 abbrev pub IsOutside : Rules → ℕ → State → Type 0
 IsOutside rules i state = rules.replicas ≤ i → state ≡ no_state
 
+-- What is no replica gains nothing.
 pub outside-kept : (rules : Rules) → IsKeptByGains rules (IsOutside rules)
 outside-kept rules = record {
   gain = λ k state more e o b l. absurd (let inside : k + 1 ≤ rules.replicas = leb-true (k + 1) rules.replicas e in omega arith);
 }
 
+-- At the beginning nothing is held.
 pub outside-empty : (rules : Rules) → Throughout (IsOutside rules) empty_world
 outside-empty rules = record { now = λ i l. refl; saved = λ i l. refl }

@@ -28,6 +28,7 @@ use Rattle.replica_core.proofs.Tidy.{IsTidy, IsOutside, Throughout, throughout-r
 use Rattle.replica_core.proofs.Exchanges.{exchange-gives}
 use Rattle.replica_core.proofs.Agreement.{IsStart, course-forms, agree}
 
+-- At the beginning all that is held, saved and sent has every property.
 empty-kept : (P : Receipt → Type 0) (Q : Distrust → Type 0) (place : ℕ) (A : Type 0) → IsKept P Q place A empty_world
 empty-kept P Q place A = record {
   now = λ i. record { receipts = λ r c. absurd (contains-none r c); records = λ x c. absurd (contains-none x c) };
@@ -37,9 +38,11 @@ empty-kept P Q place A = record {
 
 -- ---- what is held was taken
 
+-- What passes the world's test is a number below that of the replicas.
 inside : (rules : Rules) (i : ℕ) → is_replica rules i ≡ true → i < rules.replicas
 inside rules i o = let within : i + 1 ≤ rules.replicas = leb-true (i + 1) rules.replicas o in omega arith
 
+-- Each event of the list takes and distrusts only what the list says.
 taken-admits : (rules : Rules) (events : List Event) (event : Event) → Contains events event
     → Admits rules (WasTaken rules.replicas events) (WasRevoked rules.replicas events) 0 ⊤ event
 taken-admits rules events (Take i r) c = λ o e. (i, inside rules i o, c)
@@ -52,20 +55,24 @@ taken-admits rules events (Join i j) c = tt
 taken-admits rules events (Save i) c = tt
 taken-admits rules events (Restart i) c = tt
 
+-- So all that is held, saved and sent was taken or distrusted in the list.
 comes-from : (laws : Laws) (rules : Rules) (events : List Event)
     → IsKept (WasTaken rules.replicas events) (WasRevoked rules.replicas events) 0 ⊤ (run rules events)
 comes-from laws rules events =
     kept-run laws (WasTaken rules.replicas events) (WasRevoked rules.replicas events) 0 ⊤ rules events empty_world
     (empty-kept (WasTaken rules.replicas events) (WasRevoked rules.replicas events) 0 ⊤) (taken-admits rules events)
 
+-- The clause `comes`: what is held was taken, or distrusted, at some replica.
 pub now-comes : (laws : Laws) (rules : Rules) (events : List Event) (i : ℕ) → ComesFrom rules.replicas events ((run rules events).now i)
 now-comes laws rules events i = let h = (comes-from laws rules events).now i in record { receipts = h.receipts; distrusts = h.records }
 
+-- The clause `saved_comes`: what is saved was taken, or distrusted, at some replica.
 pub saved-comes : (laws : Laws) (rules : Rules) (events : List Event) (i : ℕ) → ComesFrom rules.replicas events ((run rules events).saved i)
 saved-comes laws rules events i = let h = (comes-from laws rules events).saved tt i in record { receipts = h.receipts; distrusts = h.records }
 
 -- ---- what is held is a meaning
 
+-- Ids that the test finds equal are equal.
 same-ids : (a b : Id) → same_id a b ≡ true → a ≡ b
 same-ids a b e =
     let parts = and_parts (bytes_eq a.text b.text && bytes_eq a.domain b.domain) (bytes_eq a.path b.path) e in
@@ -76,6 +83,7 @@ same-ids a b e =
     ap (λ t. record a { text = t }) text ∙ ap (λ t. record { text = b.text; domain = t; path = a.path }) domain
     ∙ ap (λ t. record { text = b.text; domain = b.domain; path = t }) path
 
+-- A receipt that passes the world's test fits.
 pub fits-from : (config : Configuration) (r : Receipt) → is_fitting config r ≡ true → IsFitting config r
 fits-from config r e =
     let found = any-from (λ (o : Relationship). bytes_eq o.domain r.domain && same_id o.endpoint r.endpoint) config.relationships e in
@@ -87,11 +95,13 @@ fits-from config r e =
       endpoint = same-ids found.0.endpoint r.endpoint both.1;
     }
 
+-- Where a test that finds one of three passes, one of the three does.
 known-cases : (a b c : Bool) → cond a true (cond b true c) ≡ true → (a ≡ true) ⊎ ((b ≡ true) ⊎ (c ≡ true))
 known-cases true b c e = inl refl
 known-cases false true c e = inr (inl refl)
 known-cases false false c e = inr (inr e)
 
+-- A domain that passes the world's test is one of the configuration.
 pub knows-from : (config : Configuration) (domain : List ℕ) → is_known config domain ≡ true → HasDomain config domain
 knows-from config domain e =
     elim (known-cases (list_any (λ (r : Relationship). bytes_eq r.domain domain) config.relationships)
@@ -107,13 +117,15 @@ knows-from config domain e =
       ]
     ]
 
--- what a receipt and a record are in this configuration
+-- the receipt is of its form and fits the configuration
 abbrev IsReceiptOf : Configuration → Receipt → Type 0
 IsReceiptOf config r = IsReceipt r × IsFitting config r
 
+-- the record is of its form, and its domain is known
 abbrev IsDistrustOf : Configuration → Distrust → Type 0
 IsDistrustOf config x = IsDistrust x × HasDomain config x.domain
 
+-- An event that takes a receipt, or a record, of its form takes one of this configuration.
 forms-admits : (config : Configuration) (n : ℕ) (event : Event) → IsEvent event
     → Admits (rules_of config n) (IsReceiptOf config) (IsDistrustOf config) 0 ⊤ event
 forms-admits config n (Take i r) h = λ o e. (h, fits-from config r e)
@@ -126,6 +138,7 @@ forms-admits config n (Join i j) h = tt
 forms-admits config n (Save i) h = tt
 forms-admits config n (Restart i) h = tt
 
+-- So all that is held, saved and sent is of its form and of the configuration.
 all-forms : (laws : Laws) (config : Configuration) (n : ℕ) (events : List Event) → AreEvents events
     → IsKept (IsReceiptOf config) (IsDistrustOf config) 0 ⊤ (run (rules_of config n) events)
 all-forms laws config n events h =
@@ -133,9 +146,11 @@ all-forms laws config n events h =
     (empty-kept (IsReceiptOf config) (IsDistrustOf config) 0 ⊤)
     (λ event c. forms-admits config n event (each-from IsEvent events h event c))
 
+-- All states are rising lists within the limits.
 all-tidy : (laws : Laws) (rules : Rules) (events : List Event) → Throughout (λ i state. IsTidy state) (run rules events)
 all-tidy laws rules events = throughout-run rules (λ i state. IsTidy state) (tidy-kept laws rules) events empty_world tidy-empty
 
+-- The clause `means`: what a replica holds is what a closure can mean.
 pub means : (laws : Laws) (config : Configuration) (n : ℕ) (events : List Event) (i : ℕ) → AreEvents events
     → IsMeaning (meaning_of_state config ((run (rules_of config n) events).now i))
 means laws config n events i h =
@@ -156,6 +171,7 @@ means laws config n events i h =
 
 -- ---- growth, saves and restarts
 
+-- The clause `grows`: no event but its own restart takes anything from a replica.
 pub grows : (laws : Laws) (rules : Rules) (events : List Event) (event : Event) (i : ℕ) → event ≢ Restart i
     → IsPartOf ((run rules events).now i) ((run rules (events ++ event ∷ [])).now i)
 grows laws rules events event i d =
@@ -163,12 +179,14 @@ grows laws rules events event i d =
     (sym (fold-append (happens rules) empty_world events (event ∷ [])))
     (part-event laws rules (run rules events) i event d)
 
+-- The clause `restarts`: a restart gives what was saved last.
 pub restarts-saved : (rules : Rules) (events : List Event) (i : ℕ) → i < rules.replicas
     → (run rules (events ++ Restart i ∷ [])).now i ≡ (run rules events).saved i
 restarts-saved rules events i l =
     ap (λ (w : World). w.now i) (fold-append (happens rules) empty_world events (Restart i ∷ []))
     ∙ restarted-here rules i (run rules events) l
 
+-- The clause `saves`: what was saved stays until the next save.
 pub saved-last : (rules : Rules) (events since : List Event) (i : ℕ) → i < rules.replicas → Lacks since (Save i)
     → (run rules (events ++ Save i ∷ since)).saved i ≡ (run rules events).now i
 saved-last rules events since i l h =
@@ -176,16 +194,19 @@ saved-last rules events since i l h =
     ∙ saved-run rules i since (happens rules (run rules events) (Save i)) h
     ∙ saved-here rules i (run rules events) l
 
+-- The clause `never_saved`: who never saved has saved nothing.
 pub never-saved : (rules : Rules) (events : List Event) (i : ℕ) → Lacks events (Save i) → (run rules events).saved i ≡ no_state
 never-saved rules events i h = saved-run rules i events empty_world h
 
 -- ---- exchanges and agreement
 
+-- What an answer brings of this configuration is of its form.
 plain-message : (config : Configuration) (message : Message)
     → KeepsMessage (IsReceiptOf config) (IsDistrustOf config) message → KeepsMessage IsReceipt IsDistrust message
 plain-message config (question asker bucket ids) h = tt
 plain-message config (answer answerer place content) h = record { receipts = λ r c. (h.receipts r c).0; records = λ x c. (h.records x c).0 }
 
+-- All that is held, saved and sent of this configuration is of its form.
 plain-kept : (config : Configuration) (w : World) → IsKept (IsReceiptOf config) (IsDistrustOf config) 0 ⊤ w → IsKept IsReceipt IsDistrust 0 ⊤ w
 plain-kept config w h = record {
   now = λ i. record { receipts = λ r c. ((h.now i).receipts r c).0; records = λ x c. ((h.now i).records x c).0 };
@@ -193,6 +214,7 @@ plain-kept config w h = record {
   sent = λ n message l e. plain-message config message (h.sent n message l e);
 }
 
+-- An event that takes a receipt, or a record, of its form keeps all of its form.
 event-admits : (rules : Rules) (event : Event) → IsEvent event → Admits rules IsReceipt IsDistrust 0 ⊤ event
 event-admits rules (Take i r) h = λ o e. h
 event-admits rules (Revoke i x) h = λ o e. h
@@ -204,6 +226,7 @@ event-admits rules (Join i j) h = tt
 event-admits rules (Save i) h = tt
 event-admits rules (Restart i) h = tt
 
+-- What is known after any list of events is what the exchanges and the agreement begin with.
 starts : (laws : Laws) (config : Configuration) (n : ℕ) (events : List Event) → AreEvents events → IsStart (rules_of config n) (run (rules_of config n) events)
 starts laws config n events h =
     record {
@@ -213,6 +236,7 @@ starts laws config n events h =
           events empty_world (outside-empty (rules_of config n));
     }
 
+-- The clause `exchanged`: who takes another's whole answer has what that held of the bucket.
 pub exchanged : (laws : Laws) (config : Configuration) (n : ℕ) (first since : List Event) (i j b : ℕ) → AreEvents first
     → AreEvents since → i < n → j < n → b ≤ 255
     → (x : Exchange (rules_of config n) (run (rules_of config n) first) i j b since)
@@ -224,6 +248,7 @@ exchanged laws config n first since i j b f s l m k x =
     (λ event c. event-admits (rules_of config n) event (each-from IsEvent since s event c)) in
     exchange-gives laws (rules_of config n) w i j b since l m k x (formed.0.now j) (formed.1.now i)
 
+-- The clause `agreed`: after all exchanges in quiet any two replicas hold the same.
 pub agreed : (laws : Laws) (config : Configuration) (n : ℕ) (first since : List Event) (i j : ℕ) → AreEvents first → i < n → j < n
     → Settles (rules_of config n) (run (rules_of config n) first) since
     → (run (rules_of config n) (first ++ since)).now i ≡ (run (rules_of config n) (first ++ since)).now j
@@ -236,16 +261,19 @@ agreed laws config n first since i j f l m s =
 
 -- ---- accepted is least
 
+-- A chain goes on by a receipt for which the document at its end vouches.
 follows : (c : Configuration) (records : List Distrust) (from to : Pair) (r : Receipt) (chain : List Receipt)
     → Leads c records from chain to → IsFitting c r → Vouches records to r
     → Leads c records from (chain ++ r ∷ []) (pair_of r)
 follows c records from to r [] l f v = (f, subst (λ p. Vouches records p r) (sym l) v, refl)
 follows c records from to r (q ∷ chain) l f v = (l.0, l.1, follows c records (pair_of q) to r chain l.2 f v)
 
+-- What holds of all receipts of a chain, and of one more, holds of the longer chain.
 all-more : (P : Receipt → Type 0) (chain : List Receipt) (r : Receipt) → AllByRecursion P chain → P r → AllByRecursion P (chain ++ r ∷ [])
 all-more P [] r h p = (p, tt)
 all-more P (q ∷ chain) r h p = (h.0, all-more P chain r h.1 p)
 
+-- The clause `closed`: what is accepted is closed.
 pub members-closed : (m : Meaning) → IsClosed m (IsMember m)
 members-closed m = record {
   seeds = λ s c. record { seed = s; configured = c; chain = []; held = tt; leads = refl };
@@ -258,10 +286,12 @@ members-closed m = record {
   };
 }
 
+-- A chain that begins in a closed set ends in it.
 along : (m : Meaning) (set : Pair → Bool) → IsClosed m (λ p. set p ≡ true) → (chain : List Receipt) (from to : Pair)
     → set from ≡ true → AllByRecursion (Contains m.held) chain → Leads m.config m.records from chain to → set to ≡ true
 along m set h [] from to s a l = subst (λ p. set p ≡ true) l s
 along m set h (r ∷ chain) from to s a l = along m set h chain (pair_of r) to (h.steps from r s a.0 l.0 l.1) a.1 l.2
 
+-- The clause `least`: each closed set has all that is accepted.
 pub members-least : (m : Meaning) (set : Pair → Bool) → IsClosed m (λ p. set p ≡ true) → (p : Pair) → IsMember m p → set p ≡ true
 members-least m set h p member = along m set h member.chain (pair_of_seed member.seed) p (h.seeds member.seed member.configured) member.held member.leads

@@ -10,6 +10,7 @@ use Rattle.replica_core.specs.World.{World, empty_world, Rules, question, answer
 use Rattle.replica_core.specs.declared.event.Event.{Event}
 use Rattle.replica_core.specs.declared.event.Event.TheVariants.{Take, Revoke, Ask, Answer, Absorb, Restart}
 
+-- three replicas to which all receipts fit and all domains are known
 abbrev three : Rules
 three = record { replicas = 3; fits = λ r. true; knows = λ domain. true }
 
@@ -33,6 +34,7 @@ pub record AreApart (a b : Receipt) (x : Distrust) : Type 0 where
   pub ids_less : id_cmp (receipt_id_of a) (receipt_id_of b) ≡ Less
   pub ids_greater : id_cmp (receipt_id_of b) (receipt_id_of a) ≡ Greater
 
+-- replica 1 takes the answer of 0, 2 that of 1, 0 that of 2, and 1 that of 2
 abbrev one_course : List Event
 one_course = Ask 1 1 ∷ Answer 0 0 ∷ Absorb 1 1 ∷ Ask 2 1 ∷ Answer 1 2 ∷ Absorb 2 3 ∷ Ask 0 1 ∷ Answer 2 4 ∷ Absorb 0 5 ∷ Ask 1 1 ∷ Answer 2 6 ∷ Absorb 1 7 ∷ []
 
@@ -40,12 +42,15 @@ one_course = Ask 1 1 ∷ Answer 0 0 ∷ Absorb 1 1 ∷ Ask 2 1 ∷ Answer 1 2 �
 abbrev first_half : List Event
 first_half = Ask 2 1 ∷ Answer 1 0 ∷ Absorb 2 1 ∷ Absorb 2 1 ∷ Ask 0 1 ∷ Answer 2 2 ∷ Absorb 0 3 ∷ []
 
+-- then 1 and 2 each take the answer of 0
 abbrev second_half : List Event
 second_half = Ask 1 1 ∷ Answer 0 4 ∷ Absorb 1 5 ∷ Ask 2 1 ∷ Answer 0 6 ∷ Absorb 2 7 ∷ []
 
+-- both receipts and the record
 abbrev all_of : Receipt → Receipt → Distrust → State
 all_of a b x = record { held = a ∷ b ∷ []; records = x ∷ [] }
 
+-- After that course replica 0 holds everything.
 same-zero : (a b : Receipt) (x : Distrust) → AreApart a b x → (run three (starts a b x ++ one_course)).now 0 ≡ all_of a b x
 same-zero a b x h = simp (
   h.bucket,
@@ -63,6 +68,7 @@ same-zero a b x h = simp (
   h.ids_greater,
 )
 
+-- After that course replica 1 holds everything.
 same-one : (a b : Receipt) (x : Distrust) → AreApart a b x → (run three (starts a b x ++ one_course)).now 1 ≡ all_of a b x
 same-one a b x h = simp (
   h.bucket,
@@ -80,6 +86,7 @@ same-one a b x h = simp (
   h.ids_greater,
 )
 
+-- After that course replica 2 holds everything.
 same-two : (a b : Receipt) (x : Distrust) → AreApart a b x → (run three (starts a b x ++ one_course)).now 2 ≡ all_of a b x
 same-two a b x h = simp (
   h.bucket,
@@ -108,6 +115,7 @@ halfway a b x = record {
       answer 2 2 (record { held = b ∷ []; records = x ∷ [] }) ∷ [];
 }
 
+-- The first half comes to that world.
 half : (a b : Receipt) (x : Distrust) → AreApart a b x → run three (starts a b x ++ first_half) ≡ halfway a b x
 half a b x h = simp (
   h.bucket,
@@ -125,6 +133,7 @@ half a b x h = simp (
   h.ids_greater,
 )
 
+-- What the second half comes to may be computed from that world.
 again : (a b : Receipt) (x : Distrust) → AreApart a b x → (i : ℕ)
     → (run three ((starts a b x ++ first_half) ++ second_half)).now i
     ≡ (run_from three (halfway a b x) second_half).now i
@@ -132,6 +141,7 @@ again a b x h i =
     ap (λ (w : World). w.now i) (fold-append (happens three) empty_world (starts a b x ++ first_half) second_half
     ∙ ap (λ (w : World). run_from three w second_half) (half a b x h))
 
+-- After the other course, too, replica 0 holds everything.
 again-zero : (a b : Receipt) (x : Distrust) → AreApart a b x → (run three ((starts a b x ++ first_half) ++ second_half)).now 0 ≡ all_of a b x
 again-zero a b x h =
     again a b x h 0 ∙ simp (
@@ -150,6 +160,7 @@ again-zero a b x h =
       h.ids_greater,
     )
 
+-- After the other course, too, replica 1 holds everything.
 again-one : (a b : Receipt) (x : Distrust) → AreApart a b x → (run three ((starts a b x ++ first_half) ++ second_half)).now 1 ≡ all_of a b x
 again-one a b x h = again a b x h 1 ∙ simp (
   h.bucket,
@@ -167,6 +178,7 @@ again-one a b x h = again a b x h 1 ∙ simp (
   h.ids_greater,
 )
 
+-- After the other course, too, replica 2 holds everything.
 again-two : (a b : Receipt) (x : Distrust) → AreApart a b x → (run three ((starts a b x ++ first_half) ++ second_half)).now 2 ≡ all_of a b x
 again-two a b x h = again a b x h 2 ∙ simp (
   h.bucket,
@@ -186,9 +198,11 @@ again-two a b x h = again a b x h 2 ∙ simp (
 
 -- ---- what the premises of agreement are for
 
+-- the receipt alone
 abbrev only : Receipt → State
 only a = record { held = a ∷ []; records = [] }
 
+-- A replica with the receipt alone and one with nothing do not agree.
 differs : (s t : State) (a : Receipt) → s ≡ only a → t ≡ no_state → s ≢ t
 differs s t a p q e = let held : a ∷ [] ≡ [] = ap (λ (u : State). u.held) (sym p ∙ e ∙ q) in cc
 
@@ -196,6 +210,7 @@ differs s t a p q e = let held : a ∷ [] ≡ [] = ap (λ (u : State). u.held) (
 abbrev later_take : Receipt → List Event
 later_take a = Ask 1 1 ∷ Answer 0 0 ∷ Absorb 1 1 ∷ Take 0 a ∷ []
 
+-- Replicas 0 and 1 do not agree then: nothing may be taken in between.
 later_take-differs : (a : Receipt) → bucket_of_id a ≡ 1 → (run three (later_take a)).now 0 ≢ (run three (later_take a)).now 1
 later_take-differs a p = differs ((run three (later_take a)).now 0) ((run three (later_take a)).now 1) a refl refl
 
@@ -203,13 +218,15 @@ later_take-differs a p = differs ((run three (later_take a)).now 0) ((run three 
 abbrev later_restart : Receipt → List Event
 later_restart a = Take 0 a ∷ Ask 1 1 ∷ Answer 0 0 ∷ Absorb 1 1 ∷ Restart 1 ∷ []
 
+-- Replicas 0 and 1 do not agree then: nobody may restart in between.
 later_restart-differs : (a : Receipt) → bucket_of_id a ≡ 1 → (run three (later_restart a)).now 0 ≢ (run three (later_restart a)).now 1
 later_restart-differs a p = differs ((run three (later_restart a)).now 0) ((run three (later_restart a)).now 1) a (simp p) (simp p)
 
--- 0 took a receipt, answered, and started again without it; both have had each other's answers since, and then the old
--- answer comes
+-- 0 took a receipt, answered, and started again without it. Both took each other's answers since,
+-- and then the old answer comes.
 abbrev late_answer : Receipt → List Event
 late_answer a = Take 0 a ∷ Ask 1 1 ∷ Answer 0 0 ∷ Restart 0 ∷ Ask 1 1 ∷ Answer 0 2 ∷ Absorb 1 3 ∷ Ask 0 1 ∷ Answer 1 4 ∷ Absorb 0 5 ∷ Absorb 1 1 ∷ []
 
+-- Replicas 0 and 1 do not agree then: no answer from before may come in between.
 late_answer-differs : (a : Receipt) → bucket_of_id a ≡ 1 → (run three (late_answer a)).now 1 ≢ (run three (late_answer a)).now 0
 late_answer-differs a p = differs ((run three (late_answer a)).now 1) ((run three (late_answer a)).now 0) a (simp p) (simp p)

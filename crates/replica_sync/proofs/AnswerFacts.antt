@@ -1,4 +1,4 @@
--- An answer: its first line, and the lines behind it.
+-- An answer: its first line, and the lines after it.
 use Rattle.std.proofs.Common.{◌≡◌, ◌∙◌, ℕ, ◌+◌, ◌⊎◌, inl, inr, List, ◌++◌, length, refl, sym, ap, subst, Option, Some}
 use Rattle.std.specs.Io.KnownBytes.{Consumes}
 use Rattle.fed_config.specs.Configuration.{Configuration, config_id_of}
@@ -17,19 +17,23 @@ use Rattle.replica_sync.specs.Inside.Taking.{StopsReply, StopsWithin, TakesLines
 use Rattle.replica_sync.specs.declared.give_header_reader.Head.{Head}
 use Rattle.replica_sync.proofs.ContentFacts.{text_of_content}
 
--- what a session wants
+-- what a session wants of an answer
 abbrev pub wish : Configuration → ℕ → Option Expected
 wish config bucket = Some (record { config = config; bucket = bucket })
 
+-- the answer about the bucket that has this content
 abbrev pub reply_with : Configuration → ℕ → State → Reply
 reply_with config bucket content = record { bucket = bucket; config = config_id_of config; content = content }
 
+-- What the first line says, with the content it announces, is what an answer with that content says
+-- first.
 told_is : (config : Configuration) (bucket : ℕ) (text : List ℕ) (h : Head) (content : State)
     → TellsHead (wish config bucket) text h → length content.held ≡ h.count → length content.records ≡ h.distrusts
     → told_by_head h ≡ told_of (reply_with config bucket content)
 told_is config bucket text h content tells receipts records =
     λ i. record { bucket = tells.tells.about i; config = tells.own i; count = sym receipts i; distrusts = Some (sym records i); format = 2; buckets = 256 }
 
+-- The first line and the lines of the content are the text of that answer.
 reply_is : (config : Configuration) (bucket : ℕ) (text : List ℕ) (h : Head) (content : State)
     → TellsHead (wish config bucket) text h → length content.held ≡ h.count → length content.records ≡ h.distrusts
     → ended text ++ text_of_lines (content_lines content) ≡ reply_text (reply_with config bucket content)
@@ -38,6 +42,7 @@ reply_is config bucket text h content tells receipts records =
     (tells.tells.line.spelt ∙ ap told_text (told_is config bucket text h content tells receipts records))
     ∙ ap (λ (t : List ℕ). ended (told_text (told_of (reply_with config bucket content))) ++ t) (text_of_content content)
 
+-- A first line, and all the lines that it announces, are an answer that is taken whole.
 pub answer_taken : (m : Meaning) (config : Configuration) (bucket before : ℕ) (h : Head)
     (stream middle left : Option (List ℕ)) (new : Meaning) (read : ℕ) → config ≡ m.config
     → HasHead (wish config bucket) stream middle h
@@ -61,6 +66,7 @@ answer_taken m config bucket before h stream middle left new read same head line
       read_is = lines.read_is;
     }
 
+-- A fault after the first line stops the answer there; what came before it is held.
 pub answer_stops : (m : Meaning) (config : Configuration) (bucket first : ℕ) (h : Head)
     (stream middle : Option (List ℕ)) (new : Meaning) (e : SyncError) → config ≡ m.config
     → HasHead (wish config bucket) stream middle h
@@ -85,6 +91,7 @@ answer_stops m config bucket first h stream middle new e same head stops =
       meaning = stops.taken.meaning;
     }
 
+-- A fault of the first line stops the answer, and nothing of it is held.
 pub answer_refused : (m : Meaning) (config : Configuration) (bucket first : ℕ) (stream after : Option (List ℕ))
     (e : SyncError) → config ≡ m.config → RefusesHead (wish config bucket) stream after e
     → StopsReply m bucket first stream m e
@@ -94,7 +101,7 @@ answer_refused m config bucket first stream after e same refused = record {
   meaning = refl;
 }
 
--- nothing of it is read where the question is not written
+-- Where the question could not be written nothing of the answer is read.
 pub answer_unread : (m : Meaning) (bucket first : ℕ) (stream : Option (List ℕ)) (e : SyncError)
     → (e ≡ Io) ⊎ (e ≡ NoMemory) → StopsReply m bucket first stream m e
 answer_unread m bucket first stream e (inl failed) =

@@ -29,6 +29,7 @@ use Rattle.replica_sync.proofs.WritingFacts.{lines_append}
 
 -- ---- the parts of a list
 
+-- The empty list is not one with an item in it.
 no_end : (ys : List (List ℕ)) (b : List ℕ) (zs : List (List ℕ)) → [] ≡ ys ++ b ∷ zs → ⊥
 no_end [] b zs e = cc
 no_end (y ∷ ys) b zs e = cc
@@ -44,6 +45,7 @@ record IsInside (xs ys : List (List ℕ)) (text : List ℕ) : Type 0 where
   pub later : List (List ℕ)
   pub parts : xs ≡ ys ++ text ∷ later
 
+-- A line of a list is its last one or one of those before.
 parted : (xs ys later : List (List ℕ)) (last text : List ℕ) → xs ++ last ∷ [] ≡ ys ++ text ∷ later → IsAtEnd xs ys later last text ⊎ IsInside xs ys text
 parted [] [] later last text e = inl (record { front = refl; is = cc; none = cc })
 parted [] (y ∷ ys) later last text e = let none : [] ≡ ys ++ text ∷ later = cc in absurd (no_end ys text later none)
@@ -58,25 +60,30 @@ parted (x ∷ xs) (y ∷ ys) later last text e =
 
 -- ---- bytes without a line
 
+-- A byte before lines and a rest leaves something.
 no_before : (b : ℕ) (whole : List (List ℕ)) (rest : List ℕ) → (before b whole rest).whole ≡ [] → (before b whole rest).rest ≡ [] → ⊥
 no_before b [] rest p q = cc
 no_before b (text ∷ others) rest p q = cc
 
+-- A byte makes a line or a rest.
 no_byte : (feed : Bool) (b : ℕ) (lines : Lines) → (with_byte feed b lines).whole ≡ [] → (with_byte feed b lines).rest ≡ [] → ⊥
 no_byte true b lines p q = cc
 no_byte false b lines p q = no_before b lines.whole lines.rest p q
 
+-- Where there is neither a line nor a rest, there is no byte.
 no_bytes : (bytes : List ℕ) → (lines_of bytes).whole ≡ [] → (lines_of bytes).rest ≡ [] → bytes ≡ []
 no_bytes [] p q = refl
 no_bytes (b ∷ bytes) p q = absurd (no_byte (b == 10) b (lines_of bytes) p q)
 
+-- A text without a line feed, in the words of streams.
 fed : (text : List ℕ) → Feedless text → HasNoFeed text
 fed text h = All-from_recursion (λ b. b ≡ 10 → ⊥) text h
 
+-- A text with its line feed is the first line of what begins with it.
 first_of_lines : (text bytes after : List ℕ) → HasNoFeed text → bytes ≡ ended text ++ after → lines_of bytes ≡ with_line text (lines_of after)
 first_of_lines text bytes after plain e = ap lines_of e ∙ lines_of-line text after plain
 
--- two first lines of one stream
+-- Two first lines of one stream are one.
 one_first : (text other bytes after since : List ℕ) → HasNoFeed text → HasNoFeed other → bytes ≡ ended text ++ after
     → bytes ≡ ended other ++ since → text ≡ other
 one_first text other bytes after since p q e f =
@@ -87,6 +94,7 @@ one_first text other bytes after since p q e f =
 
 -- ---- the first line
 
+-- The first line of this configuration has no fault.
 right_first : (format : Format) (config : Configuration) (text : List ℕ) (e : SyncError)
     → text ≡ header_line format config → ((e ≡ BadHeader) × (8388608 < length text)) ⊎ RefusesHeader config text e → ⊥
 right_first format config text e is (inl long) =
@@ -110,6 +118,7 @@ right_first format config text (Refused n why) is (inr h) = h
 right_first format config text Io is (inr h) = h
 right_first format config text NoMemory is (inr h) = h
 
+-- A stream that begins with the first line of this configuration has no fault of it.
 bad_first : (format : Format) (config : Configuration) (bytes tail : List ℕ) (e : SyncError)
     → bytes ≡ ended (header_line format config) ++ tail → HasBadFirst config (Some bytes) e → ⊥
 bad_first format config bytes tail e whole h = by_rest h.after h.is
@@ -121,12 +130,14 @@ bad_first format config bytes tail e whole h = by_rest h.after h.is
         (one_first h.text (header_line format config) bytes rest tail is.0
         (fed (header_line format config) (feedless_first format config)) is.1 whole) h.cause
 
+-- A stream that begins with the first line is not one without a line.
 no_line : (format : Format) (config : Configuration) (bytes tail : List ℕ) → bytes ≡ ended (header_line format config) ++ tail → HasNoFeed bytes → ⊥
 no_line format config bytes tail whole none =
     let lines = first_of_lines (header_line format config) bytes tail (fed (header_line format config) (feedless_first format config)) whole in
     let both : [] ≡ header_line format config ∷ (lines_of tail).whole = ap (λ (l : Lines). l.whole) (sym (lines_of-rest bytes none) ∙ lines) in
     cc
 
+-- A stream that begins with that line is not refused for it.
 refused_first : (format : Format) (config : Configuration) (bytes tail : List ℕ) (e : SyncError) → e ≢ Io → e ≢ NoMemory
     → bytes ≡ ended (header_line format config) ++ tail → RefusesFirst config (Some bytes) e → ⊥
 refused_first format config bytes tail BadHeader calm ample whole h = bad_first format config bytes tail BadHeader whole h
@@ -140,7 +151,7 @@ refused_first format config bytes tail (Refused n why) calm ample whole h = h
 refused_first format config bytes tail Io calm ample whole h = calm refl
 refused_first format config bytes tail NoMemory calm ample whole h = ample refl
 
--- ---- behind a good beginning
+-- ---- after a good beginning
 
 -- What follows the one's lines in a stream is the end of the other's.
 record IsTail (format : Format) (m k : Meaning) (rest : List ℕ) : Type 0 where
@@ -152,18 +163,20 @@ record IsTail (format : Format) (m k : Meaning) (rest : List ℕ) : Type 0 where
   pub whole : held_lines m ++ count_line format m ∷ [] ≡ held_lines k ++ (lines_of rest).whole
   pub none : (lines_of rest).rest ≡ []
 
--- the line that follows
+-- The line that follows is one of what is held, or the last one.
 next_line : (format : Format) (m k : Meaning) (rest text after : List ℕ) → IsTail format m k rest → HasNoFeed text → rest ≡ ended text ++ after
     → IsAtEnd (held_lines m) (held_lines k) (lines_of after).whole (count_line format m) text ⊎ IsInside (held_lines m) (held_lines k) text
 next_line format m k rest text after tail plain e =
     parted (held_lines m) (held_lines k) (lines_of after).whole (count_line format m) text
     (tail.whole ∙ ap (λ (l : Lines). held_lines k ++ l.whole) (first_of_lines text rest after plain e))
 
+-- Meanings with the same lines have the same last line.
 same_count : (format : Format) (m k : Meaning) → IsMeaning m → IsMeaning k → held_lines m ≡ held_lines k → count_line format m ≡ count_line format k
 same_count format m k valid other e =
     let sets = held_back m.records k.records m.held k.held valid.distrusts other.distrusts valid.receipts other.receipts e in
     (λ i. count_of format (length (sets.receipts i)) (length (sets.records i)))
 
+-- The line that follows has no fault at its place.
 good_place : (format : Format) (m k : Meaning) (rest text after : List ℕ) (e : SyncError) → e ≢ NoMemory
     → IsTail format m k rest → HasNoFeed text → rest ≡ ended text ++ after → RefusesPlace format k text e → ⊥
 good_place format m k rest text after e ample tail plain is cause = elim (next_line format m k rest text after tail plain is) [
@@ -171,6 +184,7 @@ good_place format m k rest text after e ample tail plain is cause = elim (next_l
   | inr at ↦ no_fault_of_held format m k text at.later e tail.configured tail.valid tail.other tail.told tail.same at.parts ample cause
 ]
 
+-- The end of a snapshot has no line with a fault.
 bad_line : (format : Format) (m k : Meaning) (rest : List ℕ) (e : SyncError) → e ≢ NoMemory → IsTail format m k rest → HasBadLine format k (Some rest) e → ⊥
 bad_line format m k rest e ample tail h = by_rest h.after h.is
   where
@@ -178,17 +192,19 @@ bad_line format m k rest e ample tail h = by_rest h.after h.is
     by_rest None is = is.1
     by_rest (Some left) is = good_place format m k rest h.text left e ample tail is.0 is.1 h.cause
 
--- a line that tells the numbers is none of what is held
+-- The last line is none of what is held.
 count_apart : (format : Format) (m : Meaning) (text : List ℕ) (ys later : List (List ℕ)) (k : Meaning) → IsMeaning k
     → text ≡ count_line format k → held_lines m ≡ ys ++ text ∷ later → ⊥
 count_apart format m text ys later k valid is e =
     let count = is_count format k valid in
     no_count text count.rest (is ∙ count.begins) (all_back IsThird ys (text ∷ later) (subst (AllByRecursion IsThird) e (third_held m.records m.held))).0
 
+-- The last line has no line feed in it.
 plain_count : (format : Format) (m : Meaning) → IsMeaning m → HasNoFeed (count_line format m)
 plain_count format m valid =
     fed (count_line format m) (feedless_count format (length m.held) (length m.records) (omega (arith, valid.few)) (omega (arith, valid.few_records)))
 
+-- Nothing follows the last line of a snapshot.
 more_behind : (format : Format) (m k : Meaning) (rest : List ℕ) → IsTail format m k rest → HasMoreBehind format k (Some rest) → ⊥
 more_behind format m k rest tail h = by_rest h.after h.is h.more
   where
@@ -203,12 +219,14 @@ more_behind format m k rest tail h = by_rest h.after h.is h.more
       | inr at ↦ count_apart format m (count_line format k) (held_lines k) at.later k tail.other refl at.parts
     ]
 
+-- The end of a snapshot is not without a line.
 cut : (format : Format) (m k : Meaning) (rest : List ℕ) → IsTail format m k rest → HasNoFeed rest → ⊥
 cut format m k rest tail none =
     let whole : held_lines m ++ count_line format m ∷ [] ≡ held_lines k =
     tail.whole ∙ ap (λ (l : Lines). held_lines k ++ l.whole) (lines_of-rest rest none) ∙ append-nil (held_lines k) in
     count_apart format k (count_line format m) (held_lines m) [] m tail.valid refl (sym whole)
 
+-- The end of a snapshot is not refused for what comes next.
 refused_next : (format : Format) (m k : Meaning) (rest : List ℕ) (e : SyncError) → e ≢ Io → e ≢ NoMemory
     → IsTail format m k rest → RefusesNext format k (Some rest) e → ⊥
 refused_next format m k rest BadHeader calm ample tail h = h
@@ -225,22 +243,25 @@ refused_next format m k rest NoMemory calm ample tail h = ample refl
 
 -- ---- the whole
 
--- what stands behind the first line
+-- what stands after the first line
 abbrev behind : Format → Meaning → List ℕ
 behind format m = text_of_lines (held_lines m) ++ ended (count_line format m)
 
+-- A snapshot is its first line and what stands after it.
 front_text : (format : Format) (config : Configuration) (m : Meaning) → m.config ≡ config
     → snapshot_text format m ≡ ended (header_line format config) ++ behind format m
 front_text format config m same =
     append_assoc (ended (header_line format m.config)) (text_of_lines (held_lines m)) (ended (count_line format m))
     ∙ ap (λ c. ended (header_line format c) ++ behind format m) same
 
+-- The beginning of a snapshot is its first line and the lines of what is held.
 begun_front : (format : Format) (config : Configuration) (k : Meaning) (rest : List ℕ) → k.config ≡ config
     → begun_text format k ++ rest ≡ ended (header_line format config) ++ (text_of_lines (held_lines k) ++ rest)
 begun_front format config k rest same =
     append_assoc (ended (header_line format k.config)) (text_of_lines (held_lines k)) rest
     ∙ ap (λ c. ended (header_line format c) ++ (text_of_lines (held_lines k) ++ rest)) same
 
+-- Snapshots of two formats differ in their first lines.
 one_format : (config : Configuration) (f g : Format) (rest other : List ℕ)
     → ended (header_line f config) ++ rest ≡ ended (header_line g config) ++ other → f ≡ g
 one_format config First First rest other e = refl
@@ -248,6 +269,7 @@ one_format config First Second rest other e = absurd (formats_apart (digits_of c
 one_format config Second First rest other e = absurd (formats_apart (digits_of config) other rest (sym e))
 one_format config Second Second rest other e = refl
 
+-- What stands after the first line is the lines of what is held, and the last line.
 behind_lines : (format : Format) (m : Meaning) → IsMeaning m
     → lines_of (behind format m) ≡ record { whole = held_lines m ++ count_line format m ∷ []; rest = [] }
 behind_lines format m valid =
@@ -256,6 +278,7 @@ behind_lines format m valid =
     ∙ lines_back (held_lines m ++ count_line format m ∷ []) [] (feedless_behind format m valid)
     ∙ ap (λ (w : List (List ℕ)). record { whole = w; rest = [] }) (append-nil (held_lines m ++ count_line format m ∷ []))
 
+-- What follows a good beginning of a snapshot is the end of that snapshot.
 tail_of : (config : Configuration) (format : Format) (m k : Meaning) (rest : List ℕ) → IsConfiguration config
     → IsMeaning m → IsMeaning k → m.config ≡ config → k.config ≡ config → IsTold format m
     → behind format m ≡ text_of_lines (held_lines k) ++ rest → IsTail format m k rest
@@ -271,6 +294,7 @@ tail_of config format m k rest is valid other p q told e =
       none = sym (ap (λ (l : Lines). l.rest) lines);
     }
 
+-- A snapshot is not refused after a good beginning.
 refused_behind : (config : Configuration) (f : Format) (bytes : List ℕ) (m : Meaning) (e : SyncError)
     → IsConfiguration config → e ≢ Io → e ≢ NoMemory → IsMeaning m → m.config ≡ config → IsTold f m
     → bytes ≡ ended (header_line f config) ++ behind f m → (g : Format) (k : Meaning) (left : Option (List ℕ))

@@ -1,4 +1,5 @@
--- A stream begins with one question at most, and one that begins with a question has no fault there.
+-- A stream begins with one question at most, and one that begins with a question has no fault
+-- there.
 use Rattle.std.proofs.Common.{◌≡◌, ◌≢◌, ℕ, ◌<◌, ◌⊎◌, inl, inr, List, ◌++◌, length, Option, None, Some, refl, ap, ◌∙◌, subst, arith}
 use Rattle.std.specs.Io.KnownBytes.{Consumes}
 use Rattle.fed_config.specs.Configuration.{Configuration}
@@ -16,6 +17,7 @@ use Rattle.replica_sync.proofs.FirstLineFacts.{one-asked}
 
 -- ---- one question
 
+-- The text of a question that a line can ask is the line of that question.
 asked-line : (q : Question) → IsAskable q → IsAskedLine (asked_text (asked_of q)) (asked_of q)
 asked-line q is = record { is = is.asked; spelt = refl }
 
@@ -24,6 +26,7 @@ pub record IsSameQuestion (p q : Question) (left rest : List ℕ) : Type 0 where
   pub question : p ≡ q
   pub behind : left ≡ rest
 
+-- A stream of known bytes begins with one question at most, and one thing follows it.
 pub same-question : (bytes : List ℕ) (p q : Question) (left rest : List ℕ) → IsAskable p → IsAskable q
     → bytes ≡ question_text p ++ left → bytes ≡ question_text q ++ rest → IsSameQuestion p q left rest
 same-question bytes p q left rest is valid e f =
@@ -34,6 +37,7 @@ same-question bytes p q left rest is valid e f =
     (record { is = valid.asked; spelt = line.line }) in
     record { question = ap (λ (a : Asked). a.question) asked; behind = line.rest }
 
+-- The clause `one` of the law on questions: a stream begins with one question at most.
 pub one-question : (bytes : List ℕ) (p q : Question) (left rest : Option (List ℕ)) → IsAskable p → IsAskable q
     → Consumes (Some bytes) left (question_text p) → Consumes (Some bytes) rest (question_text q)
     → (p ≡ q) × (left ≡ rest)
@@ -45,16 +49,19 @@ one-question bytes p q (Some left) (Some rest) is valid e f =
 
 -- ---- no fault
 
+-- A fault of the first line is one of the line with which the stream begins.
 pub first-cause : (refuses : List ℕ → SyncError → Type 0) (bytes text after : List ℕ) (new : Option (List ℕ))
     (e : SyncError) → HasNoFeed text → bytes ≡ ended text ++ after → HasBadFirstLine refuses (Some bytes) new e
     → ((e ≡ BadHeader) × (8388608 < length text)) ⊎ refuses text e
 first-cause refuses bytes text after new e plain is h =
     subst (λ t. ((e ≡ BadHeader) × (8388608 < length t)) ⊎ refuses t e) (is-first bytes text after h.text new plain is h.is).0 h.cause
 
+-- A digest that is the configuration's is not another one's.
 pub no-other : (config : Option Configuration) (digest other : List ℕ) → HasDigestOf config digest → other ≡ digest → HasOtherDigest config other → ⊥
 no-other None digest other own e h = h
 no-other (Some config) digest other own e h = h (e ∙ own)
 
+-- The line of a question of this configuration has no fault.
 no-bad-question : (config : Option Configuration) (q : Question) (e : SyncError) → IsAskable q → HasDigestOf config q.config → e ≢ NoMemory
     → ((e ≡ BadHeader) × (8388608 < length (asked_text (asked_of q)))) ⊎ RefusesAsked config (asked_text (asked_of q)) e → ⊥
 no-bad-question config q e is own ample (inl long) = let more = long.1 in let short = is.short in omega (arith, more, short)
@@ -75,12 +82,14 @@ no-bad-question config q NoMemory is own ample (inr h) = ample refl
 
 module _ (config : Option Configuration) (bytes : List ℕ) (q : Question) (left : List ℕ) (is : IsAskable q)
     (own : HasDigestOf config q.config) (begins : bytes ≡ question_text q ++ left) where
+  -- A stream that begins with such a question has no fault of its first line.
   bad-first : (new : Option (List ℕ)) (e : SyncError) → e ≢ NoMemory → HasBadFirstLine (RefusesAsked config) (Some bytes) new e → ⊥
   bad-first new e ample h =
       no-bad-question config q e is own ample
       (first-cause (RefusesAsked config) bytes (asked_text (asked_of q)) left new e
       (plain-asked (asked_of q) is.asked) begins h)
 
+  -- That question is read, unless the source or memory fails.
   pub no-question-fault : (new : Option (List ℕ)) (e : SyncError) → e ≢ Io → e ≢ NoMemory → RefusesQuestion config (Some bytes) new e → ⊥
   no-question-fault new BadHeader calm ample h = bad-first new BadHeader ample h
   no-question-fault new ConfigDiffers calm ample h = bad-first new ConfigDiffers ample h
@@ -93,6 +102,8 @@ module _ (config : Option Configuration) (bytes : List ℕ) (q : Question) (left
   no-question-fault new Io calm ample h = calm refl
   no-question-fault new NoMemory calm ample h = ample refl
 
+-- The clause `read` of the law on questions: a stream that begins with a question has no fault
+-- there.
 pub question-read : (config : Option Configuration) (bytes : List ℕ) (q : Question) (left new : Option (List ℕ))
     (e : SyncError) → IsAskable q → HasDigestOf config q.config → e ≢ Io → e ≢ NoMemory
     → Consumes (Some bytes) left (question_text q) → RefusesQuestion config (Some bytes) new e → ⊥

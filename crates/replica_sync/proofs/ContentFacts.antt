@@ -30,19 +30,23 @@ use Rattle.replica_sync.specs.Inside.Taking.{meaning_gained}
 
 -- ---- lists
 
+-- What holds of all items, and of one more, holds of the longer list.
 pub all_pushed : {A : Type 0} (P : A → Type 0) (xs : List A) (x : A) → AllByRecursion P xs → P x → AllByRecursion P (xs ++ x ∷ [])
 all_pushed P [] x h k = (k, tt)
 all_pushed P (y ∷ xs) x h k = (h.0, all_pushed P xs x h.1 k)
 
+-- A list of one item rises.
 rising_one : {A : Type 0} (cmp : A → A → Ordering) (x : A) → IsStrictlySortedBy cmp (x ∷ [])
 unfolding IsStrictlySortedBy
 rising_one cmp x = (tt, tt)
 
+-- An item below all others, before a rising list, makes a rising list.
 rising_cons : {A : Type 0} (cmp : A → A → Ordering) (x : A) (xs : List A) → AllByRecursion (λ y. cmp x y ≡ Less) xs
     → IsStrictlySortedBy cmp xs → IsStrictlySortedBy cmp (x ∷ xs)
 unfolding IsStrictlySortedBy
 rising_cons cmp x xs above rising = (above, rising)
 
+-- Lines that rise, with one more above all of them, rise.
 rising_below : (lines : List (List ℕ)) (text : List ℕ) → IsStrictlySortedBy text_cmp lines → AllBelow text lines
     → IsStrictlySortedBy text_cmp (lines ++ text ∷ [])
 rising_below [] text rising below = rising_one text_cmp text
@@ -50,16 +54,18 @@ rising_below (x ∷ lines) text rising below =
     rising_cons text_cmp x (lines ++ text ∷ []) (all_pushed (λ y. text_cmp x y ≡ Less) lines text (rising_head text_cmp x lines rising) below.0)
     (rising_below lines text (rising_tail text_cmp x lines rising) below.1)
 
--- a text above the last one goes to the end
+-- Lines that rise, with one more above the last one, rise.
 pub rising_pushed : (lines : List (List ℕ)) (text : List ℕ) → IsStrictlySortedBy text_cmp lines
     → IsAbove (last_of lines) text → IsStrictlySortedBy text_cmp (lines ++ text ∷ [])
 rising_pushed lines text rising above = rising_below lines text rising (below_last lines text rising above)
 
+-- To join one more item is to join it last.
 pub joined_one : {A : Type 0} (cmp : A → A → Ordering) (xs set : List A) (x : A) → with_items cmp (xs ++ x ∷ []) set ≡ with_item cmp x (with_items cmp xs set)
 joined_one cmp xs set x = fold-append (λ old item. with_item cmp item old) set xs (x ∷ [])
 
 -- ---- lines
 
+-- A record at the end of the records adds its line, while there is no receipt.
 lines_with_record : (content : State) (x : Distrust) → content.held ≡ []
     → content_lines (pushed (Record x) content) ≡ content_lines content ++ distrust_line x ∷ []
 lines_with_record content x none =
@@ -69,24 +75,28 @@ lines_with_record content x none =
     ∙ ap (λ lines. lines ++ distrust_line x ∷ []) (sym (append-nil (map distrust_line content.records)))
     ∙ ap (λ held. (map distrust_line content.records ++ map line held) ++ distrust_line x ∷ []) (sym none)
 
+-- A receipt at the end of the receipts adds its line.
 lines_with_receipt : (content : State) (r : Receipt) → content_lines (pushed (AReceipt r) content) ≡ content_lines content ++ line r ∷ []
 lines_with_receipt content r =
     ap (λ lines. map distrust_line content.records ++ lines) (map-append line content.held (r ∷ []))
     ∙ sym (append_assoc (map distrust_line content.records) (map line content.held) (line r ∷ []))
 
--- behind receipts no record comes
+-- the entry may come next: no record comes after a receipt
 abbrev pub HasPlace : Entry → State → Type 0
 HasPlace (Record x) content = content.held ≡ []
 HasPlace (AReceipt r) content = Unit {0}
 
+-- An entry that may come next adds its line at the end.
 pub lines_pushed : (entry : Entry) (content : State) → HasPlace entry content
     → content_lines (pushed entry content) ≡ content_lines content ++ entry_line entry ∷ []
 lines_pushed (Record x) content none = lines_with_record content x none
 lines_pushed (AReceipt r) content none = lines_with_receipt content r
 
+-- One line more, with its line feed, ends the text.
 text_pushed : (lines : List (List ℕ)) (text : List ℕ) → text_of_lines (lines ++ text ∷ []) ≡ text_of_lines lines ++ ended text
 text_pushed lines text = flat_map-append ended lines (text ∷ []) ∙ ap (λ t. text_of_lines lines ++ t) (append-nil (ended text))
 
+-- After some lines of a stream and one more, all of these are used up.
 pub consumes_one : (a b c : Option (List ℕ)) (lines : List (List ℕ)) (text : List ℕ)
     → Consumes a b (text_of_lines lines) → HasLine b c text → Consumes a c (text_of_lines (lines ++ text ∷ []))
 consumes_one a b c lines text before is =
@@ -101,6 +111,7 @@ text_of_content content =
 
 -- ---- what is held
 
+-- To hold one more entry is to hold all that was gained and this.
 pub gained_pushed : (old : Meaning) (content : State) (entry : Entry)
     → with_entry entry (meaning_gained old content) ≡ meaning_gained old (pushed entry content)
 gained_pushed old content (Record x) =

@@ -18,10 +18,12 @@ use Rattle.replica_sync.proofs.FeedFacts.{Feedless, feedless_both, feedless_deci
 
 -- ---- digits
 
+-- the test of the first n digits of the table, which computes
 abbrev are_digits_below : ℕ → Bool
 are_digits_below zero = true
 are_digits_below (suc n) = is_lower_hex_digit (slice_index lower_digits n) && are_digits_below n
 
+-- A digit below n passes the test.
 digit_at : (n d : ℕ) → are_digits_below n ≡ true → d < n → is_lower_hex_digit (slice_index lower_digits d) ≡ true
 digit_at zero d h lt = absurd (omega arith)
 digit_at (suc n) d h lt =
@@ -33,15 +35,18 @@ digit_at (suc n) d h lt =
           rw e parts.0
     ]
 
+-- The hexadecimal text of bytes has hexadecimal digits alone.
 each_digit : (a : List ℕ) → AllByRecursion (λ b. b < 256) a → AllByRecursion (λ b. is_lower_hex_digit b ≡ true) (encode_lower a)
 unfolding encode_with
 each_digit [] h = tt
 each_digit (x ∷ a) h = (digit_at 16 (x / 16) refl (omega (arith, h.0)), (digit_at 16 (x % 16) refl (omega arith), each_digit a h.1))
 
+-- Hexadecimal digits have no line feed among them.
 feedless_digits : (xs : List ℕ) → AllByRecursion (λ b. is_lower_hex_digit b ≡ true) xs → Feedless xs
 feedless_digits [] h = tt
 feedless_digits (x ∷ xs) h = ((λ e. let no : is_lower_hex_digit 10 ≡ true = subst (λ b. is_lower_hex_digit b ≡ true) e h.0 in cc), feedless_digits xs h.1)
 
+-- A digest has four bytes for each of its words.
 length-digest : (h : List ℕ) (n : ℕ) → length (digest_bytes h n) ≡ 4 * n
 unfolding digest_bytes
 length-digest h zero = refl
@@ -51,14 +56,17 @@ length-digest h (suc n) =
     let both = length-append (digest_bytes h n) (to_be_bytes w32 (slice_index h n)) in
     omega (arith, four, before, both)
 
+-- The digest of a configuration has 32 bytes.
 length-config_id : (c : Configuration) → length (config_id_of c) ≡ 32
 unfolding config_id_of sha256
 length-config_id c = length-digest _ 8
 
+-- The digits of a configuration's digest are hexadecimal digits alone.
 each_of_config : (c : Configuration) → AllByRecursion (λ b. is_lower_hex_digit b ≡ true) (digits_of c)
 unfolding config_id_of sha256
 each_of_config c = each_digit (config_id_of c) (digest-bytes _ 8)
 
+-- The digits of a configuration are 64, as a first line has them.
 config_digits : (c : Configuration) → AreDigits (digits_of c)
 config_digits c = record {
   size = let twice = length-encode_with lower_digits (config_id_of c) in let bytes = length-config_id c in omega (arith, twice, bytes);
@@ -67,17 +75,21 @@ config_digits c = record {
 
 -- ---- the line
 
+-- The number of a format is one digit.
 few_versions : (format : Format) → version_of format < 10
 few_versions First = omega arith
 few_versions Second = omega arith
 
+-- The first line of a configuration is spelt as a first line is.
 pub is_first_line : (format : Format) (c : Configuration) → IsHeader (header_line format c) (digits_of c) (version_of format)
 is_first_line format c = record { form = config_digits c; few = let few = few_versions format in omega (arith, few); spelt = refl }
 
+-- The length of a first line, by its parts.
 first_length : (digits number : List ℕ) → length (header_of digits number) ≡ 23 + length digits + length number
 unfolding header_of
 first_length digits number = simp length-append (omega arith)
 
+-- The first line of a configuration is not too long.
 pub short_first : (format : Format) (c : Configuration) → length (header_line format c) ≤ 8388608
 short_first format c =
     let whole = first_length (digits_of c) (decimal (version_of format)) in
@@ -86,16 +98,19 @@ short_first format c =
     let number : length (decimal (version_of format)) ≤ 1 = length-decimal-le 1 (version_of format) (omega arith) few (omega (arith, few)) in
     omega (arith, whole, size, number)
 
+-- the test that a text has no line feed, which computes
 abbrev is_feedless : List ℕ → Bool
 is_feedless [] = true
 is_feedless (b ∷ bytes) = not (b == 10) && is_feedless bytes
 
+-- A text that passes the test has none.
 feedless_by : (bytes : List ℕ) → is_feedless bytes ≡ true → Feedless bytes
 feedless_by [] h = tt
 feedless_by (b ∷ bytes) h =
     let parts = and_parts (not (b == 10)) (is_feedless bytes) h in
     ((λ e. let no : not (10 == 10) ≡ true = subst (λ x. not (x == 10) ≡ true) e parts.0 in cc), feedless_by bytes parts.1)
 
+-- The first line of a configuration has none.
 pub feedless_first : (format : Format) (c : Configuration) → Feedless (header_line format c)
 unfolding header_of
 feedless_first format c =

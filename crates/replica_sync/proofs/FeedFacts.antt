@@ -15,25 +15,30 @@ use Rattle.bundle_doc.proofs.BundleFacts.{IsPlain-document_tree}
 use Rattle.receipt_core.specs.declared.distrust.Distrust.{Distrust}
 use Rattle.receipt_core.specs.Receipt.{Receipt, IsReceipt, line, distrust_line}
 
+-- no byte is a line feed
 abbrev pub Feedless : List ℕ → Type 0
 Feedless = AllByRecursion (λ b. b ≢ 10)
 
+-- A text of two parts without a line feed has none.
 pub feedless_both : (xs ys : List ℕ) → Feedless xs → Feedless ys → Feedless (xs ++ ys)
 feedless_both [] ys h k = k
 feedless_both (x ∷ xs) ys h k = (h.0, feedless_both xs ys h.1 k)
 
 -- ---- strings
 
+-- No hexadecimal digit is a line feed.
 digit_char_small : (p : Bool) (d : ℕ) → cond p (48 + d) (87 + d) ≢ 10
 digit_char_small true d e = omega arith
 digit_char_small false d e = omega arith
 
+-- The three ways to write a byte in a string give no line feed.
 escaped_cases : (short control : Bool) (b letter high low : ℕ) → letter ≢ 10 → high ≢ 10 → low ≢ 10 → (short ≡ false → control ≡ false → b ≢ 10)
     → Feedless (cond short (92 ∷ letter ∷ []) (cond control (92 ∷ 117 ∷ 48 ∷ 48 ∷ high ∷ low ∷ []) (b ∷ [])))
 escaped_cases true control b letter high low l h k calm = ((λ e. omega arith), (l, tt))
 escaped_cases false true b letter high low l h k calm = ((λ e. omega arith), ((λ e. omega arith), ((λ e. omega arith), ((λ e. omega arith), (h, (k, tt))))))
 escaped_cases false false b letter high low l h k calm = (calm refl refl, tt)
 
+-- No letter of a short escape is a line feed.
 letter_cases : (p q r s t u : Bool) (b : ℕ) → (p ≡ true → b ≢ 10) → cond p b (cond q 98 (cond r 102 (cond s 110 (cond t 114 (cond u 116 0))))) ≢ 10
 letter_cases true q r s t u b h e = h refl e
 letter_cases false true r s t u b h e = omega arith
@@ -43,6 +48,7 @@ letter_cases false false false false true u b h e = omega arith
 letter_cases false false false false false true b h e = omega arith
 letter_cases false false false false false false b h e = omega arith
 
+-- A byte is written in a string without a line feed.
 feedless_byte : (b : ℕ) → Feedless (escape_byte b)
 unfolding escape_byte
 feedless_byte b =
@@ -53,23 +59,28 @@ feedless_byte b =
     (digit_char_small (nat_lt (b / 16) 10) (b / 16)) (digit_char_small (nat_lt (b % 16) 10) (b % 16))
     (λ short control ten. let no : nat_lt 10 32 ≡ false = subst (λ x. nat_lt x 32 ≡ false) ten control in cc)
 
+-- A text is written in a string without a line feed.
 feedless_escape : (s : List ℕ) → Feedless (escape s)
 feedless_escape [] = tt
 feedless_escape (b ∷ s) = feedless_both (escape_byte b) (escape s) (feedless_byte b) (feedless_escape s)
 
+-- A string with its quotation marks has no line feed.
 feedless_quoted : (s : List ℕ) → Feedless (quoted s)
 feedless_quoted s = ((λ e. omega arith), feedless_both (escape s) (34 ∷ []) (feedless_escape s) ((λ e. omega arith), tt))
 
 -- ---- values
 
+-- A decimal number has no line feed.
 pub feedless_decimal : (m : ℕ) → m < 2 ^ 64 → Feedless (decimal m)
 feedless_decimal = decimal_by_steps (λ m ds. Feedless ds) (λ m h. ((λ e. omega arith), tt))
     (λ m ds h before. feedless_both ds ((48 + m % 10) ∷ []) before ((λ e. omega arith), tt))
 
+-- The comma before a member is no line feed.
 feedless_comma : (later : Bool) → Feedless (comma_if later)
 feedless_comma true = ((λ e. omega arith), tt)
 feedless_comma false = tt
 
+-- A member has none where its value and the later members have none.
 feedless_member : (later : Bool) (name value others : List ℕ) → Feedless value → Feedless others
     → Feedless (comma_if later ++ (quoted name ++ 58 ∷ (value ++ others)))
 feedless_member later name value others h k =
@@ -102,9 +113,11 @@ mutual
 
 -- ---- lines
 
+-- The closing brace is no line feed.
 ends : Feedless (125 ∷ [])
 ends = ((λ e. omega arith), tt)
 
+-- A receipt's line has no line feed.
 pub feedless_line : (r : Receipt) → IsReceipt r → Feedless (line r)
 unfolding line
 feedless_line r h = (
@@ -117,6 +130,7 @@ feedless_line r h = (
       (feedless_member true (codes "voucher") (quoted (encode_lower r.voucher.0)) (125 ∷ []) (feedless_quoted (encode_lower r.voucher.0)) ends)))),
 )
 
+-- A record's line has no line feed.
 pub feedless_record : (x : Distrust) → Feedless (distrust_line x)
 unfolding distrust_line
 feedless_record x = (

@@ -19,28 +19,34 @@ use Rattle.replica_sync.proofs.IdListFacts.{later_text}
 
 -- ---- texts without a line feed
 
+-- the test that a text has no line feed, which computes
 abbrev is_feedless : List ℕ → Bool
 is_feedless [] = true
 is_feedless (b ∷ bytes) = not (b == 10) && is_feedless bytes
 
+-- A text that passes the test has none.
 feedless-by : (bytes : List ℕ) → is_feedless bytes ≡ true → Feedless bytes
 feedless-by [] h = tt
 feedless-by (b ∷ bytes) h =
     let parts = and_parts (not (b == 10)) (is_feedless bytes) h in
     ((λ e. let no : not (10 == 10) ≡ true = subst (λ x. not (x == 10) ≡ true) e parts.0 in cc), feedless-by bytes parts.1)
 
+-- Bytes above the quotation mark are no line feeds.
 above-feed : (text : List ℕ) → AllByRecursion (λ b. 34 < b) text → Feedless text
 above-feed [] h = tt
 above-feed (b ∷ text) h = ((λ e. let above = h.0 in omega (arith, above, e)), above-feed text h.1)
 
+-- The digits of a digest have no line feed among them.
 feedless-digest : (digest : List ℕ) → IsDigest digest → Feedless (encode_lower digest)
 feedless-digest digest is = above-feed (encode_lower digest) (Above-encode_lower digest is.octets)
 
+-- An id in quotation marks has no line feed.
 feedless-quoted : (id : List ℕ) → IsDigest id → Feedless (quoted id)
 feedless-quoted id is =
     feedless_both (codes "\"") (encode_lower id ++ codes "\"") (feedless-by (codes "\"") refl)
     (feedless_both (encode_lower id) (codes "\"") (feedless-digest id is) (feedless-by (codes "\"") refl))
 
+-- Ids with commas before them have no line feed.
 feedless-later : (ids : List (List ℕ)) → AllByRecursion IsDigest ids → Feedless (later_text ids)
 feedless-later [] h = tt
 feedless-later (id ∷ ids) h =
@@ -48,20 +54,23 @@ feedless-later (id ∷ ids) h =
     (feedless_both (codes ",") (quoted id) (feedless-by (codes ",") refl) (feedless-quoted id h.0))
     (feedless-later ids h.1)
 
+-- A list of ids has no line feed.
 feedless-ids : (ids : List (List ℕ)) → AllByRecursion IsDigest ids → Feedless (join_by quoted (codes ",") ids)
 feedless-ids [] h = tt
 feedless-ids (id ∷ ids) h = feedless_both (quoted id) (later_text ids) (feedless-quoted id h.0) (feedless-later ids h.1)
 
+-- The part on records has no line feed.
 feedless-part : (format : ℕ) (distrusts : Option ℕ) → IsRecordCount format distrusts → Feedless (distrusts_part distrusts)
 feedless-part format None h = tt
 feedless-part format (Some n) h = feedless_both (codes ",\"distrusts\":") (decimal n) (feedless-by (codes ",\"distrusts\":") refl) (feedless_decimal n h)
 
--- a label, and then more
+-- A label without a line feed, and more without one, have none.
 labelled : (label rest : List ℕ) → is_feedless label ≡ true → Feedless rest → Feedless (label ++ rest)
 labelled label rest plain h = feedless_both label rest (feedless-by label plain) h
 
 -- ---- first lines
 
+-- The line of a question has no line feed.
 feedless-asked : (a : Asked) → IsAsked a → Feedless (asked_text a)
 unfolding asked_text
 feedless-asked a is =
@@ -71,6 +80,7 @@ feedless-asked a is =
     (labelled (codes ",\"have\":[") _ refl (feedless_both (join_by quoted (codes ",") a.question.ids) _ (feedless-ids a.question.ids is.ids)
     (labelled (codes "],\"of\":") _ refl (feedless_both (decimal a.buckets) _ (feedless_decimal a.buckets is.buckets) (feedless-by (codes "}") refl))))))))))
 
+-- The first line of an answer has no line feed.
 feedless-told : (t : GiveHeader) → IsGiveHeader t → Feedless (told_text t)
 unfolding told_text
 feedless-told t is =
@@ -82,25 +92,30 @@ feedless-told t is =
     (labelled (codes ",\"format\":") _ refl (feedless_both (decimal t.format) _ (feedless_decimal t.format is.format)
     (labelled (codes ",\"of\":") _ refl (feedless_both (decimal t.buckets) _ (feedless_decimal t.buckets is.buckets) (feedless-by (codes "}") refl)))))))))))
 
+-- A text without a line feed, in the words of streams.
 plain : (text : List ℕ) → Feedless text → HasNoFeed text
 plain text h = All-from_recursion (λ b. b ≢ 10) text h
 
+-- The line of a question has no line feed, in the words of streams.
 pub plain-asked : (a : Asked) → IsAsked a → HasNoFeed (asked_text a)
 plain-asked a is = plain (asked_text a) (feedless-asked a is)
 
+-- The first line of an answer has no line feed, in the words of streams.
 pub plain-told : (t : GiveHeader) → IsGiveHeader t → HasNoFeed (told_text t)
 plain-told t is = plain (told_text t) (feedless-told t is)
 
 -- ---- the first line of a stream
 
--- Two texts with the same first line, and the same behind it.
+-- Two texts with the same first line, and the same after it.
 pub record IsSameLine (text other after since : List ℕ) : Type 0 where
   pub line : text ≡ other
   pub rest : after ≡ since
 
+-- A text with its line feed is the first line of what begins with it.
 first-of : (bytes text after : List ℕ) → HasNoFeed text → bytes ≡ ended text ++ after → lines_of bytes ≡ with_line text (lines_of after)
 first-of bytes text after none e = ap lines_of e ∙ lines_of-line text after none
 
+-- What begins with two lines begins with one line twice, and the same follows.
 pub same-line : (bytes text other after since : List ℕ) → HasNoFeed text → HasNoFeed other → bytes ≡ ended text ++ after
     → bytes ≡ ended other ++ since → IsSameLine text other after since
 same-line bytes text other after since p q e f =

@@ -18,7 +18,7 @@ use Rattle.replica_sync.proofs.GiveHeaderFacts.{few-records, format_label, no-re
 
 -- ---- numbers
 
--- digits end in one place
+-- Of one text, the digits up to the first other byte are one.
 one-seam : (xs ys : List ℕ) (stop end : ℕ) (more rest : List ℕ) → AreDecimal xs → AreDecimal ys → is_ascii_digit stop ≡ false → is_ascii_digit end ≡ false
     → xs ++ (stop ∷ more) ≡ ys ++ (end ∷ rest) → (xs ≡ ys) × (stop ∷ more ≡ end ∷ rest)
 one-seam [] [] stop end more rest p q h k e = (refl, e)
@@ -30,6 +30,7 @@ one-seam (x ∷ xs) (y ∷ ys) stop end more rest p q h k e =
     let later = one-seam xs ys stop end more rest p.1 q.1 h k tail in
     ((λ i. head i ∷ later.0 i), later.1)
 
+-- A number that is followed by something else than a digit is one number.
 one-number : (m n stop end : ℕ) (more rest : List ℕ) → m < 2 ^ 64 → n < 2 ^ 64 → is_ascii_digit stop ≡ false → is_ascii_digit end ≡ false
     → decimal m ++ (stop ∷ more) ≡ decimal n ++ (end ∷ rest) → (m ≡ n) × (stop ∷ more ≡ end ∷ rest)
 one-number m n stop end more rest p q h k e =
@@ -38,6 +39,7 @@ one-number m n stop end more rest p q h k e =
 
 -- ---- digests
 
+-- The digits of a digest are those of one digest.
 one-digest : (a b more rest : List ℕ) → IsDigest a → IsDigest b → encode_lower a ++ more ≡ encode_lower b ++ rest → (a ≡ b) × (more ≡ rest)
 one-digest a b more rest p q e =
     let here = split-digest (encode_lower a ++ more) a more p refl in
@@ -49,6 +51,7 @@ one-digest a b more rest p q e =
 
 -- ---- ids
 
+-- An id in quotation marks is one id.
 one-quoted : (a b more rest : List ℕ) → IsDigest a → IsDigest b → quoted a ++ more ≡ quoted b ++ rest → (a ≡ b) × (more ≡ rest)
 one-quoted a b more rest p q e =
     let inner : (encode_lower a ++ codes "\"") ++ more ≡ (encode_lower b ++ codes "\"") ++ rest = append_cancel_left (codes "\"") _ _ e in
@@ -57,6 +60,7 @@ one-quoted a b more rest p q e =
     rest) in
     (parts.0, append_cancel_left (codes "\"") more rest parts.1)
 
+-- Ids with commas before them, up to the bracket, are one list.
 one-later : (ids others : List (List ℕ)) (more rest : List ℕ) → AllByRecursion IsDigest ids
     → AllByRecursion IsDigest others → later_text ids ++ (93 ∷ more) ≡ later_text others ++ (93 ∷ rest)
     → (ids ≡ others) × (more ≡ rest)
@@ -70,6 +74,7 @@ one-later (id ∷ ids) (o ∷ others) more rest p q e =
     let later = one-later ids others more rest p.1 q.1 first.1 in
     ((λ i. first.0 i ∷ later.0 i), later.1)
 
+-- A list of ids up to its bracket is one list.
 one-list : (ids others : List (List ℕ)) (more rest : List ℕ) → AllByRecursion IsDigest ids → AllByRecursion IsDigest others
     → join_by quoted (codes ",") ids ++ (93 ∷ more) ≡ join_by quoted (codes ",") others ++ (93 ∷ rest) → (ids ≡ others) × (more ≡ rest)
 one-list [] [] more rest p q e = (refl, append_cancel_left (93 ∷ []) more rest e)
@@ -83,6 +88,7 @@ one-list (id ∷ ids) (o ∷ others) more rest p q e =
 
 -- ---- questions
 
+-- The line of a question asks one thing.
 pub one-asked : (text : List ℕ) (a b : Asked) → IsAskedLine text a → IsAskedLine text b → a ≡ b
 one-asked text a b p q =
     let whole = sym (whole-line text a p.spelt) ∙ whole-line text b q.spelt in
@@ -98,6 +104,7 @@ one-asked text a b p q =
 
 -- ---- answers
 
+-- The part on records says one number, or that there is none.
 one-part : (m n : Option ℕ) (more rest : List ℕ) → IfSome m (λ k. k < 2 ^ 64) → IfSome n (λ k. k < 2 ^ 64)
     → distrusts_part m ++ (format_label ++ more) ≡ distrusts_part n ++ (format_label ++ rest) → (m ≡ n) × (more ≡ rest)
 one-part None None more rest p q e = (refl, append_cancel_left format_label more rest e)
@@ -113,6 +120,7 @@ one-part (Some m) (Some n) more rest p q e =
     (append_cancel_left records_label _ _ both) in
     (ap Some number.0, append_cancel_left format_label more rest number.1)
 
+-- The first line of an answer says one thing.
 pub one-told : (text : List ℕ) (a b : GiveHeader) → IsToldLine text a → IsToldLine text b → a ≡ b
 unfolding told_text
 one-told text a b p q =

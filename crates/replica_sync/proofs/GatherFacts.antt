@@ -1,4 +1,5 @@
--- The lines behind an answer's first: one more joins those that were read, and all of them are the answer.
+-- The lines after an answer's first: one more joins those that were read, and all of them are the
+-- answer.
 use Rattle.std.proofs.Common.{◌≡◌, ℕ, ◌+◌, ◌<◌, ◌≤◌, inl, inr, List, [], ◌∷◌, ◌++◌, length, length-append, map, Option}
 use Rattle.std.proofs.Common.{None, Some, refl, ap, sym, ◌∙◌, subst, arith, append_assoc, append-nil}
 use Rattle.std.proofs.lemmas.Bool.{cases_lt}
@@ -30,15 +31,18 @@ use Rattle.replica_sync.specs.declared.give_header_reader.Head.{Head}
 
 -- ---- the bound of a line that says something
 
+-- A record's line is within the bound.
 short-record : (text : List ℕ) (x : Distrust) → IsEntry Records text (Record x) → length text ≤ 1051063
 short-record text x is = elim (cases_lt 346 (length text)) [
   | inl long ↦ absurd (no_long_record text long x (record { is = is.is; text = is.spelt }))
   | inr short ↦ omega (arith, short)
 ]
 
+-- A receipt's line is within the bound.
 short-receipt : (text : List ℕ) (r : Receipt) → IsEntry Receipts text (AReceipt r) → length text ≤ 1051063
 short-receipt text r is = let short = length-line r is.is in let same = ap length is.spelt in omega (arith, same, short)
 
+-- A line that says something is within the bound for which memory is asked.
 pub short-entry : (wanted : Wanted) (text : List ℕ) (entry : Entry) → IsEntry wanted text entry → length text ≤ 1051063
 short-entry Records text (Record x) is = short-record text x is
 short-entry Records text (AReceipt r) is = absurd is.is
@@ -49,20 +53,24 @@ short-entry Either text (AReceipt r) is = short-receipt text r (record { is = is
 
 -- ---- rising lines
 
+-- A list of one line rises.
 rising-one : (text : List ℕ) → IsStrictlySortedBy text_cmp (text ∷ [])
 unfolding IsStrictlySortedBy
 rising-one text = (tt, tt)
 
+-- A line below all others, before lines that rise, makes lines that rise.
 rising-more : (x : List ℕ) (xs : List (List ℕ)) → AllByRecursion (λ y. text_cmp x y ≡ Less) xs
     → IsStrictlySortedBy text_cmp xs → IsStrictlySortedBy text_cmp (x ∷ xs)
 unfolding IsStrictlySortedBy
 rising-more x xs above rising = (above, rising)
 
+-- A line that is below all others is so with one more above it.
 above-pushed : (x text : List ℕ) (xs : List (List ℕ)) → AllByRecursion (λ y. text_cmp x y ≡ Less) xs
     → text_cmp x text ≡ Less → AllByRecursion (λ y. text_cmp x y ≡ Less) (xs ++ text ∷ [])
 above-pushed x text [] h k = (k, tt)
 above-pushed x text (y ∷ xs) h k = (h.0, above-pushed x text xs h.1 k)
 
+-- Lines that rise, with one more above all of them, rise.
 rising-pushed : (lines : List (List ℕ)) (text : List ℕ) → IsStrictlySortedBy text_cmp lines → AllBelow text lines
     → IsStrictlySortedBy text_cmp (lines ++ text ∷ [])
 rising-pushed [] text rising below = rising-one text
@@ -70,21 +78,25 @@ rising-pushed (x ∷ lines) text rising below =
     rising-more x (lines ++ text ∷ []) (above-pushed x text lines (rising_head text_cmp x lines rising) below.0)
     (rising-pushed lines text (rising_tail text_cmp x lines rising) below.1)
 
+-- The empty list of lines rises.
 rising-none : IsStrictlySortedBy text_cmp []
 unfolding IsStrictlySortedBy
 rising-none = tt
 
+-- What holds of all items, and of one more, holds of the longer list.
 all-pushed : {A : Type 0} (P : A → Type 0) (xs : List A) (x : A) → AllByRecursion P xs → P x → AllByRecursion P (xs ++ x ∷ [])
 all-pushed P [] x h p = (p, tt)
 all-pushed P (y ∷ xs) x h p = (h.0, all-pushed P xs x h.1 p)
 
 -- ---- one more line
 
+-- A receipt at the end of the receipts adds its line.
 lines-with-receipt : (content : State) (r : Receipt) → content_lines (pushed (AReceipt r) content) ≡ content_lines content ++ line r ∷ []
 lines-with-receipt content r =
     ap (λ lines. map distrust_line content.records ++ lines) (map-append line content.held (r ∷ []))
     ∙ sym (append_assoc (map distrust_line content.records) (map line content.held) (line r ∷ []))
 
+-- A record at the end of the records adds its line, while there is no receipt.
 lines-with-record : (content : State) (x : Distrust) → content.held ≡ []
     → content_lines (pushed (Record x) content) ≡ content_lines content ++ distrust_line x ∷ []
 lines-with-record content x none =
@@ -99,6 +111,7 @@ pub record Grows (count distrusts : ℕ) (old : State) (text : List ℕ) (new : 
   pub begun : IsBegun count distrusts new
   pub lines : content_lines new ≡ content_lines old ++ text ∷ []
 
+-- A line above the last one keeps the lines rising.
 rises : (old new : State) (text : List ℕ) → IsStrictlySortedBy text_cmp (content_lines old)
     → IsAbove (last_of (content_lines old)) text → content_lines new ≡ content_lines old ++ text ∷ []
     → IsStrictlySortedBy text_cmp (content_lines new)
@@ -107,6 +120,7 @@ rises old new text rising above e =
     (rising-pushed (content_lines old) text rising (below_last (content_lines old) text rising above))
 
 module _ (count distrusts : ℕ) (old : State) (begun : IsBegun count distrusts old) where
+  -- A record that is wanted goes on with the answer.
   grows-by-record : (text : List ℕ) (x : Distrust) → length old.records < distrusts
       → IsNextEntry Records (last_of (content_lines old)) text (Record x)
       → Grows count distrusts old text (pushed (Record x) old)
@@ -125,6 +139,7 @@ module _ (count distrusts : ℕ) (old : State) (begun : IsBegun count distrusts 
         lines = lines;
       }
 
+  -- A receipt that is wanted goes on with the answer.
   grows-by-receipt : (text : List ℕ) (r : Receipt) → length old.records ≡ distrusts → length old.held < count
       → IsNextEntry Receipts (last_of (content_lines old)) text (AReceipt r)
       → Grows count distrusts old text (pushed (AReceipt r) old)
@@ -143,6 +158,7 @@ module _ (count distrusts : ℕ) (old : State) (begun : IsBegun count distrusts 
         lines = lines;
       }
 
+  -- An entry that is wanted goes on with the answer.
   grows-by : (wanted : Wanted) (text : List ℕ) (entry : Entry) → Wants count distrusts old wanted
       → IsNextEntry wanted (last_of (content_lines old)) text entry → Grows count distrusts old text (pushed entry old)
   grows-by Records text (Record x) wants next = grows-by-record text x wants next
@@ -151,16 +167,19 @@ module _ (count distrusts : ℕ) (old : State) (begun : IsBegun count distrusts 
   grows-by Receipts text (AReceipt r) wants next = grows-by-receipt text r wants.0 wants.1 next
   grows-by Either text entry wants next = absurd wants
 
+  -- A line that is wanted and read goes on with the answer.
   pub grows : (wanted : Wanted) (text : List ℕ) (new : State) → Wants count distrusts old wanted
       → Pushes wanted old text new → Grows count distrusts old text new
   grows wanted text new wants p = subst (Grows count distrusts old text) (sym p.now) (grows-by wanted text p.entry wants p.next)
 
 -- ---- in a stream
 
+-- One line more, with its line feed, ends the text.
 lines-text : (lines : List (List ℕ)) (text : List ℕ) → text_of_lines (lines ++ text ∷ []) ≡ text_of_lines lines ++ ended text
 lines-text [] text = append-nil (ended text)
 lines-text (x ∷ lines) text = ap (λ t. ended x ++ t) (lines-text lines text) ∙ sym (append_assoc (ended x) (text_of_lines lines) (ended text))
 
+-- Before the first line nothing of the answer is read.
 pub gathers-none : (count distrusts : ℕ) (stream : Option (List ℕ)) (content : State) → content ≡ no_state → Gathers count distrusts stream content stream
 gathers-none count distrusts stream content none = subst (λ s. Gathers count distrusts stream s stream) (sym none) (record {
   begun = record { valid = record { receipts = tt; records = tt }; records = omega arith; receipts = omega arith; order = λ less. refl; rising = rising-none };
@@ -171,6 +190,7 @@ gathers-none count distrusts stream content none = subst (λ s. Gathers count di
     nothing None = tt
     nothing (Some bytes) = refl
 
+-- One line more of the answer is read.
 pub gathers-more : (count distrusts : ℕ) (stream before after : Option (List ℕ)) (old new : State)
     → Gathers count distrusts stream old before → IsNextAnswerLine count distrusts old before new after
     → Gathers count distrusts stream new after
@@ -184,12 +204,14 @@ gathers-more count distrusts stream before after old new g f =
 
 -- ---- the answer
 
+-- The lines of a list of items, and then others, as one text.
 lines-of : {X : Type 0} (f : X → List ℕ) (xs : List X) (later : List (List ℕ))
     → text_of_lines (map f xs ++ later) ≡ flat_map (λ x. ended (f x)) xs ++ text_of_lines later
 lines-of f [] later = refl
 lines-of f (x ∷ xs) later = ap (λ t. ended (f x) ++ t) (lines-of f xs later)
     ∙ sym (append_assoc (ended (f x)) (flat_map (λ y. ended (f y)) xs) (text_of_lines later))
 
+-- The lines of an answer's content are its records' texts and its receipts' texts.
 content-text : (content : State) → text_of_lines (content_lines content) ≡ flat_map record_text content.records ++ flat_map receipt_text content.held
 content-text content =
     lines-of distrust_line content.records (map line content.held)
@@ -197,6 +219,7 @@ content-text content =
     (ap text_of_lines (sym (append-nil (map line content.held))) ∙ lines-of line content.held []
     ∙ append-nil (flat_map receipt_text content.held))
 
+-- Where as many lines came as the first one says, that is the first line of the answer.
 told-whole : (h : Head) (content : State) → IsWhole h.count h.distrusts content
     → told_by_head h ≡ told_of (record { bucket = h.bucket; config = h.config.0; content = content })
 told-whole h content whole = λ i. record {
@@ -208,6 +231,7 @@ told-whole h content whole = λ i. record {
   buckets = 256;
 }
 
+-- What was read, when as many lines came as the first one says, is the text of an answer.
 pub whole-reply : (old middle new : Option (List ℕ)) (h : Head) (content : State) → HasHead None old middle h
     → GathersAll h.count h.distrusts middle content new
     → Consumes old new (reply_text (record { bucket = h.bucket; config = h.config.0; content = content }))
@@ -217,6 +241,7 @@ whole-reply old middle new h content head all =
     subst (Consumes old new) ((λ i. ended (first i) ++ content-text content i))
     (consumes_both old middle new (ended head.text) (text_of_lines (content_lines content)) head.is.1 all.gathers.text)
 
+-- What was then read is an answer of its form.
 pub whole-answer : (old middle new : Option (List ℕ)) (h : Head) (content : State) → HasHead None old middle h
     → GathersAll h.count h.distrusts middle content new
     → IsAnswer (record { bucket = h.bucket; config = h.config.0; content = content })
@@ -226,9 +251,11 @@ whole-answer old middle new h content head all = record {
   rising = all.gathers.begun.rising;
 }
 
+-- A first line that was read is one that is read by the definition.
 pub heads-told : (expected : Option Expected) (text : List ℕ) (h : Head) → TellsHead expected text h → Heads expected text h.count h.distrusts
 heads-told expected text h t = record { told = told_by_head h; tells = t.tells; own = t.own; supported = (refl, refl); receipts = refl; records = refl }
 
+-- A fault after the first line is why the answer is not read.
 pub fails-behind : (old middle new : Option (List ℕ)) (h : Head) (e : SyncError) → HasHead None old middle h
     → StopsGathering h.count h.distrusts middle new e → RefusesGive old new e
 fails-behind old middle new h e head fails = inr (record {

@@ -1,4 +1,5 @@
--- A stream begins with one answer at most, and one that begins with a whole answer has no fault before its end.
+-- A stream begins with one answer at most, and one that begins with a whole answer has no fault
+-- before its end.
 use Rattle.std.proofs.Common.{◌≡◌, ◌≢◌, ℕ, ◌+◌, ◌<◌, ◌≤◌, ◌^◌, ◌⊎◌, inl, inr, List, [], ◌∷◌, ◌++◌, codes, decimal, length, length-append, map, fold, Option}
 use Rattle.std.proofs.Common.{None, Some, refl, ap, sym, ◌∙◌, subst, arith, append_assoc, append-nil}
 use Rattle.std.proofs.lemmas.Fmt.{length-decimal-le}
@@ -39,12 +40,15 @@ use Rattle.replica_sync.proofs.GatherFacts.{short-entry}
 
 -- ---- the first line
 
+-- The first line of an answer is the line of what it says.
 told-line : (r : Reply) → IsAnswer r → IsToldLine (told_text (told_of r)) (told_of r)
 told-line r is = record { is = is.told; spelt = refl }
 
+-- A number of 64 bits has 20 digits at most.
 short-number : (n : ℕ) → n < 2 ^ 64 → length (decimal n) ≤ 20
 short-number n h = length-decimal-le 20 n (omega arith) (omega (arith, h)) h
 
+-- The part on records is short.
 short-part : (t : GiveHeader) → IsGiveHeader t → length (distrusts_part t.distrusts) ≤ 33
 short-part t is = by-count t.distrusts is.records
   where
@@ -52,6 +56,7 @@ short-part t is = by-count t.distrusts is.records
     by-count None h = omega arith
     by-count (Some n) h = let few = short-number n h in let both = length-append (codes ",\"distrusts\":") (decimal n) in omega (arith, few, both)
 
+-- The length of a first line, by its parts.
 parts-length : (b c n d f k : List ℕ)
     → length (codes "{\"bucket\":" ++
     (b ++ (codes ",\"config\":\"" ++ (c ++ (codes "\",\"count\":" ++
@@ -59,6 +64,7 @@ parts-length : (b c n d f k : List ℕ)
     ≡ length b + length c + length n + length d + length f + length k + 48
 parts-length b c n d f k = simp length-append (omega arith)
 
+-- The first line of an answer is not too long.
 short-told : (t : GiveHeader) → IsGiveHeader t → length (told_text t) ≤ 8388608
 unfolding told_text
 short-told t is =
@@ -71,6 +77,7 @@ short-told t is =
     let buckets = short-number t.buckets is.buckets in
     omega (arith, whole, bucket, config, count, part, format, buckets)
 
+-- The first line of an answer that is wanted has no fault.
 no-bad-told : (expected : Option Expected) (r : Reply) (e : SyncError) → IsAnswer r → IsAbout expected r.bucket
     → HasDigestOf (config_of expected) r.config → e ≢ NoMemory
     → ((e ≡ BadHeader) × (8388608 < length (told_text (told_of r)))) ⊎ RefusesTold expected (told_text (told_of r)) e → ⊥
@@ -90,25 +97,28 @@ no-bad-told expected r (Refused n why) is about own ample (inr h) = h
 no-bad-told expected r Io is about own ample (inr h) = h
 no-bad-told expected r NoMemory is about own ample (inr h) = ample refl
 
--- ---- the lines behind it
+-- ---- the lines after it
 
--- the answer's first line, and the lines behind it
+-- the answer's first line, and the lines after it
 pub in-lines : (bytes : List ℕ) (r : Reply) (rest : List ℕ) → bytes ≡ reply_text r ++ rest
     → bytes ≡ ended (told_text (told_of r)) ++ (text_of_lines (content_lines r.content) ++ rest)
 in-lines bytes r rest e =
     e ∙ append_assoc (ended (told_text (told_of r))) _ rest ∙ ap (λ t. ended (told_text (told_of r)) ++ (t ++ rest)) (sym (text_of_content r.content))
 
+-- Where no item's text has a line feed, no line of the list has, nor of what follows it.
 feedless-all : {A : Type 0} (P : A → Type 0) (text : A → List ℕ) → ((a : A) → P a → Feedless (text a))
     → (xs : List A) (later : List (List ℕ)) → AllByRecursion P xs → AllByRecursion Feedless later
     → AllByRecursion Feedless (map text xs ++ later)
 feedless-all P text each [] later h k = k
 feedless-all P text each (x ∷ xs) later h k = (each x h.0, feedless-all P text each xs later h.1 k)
 
+-- No line of an answer's content has a line feed in it.
 feedless-content : (content : State) → IsContent content → AllByRecursion Feedless (content_lines content)
 feedless-content content is =
     feedless-all IsDistrust distrust_line (λ x h. feedless_record x) content.records (map line content.held) is.records
     (subst (AllByRecursion Feedless) (append-nil (map line content.held)) (feedless-all IsReceipt line feedless_line content.held [] is.receipts tt))
 
+-- There is one line for each record and each receipt.
 count-lines : (content : State) → length (content_lines content) ≡ length content.records + length content.held
 count-lines content =
     let both = length-append (map distrust_line content.records) (map line content.held) in
@@ -116,6 +126,7 @@ count-lines content =
     let receipts = length-map content.held line in
     omega (arith, both, records, receipts)
 
+-- Two contents with which a text begins, and what follows them, have the same lines.
 same-lines : (m k : State) (rest after : List ℕ) → IsContent m → IsContent k
     → text_of_lines (content_lines m) ++ rest ≡ text_of_lines (content_lines k) ++ after
     → content_lines m ++ (lines_of rest).whole ≡ content_lines k ++ (lines_of after).whole
@@ -125,6 +136,7 @@ same-lines m k rest after is valid e =
 
 -- ---- one answer
 
+-- Two fronts of one length of a list are equal, and so are the rests.
 same-front : (xs ys us vs : List (List ℕ)) → length xs ≡ length ys → xs ++ us ≡ ys ++ vs → (xs ≡ ys) × (us ≡ vs)
 same-front [] [] us vs n e = (refl, e)
 same-front [] (y ∷ ys) us vs n e = absurd (omega (arith, n))
@@ -135,6 +147,7 @@ same-front (x ∷ xs) (y ∷ ys) us vs n e =
     let later = same-front xs ys us vs (omega (arith, n)) tail in
     ((λ i. head i ∷ later.0 i), later.1)
 
+-- Equal options have equal items.
 some-once : (m n : ℕ) → Some m ≡ Some n → m ≡ n
 some-once m n e = cc
 
@@ -143,6 +156,7 @@ pub record IsSameReply (a b : Reply) (left rest : List ℕ) : Type 0 where
   pub reply : a ≡ b
   pub behind : left ≡ rest
 
+-- A stream of known bytes begins with one answer at most, and one thing follows it.
 pub same-reply : (bytes : List ℕ) (a b : Reply) (left rest : List ℕ) → IsAnswer a → IsAnswer b
     → bytes ≡ reply_text a ++ left → bytes ≡ reply_text b ++ rest → IsSameReply a b left rest
 same-reply bytes a b left rest is valid e f =
@@ -166,6 +180,7 @@ same-reply bytes a b left rest is valid e f =
           (ap (λ (ls : List (List ℕ)). text_of_lines ls ++ left) (sym lines.0) ∙ first.rest);
     }
 
+-- The clause `one` of the law on answers: a stream begins with one answer at most.
 pub one-reply : (bytes : List ℕ) (a b : Reply) (left rest : Option (List ℕ)) → IsAnswer a → IsAnswer b
     → Consumes (Some bytes) left (reply_text a) → Consumes (Some bytes) rest (reply_text b) → (a ≡ b) × (left ≡ rest)
 one-reply bytes a b None rest is valid e f = absurd e
@@ -174,9 +189,9 @@ one-reply bytes a b (Some left) (Some rest) is valid e f =
     let same = same-reply bytes a b left rest is valid e f in
     (same.reply, ap Some same.behind)
 
--- ---- the line behind a beginning
+-- ---- the line after a beginning
 
--- behind the fewer lines stands one more of the others
+-- after the fewer lines stands one more of the others
 record HasFurther (xs us ys : List (List ℕ)) : Type 0 where
   pub text : List ℕ
   pub later : List (List ℕ)
@@ -184,6 +199,7 @@ record HasFurther (xs us ys : List (List ℕ)) : Type 0 where
   pub whole : ys ≡ xs ++ text ∷ later
   pub rest : us ≡ text ∷ behind
 
+-- Where fewer lines and more begin one list, one more line stands after the fewer.
 further : (xs us ys vs : List (List ℕ)) → xs ++ us ≡ ys ++ vs → length xs < length ys → HasFurther xs us ys
 further [] us [] vs e less = absurd (omega (arith, less))
 further [] us (y ∷ ys) vs e less = record { text = y; later = ys; behind = ys ++ vs; whole = refl; rest = e }
@@ -200,6 +216,7 @@ record StandsAt {A : Type 0} (P : A → Type 0) (f : A → List ℕ) (text : Lis
   pub is : P it
   pub spelt : text ≡ f it
 
+-- A line among those of some items is the line of one of them.
 stands-at : {A : Type 0} (P : A → Type 0) (f : A → List ℕ) (xs : List A) (us ys vs : List (List ℕ)) (text : List ℕ)
     → AllByRecursion P xs → map f xs ++ us ≡ ys ++ text ∷ vs → length ys < length xs → StandsAt P f text
 stands-at P f [] us ys vs text h e less = absurd (omega (arith, less))
@@ -208,6 +225,7 @@ stands-at P f (x ∷ xs) us (y ∷ ys) vs text h e less =
     let tail : map f xs ++ us ≡ ys ++ text ∷ vs = cc in
     stands-at P f xs us ys vs text h.1 tail (omega (arith, less))
 
+-- A line at a place where records, or receipts, are wanted is one of these.
 entry-at : (wanted : Wanted) (count distrusts : ℕ) (whole content : State) (text : List ℕ) (later : List (List ℕ))
     → IsContent whole → IsBegun count distrusts content → count ≡ length whole.held → distrusts ≡ length whole.records
     → Wants count distrusts content wanted → content_lines whole ≡ content_lines content ++ text ∷ later → (entry : Entry) × IsEntry wanted text entry
@@ -234,11 +252,13 @@ entry-at Receipts count distrusts whole content text later is begun receipts rec
     (AReceipt at.it, record { is = at.is; spelt = at.spelt })
 entry-at Either count distrusts whole content text later is begun receipts records wants e = absurd wants
 
+-- Each line is above the empty text, which stands for no line before.
 above-nothing : (entry : Entry) → IsAbove [] (entry_line entry)
 unfolding line distrust_line
 above-nothing (Record x) = refl
 above-nothing (AReceipt r) = refl
 
+-- In lines that rise, each is above the last one before it.
 last-above : (before text : List ℕ) (xs later : List (List ℕ)) → text_cmp before text ≡ Less → IsStrictlySortedBy text_cmp (xs ++ text ∷ later)
     → text_cmp (fold (λ (l : List ℕ) (line : List ℕ). line) before xs) text ≡ Less
 last-above before text [] later h rising = h
@@ -246,20 +266,21 @@ last-above before text (x ∷ xs) later h rising =
     last-above x text xs later (all_back (λ y. text_cmp x y ≡ Less) xs (text ∷ later)
     (rising_head text_cmp x (xs ++ text ∷ later) rising)).0 (rising_tail text_cmp x (xs ++ text ∷ later) rising)
 
--- It is the line behind this beginning of the whole.
+-- It is the line after this beginning of the whole.
 pub record IsGood (whole content : State) (wanted : Wanted) (text : List ℕ) : Type 0 where
   pub entry : Entry
   pub next : IsNextEntry wanted (last_of (content_lines content)) text entry
   pub later : List (List ℕ)
   pub lines : content_lines whole ≡ content_lines content ++ text ∷ later
 
--- So much of the answer, and what follows it in the stream.
+-- This is a beginning of the answer, and that is what follows the answer in the stream.
 record IsPart (whole content : State) (count distrusts : ℕ) (rest after : List ℕ) : Type 0 where
   pub begun : IsBegun count distrusts content
   pub receipts : count ≡ length whole.held
   pub records : distrusts ≡ length whole.records
   pub lines : content_lines content ++ (lines_of rest).whole ≡ content_lines whole ++ (lines_of after).whole
 
+-- A beginning after which a line is wanted has fewer lines than the whole.
 fewer : (count distrusts : ℕ) (whole content : State) (wanted : Wanted) → IsBegun count distrusts content
     → count ≡ length whole.held → distrusts ≡ length whole.records → Wants count distrusts content wanted
     → length (content_lines content) < length (content_lines whole)
@@ -279,11 +300,13 @@ fewer count distrusts whole content Either begun receipts records wants = absurd
 module _ (whole content : State) (count distrusts : ℕ) (rest after : List ℕ) (valid : IsContent whole)
     (rising : IsStrictlySortedBy text_cmp (content_lines whole))
     (part : IsPart whole content count distrusts rest after) where
+  -- Another line of the whole stands after the beginning.
   next-line : (wanted : Wanted) → Wants count distrusts content wanted → HasFurther (content_lines content) (lines_of rest).whole (content_lines whole)
   next-line wanted wants =
       further (content_lines content) (lines_of rest).whole (content_lines whole) (lines_of after).whole part.lines
       (fewer count distrusts whole content wanted part.begun part.receipts part.records wants)
 
+  -- That line is the one that is wanted.
   good-line : (wanted : Wanted) (text : List ℕ) (later : List (List ℕ)) → Wants count distrusts content wanted
       → content_lines whole ≡ content_lines content ++ text ∷ later → IsGood whole content wanted text
   good-line wanted text later wants lines =
@@ -300,6 +323,7 @@ module _ (whole content : State) (count distrusts : ℕ) (rest after : List ℕ)
         lines = lines;
       }
 
+  -- The next line of the stream is the one that is wanted.
   good-next : (wanted : Wanted) (text : List ℕ) (new : Option (List ℕ)) → Wants count distrusts content wanted
       → HasLine (Some rest) new text → IsGood whole content wanted text
   good-next wanted text None wants is = absurd is.1
@@ -310,6 +334,7 @@ module _ (whole content : State) (count distrusts : ℕ) (rest after : List ℕ)
       let same : text ≡ more.text = cc in
       good-line wanted text more.later wants (more.whole ∙ ap (λ t. content_lines content ++ t ∷ more.later) (sym same))
 
+  -- The stream does not end where a line is wanted.
   no-cut : (wanted : Wanted) → Wants count distrusts content wanted → HasNoLine (Some rest) → ⊥
   no-cut wanted wants none =
       let more = next-line wanted wants in
@@ -318,9 +343,11 @@ module _ (whole content : State) (count distrusts : ℕ) (rest after : List ℕ)
 
   module _ (refuses : Wanted → List ℕ → List ℕ → SyncError → Type 0) (e : SyncError)
       (welcome : (wanted : Wanted) (text : List ℕ) → IsGood whole content wanted text → refuses wanted (last_of (content_lines content)) text e → ⊥) where
+    -- The next line has no fault where a good line has none.
     no-bad-next : (new : Option (List ℕ)) → HasBadNext refuses count distrusts content (Some rest) new e → ⊥
     no-bad-next new h = welcome h.wanted h.text (good-next h.wanted h.text new h.wants h.is) h.cause
 
+  -- Nothing is wrong with what comes next, unless the source or memory fails.
   no-next-fault : (refuses : Wanted → List ℕ → List ℕ → SyncError → Type 0) (new : Option (List ℕ)) (e : SyncError)
       → ((wanted : Wanted) (text : List ℕ) → IsGood whole content wanted text → refuses wanted (last_of (content_lines content)) text e → ⊥)
       → e ≢ Io → e ≢ NoMemory → RefusesNextEntry refuses count distrusts content (Some rest) new e → ⊥
@@ -340,11 +367,13 @@ module _ (whole content : State) (count distrusts : ℕ) (rest after : List ℕ)
 module _ (expected : Option Expected) (bytes : List ℕ) (r : Reply) (after : List ℕ) (is : IsAnswer r)
     (about : IsAbout expected r.bucket) (own : HasDigestOf (config_of expected) r.config)
     (begins : bytes ≡ reply_text r ++ after) where
+  -- The stream has no fault of its first line.
   bad-first : (new : Option (List ℕ)) (e : SyncError) → e ≢ NoMemory → HasBadFirstLine (RefusesTold expected) (Some bytes) new e → ⊥
   bad-first new e ample h =
       no-bad-told expected r e is about own ample
       (first-cause (RefusesTold expected) bytes (told_text (told_of r)) _ new e (plain-told (told_of r) is.told) (in-lines bytes r after begins) h)
 
+  -- The first line is read, unless the source or memory fails.
   pub no-head-fault : (new : Option (List ℕ)) (e : SyncError) → e ≢ Io → e ≢ NoMemory → RefusesHead expected (Some bytes) new e → ⊥
   no-head-fault new BadHeader calm ample h = bad-first new BadHeader ample h
   no-head-fault new ConfigDiffers calm ample h = bad-first new ConfigDiffers ample h
@@ -357,6 +386,7 @@ module _ (expected : Option Expected) (bytes : List ℕ) (r : Reply) (after : Li
   no-head-fault new Io calm ample h = calm refl
   no-head-fault new NoMemory calm ample h = ample refl
 
+  -- A good beginning of the stream is a beginning of the answer.
   is-part : (count distrusts : ℕ) (content : State) (rest : List ℕ)
       → AnswerBegins expected (Some bytes) count distrusts content (Some rest)
       → IsPart r.content content count distrusts rest after
@@ -373,6 +403,7 @@ module _ (expected : Option Expected) (bytes : List ℕ) (r : Reply) (after : Li
         lines = same-lines content r.content rest after b.begun.valid is.valid first.rest;
       }
 
+  -- Nothing is wrong after a good beginning.
   pub no-fault-behind : (refuses : Wanted → List ℕ → List ℕ → SyncError
       → Type 0) (count distrusts : ℕ) (content : State) (left new : Option (List ℕ)) (e : SyncError)
       → ((wanted : Wanted) (text : List ℕ) → IsGood r.content content wanted text → refuses wanted (last_of (content_lines content)) text e → ⊥)
@@ -399,6 +430,7 @@ no-text-fault whole content wanted text (Refused n why) ample good h = h
 no-text-fault whole content wanted text Io ample good h = h
 no-text-fault whole content wanted text NoMemory ample good h = ample refl
 
+-- The answer is read to its end, unless the source or memory fails.
 whole-read : (bytes : List ℕ) (r : Reply) (after : List ℕ) (new : Option (List ℕ)) (e : SyncError) → IsAnswer r → e ≢ Io
     → e ≢ NoMemory → bytes ≡ reply_text r ++ after → RefusesGive (Some bytes) new e → ⊥
 whole-read bytes r after new e is calm ample begins (inl head) = no-head-fault None bytes r after is tt tt begins new e calm ample head
@@ -406,6 +438,8 @@ whole-read bytes r after new e is calm ample begins (inr fault) =
     no-fault-behind None bytes r after is tt tt begins (refused_text fault.content) fault.count fault.distrusts fault.content fault.left new e
     (λ wanted text. no-text-fault r.content fault.content wanted text e ample) calm ample fault.begins fault.cause
 
+-- The clause `read` of the law on answers: a stream that begins with an answer has no fault before
+-- its end.
 pub reply-read : (bytes : List ℕ) (r : Reply) (left new : Option (List ℕ)) (e : SyncError) → IsAnswer r → e ≢ Io
     → e ≢ NoMemory → Consumes (Some bytes) left (reply_text r) → RefusesGive (Some bytes) new e → ⊥
 reply-read bytes r None new e is calm ample begins h = begins

@@ -25,6 +25,7 @@ use Rattle.replica_sync.specs.declared.format.Format.{Format}
 use Rattle.replica_sync.specs.declared.format.Format.TheVariants.{First, Second}
 use Rattle.replica_core.proofs.RisingLists.{all_back, all_front, at_end, rising_append, rising_cons, rising_head, rising_nil, rising_tail}
 
+-- the order of texts, byte by byte
 abbrev pub text_cmp : List ℕ → List ℕ → Ordering
 text_cmp = slice_cmp nat_cmp
 
@@ -34,11 +35,13 @@ AllBelow text = AllByRecursion (λ y. text_cmp y text ≡ Less)
 
 -- the order of the items is that of their texts
 module _ {A : Type 0} (P : A → Type 0) (cmp : A → A → Ordering) (text : A → List ℕ) (same : (a b : A) → P a → P b → text_cmp (text a) (text b) ≡ cmp a b) where
+  -- The line of an item that is below all others is below all their lines.
   map_above : (x : A) (xs : List A) → P x → AllByRecursion P xs → AllByRecursion (λ y. cmp x y ≡ Less) xs
       → AllByRecursion (λ y. text_cmp (text x) y ≡ Less) (map text xs)
   map_above x [] p ps h = tt
   map_above x (y ∷ xs) p ps h = (same x y p ps.0 ∙ h.0, map_above x xs p ps.1 h.1)
 
+  -- The lines of items that rise, rise.
   pub map_rising : (xs : List A) → AllByRecursion P xs → IsStrictlySortedBy cmp xs → IsStrictlySortedBy text_cmp (map text xs)
   map_rising [] ps h = rising_nil text_cmp
   map_rising (x ∷ xs) ps h =
@@ -53,9 +56,11 @@ module _ {A : Type 0} (P : A → Type 0) (cmp : A → A → Ordering) (text : A 
 
 -- ---- the last one
 
+-- A line at the end is the last one.
 pub last_pushed : (lines : List (List ℕ)) (text : List ℕ) → last_of (lines ++ text ∷ []) ≡ text
 last_pushed lines text = fold-append (λ before line. line) [] lines (text ∷ [])
 
+-- What is above the last line is above the first.
 below_head : (x text : List ℕ) (xs : List (List ℕ)) → IsStrictlySortedBy text_cmp (x ∷ xs)
     → text_cmp (fold (λ (l : List ℕ) (line : List ℕ). line) x xs) text ≡ Less → text_cmp x text ≡ Less
 below_head x text [] rising h = h
@@ -69,6 +74,7 @@ below_last (x ∷ []) text rising h = (h, tt)
 below_last (x ∷ (y ∷ xs)) text rising h =
     (below_head x text (y ∷ xs) rising h, below_last (y ∷ xs) text (rising_tail text_cmp x (y ∷ xs) rising) h)
 
+-- Receipts are ordered as their lines.
 same_line : (r s : Receipt) → IsReceipt r → IsReceipt s → text_cmp (line r) (line s) ≡ receipt_cmp r s
 same_line r s p q = refl
 
@@ -77,16 +83,19 @@ same_line r s p q = refl
 module _ (total : IsTotalOrder receipt_cmp) (records_total : IsTotalOrder distrust_cmp)
     (record_order : (x y : Distrust) → IsDistrust x → IsDistrust y → text_cmp (distrust_line x) (distrust_line y) ≡ distrust_cmp x y)
     (record_first : (x : Distrust) (r : Receipt) → IsDistrust x → IsReceipt r → text_cmp (distrust_line x) (line r) ≡ Less) where
+  -- A record's line is below the lines of receipts.
   above_record : (x : Distrust) (receipts : List Receipt) → IsDistrust x → AllByRecursion IsReceipt receipts
       → AllByRecursion (λ y. text_cmp (distrust_line x) y ≡ Less) (map line receipts)
   above_record x [] p qs = tt
   above_record x (r ∷ receipts) p qs = (record_first x r p qs.0, above_record x receipts p qs.1)
 
+  -- All lines of records are below all lines of receipts.
   records_below : (records : List Distrust) (receipts : List Receipt) → AllByRecursion IsDistrust records → AllByRecursion IsReceipt receipts
       → AllByRecursion (λ x. AllByRecursion (λ y. text_cmp x y ≡ Less) (map line receipts)) (map distrust_line records)
   records_below [] receipts ps qs = tt
   records_below (x ∷ records) receipts ps qs = (above_record x receipts ps.0 qs, records_below records receipts ps.1 qs)
 
+  -- All lines of what is held rise.
   pub lines_rise : (m : Meaning) → IsMeaning m → IsStrictlySortedBy text_cmp (held_lines m)
   lines_rise m valid =
       rising_append text_cmp (map distrust_line m.records) (map line m.held)
@@ -94,12 +103,14 @@ module _ (total : IsTotalOrder receipt_cmp) (records_total : IsTotalOrder distru
       (map_rising IsReceipt receipt_cmp line same_line m.held valid.receipts valid.rising)
       (records_below m.records m.held valid.distrusts valid.receipts)
 
+  -- Where a record's line is above all lines of receipts, there is none.
   no_receipt_below : (x : Distrust) (receipts : List Receipt) → IsDistrust x → AllByRecursion IsReceipt receipts
       → AllBelow (distrust_line x) (map line receipts) → receipts ≡ []
   no_receipt_below x [] p qs h = refl
   no_receipt_below x (r ∷ receipts) p qs h = let above : text_cmp (line r) (distrust_line x) ≡ Greater =
       turned nat_list_cmp_total (distrust_line x) (line r) (record_first x r p qs.0) in absurd (let less = h.0 in cc)
 
+  -- A receipt whose line is above the last one comes last of all receipts.
   receipt_joins : (m : Meaning) (r : Receipt) → IsMeaning m → IsReceipt r → IsAbove (last_line m) (line r) → with_item receipt_cmp r m.held ≡ m.held ++ r ∷ []
   receipt_joins m r valid is above =
       at_end receipt_cmp r m.held
@@ -107,6 +118,7 @@ module _ (total : IsTotalOrder receipt_cmp) (records_total : IsTotalOrder distru
       (all_back (λ y. text_cmp y (line r) ≡ Less) (map distrust_line m.records) (map line m.held)
       (below_last (held_lines m) (line r) (lines_rise m valid) above)))
 
+  -- A record whose line is above the last one comes last of all records, and there is no receipt.
   record_joins : (m : Meaning) (x : Distrust) → IsMeaning m → IsDistrust x → IsAbove (last_line m) (distrust_line x)
       → (with_item distrust_cmp x m.records ≡ m.records ++ x ∷ []) × (m.held ≡ [])
   record_joins m x valid is above =
@@ -119,6 +131,7 @@ module _ (total : IsTotalOrder receipt_cmp) (records_total : IsTotalOrder distru
 
   -- ---- one more line
 
+  -- A receipt whose line is above the last one adds its line at the end.
   lines_with_receipt : (m : Meaning) (r : Receipt) → IsMeaning m → IsReceipt r → IsAbove (last_line m) (line r)
       → held_lines (with_entry (AReceipt r) m) ≡ held_lines m ++ line r ∷ []
   lines_with_receipt m r valid is above =
@@ -126,6 +139,7 @@ module _ (total : IsTotalOrder receipt_cmp) (records_total : IsTotalOrder distru
       ∙ ap (λ lines. map distrust_line m.records ++ lines) (map-append line m.held (r ∷ []))
       ∙ sym (append_assoc (map distrust_line m.records) (map line m.held) (line r ∷ []))
 
+  -- A record whose line is above the last one adds its line at the end.
   lines_with_record : (m : Meaning) (x : Distrust) → IsMeaning m → IsDistrust x
       → IsAbove (last_line m) (distrust_line x)
       → held_lines (with_entry (Record x) m) ≡ held_lines m ++ distrust_line x ∷ []
@@ -137,10 +151,12 @@ module _ (total : IsTotalOrder receipt_cmp) (records_total : IsTotalOrder distru
       ∙ ap (λ lines. lines ++ distrust_line x ∷ []) (sym (append-nil (map distrust_line m.records)))
       ∙ ap (λ held. (map distrust_line m.records ++ map line held) ++ distrust_line x ∷ []) (sym joins.1)
 
+  -- One receipt more leaves the first format without records.
   told_still : (format : Format) (m : Meaning) (r : Receipt) → IsTold format m → IsTold format (with_entry (AReceipt r) m)
   told_still First m r told = told
   told_still Second m r told = tt
 
+  -- A receipt whose line is above the last one is the next line of what is held.
   further_receipt : (format : Format) (m : Meaning) (r : Receipt) → IsMeaning m → IsTold format m → IsReceipt r
       → IsAbove (last_line m) (line r) → IsFurther format m (line r) (with_entry (AReceipt r) m)
   further_receipt format m r valid told is above =
@@ -152,6 +168,7 @@ module _ (total : IsTotalOrder receipt_cmp) (records_total : IsTotalOrder distru
         number = omega (arith, longer);
       }
 
+  -- A record whose line is above the last one is the next line of what is held.
   further_record : (m : Meaning) (x : Distrust) → IsMeaning m → IsDistrust x → IsAbove (last_line m) (distrust_line x)
       → IsFurther Second m (distrust_line x) (with_entry (Record x) m)
   further_record m x valid is above =
@@ -164,6 +181,7 @@ module _ (total : IsTotalOrder receipt_cmp) (records_total : IsTotalOrder distru
         number = omega (arith, longer);
       }
 
+  -- An entry of the format whose line is above the last one is the next line of what is held.
   further_entry : (format : Format) (m : Meaning) (entry : Entry) → IsMeaning m → IsTold format m
       → IsWanted (wanted_of format) entry → IsAbove (last_line m) (entry_line entry)
       → IsFurther format m (entry_line entry) (with_entry entry m)
@@ -172,6 +190,7 @@ module _ (total : IsTotalOrder receipt_cmp) (records_total : IsTotalOrder distru
   further_entry Second m (Record x) valid told is above = further_record m x valid is above
   further_entry Second m (AReceipt r) valid told is above = further_receipt Second m r valid told is above
 
+  -- A line that was read and taken is the next line of what is held.
   pub further : (format : Format) (m new : Meaning) (text : List ℕ) (count : ℕ) → IsMeaning m → IsTold format m
       → TakesEntryText (wanted_of format) m (last_line m) text new count → IsFurther format m text new
   further format m new text count valid told taken =

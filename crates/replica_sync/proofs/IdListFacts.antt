@@ -20,6 +20,7 @@ use Rattle.replica_sync.proofs.PieceFacts.{bytes_of}
 
 -- ---- the closing bracket
 
+-- The first byte that is not inside is not before the bracket.
 not_before : (front rest : List ℕ) (place : ℕ) → AllPass is_inside front → FirstFails is_inside (front ++ 93 ∷ rest) place → place < length front → ⊥
 not_before front rest place plain first less =
     let here : get_or (front ++ 93 ∷ rest) place 0 ≡ get_or front place 0 = get_or-append front (93 ∷ rest) 0 place less in
@@ -27,9 +28,11 @@ not_before front rest place plain first less =
     let fails : is_inside (get_or (front ++ 93 ∷ rest) place 0) ≡ false = first.fails in
     cc
 
+-- The bracket is not inside.
 bracket-fails : (b : ℕ) → b ≡ 93 → is_inside b ≡ true → ⊥
 bracket-fails b e passes = let no : is_inside 93 ≡ true = subst (λ x. is_inside x ≡ true) e passes in cc
 
+-- The first byte that is not inside is not after the bracket.
 not_behind : (front rest : List ℕ) (place : ℕ) → FirstFails is_inside (front ++ 93 ∷ rest) place → length front < place → ⊥
 not_behind front rest place first more =
     let text = front ++ 93 ∷ rest in
@@ -39,6 +42,7 @@ not_behind front rest place first more =
     (get_or-take place text (length front) 0 more ∙ get_or-append_seam front 93 rest 0)
     (first.before (length front) 0 (omega (arith, size)))
 
+-- The first byte that is not inside is the bracket.
 seam : (text front rest : List ℕ) (place : ℕ) → AllPass is_inside front → text ≡ front ++ 93 ∷ rest → FirstFails is_inside text place → place ≡ length front
 seam text front rest place plain e first =
     let here = subst (λ t. FirstFails is_inside t place) e first in
@@ -46,6 +50,7 @@ seam text front rest place plain e first =
     let high : (length front < place) → ⊥ = not_behind front rest place here in
     omega arith
 
+-- A text with a bracket is not all inside.
 pub no_bracket : (text front rest : List ℕ) → text ≡ front ++ 93 ∷ rest → AllPass is_inside text → ⊥
 no_bracket text front rest e all =
     let within : length front < length (front ++ 93 ∷ rest) = omega (arith, length-append front (93 ∷ rest)) in
@@ -59,16 +64,19 @@ parted text front back place e p = (
       ∙ ap (λ n. drop n (front ++ back)) p ∙ drop-append_seam front back,
 )
 
+-- A text is cut at its first bracket.
 pub at_bracket : (text front rest : List ℕ) (place : ℕ) → AllPass is_inside front → text ≡ front ++ 93 ∷ rest
     → FirstFails is_inside text place → (take place text ≡ front) × (drop place text ≡ 93 ∷ rest)
 at_bracket text front rest place plain e first = parted text front (93 ∷ rest) place e (seam text front rest place plain e first)
 
 -- ---- no id has a bracket
 
+-- the test of the first n digits of the table, which computes
 abbrev are_inside_below : ℕ → Bool
 are_inside_below zero = true
 are_inside_below (suc n) = is_inside (slice_index lower_digits n) && are_inside_below n
 
+-- A digit below n passes the test.
 digit_inside : (n d : ℕ) → are_inside_below n ≡ true → d < n → is_inside (slice_index lower_digits d) ≡ true
 digit_inside zero d h lt = absurd (omega arith)
 digit_inside (suc n) d h lt =
@@ -80,38 +88,46 @@ digit_inside (suc n) d h lt =
           rw e parts.0
     ]
 
+-- no byte is the bracket
 abbrev Inside : List ℕ → Type 0
 Inside = AllByRecursion (λ b. is_inside b ≡ true)
 
+-- A text of two parts without a bracket has none.
 inside_both : (xs ys : List ℕ) → Inside xs → Inside ys → Inside (xs ++ ys)
 inside_both [] ys h k = k
 inside_both (x ∷ xs) ys h k = (h.0, inside_both xs ys h.1 k)
 
+-- Hexadecimal digits have no bracket among them.
 inside_digits : (a : List ℕ) → AllByRecursion (λ b. b < 256) a → Inside (encode_lower a)
 unfolding encode_with
 inside_digits [] h = tt
 inside_digits (x ∷ a) h = (digit_inside 16 (x / 16) refl (omega (arith, h.0)), (digit_inside 16 (x % 16) refl (omega arith), inside_digits a h.1))
 
+-- An id in quotation marks has no bracket.
 inside_quoted : (id : List ℕ) → IsDigest id → Inside (quoted id)
 inside_quoted id is = (refl, inside_both (encode_lower id) (34 ∷ []) (inside_digits id is.octets) (refl, tt))
 
--- the ids behind the first, each with the comma before it
+-- the ids after the first, each with the comma before it
 abbrev pub later_text : List (List ℕ) → List ℕ
 later_text ids = flat_map (λ id. codes "," ++ quoted id) ids
 
+-- Later ids have no bracket.
 inside_later : (ids : List (List ℕ)) → AllByRecursion IsDigest ids → Inside (later_text ids)
 inside_later [] h = tt
 inside_later (id ∷ ids) h = inside_both (codes "," ++ quoted id) (later_text ids) (refl, inside_quoted id h.0) (inside_later ids h.1)
 
+-- A list of ids has no bracket.
 inside_join : (ids : List (List ℕ)) → AllByRecursion IsDigest ids → Inside (join_by quoted (codes ",") ids)
 inside_join [] h = tt
 inside_join (id ∷ ids) h = inside_both (quoted id) (later_text ids) (inside_quoted id h.0) (inside_later ids h.1)
 
+-- A list of ids has no bracket, in the words of the search.
 pub inside_ids : (ids : List (List ℕ)) → AllByRecursion IsDigest ids → AllPass is_inside (join_by quoted (codes ",") ids)
 inside_ids ids h = All-from_recursion (λ b. is_inside b ≡ true) (join_by quoted (codes ",") ids) (inside_join ids h)
 
 -- ---- the first id
 
+-- An id in quotation marks has 66 bytes.
 length-quoted : (id : List ℕ) → IsDigest id → length (quoted id) ≡ 66
 length-quoted id is =
     let size = length-encode_lower id is in
@@ -127,15 +143,18 @@ none-short text (id ∷ ids) h e short =
     let whole = ap length e ∙ length-append (quoted id) (later_text ids) in
     absurd (omega (arith, size, whole, short))
 
+-- Where no quotation mark comes first there is no id.
 pub none-other : (text : List ℕ) (ids : List (List ℕ)) → AllByRecursion IsDigest ids
     → text ≡ join_by quoted (codes ",") ids → get_or text 0 0 ≢ 34 → TakesId ids None
 none-other text [] h e other = refl
 none-other text (id ∷ ids) h e other = absurd (other (ap (λ (t : List ℕ). get_or t 0 0) e))
 
+-- Without its first comma, the text of later ids is that of a list.
 without-comma : (ids : List (List ℕ)) → drop 1 (later_text ids) ≡ join_by quoted (codes ",") ids
 without-comma [] = refl
 without-comma (id ∷ ids) = refl
 
+-- Where the text is long enough the first id was taken, and the others stand after it.
 pub some-first : (text first rest digest : List ℕ) (ids : List (List ℕ)) (found : ReceiptId) (back : Bor (List ℕ))
     → AllByRecursion IsDigest ids → text ≡ join_by quoted (codes ",") ids → 66 ≤ length text
     → first ≡ take 66 text → rest ≡ drop 66 text
@@ -160,6 +179,7 @@ pub record IsRest (wanted taken : List (List ℕ)) (rest : List ℕ) : Type 0 wh
 abbrev pub Lists : List ℕ → List (List ℕ) → List ℕ → Type 0
 Lists text taken rest = (wanted : List (List ℕ)) → AllByRecursion IsDigest wanted → text ≡ join_by quoted (codes ",") wanted → IsRest wanted taken rest
 
+-- Of the ids that are left the first was taken.
 more-of : (wanted taken others : List (List ℕ)) (rest : List ℕ) (found : ReceiptId) (back : Bor (List ℕ))
     → AllByRecursion IsDigest others → wanted ≡ taken ++ others → TakesId others (Some (found, back))
     → IsRest wanted (taken ++ found.0 ∷ []) back.now
@@ -171,9 +191,11 @@ more-of wanted taken (id ∷ others) rest found back h e takes = record {
   listed = takes.1;
 }
 
+-- of the ids that the rest lists the first was taken
 abbrev TakesFirst : List ℕ → Option (ReceiptId × Bor (List ℕ)) → Type 0
 TakesFirst rest found = (ids : List (List ℕ)) → AllByRecursion IsDigest ids → rest ≡ join_by quoted (codes ",") ids → TakesId ids found
 
+-- The step of the loop: one id more is taken, and the rest lists the others.
 pub lists-more : (text rest : List ℕ) (ids more : List ReceiptId) (found : ReceiptId) (back : Bor (List ℕ))
     → Lists text (map bytes_of ids) rest → TakesFirst rest (Some (found, back)) → more ≡ ids ++ found ∷ []
     → Lists text (map bytes_of more) back.now
@@ -182,10 +204,12 @@ lists-more text rest ids more found back lists takes e = λ wanted digests spelt
     subst (λ taken. IsRest wanted taken back.now) (sym (ap (map bytes_of) e ∙ map-append bytes_of ids (found ∷ [])))
     (more-of wanted (map bytes_of ids) so_far.others rest found back so_far.digests so_far.parts (takes so_far.others so_far.digests so_far.listed))
 
+-- Digests after digests are digests.
 all_both : (xs ys : List (List ℕ)) → AllByRecursion IsDigest xs → AllByRecursion IsDigest ys → AllByRecursion IsDigest (xs ++ ys)
 all_both [] ys h k = k
 all_both (x ∷ xs) ys h k = (h.0, all_both xs ys h.1 k)
 
+-- With one digest more at the end, all ids that were taken are digests.
 pub digests-more : (ids more : List ReceiptId) (found : ReceiptId) → AllByRecursion IsDigest (map bytes_of ids)
     → IsDigest found.0 → more ≡ ids ++ found ∷ [] → AllByRecursion IsDigest (map bytes_of more)
 digests-more ids more found h is e =

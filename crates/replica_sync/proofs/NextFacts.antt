@@ -32,18 +32,21 @@ use Rattle.replica_core.proofs.FitFacts.{fits_right}
 
 -- ---- one more line of what is held
 
+-- the text is the line of the next record
 record IsNextRecord (xs ys : List Distrust) (text : List ℕ) : Type 0 where
   pub it : Distrust
   pub later : List Distrust
   pub more : xs ≡ ys ++ it ∷ later
   pub spelt : text ≡ distrust_line it
 
+-- the text is the line of the next receipt
 record IsNextReceipt (rs ss : List Receipt) (text : List ℕ) : Type 0 where
   pub it : Receipt
   pub later : List Receipt
   pub more : rs ≡ ss ++ it ∷ later
   pub spelt : text ≡ line it
 
+-- A line after those of some receipts, among those of more, is the next receipt's.
 next_receipt : (rs ss : List Receipt) (text : List ℕ) (later : List (List ℕ)) → AllByRecursion IsReceipt rs → AllByRecursion IsReceipt ss
     → map line rs ≡ map line ss ++ text ∷ later → IsNextReceipt rs ss text
 next_receipt [] [] text later p q e = absurd (cc)
@@ -55,6 +58,8 @@ next_receipt (r ∷ rs) (s ∷ ss) text later p q e =
     let rest = next_receipt rs ss text later p.1 q.1 tail in
     record { it = rest.it; later = rest.later; more = (λ i. one_line r s p.0 q.0 head i ∷ rest.more i); spelt = rest.spelt }
 
+-- A line after those of what is held, among those of more, is the next record's or the next
+-- receipt's.
 next_held : (xs ys : List Distrust) (rs ss : List Receipt) (text : List ℕ) (later : List (List ℕ)) → AllByRecursion IsDistrust xs → AllByRecursion IsDistrust ys
     → AllByRecursion IsReceipt rs → AllByRecursion IsReceipt ss → map distrust_line xs ++ map line rs ≡ (map distrust_line ys ++ map line ss) ++ text ∷ later
     → IsNextRecord xs ys text ⊎ IsNextReceipt rs ss text
@@ -71,7 +76,7 @@ next_held (x ∷ xs) (y ∷ ys) rs ss text later p q h k e =
       | inr next ↦ inr next
     ]
 
--- Nothing is wrong with the text as the line behind those of the meaning.
+-- Nothing is wrong with the text as the line after those of the meaning.
 record IsGood (format : Format) (m : Meaning) (text : List ℕ) : Type 0 where
   pub entry : Entry
   pub is : IsEntry (wanted_of format) text entry
@@ -80,21 +85,25 @@ record IsGood (format : Format) (m : Meaning) (text : List ℕ) : Type 0 where
   pub third : IsThird text
   pub welcome : (why : TakeError) → why ≢ NoTakeMemory → RefusesEntry m entry why → ⊥
 
+-- An entry that a format has is of either kind.
 wider : (format : Format) (entry : Entry) → IsWanted (wanted_of format) entry → IsWanted Either entry
 wider First (Record x) h = absurd h
 wider First (AReceipt r) h = h
 wider Second (Record x) h = h
 wider Second (AReceipt r) h = h
 
+-- Entries with one line are one entry.
 same_entry : (a b : Entry) → IsWanted Either a → IsWanted Either b → entry_line a ≡ entry_line b → a ≡ b
 same_entry (Record x) (Record y) p q e = ap Record (one_record x y p q e)
 same_entry (Record x) (AReceipt s) p q e = absurd (apart x s p q e)
 same_entry (AReceipt r) (Record y) p q e = absurd (apart y r q p (sym e))
 same_entry (AReceipt r) (AReceipt s) p q e = ap AReceipt (one_line r s p q e)
 
+-- A line says one entry.
 one_entry : (format : Format) (text : List ℕ) (a b : Entry) → IsEntry (wanted_of format) text a → IsEntry (wanted_of format) text b → a ≡ b
 one_entry format text a b p q = same_entry a b (wider format a p.is) (wider format b q.is) (sym p.spelt ∙ q.spelt)
 
+-- A good line has no fault at its place.
 no_fault_of_good : (format : Format) (m : Meaning) (text : List ℕ) (e : SyncError) → IsGood format m text → e ≢ NoMemory → RefusesPlace format m text e → ⊥
 no_fault_of_good format m text BadHeader good ample h = h
 no_fault_of_good format m text ConfigDiffers good ample h = h
@@ -115,11 +124,13 @@ no_fault_of_good format m text NoMemory good ample h = ample refl
 
 -- ---- a line of what is held is good
 
+-- Each line is above the empty text, which stands for no line before.
 above_nothing : (entry : Entry) → IsAbove [] (entry_line entry)
 unfolding line distrust_line
 above_nothing (Record x) = refl
 above_nothing (AReceipt r) = refl
 
+-- In lines that rise, each is above the last one before it.
 last_above : (before text : List ℕ) (xs later : List (List ℕ)) → text_cmp before text ≡ Less → IsStrictlySortedBy text_cmp (xs ++ text ∷ later)
     → text_cmp (fold (λ (l : List ℕ) (line : List ℕ). line) before xs) text ≡ Less
 last_above before text [] later h rising = h
@@ -127,6 +138,7 @@ last_above before text (x ∷ xs) later h rising =
     last_above x text xs later (all_back (λ y. text_cmp x y ≡ Less) xs (text ∷ later)
     (rising_head text_cmp x (xs ++ text ∷ later) rising)).0 (rising_tail text_cmp x (xs ++ text ∷ later) rising)
 
+-- A line of a meaning is above the last one before it.
 rises : (m k : Meaning) (text : List ℕ) (later : List (List ℕ)) → IsMeaning m
     → held_lines m ≡ held_lines k ++ text ∷ later → IsAbove [] text → IsAbove (last_line k) text
 rises m k text later valid e above =
@@ -134,6 +146,7 @@ rises m k text later valid e above =
     (subst (IsStrictlySortedBy text_cmp) e
     (lines_rise receipt_total distrust_total distrust_order record_first m valid))
 
+-- The next record of a meaning is not refused where those before it are held.
 welcome_record : (m k : Meaning) (x : Distrust) (later : List Distrust) (why : TakeError) → IsMeaning m
     → k.config ≡ m.config → m.records ≡ k.records ++ x ∷ later → RefusesEntry k (Record x) why → ⊥
 welcome_record m k x later UnknownDomain valid same more h =
@@ -149,10 +162,12 @@ welcome_record m k x later Full valid same more h =
 welcome_record m k x later NoTakeMemory valid same more h = h
 welcome_record m k x later OtherConfig valid same more h = h
 
+-- The next receipt of a meaning fits.
 fits_next : (m k : Meaning) (r : Receipt) (later : List Receipt) → IsMeaning m → k.config ≡ m.config → m.held ≡ k.held ++ r ∷ later → IsFitting k.config r
 fits_next m k r later valid same more =
     subst (λ c. IsFitting c r) (sym same) (all_back (IsFitting m.config) k.held (r ∷ later) (subst (AllByRecursion (IsFitting m.config)) more valid.fitting)).0
 
+-- The next receipt of a meaning is refused for lack of memory alone.
 welcome_receipt : (m k : Meaning) (r : Receipt) (later : List Receipt) (why : TakeError) → IsConfiguration k.config
     → IsMeaning m → k.config ≡ m.config → m.held ≡ k.held ++ r ∷ later → why ≢ NoTakeMemory
     → RefusesEntry k (AReceipt r) why → ⊥
@@ -167,16 +182,19 @@ welcome_receipt m k r later Full is valid same more ample h =
 welcome_receipt m k r later NoTakeMemory is valid same more ample h = ample refl
 welcome_receipt m k r later OtherConfig is valid same more ample h = h
 
+-- A record's line may stand in a format that has records.
 wanted_record : (format : Format) (m : Meaning) (ys later : List Distrust) (x : Distrust) → IsTold format m
     → m.records ≡ ys ++ x ∷ later → IsDistrust x → IsWanted (wanted_of format) (Record x)
 wanted_record First m [] later x told more is = absurd (cc)
 wanted_record First m (y ∷ ys) later x told more is = absurd (cc)
 wanted_record Second m ys later x told more is = is
 
+-- A receipt's line may stand in each format.
 wanted_receipt : (format : Format) (r : Receipt) → IsReceipt r → IsWanted (wanted_of format) (AReceipt r)
 wanted_receipt First r is = is
 wanted_receipt Second r is = is
 
+-- The line of the next record is good.
 good_record : (format : Format) (m k : Meaning) (text : List ℕ) (later : List (List ℕ)) → IsMeaning m → IsTold format m
     → k.config ≡ m.config → held_lines m ≡ held_lines k ++ text ∷ later
     → IsNextRecord m.records k.records text → IsGood format k text
@@ -194,6 +212,7 @@ good_record format m k text later valid told same e next =
       welcome = λ why ample. welcome_record m k next.it next.later why valid same next.more;
     }
 
+-- The line of the next receipt is good.
 good_receipt : (format : Format) (m k : Meaning) (text : List ℕ) (later : List (List ℕ)) → IsConfiguration k.config
     → IsMeaning m → k.config ≡ m.config → held_lines m ≡ held_lines k ++ text ∷ later
     → IsNextReceipt m.held k.held text → IsGood format k text
@@ -208,7 +227,7 @@ good_receipt format m k text later configured valid same e next =
       welcome = λ why ample. welcome_receipt m k next.it next.later why configured valid same next.more ample;
     }
 
--- a line that is held behind all those of another meaning has no fault there
+-- A line that is held after all those of another meaning has no fault there.
 pub no_fault_of_held : (format : Format) (m k : Meaning) (text : List ℕ) (later : List (List ℕ)) (e : SyncError)
     → IsConfiguration k.config → IsMeaning m → IsMeaning k → IsTold format m → k.config ≡ m.config
     → held_lines m ≡ held_lines k ++ text ∷ later → e ≢ NoMemory → RefusesPlace format k text e → ⊥

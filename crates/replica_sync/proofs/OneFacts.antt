@@ -26,6 +26,7 @@ use Rattle.replica_sync.proofs.FeedFacts.{Feedless, feedless_both, feedless_deci
 
 -- ---- the lines of a text
 
+-- From the text of lines without line feeds the lines come back.
 pub lines_back : (texts : List (List ℕ)) (after : List ℕ) → AllByRecursion Feedless texts
     → lines_of (text_of_lines texts ++ after) ≡ record { whole = texts ++ (lines_of after).whole; rest = (lines_of after).rest }
 lines_back [] after h = refl
@@ -36,6 +37,7 @@ lines_back (t ∷ texts) after h =
 
 -- ---- what has the same lines is the same
 
+-- From the lines of receipts the receipts come back.
 receipts_back : (rs ss : List Receipt) → AllByRecursion IsReceipt rs → AllByRecursion IsReceipt ss → map line rs ≡ map line ss → rs ≡ ss
 receipts_back [] [] ps qs e = refl
 receipts_back [] (s ∷ ss) ps qs e = absurd (cc)
@@ -45,6 +47,7 @@ receipts_back (r ∷ rs) (s ∷ ss) ps qs e =
     let tail : map line rs ≡ map line ss = cc in
     (λ i. one_line r s ps.0 qs.0 head i ∷ receipts_back rs ss ps.1 qs.1 tail i)
 
+-- No record has the line of a receipt.
 pub apart : (x : Distrust) (r : Receipt) → IsDistrust x → IsReceipt r → distrust_line x ≡ line r → ⊥
 apart x r p q e =
     let less : slice_cmp nat_cmp (distrust_line x) (line r) ≡ Less = record_first x r p q in
@@ -52,10 +55,12 @@ apart x r p q e =
     ap (slice_cmp nat_cmp (distrust_line x)) (sym e) ∙ tied_itself nat_list_cmp_total (distrust_line x) in
     cc
 
+-- the same records and the same receipts
 pub record Same (xs ys : List Distrust) (rs ss : List Receipt) : Type 0 where
   pub records : xs ≡ ys
   pub receipts : rs ≡ ss
 
+-- From the lines of what is held both sets come back.
 pub held_back : (xs ys : List Distrust) (rs ss : List Receipt) → AllByRecursion IsDistrust xs
     → AllByRecursion IsDistrust ys → AllByRecursion IsReceipt rs → AllByRecursion IsReceipt ss
     → map distrust_line xs ++ map line rs ≡ map distrust_line ys ++ map line ss → Same xs ys rs ss
@@ -76,6 +81,7 @@ held_back (x ∷ xs) (y ∷ ys) rs ss p q h k e =
 abbrev pub all_lines : Format → Meaning → List (List ℕ)
 all_lines format m = header_line format m.config ∷ (held_lines m ++ count_line format m ∷ [])
 
+-- A snapshot is the text of its lines.
 pub snapshot_lines : (format : Format) (m : Meaning) → snapshot_text format m ≡ text_of_lines (all_lines format m)
 snapshot_lines format m =
     append_assoc (ended (header_line format m.config)) (text_of_lines (held_lines m)) (ended (count_line format m))
@@ -86,15 +92,18 @@ snapshot_lines format m =
 
 -- ---- the last line and the first
 
+-- Where no item's text has a line feed, no line of the list has.
 feedless_all : {A : Type 0} (P : A → Type 0) (text : A → List ℕ) → ((a : A) → P a → Feedless (text a)) → (xs : List A)
     → AllByRecursion P xs → AllByRecursion Feedless (map text xs)
 feedless_all P text each [] h = tt
 feedless_all P text each (x ∷ xs) h = (each x h.0, feedless_all P text each xs h.1)
 
+-- Lines without line feeds after others have none.
 all_both : (xs ys : List (List ℕ)) → AllByRecursion Feedless xs → AllByRecursion Feedless ys → AllByRecursion Feedless (xs ++ ys)
 all_both [] ys h k = k
 all_both (x ∷ xs) ys h k = (h.0, all_both xs ys h.1 k)
 
+-- The part on records has no line feed.
 feedless_records_part : (format : Format) (records : ℕ) → records < 2 ^ 64 → Feedless (records_part format records)
 feedless_records_part First records h = tt
 feedless_records_part Second records h = feedless_both (codes ",\"distrusts\":") (decimal records) (plain_label) (feedless_decimal records h)
@@ -129,6 +138,7 @@ feedless_records_part Second records h = feedless_both (codes ",\"distrusts\":")
       ),
     )
 
+-- The last line has no line feed.
 pub feedless_count : (format : Format) (receipts records : ℕ) → receipts < 2 ^ 64 → records < 2 ^ 64 → Feedless (count_of format receipts records)
 unfolding count_of
 feedless_count format receipts records h k =
@@ -151,20 +161,24 @@ feedless_count format receipts records h k =
     (feedless_both (decimal receipts) (records_part format records ++ codes "}") (feedless_decimal receipts h)
     (feedless_both (records_part format records) (codes "}") (feedless_records_part format records k) ((λ e. omega arith), tt)))
 
+-- No line of what is held has a line feed.
 pub feedless_held : (m : Meaning) → IsMeaning m → AllByRecursion Feedless (held_lines m)
 feedless_held m valid =
     all_both (map distrust_line m.records) (map line m.held)
     (feedless_all IsDistrust distrust_line (λ x h. feedless_record x) m.records valid.distrusts)
     (feedless_all IsReceipt line feedless_line m.held valid.receipts)
 
+-- No line after the first has a line feed.
 pub feedless_behind : (format : Format) (m : Meaning) → IsMeaning m → AllByRecursion Feedless (held_lines m ++ count_line format m ∷ [])
 feedless_behind format m valid =
     all_both (held_lines m) (count_line format m ∷ []) (feedless_held m valid)
     (feedless_count format (length m.held) (length m.records) (omega (arith, valid.few)) (omega (arith, valid.few_records)), tt)
 
+-- The pieces of a first line with its line feed, in other brackets.
 regrouped : (a d b n c rest : List ℕ) → ended (a ++ (d ++ (b ++ (n ++ c)))) ++ rest ≡ a ++ (d ++ (b ++ (n ++ (c ++ ((10 ∷ []) ++ rest)))))
 regrouped a d b n c rest = simp append_assoc
 
+-- First lines of the two formats differ.
 pub formats_apart : (digits rest other : List ℕ) → ended (header_of digits (decimal 1)) ++ rest ≡ ended (header_of digits (decimal 2)) ++ other → ⊥
 unfolding header_of
 formats_apart digits rest other e =
@@ -182,6 +196,7 @@ formats_apart digits rest other e =
     let no : 49 ≡ 50 = ap (λ (xs : List ℕ). get_or xs 0 0) heads in
     omega (arith, no)
 
+-- Lists with one more item each that are equal are equal without it.
 front_same : (xs ys : List (List ℕ)) (a b : List ℕ) → xs ++ a ∷ [] ≡ ys ++ b ∷ [] → xs ≡ ys
 front_same [] [] a b e = refl
 front_same [] (y ∷ ys) a b e = let none : [] ≡ ys ++ b ∷ [] = cc in absurd (no_end ys b none)
@@ -199,6 +214,7 @@ front_same (x ∷ xs) (y ∷ ys) a b e =
     let tail : xs ++ a ∷ [] ≡ ys ++ b ∷ [] = cc in
     (λ i. head i ∷ front_same xs ys a b tail i)
 
+-- A snapshot of one format is that of one meaning.
 one_format : (format : Format) (m n : Meaning) → m.config ≡ n.config → IsMeaning m → IsMeaning n → snapshot_text format m ≡ snapshot_text format n → m ≡ n
 one_format format m n same p q e =
     let behind = λ (k : Meaning). held_lines k ++ count_line format k ∷ [] in
@@ -219,11 +235,13 @@ one_format format m n same p q e =
     let sets = held_back m.records n.records m.held n.held p.distrusts q.distrusts p.receipts q.receipts fronts in
     λ i. record { config = same i; held = sets.receipts i; records = sets.records i }
 
+-- A snapshot is its first line, the lines of what is held, and the last line.
 front_text : (format : Format) (m : Meaning)
     → snapshot_text format m ≡ ended (header_line format m.config) ++
     (text_of_lines (held_lines m) ++ ended (count_line format m))
 front_text format m = append_assoc (ended (header_line format m.config)) (text_of_lines (held_lines m)) (ended (count_line format m))
 
+-- No snapshot is of both formats.
 other_format : (config : Configuration) (m n : Meaning) → m.config ≡ config → n.config ≡ config → snapshot_text First m ≡ snapshot_text Second n → ⊥
 other_format config m n p q e =
     formats_apart (digits_of config) _ _
@@ -231,6 +249,7 @@ other_format config m n p q e =
     ∙ sym (front_text First m) ∙ e ∙ front_text Second n
     ∙ ap (λ c. ended (header_line Second c) ++ (text_of_lines (held_lines n) ++ ended (count_line Second n))) q)
 
+-- A snapshot is that of one meaning, whatever the formats.
 by_formats : (config : Configuration) (f k : Format) (m n : Meaning) → m.config ≡ config → n.config ≡ config
     → IsMeaning m → IsMeaning n → snapshot_text f m ≡ snapshot_text k n → m ≡ n
 by_formats config First First m n p q h j e = one_format First m n (p ∙ sym q) h j e

@@ -7,6 +7,7 @@ use Rattle.receipt_core.specs.declared.receipt_id.ReceiptId.{ReceiptId}
 use Rattle.replica_sync.specs.Messages.{quoted, Asked, asked_text, GiveHeader, distrusts_part, told_text}
 use Rattle.replica_sync.proofs.Glue.{glue}
 
+-- an id as its bytes
 abbrev pub bytes_of : ReceiptId → List ℕ
 bytes_of id = id.0
 
@@ -14,11 +15,12 @@ bytes_of id = id.0
 abbrev pub later_id : ReceiptId → List ℕ
 later_id id = codes "," ++ quoted id.0
 
+-- Texts of images are texts of the items.
 flat_map-map : {X Y A : Type 0} (f : Y → List A) (g : X → Y) (xs : List X) → flat_map f (map g xs) ≡ flat_map (λ x. f (g x)) xs
 flat_map-map f g [] = refl
 flat_map-map f g (x ∷ xs) = ap (λ t. f (g x) ++ t) (flat_map-map f g xs)
 
--- the ids as they are written, one by one
+-- What was written id by id is the list of ids.
 pub join-ids : (out new last : List ℕ) (ids others : List ReceiptId) (first : ReceiptId) → ids ≡ first ∷ others
     → new ≡ out ++ quoted first.0 → last ≡ new ++ flat_map later_id others
     → last ≡ out ++ join_by quoted (codes ",") (map bytes_of ids)
@@ -27,7 +29,7 @@ join-ids out new last ids others first e n l =
     ∙ ap (λ t. out ++ (quoted first.0 ++ t)) (sym (flat_map-map (λ y. codes "," ++ quoted y) bytes_of others))
     ∙ ap (λ xs. out ++ join_by quoted (codes ",") (map bytes_of xs)) (sym e)
 
--- the question's line, piece by piece
+-- What was written piece by piece is the line of the question.
 pub asked-pushed : (a : Asked) (s0 s1 s2 s3 s4 s5 s6 s7 s8 s9 s10 s11 : List ℕ) → s1 ≡ s0 ++ codes "{\"bucket\":"
     → s2 ≡ s1 ++ decimal a.question.bucket → s3 ≡ s2 ++ codes ",\"config\":\""
     → s4 ≡ s3 ++ encode_lower a.question.config → s5 ≡ s4 ++ codes "\",\"format\":" → s6 ≡ s5 ++ decimal a.format → s7 ≡ s6 ++ codes ",\"have\":["
@@ -38,7 +40,7 @@ asked-pushed a s0 s1 s2 s3 s4 s5 s6 s7 s8 s9 s10 s11 e1 e2 e3 e4 e5 e6 e7 e8 e9 
     glue s0 s1 s11 _ _ e1 (glue s1 s2 s11 _ _ e2 (glue s2 s3 s11 _ _ e3 (glue s3 s4 s11 _ _ e4 (glue s4 s5 s11 _ _ e5 (glue s5 s6 s11 _ _ e6
     (glue s6 s7 s11 _ _ e7 (glue s7 s8 s11 _ _ e8 (glue s8 s9 s11 _ _ e9 (glue s9 s10 s11 _ _ e10 e11)))))))))
 
--- the first line of an answer, piece by piece
+-- What was written piece by piece is the first line of the answer.
 pub told-pushed : (t : GiveHeader) (s0 s1 s2 s3 s4 s5 s6 s7 s8 s9 s10 s11 s12 : List ℕ)
     → s1 ≡ s0 ++ codes "{\"bucket\":" → s2 ≡ s1 ++ decimal t.bucket → s3 ≡ s2 ++ codes ",\"config\":\""
     → s4 ≡ s3 ++ encode_lower t.config → s5 ≡ s4 ++ codes "\",\"count\":" → s6 ≡ s5 ++ decimal t.count → s7 ≡ s6 ++ distrusts_part t.distrusts

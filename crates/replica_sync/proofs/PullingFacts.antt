@@ -29,6 +29,7 @@ use Rattle.replica_sync.proofs.Written.{begins-second}
 
 -- ---- one answer more
 
+-- One answer more, about the next bucket.
 replies_more : (config : Configuration) (start bucket : ℕ) (replies : List Reply) (reply : Reply)
     → bucket ≡ start + length replies → AreReplies config start replies → IsReply config bucket reply
     → AreReplies config start (replies ++ reply ∷ [])
@@ -39,6 +40,7 @@ replies_more config start bucket (first ∷ replies) reply e h one = (
       (let longer : length (first ∷ replies) ≡ length replies + 1 = omega arith in omega (arith, e, longer)) h.1 one,
 )
 
+-- One question more, with the ids that are held then.
 questions_more : (config : Configuration) (start bucket : ℕ) (state : State) (replies : List Reply) (reply : Reply) → bucket ≡ start + length replies
     → questions_of config start state (replies ++ reply ∷ [])
     ≡ questions_of config start state replies ++ question_in config (after_replies state replies) bucket ∷ []
@@ -48,16 +50,18 @@ questions_more config start bucket state (first ∷ replies) reply e =
     (questions_more config (start + 1) bucket (joined state first.content) replies reply
     (let longer : length (first ∷ replies) ≡ length replies + 1 = omega arith in omega (arith, e, longer)))
 
+-- The lines of one answer more are added to the number of lines.
 lines_more : (replies : List Reply) (reply : Reply)
     → line_count (replies ++ reply ∷ []) ≡ line_count replies +
     (1 + length reply.content.records + length reply.content.held)
 lines_more [] reply = omega arith
 lines_more (first ∷ replies) reply = let later = lines_more replies reply in omega (arith, later)
 
+-- The text of one item more comes last.
 texts_more : {A : Type 0} (text : A → List ℕ) (items : List A) (item : A) → flat_map text (items ++ item ∷ []) ≡ flat_map text items ++ text item
 texts_more text items item = flat_map-append text items (item ∷ []) ∙ ap (λ (t : List ℕ). flat_map text items ++ t) (append-nil (text item))
 
--- So many buckets were asked about; all that was answered is held.
+-- The buckets before this one were asked about, and all that was answered is held.
 pub record AskedUpTo (old : Meaning) (stream before : Option (List ℕ)) (bucket : ℕ) (now : Meaning) (left after : Option (List ℕ)) (read : ℕ) : Type 0 where
   pub replies : List Reply
   pub session : Session old.config stream replies left
@@ -66,10 +70,12 @@ pub record AskedUpTo (old : Meaning) (stream before : Option (List ℕ)) (bucket
   pub asked : Appends before after (flat_map question_text (questions_of old.config 0 (state_of old) replies))
   pub read_is : read ≡ line_count replies
 
+-- Before the first answer nothing of the stream is used up.
 none_consumed : (stream : Option (List ℕ)) → Consumes stream stream []
 none_consumed None = tt
 none_consumed (Some bytes) = refl
 
+-- After one answer more the next bucket comes, with all in the words of the definitions.
 more_at : (old : Meaning) (stream before : Option (List ℕ)) (bucket : ℕ) (now : Meaning) (left after : Option (List ℕ))
     (read : ℕ) (new : Meaning) (left_then after_then : Option (List ℕ)) (read_then : ℕ)
     → (so_far : AskedUpTo old stream before bucket now left after read)
@@ -103,6 +109,7 @@ more_at old stream before bucket now left after read new left_then after_then re
       read_is = omega (arith, read_is, more, lines);
     }
 
+-- The step of the loop over buckets.
 pub asked_more : (old : Meaning) (stream before : Option (List ℕ)) (bucket : ℕ) (now : Meaning)
     (left after : Option (List ℕ)) (read : ℕ) (new : Meaning) (left_then after_then : Option (List ℕ)) (read_then : ℕ)
     → AskedUpTo old stream before bucket now left after read → TakesReply now bucket left read new left_then read_then
@@ -115,6 +122,7 @@ asked_more old stream before bucket now left after read new left_then after_then
 
 -- ---- why it stops
 
+-- What was written, and then what was due, is written together.
 written_then : (e : SyncError) (a b c : Option (List ℕ)) (first second : List ℕ) → Appends a b first
     → IsWritten e b c second → IsWritten e a c (first ++ second)
 written_then BadHeader a b c first second p q = Appends-trans a b c first second p q
@@ -128,9 +136,11 @@ written_then (Refused n why) a b c first second p q = Appends-trans a b c first 
 written_then Io a b c first second p q = begins-second a b c first second p q
 written_then NoMemory a b c first second p q = begins-second a b c first second p q
 
+-- A text that was written whole is a beginning of itself.
 begins_all : (a b : Option (List ℕ)) (text : List ℕ) → Appends a b text → AppendsBeginning a b text
 begins_all a b text p = (length text, subst (Appends a b) (sym (take_all (length text) text (omega arith))) p)
 
+-- What was written whole is written, whatever the fault.
 written_all : (e : SyncError) (a b : Option (List ℕ)) (text : List ℕ) → Appends a b text → IsWritten e a b text
 written_all BadHeader a b text p = p
 written_all ConfigDiffers a b text p = p
@@ -148,6 +158,7 @@ pub asked_whole : (r : Result (Unit {0}) SyncError) (a b : Option (List ℕ)) (t
 asked_whole (Ok done) a b text p = tt
 asked_whole (Err e) a b text p = written_all e a b text p
 
+-- The fault of an answer ends the session there, with all in the words of the definitions.
 stops_at : (old : Meaning) (stream before : Option (List ℕ)) (bucket : ℕ) (now : Meaning) (left after : Option (List ℕ))
     (read : ℕ) (new : Meaning) (after_then : Option (List ℕ)) (e : SyncError) → bucket < 256
     → (so_far : AskedUpTo old stream before bucket now left after read)
@@ -169,6 +180,7 @@ stops_at old stream before bucket now left after read new after_then e few so_fa
           (written_then e before after after_then (flat_map question_text (questions_of old.config 0 (state_of old) replies)) _ so_far.asked asks);
     }
 
+-- The exit of the loop over buckets.
 pub asked_stops : (old : Meaning) (stream before : Option (List ℕ)) (bucket : ℕ) (now : Meaning)
     (left after : Option (List ℕ)) (read : ℕ) (new : Meaning) (after_then : Option (List ℕ)) (e : SyncError)
     → bucket < 256
@@ -185,15 +197,18 @@ asked_stops old stream before bucket now left after read new after_then e few so
 
 -- ---- what is held grows
 
+-- One step of `longer_with_item`, for each way the item stands to the first.
 longer_placed : {A : Type 0} (o : Ordering) (x h : A) (t longer : List A) → length t ≤ length longer → length (h ∷ t) ≤ length (placed o x h t longer)
 longer_placed Less x h t longer more = omega arith
 longer_placed Equal x h t longer more = omega arith
 longer_placed Greater x h t longer more = omega (arith, more)
 
+-- Adding an item makes no set smaller.
 longer_with_item : {A : Type 0} (cmp : A → A → Ordering) (x : A) (set : List A) → length set ≤ length (with_item cmp x set)
 longer_with_item cmp x [] = omega arith
 longer_with_item cmp x (h ∷ t) = longer_placed (cmp x h) x h t (with_item cmp x t) (longer_with_item cmp x t)
 
+-- Adding many items makes no set smaller.
 longer_with_items : {A : Type 0} (cmp : A → A → Ordering) (items set : List A) → length set ≤ length (with_items cmp items set)
 longer_with_items cmp [] set = omega arith
 longer_with_items cmp (x ∷ items) set =
@@ -201,6 +216,7 @@ longer_with_items cmp (x ∷ items) set =
     let others = longer_with_items cmp items (with_item cmp x set) in
     omega (arith, first, others)
 
+-- What is held after answers has no fewer receipts.
 longer_after : (state : State) (replies : List Reply) → length state.held ≤ length (after_replies state replies).held
 longer_after state [] = omega arith
 longer_after state (reply ∷ replies) =
@@ -208,10 +224,12 @@ longer_after state (reply ∷ replies) =
     let others = longer_after (joined state reply.content) replies in
     omega (arith, first, others)
 
+-- No fewer receipts are held after a session that was carried out.
 all_grows : (old : Meaning) (stream before : Option (List ℕ)) (new : Meaning) (after : Option (List ℕ))
     → PullsAll old stream before new after → length old.held ≤ length new.held
 all_grows old stream before new after all = subst (λ (m : Meaning). length old.held ≤ length m.held) (sym all.meaning) (longer_after (state_of old) all.replies)
 
+-- No fewer receipts are held after a session that a fault ended.
 part_grows : (old : Meaning) (stream before : Option (List ℕ)) (new : Meaning) (after : Option (List ℕ)) (e : SyncError)
     → PullsUpTo old stream before new after e → length old.held ≤ length new.held
 part_grows old stream before new after e part =
@@ -219,6 +237,7 @@ part_grows old stream before new after e part =
     let others = longer_with_items receipt_cmp part.content.held (after_replies (state_of old) part.replies).held in
     subst (λ (m : Meaning). length old.held ≤ length m.held) (sym part.meaning) (omega (arith, first, others))
 
+-- No fewer receipts are held after a session, so the difference that it reports does not underflow.
 pub grows : (r : Result (Unit {0}) SyncError) (old : Meaning) (stream before : Option (List ℕ)) (new : Meaning)
     (after : Option (List ℕ)) → OnOk r (PullsAll old stream before new after)
     → IfErr r (PullsUpTo old stream before new after)

@@ -14,30 +14,38 @@ use Rattle.receipt_core.proofs.HexFacts.{length-encode_lower}
 
 -- ---- decimal digits
 
+-- each byte is a decimal digit
 abbrev pub AreDecimal : List ℕ → Type 0
 AreDecimal = AllByRecursion (λ b. is_ascii_digit b ≡ true)
 
+-- Digits after digits are digits.
 are_decimal_both : (xs ys : List ℕ) → AreDecimal xs → AreDecimal ys → AreDecimal (xs ++ ys)
 are_decimal_both [] ys h k = k
 are_decimal_both (x ∷ xs) ys h k = (h.0, are_decimal_both xs ys h.1 k)
 
+-- The digit of a number below 10 is a decimal digit.
 digit-below : (d : ℕ) → d < 10 → is_ascii_digit (48 + d) ≡ true
 digit-below d h = grind (arith, nat_tests)
 
+-- A decimal number has decimal digits alone.
 pub each-decimal : (n : ℕ) → n < 2 ^ 64 → AreDecimal (decimal n)
 each-decimal =
     decimal_by_steps (λ n ds. AreDecimal ds) (λ n h. (digit-below n h, tt))
     (λ n ds h before. are_decimal_both ds ((48 + n % 10) ∷ []) before (digit-below (n % 10) (omega arith), tt))
 
+-- A decimal number has decimal digits alone, in the words of the search.
 pub digits-decimal : (n : ℕ) → n < 2 ^ 64 → AllPass is_ascii_digit (decimal n)
 digits-decimal n h = All-from_recursion (λ b. is_ascii_digit b ≡ true) (decimal n) (each-decimal n h)
 
+-- A test does not both pass and fail.
 pub both-truths : (b : Bool) → b ≡ true → b ≡ false → ⊥
 both-truths b t f = let no : true ≡ false = sym t ∙ f in cc
 
+-- Where all digits pass, the later ones do.
 later-pass : (x : ℕ) (xs : List ℕ) → AllPass is_ascii_digit (x ∷ xs) → AllPass is_ascii_digit xs
 later-pass x xs pass k d below = pass (suc k) d (omega arith)
 
+-- Where all digits pass, the first does.
 first-pass : (x : ℕ) (xs : List ℕ) → AllPass is_ascii_digit (x ∷ xs) → is_ascii_digit x ≡ true
 first-pass x xs pass = pass 0 0 (omega arith)
 
@@ -54,10 +62,12 @@ stop-place (x ∷ digits) stop more (suc place) pass none first =
       fails = first.fails;
     }))
 
+-- Where something else than a digit follows, not all bytes are digits.
 pub no-stop : (digits : List ℕ) (stop : ℕ) (more : List ℕ) → AllPass is_ascii_digit (digits ++ (stop ∷ more)) → is_ascii_digit stop ≡ false → ⊥
 no-stop [] stop more pass none = both-truths (is_ascii_digit stop) (first-pass stop more pass) none
 no-stop (x ∷ digits) stop more pass none = no-stop digits stop more (later-pass x (digits ++ (stop ∷ more)) pass) none
 
+-- A text is cut where its digits end.
 pub split-at-stop : (text digits : List ℕ) (stop : ℕ) (more : List ℕ) (place : ℕ) → AllPass is_ascii_digit digits
     → is_ascii_digit stop ≡ false → text ≡ digits ++ (stop ∷ more)
     → FirstFails is_ascii_digit text place → (take place text ≡ digits) × (drop place text ≡ stop ∷ more)
@@ -69,6 +79,7 @@ split-at-stop text digits stop more place pass none e first =
 
 -- ---- digests
 
+-- A text that begins with a digest has at least 64 bytes.
 pub long-digest : (text digest rest : List ℕ) → IsDigest digest → text ≡ encode_lower digest ++ rest → length text < 64 → ⊥
 long-digest text digest rest is e short =
     let size = length-encode_lower digest is in
@@ -76,6 +87,7 @@ long-digest text digest rest is e short =
     let parts = length-append (encode_lower digest) rest in
     omega (arith, size, whole, parts, short)
 
+-- A text that begins with a digest is cut after 64 bytes.
 pub split-digest : (text digest rest : List ℕ) → IsDigest digest → text ≡ encode_lower digest ++ rest
     → (take 64 text ≡ encode_lower digest) × (drop 64 text ≡ rest)
 split-digest text digest rest is e =

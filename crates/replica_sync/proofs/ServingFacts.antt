@@ -22,10 +22,12 @@ use Rattle.replica_sync.proofs.Written.{begins-second}
 
 -- ---- one question
 
+-- A first line that asks nothing is why no question is read.
 pub refused-line : (old new : Option (List ℕ)) (text : List ℕ) (e : SyncError) → HasLine old new text → IsNoneAsked text e → RefusesHaveLine old new e
 refused-line old new text e is (inl none) = subst (RefusesHaveLine old new) (sym none.0) (record { text = text; is = is; cause = inr none.1 })
 refused-line old new text e is (inr memory) = subst (RefusesHaveLine old new) (sym memory) tt
 
+-- Why no line of a question is read is why the next question is not answered.
 pub refused-further : (config : Configuration) (old new : Option (List ℕ)) (e : SyncError) → RefusesHaveLine old new e → RefusesFurther config old e
 refused-further config old new BadHeader h = (new, record { text = h.text; is = h.is; cause = h.cause })
 refused-further config old new ConfigDiffers h = absurd h
@@ -38,6 +40,7 @@ refused-further config old new (Refused n why) h = h
 refused-further config old new Io h = tt
 refused-further config old new NoMemory h = tt
 
+-- A question of another configuration, format or number of buckets is not answered.
 pub unsupported-further : (config : Configuration) (old new : Option (List ℕ)) (a : VersionedHave) (e : SyncError)
     → HasAsked old new a → RefusesVersionedHave config a e → RefusesFurther config old e
 unsupported-further config old new a BadHeader h r = absurd r
@@ -62,16 +65,20 @@ unsupported-further config old new a NoMemory h r = tt
 
 -- ---- a session
 
+-- What holds of the questions of two lists holds of both together.
 all_both : (P : Question → Type 0) (xs ys : List Question) → AllByRecursion P xs → AllByRecursion P ys → AllByRecursion P (xs ++ ys)
 all_both P [] ys h k = k
 all_both P (x ∷ xs) ys h k = (h.0, all_both P xs ys h.1 k)
 
+-- The text of one item more comes last.
 one-more : {X : Type 0} (f : X → List ℕ) (xs : List X) (x : X) → flat_map f xs ++ f x ≡ flat_map f (xs ++ x ∷ [])
 one-more f xs x = ap (λ t. flat_map f xs ++ t) (sym (append-nil (f x))) ∙ sym (flat_map-append f xs (x ∷ []))
 
+-- what is written to a question
 abbrev answered : Meaning → Question → List ℕ
 answered m q = reply_text (reply_of m q)
 
+-- One question more of the stream.
 asks-more : (m : Meaning) (stream left next : Option (List ℕ)) (questions : List Question) (q : Question)
     → Asks m.config stream questions left → IsQuestionOf m.config q → Consumes left next (question_text q)
     → Asks m.config stream (questions ++ q ∷ []) next
@@ -81,6 +88,7 @@ asks-more m stream left next questions q asks own text = record {
       (Consumes-trans stream left next (flat_map question_text questions) (question_text q) asks.text text);
 }
 
+-- The step of the loop: one question more is answered.
 pub served-more : (m : Meaning) (stream left next old now new : Option (List ℕ)) (count : ℕ)
     → Served m stream left old now count → ServesOne m left next now new → Served m stream next old new (count + 1)
 served-more m stream left next old now new count s one = record {
@@ -91,12 +99,15 @@ served-more m stream left next old now new count s one = record {
       (Appends-trans old now new (replies_text m s.questions) (answered m one.question) s.written one.written);
 }
 
+-- What was written, and then nothing, is what was written.
 and-nothing : (old now new : Option (List ℕ)) (text : List ℕ) → Appends old now text → Appends now new [] → Appends old new text
 and-nothing old now new text before nothing = subst (Appends old new) (append-nil text) (Appends-trans old now new text [] before nothing)
 
+-- A text that was written whole is a beginning of itself.
 begins-whole : (old new : Option (List ℕ)) (text : List ℕ) → Appends old new text → AppendsBeginning old new text
 begins-whole old new text all = (length text, subst (Appends old new) (sym (take_all (length text) text (omega arith))) all)
 
+-- What was written whole is written, whatever the fault.
 is-written : (e : SyncError) (old new : Option (List ℕ)) (text : List ℕ) → Appends old new text → IsWritten e old new text
 is-written BadHeader old new text all = all
 is-written ConfigDiffers old new text all = all
@@ -109,6 +120,7 @@ is-written (Refused n why) old new text all = all
 is-written Io old new text all = begins-whole old new text all
 is-written NoMemory old new text all = begins-whole old new text all
 
+-- Where the device failed, or memory ran out, a beginning of what was due is written.
 served-fault : (m : Meaning) (stream next old new : Option (List ℕ)) (e : SyncError) (questions : List Question)
     → Asks m.config stream questions next → AppendsBeginning old new (replies_text m questions)
     → (e ≡ Io) ⊎ (e ≡ NoMemory)
@@ -118,6 +130,7 @@ served-fault m stream next old new e questions asks begun (inl io) =
 served-fault m stream next old new e questions asks begun (inr memory) =
     subst (ServesUpTo m stream old new) (sym memory) (record { questions = questions; left = next; asks = asks; cause = tt; written = begun })
 
+-- The exit of the loop: the next question was not read, or not answered to its end.
 pub served-up-to : (m : Meaning) (stream left next old now new : Option (List ℕ)) (count : ℕ) (e : SyncError)
     → Served m stream left old now count → FailsReading m left now new e ⊎ FailsWriting m left next now new e
     → ServesUpTo m stream old new e

@@ -24,6 +24,7 @@ use Rattle.replica_sync.proofs.GiveFacts.{IsGood, no-fault-behind, no-head-fault
 
 -- ---- questions
 
+-- The empty stream begins with no line.
 no-line : (text rest : List ℕ) → [] ≡ ended text ++ rest → ⊥
 no-line text rest e =
     let none = ap length e in
@@ -31,10 +32,12 @@ no-line text rest e =
     let feed = length-append text (10 ∷ []) in
     omega (arith, none, both, feed)
 
+-- The empty stream has no first line.
 no-first-line : (new : Option (List ℕ)) (text : List ℕ) → HasLine (Some []) new text → ⊥
 no-first-line None text is = is.1
 no-first-line (Some rest) text is = no-line text rest is.1
 
+-- The end of a stream is no fault.
 no-fault-at-end : (config : Configuration) (e : SyncError) → e ≢ Io → e ≢ NoMemory → RefusesFurther config (Some []) e → ⊥
 no-fault-at-end config BadHeader calm ample h = no-first-line h.0 h.1.text h.1.is
 no-fault-at-end config ConfigDiffers calm ample h = no-first-line h.0 h.1.text h.1.is
@@ -47,6 +50,7 @@ no-fault-at-end config (Refused n why) calm ample h = h
 no-fault-at-end config Io calm ample h = calm refl
 no-fault-at-end config NoMemory calm ample h = ample refl
 
+-- Why the next question is not answered is why it is not read alone.
 as-question : (config : Configuration) (left : Option (List ℕ)) (e : SyncError) → RefusesFurther config left e
     → (new : Option (List ℕ)) × RefusesQuestion (Some config) left new e
 as-question config left BadHeader h = h
@@ -64,6 +68,7 @@ as-question config left NoMemory h = (None, tt)
 abbrev asked_texts : List Question → List ℕ
 asked_texts questions = flat_map question_text questions
 
+-- In a stream of questions no fault comes after some of them.
 no-fault-of-asked : (config : Configuration) (questions others : List Question) (left : List ℕ) (e : SyncError)
     → AllByRecursion (IsQuestionOf config) questions → AllByRecursion (IsQuestionOf config) others
     → asked_texts questions ≡ asked_texts others ++ left → e ≢ Io → e ≢ NoMemory → RefusesFurther config (Some left) e → ⊥
@@ -80,6 +85,7 @@ no-fault-of-asked config (q ∷ questions) (o ∷ others) left e is valid w calm
     (w ∙ append_assoc (question_text o) (asked_texts others) left) in
     no-fault-of-asked config questions others left e is.1 valid.1 same.behind calm ample h
 
+-- In a stream of questions no fault comes after some of them, in the words of streams.
 unserved : (config : Configuration) (bytes : List ℕ) (questions others : List Question) (left : Option (List ℕ))
     (e : SyncError) → AllByRecursion (IsQuestionOf config) questions → AllByRecursion (IsQuestionOf config) others
     → bytes ≡ asked_texts questions → Consumes (Some bytes) left (asked_texts others) → e ≢ Io → e ≢ NoMemory → RefusesFurther config left e → ⊥
@@ -87,11 +93,13 @@ unserved config bytes questions others None e is valid whole begins calm ample h
 unserved config bytes questions others (Some left) e is valid whole begins calm ample h =
     no-fault-of-asked config questions others left e is valid (sym whole ∙ begins) calm ample h
 
+-- The clause `served`: a stream that can be served to its end has no fault.
 pub served-or-not : (m : Meaning) (bytes : List ℕ) (old new before after : Option (List ℕ)) (count : ℕ) (e : SyncError)
     → e ≢ Io → e ≢ NoMemory → ServesAll m (Some bytes) old new count → ServesUpTo m (Some bytes) before after e → ⊥
 served-or-not m bytes old new before after count e calm ample all part =
     unserved m.config bytes all.questions part.questions part.left e all.each part.asks.each all.text part.asks.text calm ample part.cause
 
+-- Two lists of questions with one text are one list.
 same-questions : (config : Configuration) (questions others : List Question)
     → AllByRecursion (IsQuestionOf config) questions → AllByRecursion (IsQuestionOf config) others
     → asked_texts questions ≡ asked_texts others
@@ -104,6 +112,7 @@ same-questions config (q ∷ questions) (o ∷ others) is valid w =
     let later = same-questions config questions others is.1 valid.1 same.behind in
     (λ i. same.question i ∷ later i)
 
+-- The clause `served_once`: the questions of a stream have one number.
 pub served-once : (m : Meaning) (bytes : List ℕ) (old new before after : Option (List ℕ)) (count number : ℕ)
     → ServesAll m (Some bytes) old new count → ServesAll m (Some bytes) before after number → count ≡ number
 served-once m bytes old new before after count number all other =
@@ -111,10 +120,11 @@ served-once m bytes old new before after count number all other =
 
 -- ---- answers
 
--- only what a line says is refused
+-- the fault is not that what a line says is refused
 abbrev IsSpelling : SyncError → Type 0
 IsSpelling e = (n : ℕ) (why : TakeError) → e ≢ Refused n why
 
+-- A good line has no fault of its spelling.
 no-line-fault : (config : Configuration) (state : State) (first : ℕ) (whole content : State) (wanted : Wanted)
     (text : List ℕ) (e : SyncError) → e ≢ NoMemory → IsSpelling e → IsGood whole content wanted text
     → refused_line config state first content wanted (last_of (content_lines content)) text e → ⊥
@@ -136,6 +146,7 @@ no-line-fault config state first whole content wanted text NoMemory ample spelt 
 abbrev told_texts : List Reply → List ℕ
 told_texts replies = flat_map reply_text replies
 
+-- The answer with which a stream goes on has no fault of its spelling.
 no-fault-of-reply : (config : Configuration) (state : State) (bucket first : ℕ) (content : State) (r : Reply)
     (left rest : List ℕ) (e : SyncError) → IsReply config bucket r → left ≡ reply_text r ++ rest
     → e ≢ Io → e ≢ NoMemory → IsSpelling e → RefusesAnswer config state bucket first content (Some left) e → ⊥
@@ -146,9 +157,11 @@ no-fault-of-reply config state bucket first content r left rest e is begins calm
     (refused_line config state first content) fault.count fault.distrusts content fault.further fault.after e
     (λ wanted text. no-line-fault config state first r.content content wanted text e ample spelt) calm ample fault.begins fault.cause
 
+-- The text of a list of answers is that of the first and of the others.
 joined-texts : (r : Reply) (replies : List Reply) (rest : List ℕ) → told_texts (r ∷ replies) ++ rest ≡ reply_text r ++ (told_texts replies ++ rest)
 joined-texts r replies rest = append_assoc (reply_text r) (told_texts replies) rest
 
+-- In a stream of answers no fault of spelling comes before the last of them.
 no-fault-of-told : (config : Configuration) (state : State) (start bucket first : ℕ) (content : State)
     (replies others : List Reply) (rest left : List ℕ) (e : SyncError)
     → AreReplies config start replies → AreReplies config start others → length others < length replies → bucket ≡ start + length others
@@ -166,6 +179,7 @@ no-fault-of-told config state start bucket first content (r ∷ replies) (o ∷ 
     no-fault-of-told config state (start + 1) bucket first content replies others rest left e is.1 valid.1
     (omega (arith, few)) (omega (arith, at)) same.behind calm ample spelt h
 
+-- No fault of spelling comes before the last answer, in the words of streams.
 unpulled : (config : Configuration) (state : State) (bytes : List ℕ) (first : ℕ) (content : State)
     (replies others : List Reply) (rest left : Option (List ℕ)) (e : SyncError)
     → AreReplies config 0 replies → AreReplies config 0 others → length others < length replies
@@ -177,6 +191,7 @@ unpulled config state bytes first content replies others (Some rest) (Some left)
     let at : length others ≡ 0 + length others = omega arith in
     no-fault-of-told config state 0 (length others) first content replies others rest left e is valid few at (sym whole ∙ begins) calm ample spelt h
 
+-- The clause `pulled`: a stream of all answers has no fault but that what a line says is refused.
 pub pulled-or-not : (old : Meaning) (bytes : List ℕ) (before after since then : Option (List ℕ)) (new now : Meaning)
     (e : SyncError) → e ≢ Io → e ≢ NoMemory → ((n : ℕ) (why : TakeError) → e ≢ Refused n why)
     → PullsAll old (Some bytes) before new after → PullsUpTo old (Some bytes) since now then e → ⊥
@@ -187,6 +202,7 @@ pulled-or-not old bytes before after since then new now e calm ample spelt all p
     all.replies part.replies all.left part.left e all.session.each part.session.each (omega (arith, many, few))
     all.session.text part.session.text calm ample spelt part.cause
 
+-- Two lists of as many answers with which a stream begins are one list.
 same-replies : (config : Configuration) (start : ℕ) (replies others : List Reply) (rest left : List ℕ)
     → AreReplies config start replies → AreReplies config start others → length replies ≡ length others
     → told_texts replies ++ rest ≡ told_texts others ++ left → replies ≡ others
@@ -200,6 +216,7 @@ same-replies config start (r ∷ replies) (o ∷ others) rest left is valid many
     let later = same-replies config (start + 1) replies others rest left is.1 valid.1 (omega (arith, many)) same.behind in
     (λ i. same.reply i ∷ later i)
 
+-- Two lists of as many answers with which a stream begins are one, in the words of streams.
 both-replies : (config : Configuration) (bytes : List ℕ) (replies others : List Reply) (rest left : Option (List ℕ))
     → AreReplies config 0 replies → AreReplies config 0 others → length replies ≡ length others
     → Consumes (Some bytes) rest (told_texts replies) → Consumes (Some bytes) left (told_texts others) → replies ≡ others
@@ -208,6 +225,7 @@ both-replies config bytes replies others (Some rest) None is valid many whole ot
 both-replies config bytes replies others (Some rest) (Some left) is valid many whole other =
     same-replies config 0 replies others rest left is valid many (sym whole ∙ other)
 
+-- The clause `pulled_once`: what is held after the session is one meaning.
 pub pulled-once : (old : Meaning) (bytes : List ℕ) (before after since then : Option (List ℕ)) (new now : Meaning)
     → PullsAll old (Some bytes) before new after → PullsAll old (Some bytes) since now then → new ≡ now
 pulled-once old bytes before after since then new now all other =

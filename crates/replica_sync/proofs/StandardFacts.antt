@@ -1,5 +1,5 @@
--- First and last lines of snapshots and texts of messages, said of the definitions: a slip in one of
--- these does not check.
+-- First and last lines of snapshots and texts of messages, said of the definitions: a slip in one
+-- of these does not check.
 use Rattle.std.proofs.Common.{◌≡◌, [], ◌∷◌, Some, None, codes, refl}
 use Rattle.std.specs.Fmt.{digits}
 use Rattle.hex.specs.Hex.{encode_with}
@@ -10,6 +10,7 @@ use Rattle.replica_sync.specs.Messages.{Asked, asked_text, GiveHeader, told_text
 
 -- ---- snapshots
 
+-- A first line has the digest and the format.
 pub first_line : header_of (codes "12ab") (codes "2") ≡ codes "{\"config\":\"12ab\",\"format\":2}"
 unfolding header_of
 first_line = refl
@@ -26,9 +27,11 @@ last_line_without_records = refl
 
 -- ---- questions
 
+-- a question that names no ids
 abbrev asks_nothing : Question
 asks_nothing = record { bucket = 0; config = 18 ∷ 171 ∷ []; ids = [] }
 
+-- a question that names two ids
 abbrev names_two : Question
 names_two = record { bucket = 97; config = 18 ∷ 171 ∷ []; ids = (1 ∷ 35 ∷ []) ∷ (255 ∷ 0 ∷ []) ∷ [] }
 
@@ -42,7 +45,7 @@ pub question_with_ids : question_text names_two ≡ codes "{\"bucket\":97,\"conf
 unfolding asked_text digits encode_with
 question_with_ids = refl
 
--- another format and number of buckets is told apart
+-- Another format, and another number of buckets, make another line.
 pub question_of_one_bucket : asked_text (record { question = asks_nothing; format = 1; buckets = 1 })
     ≡ codes "{\"bucket\":0,\"config\":\"12ab\",\"format\":1,\"have\":[],\"of\":1}"
 unfolding asked_text digits encode_with
@@ -62,7 +65,7 @@ pub first_line_of_an_answer : told_text (record { bucket = 97; config = 18 ∷ 1
 unfolding told_text digits encode_with
 first_line_of_an_answer = refl
 
--- the first format tells no records
+-- The first format has no number of records.
 pub first_line_without_records : told_text (record { bucket = 0; config = 18 ∷ 171 ∷ []; count = 2; distrusts = None; format = 1; buckets = 1 })
     ≡ codes "{\"bucket\":0,\"config\":\"12ab\",\"count\":2,\"format\":1,\"of\":1}"
 unfolding told_text digits encode_with

@@ -27,7 +27,8 @@ use Rattle.replica_sync.proofs.ContentFacts.{HasPlace, all_pushed, consumes_one,
 
 -- ---- so much of an answer
 
--- So much of the answer is taken, so many lines are still to come, and the last one and the number of lines are known.
+-- This part of the answer is taken, these numbers of lines are still to come, and the last line and
+-- the number of lines so far are known.
 pub record SoFar (old : Meaning) (stream : Option (List ℕ)) (count distrusts first receipts records : ℕ) (now : Meaning)
     (left : Option (List ℕ)) (last : List ℕ) (read : ℕ) : Type 0 where
   pub content : State
@@ -37,14 +38,17 @@ pub record SoFar (old : Meaning) (stream : Option (List ℕ)) (count distrusts f
   pub records_due : length content.records + records ≡ distrusts
   pub read_is : read ≡ first + length content.records + length content.held
 
+-- The empty list of lines rises.
 none_rises : IsStrictlySortedBy text_cmp []
 unfolding IsStrictlySortedBy
 none_rises = tt
 
+-- Before the first line nothing of the stream is used up.
 none_consumed : (stream : Option (List ℕ)) → Consumes stream stream []
 none_consumed None = tt
 none_consumed (Some bytes) = refl
 
+-- Before the first line nothing is taken.
 pub so_far_none : (old : Meaning) (stream : Option (List ℕ)) (count distrusts first : ℕ) (last : List ℕ) → last ≡ []
     → SoFar old stream count distrusts first count distrusts old stream last first
 so_far_none old stream count distrusts first last none = record {
@@ -60,7 +64,7 @@ so_far_none old stream count distrusts first last none = record {
   read_is = omega arith;
 }
 
--- which line is wanted
+-- The line that comes next by the numbers is the one that is wanted.
 wants : (wanted : Wanted) (count distrusts : ℕ) (content : State) (receipts records receipts_then records_then : ℕ)
     → IsNextOf receipts records wanted receipts_then records_then
     → length content.held + receipts ≡ count → length content.records + records ≡ distrusts → Wants count distrusts content wanted
@@ -68,7 +72,7 @@ wants Records count distrusts content receipts records receipts_then records_the
 wants Receipts count distrusts content receipts records receipts_then records_then h p q = let none = h.0 in let one = h.2 in (omega arith, omega arith)
 wants Either count distrusts content receipts records receipts_then records_then h p q = absurd h
 
--- a line that is wanted has its place
+-- An entry that is wanted may come next.
 has_place : (wanted : Wanted) (entry : Entry) (count distrusts : ℕ) (content : State) → IsWanted wanted entry
     → IsBegun count distrusts content → Wants count distrusts content wanted → HasPlace entry content
 has_place Records (Record x) count distrusts content is begun w = begun.order w
@@ -77,6 +81,7 @@ has_place Receipts (Record x) count distrusts content is begun w = absurd is
 has_place Receipts (AReceipt r) count distrusts content is begun w = tt
 has_place Either entry count distrusts content is begun w = absurd w
 
+-- Receipts and records of their form, with one more that is wanted, are of their form.
 valid_pushed : (wanted : Wanted) (entry : Entry) (content : State) → IsWanted wanted entry → IsContent content → IsContent (pushed entry content)
 valid_pushed Records (Record x) content is valid = record { receipts = valid.receipts; records = all_pushed IsDistrust content.records x valid.records is }
 valid_pushed Records (AReceipt r) content is valid = absurd is
@@ -85,6 +90,7 @@ valid_pushed Receipts (AReceipt r) content is valid = record { receipts = all_pu
 valid_pushed Either (Record x) content is valid = record { receipts = valid.receipts; records = all_pushed IsDistrust content.records x valid.records is }
 valid_pushed Either (AReceipt r) content is valid = record { receipts = all_pushed IsReceipt content.held r valid.receipts is; records = valid.records }
 
+-- With one entry more that is wanted it is still a beginning of the answer.
 begun_pushed : (wanted : Wanted) (entry : Entry) (count distrusts : ℕ) (content : State) → IsWanted wanted entry
     → IsBegun count distrusts content → Wants count distrusts content wanted
     → IsStrictlySortedBy text_cmp (content_lines (pushed entry content)) → IsBegun count distrusts (pushed entry content)
@@ -118,6 +124,7 @@ pub record Counted (content : State) (entry : Entry) (receipts records receipts_
   pub records_held : length (pushed entry content).records + records_then ≡ length content.records + records
   pub one_more : length (pushed entry content).records + length (pushed entry content).held ≡ length content.records + length content.held + 1
 
+-- One line more is one fewer to come.
 counted : (wanted : Wanted) (entry : Entry) (content : State) (receipts records receipts_then records_then : ℕ)
     → IsWanted wanted entry → IsNextOf receipts records wanted receipts_then records_then
     → Counted content entry receipts records receipts_then records_then
@@ -136,6 +143,7 @@ counted Receipts (AReceipt r) content receipts records receipts_then records_the
     record { held = omega (arith, longer); records_held = omega arith; one_more = omega (arith, longer) }
 counted Either entry content receipts records receipts_then records_then is h = absurd h
 
+-- One line more that says an entry makes one entry more that is taken.
 taken_pushed : (wanted : Wanted) (old : Meaning) (stream : Option (List ℕ)) (count distrusts : ℕ) (content : State)
     (now new : Meaning) (left after : Option (List ℕ)) (text : List ℕ) (number : ℕ)
     → HasTakenPart old stream count distrusts content now left → Wants count distrusts content wanted
@@ -155,6 +163,7 @@ taken_pushed wanted old stream count distrusts content now new left after text n
           (consumes_one stream left after (content_lines content) text so_far.text is);
     }
 
+-- That line is now the last one.
 last_taken : (wanted : Wanted) (count distrusts : ℕ) (content : State) (now new : Meaning) (text : List ℕ) (number : ℕ)
     → IsBegun count distrusts content → Wants count distrusts content wanted
     → (taken : TakesEntryText wanted now (last_of (content_lines content)) text new number) → text ≡ last_of (content_lines (pushed taken.entry content))
@@ -162,6 +171,7 @@ last_taken wanted count distrusts content now new text number begun w taken =
     let place = has_place wanted taken.entry count distrusts content taken.next.is.is begun w in
     taken.next.is.spelt ∙ sym (ap last_of (lines_pushed taken.entry content place) ∙ last_pushed (content_lines content) (entry_line taken.entry))
 
+-- The step of the loop over lines.
 pub so_far_more : (wanted : Wanted) (old : Meaning) (stream : Option (List ℕ))
     (count distrusts first receipts records receipts_then records_then : ℕ) (now new : Meaning)
     (left after : Option (List ℕ)) (last text : List ℕ) (read then : ℕ)
@@ -194,6 +204,7 @@ so_far_more wanted old stream count distrusts first receipts records receipts_th
 
 -- ---- why it stops
 
+-- The cause of a refusal, for an equal meaning, last line and number.
 cause_at : (wanted : Wanted) (m now : Meaning) (before last : List ℕ) (next number : ℕ) (text : List ℕ) (e : SyncError)
     → now ≡ m → last ≡ before → number ≡ next → RefusesEntryLine wanted now last number text e
     → RefusesEntryLine wanted m before next text e
@@ -202,6 +213,7 @@ cause_at wanted m now before last next number text e p q r h =
     (subst (λ (l : List ℕ). RefusesEntryLine wanted now l next text e) q
     (subst (λ (n : ℕ). RefusesEntryLine wanted now last n text e) r h))
 
+-- Why the next line is not taken is why the answer is not read on.
 bad_next : (wanted : Wanted) (old : Meaning) (first count distrusts : ℕ) (content : State) (now : Meaning)
     (last : List ℕ) (number : ℕ) (left after : Option (List ℕ)) (e : SyncError) → Wants count distrusts content wanted
     → now ≡ meaning_gained old content → last ≡ last_of (content_lines content)
@@ -245,6 +257,7 @@ bad_next wanted old first count distrusts content now last number left after (Re
 bad_next wanted old first count distrusts content now last number left after Io w m l n h = tt
 bad_next wanted old first count distrusts content now last number left after NoMemory w m l n h = tt
 
+-- The exit of the loop: a fault of the next line stops the answer there.
 pub so_far_fails : (wanted : Wanted) (old : Meaning) (stream : Option (List ℕ))
     (count distrusts first receipts records receipts_then records_then : ℕ) (now new : Meaning)
     (left after : Option (List ℕ)) (last : List ℕ) (read : ℕ) (e : SyncError)

@@ -7,6 +7,8 @@ use Rattle.std.specs.List.{AllPairs, AllWithin, insert}
 use Rattle.std.specs.Ordering.{ordering_index}
 use Rattle.sorted_order.specs.Sought.{IsRising}
 
+-- Items in the order `less` rise for each search that agrees with that order: the law
+-- `order_rises`.
 pub order_rises_lem : {T : Type 0} (less : T → T → Bool) (compared : T → Ordering) (items : List T) → AllPairs (λ x y. less x y ≡ true) items
     → ((x y : T) → less x y ≡ true → ordering_index (compared x) ≤ ordering_index (compared y)) → IsRising compared items
 order_rises_lem less compared items all keeps = record {
@@ -25,6 +27,7 @@ IsMoved items at item k d = ((k < at) × (slice_index_or (insert items at item) 
     ⊎ (((k ≡ at) × (slice_index_or (insert items at item) k d ≡ item))
     ⊎ ((at < k) × (slice_index_or (insert items at item) k d ≡ slice_index_or items (k - 1) d)))
 
+-- What is read after an insertion is what stood there, the new item, or what stood one earlier.
 moved : {T : Type 0} (items : List T) (at : ℕ) (item : T) (k : ℕ) (d : T) → at ≤ length items → IsMoved items at item k d
 moved items at item k d l =
     elim (cases_lt k at) [
@@ -40,6 +43,7 @@ moved items at item k d l =
           ]
     ]
 
+-- An item that is inserted into its gap leaves all pairs in order: the law `insertion_keeps_order`.
 pub insertion_keeps_lem : {T : Type 0} (less : T → T → Bool) (items : List T) (at : ℕ) (item : T) → at ≤ length items
     → AllPairs (λ x y. less x y ≡ true) items → AllWithin (λ x. less x item ≡ true) items 0 at
     → AllWithin (λ x. less item x ≡ true) items at (length items) → AllPairs (λ x y. less x y ≡ true) (insert items at item)

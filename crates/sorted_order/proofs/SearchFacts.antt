@@ -13,6 +13,7 @@ use Rattle.sorted_order.specs.Blocks.{AreFilled, block_at, length_before, IsBoun
 use Rattle.sorted_order.specs.Sought.{IsRising, IsGap, IsFound, IsFirstFound, IsMissing, is_equal, past}
 use Rattle.sorted_order.proofs.BlockFacts.{before_next, before_all, before_within, filled_at, concat-at}
 
+-- What holds of all numbers holds of those of a block.
 pub All-block : (P : ℕ → Type 0) (bs : List (List ℕ)) (i : ℕ) → i < length bs → All P (concat bs) → All P (block_at bs i)
 All-block P bs i l all = λ k d h.
     let within : length_before bs i + k < length (concat bs) = omega (arith, before_next bs i l, before_within bs (suc i)) in
@@ -20,6 +21,8 @@ All-block P bs i l all = λ k d h.
     concat-at bs i k (length_before bs i + k) l h refl ∙ get_or_default (block_at bs i) k 0 d h in
     subst P same (all (length_before bs i + k) 0 within)
 
+-- What stands just before the edge stands before what is sought, also where that is in the block
+-- before.
 edge_before : (compared : ℕ → Ordering) (bs : List (List ℕ)) (i w : ℕ) → AreFilled bs → IsEdgeBlock compared bs i
     → IsBoundary compared (block_at bs i) w → 0 < length_before bs i + w → compared (slice_index (concat bs) (length_before bs i + w - 1)) ≡ Less
 edge_before compared bs zero zero filled block edge p = absurd (omega arith)
@@ -33,6 +36,8 @@ edge_before compared bs i (suc w) filled block edge p =
     subst (λ n. compared (slice_index (block_at bs i) n) ≡ Less) here (edge.before (omega arith)) in
     rw (concat-at bs i w (length_before bs i + suc w - 1) block.within (omega (arith, edge.within)) last) less
 
+-- What stands at the edge does not stand before what is sought, also where that is in the next
+-- block.
 edge_after : (compared : ℕ → Ordering) (bs : List (List ℕ)) (i w : ℕ) → AreFilled bs → IsEdgeBlock compared bs i
     → IsBoundary compared (block_at bs i) w → length_before bs i + w < length (concat bs) → compared (slice_index (concat bs) (length_before bs i + w)) ≢ Less
 edge_after compared bs i w filled block edge p =
@@ -51,6 +56,7 @@ edge_after compared bs i w filled block edge p =
           ]
     ]
 
+-- The edge in the edge block is the edge in the sequence.
 pub edge_of_block : (compared : ℕ → Ordering) (bs : List (List ℕ)) (i w : ℕ) → AreFilled bs → IsEdgeBlock compared bs i
     → IsBoundary compared (block_at bs i) w → IsBoundary compared (concat bs) (length_before bs i + w)
 edge_of_block compared bs i w filled block edge = record {
@@ -59,14 +65,18 @@ edge_of_block compared bs i w filled block edge = record {
   after = edge_after compared bs i w filled block edge;
 }
 
+-- An index of 0 means `Less`: with `index_zero`, comparisons turn into numbers and back.
 index_of_less : (o : Ordering) → ordering_index o ≤ 0 → o ≡ Less
 index_of_less Less h = refl
 index_of_less Equal h = absurd (omega arith)
 index_of_less Greater h = absurd (omega arith)
 
+-- `Less` has an index of at most 0.
 index_zero : (o : Ordering) → o ≡ Less → ordering_index o ≤ 0
 index_zero o e = rw e (omega arith)
 
+-- In a rising list the edge is the gap: all before stand before what is sought, and none after
+-- does.
 pub gap_of_edge : (compared : ℕ → Ordering) (numbers : List ℕ) (place : ℕ) → IsRising compared numbers
     → IsBoundary compared numbers place → IsGap compared numbers place
 gap_of_edge compared numbers place rises edge = record {
@@ -88,6 +98,7 @@ gap_of_edge compared numbers place rises edge = record {
       edge.after here (subst (λ n. compared n ≡ Less) (get_or_default numbers place d 0 here) less);
 }
 
+-- The gap as `seek` returns it, from the edge in the lent blocks.
 pub gap_from : (compared : ℕ → Ordering) (bs lent : List (List ℕ)) (items : List ℕ) (block place before : ℕ) → lent ≡ bs
     → concat bs ≡ items → before ≡ length_before lent block → IsRising compared items
     → IsBoundary compared (concat lent) (length_before lent block + place) → IsGap compared items (before + place)
@@ -95,17 +106,21 @@ gap_from compared bs lent items block place before same whole e rises edge =
     let here : IsBoundary compared items (before + place) = rw (e, ← whole, ← same) edge in
     gap_of_edge compared items (before + place) rises here
 
--- what stands at the gap, and after it
+-- ---- what stands at the gap, and after it
+
+-- What is neither before what is sought nor equal to it stands after it, in indices.
 greater_at : (o : Ordering) → o ≢ Less → o ≢ Equal → 2 ≤ ordering_index o
 greater_at Less l e = absurd (l refl)
 greater_at Equal l e = absurd (e refl)
 greater_at Greater l e = omega arith
 
+-- An index of at least 2 means `Greater`.
 greater_from : (o : Ordering) → 2 ≤ ordering_index o → o ≡ Greater
 greater_from Less h = absurd (omega arith)
 greater_from Equal h = absurd (omega arith)
 greater_from Greater h = refl
 
+-- Where an item stands at the gap and is not equal, what is sought is missing.
 pub missing_else : {X : Type 0} (compared : X → Ordering) (items : List X) (place : ℕ) (item : X) → IsRising compared items
     → IsGap compared items place → slice_get items place ≡ Some item → compared item ≢ Equal → IsMissing compared items place
 missing_else compared items place item rises gap at other = record {
@@ -121,6 +136,7 @@ missing_else compared items place item rises gap at other = record {
       greater_from (compared (slice_index_or items k d)) (omega (arith, least, more));
 }
 
+-- Where the gap is the end, what is sought is missing.
 pub missing_none : {X : Type 0} (compared : X → Ordering) (items : List X) (place : ℕ) → IsGap compared items place
     → slice_get items place ≡ None → IsMissing compared items place
 missing_none compared items place gap none = record {
@@ -131,7 +147,7 @@ missing_none compared items place gap none = record {
       absurd (cc);
 }
 
--- Nothing that is equal stands at the gap.
+-- Where nothing at the gap is equal, what is sought is missing.
 pub missing_unless : {X : Type 0} (compared : X → Ordering) (items : List X) (place : ℕ)
     → IsRising compared items
     → IsGap compared items place → ((item : X) → slice_get items place ≡ Some item
@@ -145,6 +161,7 @@ missing_unless compared items place rises gap other = record {
       (missing_else compared items place (slice_index_or items place d) rises gap there not_equal).after k d h l;
 }
 
+-- Where the item at the gap is equal, it is the first one found.
 pub found_at : {X : Type 0} (compared : X → Ordering) (items : List X) (place : ℕ) (item : X) → IsGap compared items place
     → slice_get items place ≡ Some item → compared item ≡ Equal → IsFound compared items place
 found_at compared items place item gap at equal = record {
@@ -153,7 +170,7 @@ found_at compared items place item gap at equal = record {
   here = λ d. ap compared (get_or_from_slice_get items place item d at) ∙ equal;
 }
 
--- what stands at the edge in the blocks
+-- Where the number at the edge in the blocks is equal, it is the first one found in the sequence.
 pub found_from : (compared : ℕ
     → Ordering) (bs lent : List (List ℕ)) (items : List ℕ) (block place number : ℕ) → lent ≡ bs
     → concat bs ≡ items → IsRising compared items
@@ -170,6 +187,7 @@ found_from compared bs lent items block place number same whole rises edge at eq
       numbered = get_or_from_slice_get items (length_before lent block + place) number 0 there;
     }
 
+-- Where the number at the edge is not equal, what is sought is missing in the sequence.
 pub missing_from : (compared : ℕ
     → Ordering) (bs lent : List (List ℕ)) (items : List ℕ) (block place before : ℕ) → lent ≡ bs
     → concat bs ≡ items → before ≡ length_before lent block → IsRising compared items
@@ -184,7 +202,9 @@ missing_from compared bs lent items block place before same whole e rises edge o
     (λ number at. other number (ap (λ k. slice_get (concat lent) (k + place)) (sym e)
     ∙ ap (λ xs. slice_get xs (before + place)) (sym numbers) ∙ at))
 
--- the place just past what is sought
+-- ---- the place just past what is sought
+
+-- To seek the place just past keeps the order of any two comparisons.
 past_keeps : (a b : Ordering) → ordering_index a ≤ ordering_index b → ordering_index (past a) ≤ ordering_index (past b)
 past_keeps Less Less h = omega arith
 past_keeps Less Equal h = omega arith
@@ -196,6 +216,7 @@ past_keeps Greater Less h = absurd (omega arith)
 past_keeps Greater Equal h = absurd (omega arith)
 past_keeps Greater Greater h = omega arith
 
+-- What rises for what is sought rises for the place just past it: so a second search finds the end.
 pub past_rises : {X : Type 0} (compared : X → Ordering) (items : List X) → IsRising compared items
     → IsRising (λ x. past (compared x)) items
 past_rises compared items rises = record {
@@ -203,10 +224,13 @@ past_rises compared items rises = record {
       past_keeps (compared (slice_index_or items i d)) (compared (slice_index_or items j d)) (rises.rising i j d h l);
 }
 
+-- What stands before what is sought stands before the place just past it.
 past_less : (o : Ordering) → o ≡ Less → past o ≡ Less
 past_less o e = rw e refl
 
--- what a gap in a list says of the rest
+-- ---- what a gap in a list says of the rest
+
+-- A gap after the first item is a gap of the rest, one earlier.
 gap_rest : {X : Type 0} (compared : X → Ordering) (x : X) (xs : List X) (p : ℕ) → IsGap compared (x ∷ xs) (suc p) → IsGap compared xs p
 gap_rest compared x xs p gap = record {
   within = let w : suc p ≤ suc (length xs) = gap.within in omega arith;
@@ -214,6 +238,7 @@ gap_rest compared x xs p gap = record {
   after = λ k d h l. gap.after (suc k) d (omega arith) (omega arith);
 }
 
+-- A gap before the first item is one before the rest.
 gap_none : {X : Type 0} (compared : X → Ordering) (x : X) (xs : List X) → IsGap compared (x ∷ xs) 0 → IsGap compared xs 0
 gap_none compared x xs gap = record {
   within = omega arith;
@@ -221,21 +246,25 @@ gap_none compared x xs gap = record {
   after = λ k d h l. gap.after (suc k) d (omega arith) (omega arith);
 }
 
+-- What is not before what is sought, and before the place just past it, is equal and is kept.
 equal_keeps : {X : Type 0} (o : Ordering) (x : X) (xs ys : List X) → o ≢ Less → past o ≡ Less → xs ≡ ys → cond (is_equal o) (x ∷ xs) xs ≡ x ∷ ys
 equal_keeps Less x xs ys l p e = absurd (l refl)
 equal_keeps Equal x xs ys l p e = ap (λ rest. x ∷ rest) e
 equal_keeps Greater x xs ys l p e = absurd (cc)
 
+-- What stands before what is sought is not kept.
 less_drops : {X : Type 0} (o : Ordering) (x : X) (xs ys : List X) → o ≡ Less → xs ≡ ys → cond (is_equal o) (x ∷ xs) xs ≡ ys
 less_drops Less x xs ys l e = e
 less_drops Equal x xs ys l e = absurd (cc)
 less_drops Greater x xs ys l e = absurd (cc)
 
+-- What stands after what is sought is not kept.
 greater_drops : {X : Type 0} (o : Ordering) (x : X) (xs ys : List X) → past o ≢ Less → xs ≡ ys → cond (is_equal o) (x ∷ xs) xs ≡ ys
 greater_drops Less x xs ys l e = absurd (l refl)
 greater_drops Equal x xs ys l e = absurd (l refl)
 greater_drops Greater x xs ys l e = e
 
+-- The equal items are those from the first gap to the one just past: `matching` lends that stretch.
 pub matching_is : {X : Type 0} (compared : X → Ordering) (xs : List X) (first end : ℕ) → IsGap compared xs first
     → IsGap (λ x. past (compared x)) xs end → filter (λ x. is_equal (compared x)) xs ≡ take (end - first) (drop first xs)
 matching_is compared [] zero zero gap past_gap = refl

@@ -11,24 +11,31 @@ use Rattle.std.specs.List.{concat, insert, sum}
 use Rattle.sorted_order.specs.Blocks.{AreSums, block_at, length_before, put, IsSpot}
 use Rattle.sorted_order.proofs.BlockFacts.{before_all, before_within, length-put}
 
--- what the sums up to a place add up to
+-- ---- what the sums up to a place add up to
+
+-- One sum more adds its own number.
 pub sum_next : (xs : List ℕ) (i : ℕ) → i < length xs
     → sum (take (i + 1) xs) ≡ sum (take i xs) + slice_index xs i
 sum_next xs i h = sum_by_more (λ x. x) xs i 0 h
 
+-- The same with the successor instead of `+ 1`, as the definitions have it.
 sum_suc : (xs : List ℕ) (i : ℕ) → i < length xs
     → sum (take (suc i) xs) ≡ sum (take i xs) + slice_index xs i
 sum_suc xs i h = let e : suc i ≡ i + 1 = omega arith in ap (λ k. sum (take k xs)) e
     ∙ sum_next xs i h
 
+-- Past the end nothing more is added.
 pub sum_all : (xs : List ℕ) (i : ℕ) → length xs ≤ i → sum (take i xs) ≡ sum xs
 sum_all xs i h = ap sum (take_all i xs h)
 
--- the numbers before a block, by those before an earlier one
+-- ---- the numbers before a block, by those before an earlier one
+
+-- Without blocks nothing stands before any place.
 none_before : (i : ℕ) → length_before [] i ≡ 0
 none_before zero = refl
 none_before (suc i) = refl
 
+-- What stands before a later block stands before an earlier one or in the blocks between.
 before_sum : (bs : List (List ℕ)) (i j k : ℕ) → i + j ≡ k
     → length_before bs k ≡ length_before bs i + length_before (drop i bs) j
 before_sum bs zero j k e =
@@ -56,10 +63,12 @@ before_sum (b ∷ bs) (suc i) j (suc k) e =
       length-append b (concat (take k bs)),
     )
 
+-- The same with the sum of both places in the statement.
 before_from : (bs : List (List ℕ)) (i j : ℕ)
     → length_before bs (i + j) ≡ length_before bs i + length_before (drop i bs) j
 before_from bs i j = before_sum bs i j (i + j) refl
 
+-- What stands before a place and what stands from it on is everything.
 before_after : (bs : List (List ℕ)) (i : ℕ)
     → length_before bs i + length (concat (drop i bs)) ≡ length (concat bs)
 before_after bs i =
@@ -87,7 +96,9 @@ before_block xs bs block h l =
       ap (λ k. length_before bs k) all,
     )
 
--- the place in a group, by the blocks from that on
+-- ---- the place in a group, by the blocks from that on
+
+-- The place left to find within a group lies within the blocks from that group on.
 pub rest_within : (xs : List ℕ) (bs : List (List ℕ)) (at g rest : ℕ) → AreSums xs bs
     → g < length xs → sum (take g xs) + rest ≡ at
     → at ≤ length (concat bs)
@@ -101,6 +112,7 @@ rest_within xs bs at g rest h l whole within =
       before_after bs (g * 64),
     ))
 
+-- A place found among the blocks from a group on is one of the whole directory.
 pub spot_among : (xs : List ℕ) (bs : List (List ℕ)) (at g rest i w : ℕ) → AreSums xs bs
     → g < length xs → sum (take g xs) + rest ≡ at
     → IsSpot (take (length bs - g * 64) (drop (g * 64) bs)) rest i w → IsSpot bs at (g * 64 + i) w
@@ -123,7 +135,9 @@ spot_among xs bs at g rest i w h l whole spot =
       );
     }
 
--- One more number in a block is one more before each later block.
+-- ---- one more number in a block is one more before each later block
+
+-- Nothing changes before the block, nor before those ahead of it.
 before_put_low : (bs : List (List ℕ)) (i w n k : ℕ) → k ≤ i
     → length_before (put bs i w n) k ≡ length_before bs k
 before_put_low [] i w n k l = refl
@@ -138,6 +152,7 @@ before_put_low (b ∷ bs) (suc i) w n (suc k) l =
       length-append b (concat (take k (put bs i w n))),
     )
 
+-- Before each later block stands one number more.
 before_put_high : (bs : List (List ℕ)) (i w n k : ℕ) → i < k → i < length bs
     → w ≤ length (block_at bs i)
     → length_before (put bs i w n) k ≡ length_before bs k + 1
@@ -158,10 +173,13 @@ before_put_high (b ∷ bs) (suc i) w n (suc k) l h f =
       length-append b (concat (take k (put bs i w n))),
     )
 
--- A sum raised by one is one more in what it adds up to with the sums around it.
+-- ---- a sum raised by one is one more in what it adds up to with the sums around it
+
+-- Sums up to the raised one add up as before.
 raised_low : (xs : List ℕ) (g y k : ℕ) → k ≤ g → sum (take k (slice_set xs g y)) ≡ sum (take k xs)
 raised_low xs g y k l = ap sum (take-set-le k xs g y l)
 
+-- With the raised one they add up to one more.
 raised_high : (xs : List ℕ) (g y k : ℕ) → g < length xs → y ≡ slice_index xs g + 1 → g < k
     → k ≤ length xs
     → sum (take k (slice_set xs g y)) ≡ sum (take k xs) + 1
@@ -191,6 +209,7 @@ raised_high xs g y (suc k) l e p h =
           )
     ]
 
+-- Raising the sum of the block's group keeps the sums right when a number is put in.
 pub AreSums-put : (xs : List ℕ) (bs : List (List ℕ)) (i w n : ℕ) → AreSums xs bs → i < length bs
     → w ≤ length (block_at bs i)
     → AreSums (slice_set xs (i / 64) (slice_index xs (i / 64) + 1)) (put bs i w n)
@@ -223,7 +242,7 @@ AreSums-put xs bs i w n h l f =
           ];
     }
 
--- the sums so far with one more
+-- The sums so far, with the next group's sum written, are right up to that group: the loop's step.
 pub made_each : (xs : List ℕ) (bs : List (List ℕ)) (g y : ℕ) → g < length xs
     → y ≡ length (concat (take 64 (drop (64 * g) bs)))
     → ((k : ℕ) → k ≤ g → sum (take k xs) ≡ length_before bs (64 * k))
@@ -247,19 +266,23 @@ made_each xs bs g y l e each k within =
           )
     ]
 
--- the blocks of the next group, and those behind it
+-- ---- the blocks of the next group, and those after it
+
+-- The first group is at most 64 blocks, or all there are.
 take_group : (bs : List (List ℕ)) (m : ℕ) → m ≡ min (length bs) 64 → take m bs ≡ take 64 bs
 take_group bs m e = elim (cases_lt 64 (length bs)) [
   | inl more ↦ let all : m ≡ 64 = omega arith in ap (λ k. take k bs) all
   | inr few ↦ take_all m bs (omega arith) ∙ sym (take_all 64 bs (omega arith))
 ]
 
+-- The length counted for the next group is that of its 64 blocks.
 pub next_sum : (bs rest : List (List ℕ)) (g m : ℕ) → rest ≡ drop (64 * g) bs
     → m ≡ min (length rest) 64
     → length (concat (take m rest)) ≡ length (concat (take 64 (drop (64 * g) bs)))
 next_sum bs rest g m e h = ap (λ xs. length (concat xs)) (take_group rest m h
     ∙ ap (λ xs. take 64 xs) e)
 
+-- The blocks after the first group are those after 64.
 drop_group : (bs : List (List ℕ)) (m : ℕ) → m ≡ min (length bs) 64 → drop m bs ≡ drop 64 bs
 drop_group bs m e = elim (cases_lt 64 (length bs)) [
   | inl more ↦ let all : m ≡ 64 = omega arith in ap (λ k. drop k bs) all
@@ -269,6 +292,7 @@ drop_group bs m e = elim (cases_lt 64 (length bs)) [
       drop_of_length-le bs all ∙ sym (drop_of_length-le bs short)
 ]
 
+-- What is left after the next group are the blocks from the group after it on.
 pub next_rest : (bs rest : List (List ℕ)) (g m : ℕ) → rest ≡ drop (64 * g) bs
     → m ≡ min (length rest) 64
     → take (length rest - m) (drop m rest) ≡ drop (64 * (g + 1)) bs
@@ -277,6 +301,7 @@ next_rest bs rest g m e h =
     take_rest rest m ∙ drop_group rest m h ∙ ap (λ xs. drop 64 xs) e ∙ drop-drop 64 (64 * g) bs
     ∙ ap (λ k. drop k bs) next
 
+-- A group has no more numbers than the sequence, so the count cannot overflow.
 pub next_few : (bs rest : List (List ℕ)) (g m : ℕ) → rest ≡ drop (64 * g) bs
     → length (concat (take m rest)) ≤ length (concat bs)
 next_few bs rest g m e = omega (

@@ -11,28 +11,32 @@ use Rattle.spiffe_name.proofs.Slashes.{same_split, IsCharBoundary-at_slash}
 use Rattle.spiffe_name.proofs.Faults.{one_domain_error}
 use Rattle.spiffe_name.proofs.Paths.{EmptyOrSlash-path, no_slash_in_domain, one_fault, no_fault}
 
+-- the scheme and the domain together are as long as both: there the path begins
 length-front : (domain : List ℕ) → length (scheme ++ domain) ≡ length scheme + length domain
 length-front domain = length-append scheme domain
 
--- where the path begins
+-- the path begins at a character boundary, so the code may cut the text there
 pub boundary : (text domain path : List ℕ) → IsIdText text domain path → IsCharBoundary text (length scheme + length domain)
 boundary text domain path id =
     subst (IsCharBoundary text) (length-front domain)
     (IsCharBoundary-at_slash text (scheme ++ domain) path (id.whole ∙ sym (append_assoc scheme domain path)) (EmptyOrSlash-path path id.is_path))
 
--- the path is what follows
+-- the path is what follows the scheme and the domain
 pub path_is : (text domain path : List ℕ) → IsIdText text domain path → drop (length scheme + length domain) text ≡ path
 path_is text domain path id =
     rw (id.whole ∙ sym (append_assoc scheme domain path)) (drop_at (scheme ++ domain) path (length scheme + length domain) (length-front domain))
 
+-- an ID is one with what follows the scheme and the domain as its path, which is how the code cuts
+-- it
 pub IsIdText-at : (text domain path : List ℕ) → IsIdText text domain path → IsIdText text domain (drop (length scheme + length domain) text)
 IsIdText-at text domain path id = subst (IsIdText text domain) (sym (path_is text domain path id)) id
 
--- also of a copy of the text, and of its domain
+-- the same for a copy of the text and of the domain, as `read` keeps them
 pub IsIdText-copied : (text domain path copy name : List ℕ) → IsIdText text domain path → copy ≡ text → name ≡ domain
     → IsIdText copy name (drop (length scheme + length name) copy)
 IsIdText-copied text domain path copy name id e f = rw (e, f) (IsIdText-at text domain path id)
 
+-- an ID has the parts that a text is cut into before they are judged
 parts_of : (text domain path : List ℕ) → IsIdText text domain path → HasParts text domain path
 parts_of text domain path id = record {
   limit = id.limit;
@@ -41,10 +45,12 @@ parts_of text domain path id = record {
   slash = EmptyOrSlash-path path id.is_path;
 }
 
+-- a text is cut into such parts in one way only
 same_parts : (text domain path other more : List ℕ) → HasParts text domain path → HasParts text other more → (domain ≡ other) × (path ≡ more)
 same_parts text domain path other more p q =
     same_split domain path other more p.no_slash p.slash q.no_slash q.slash (append_cancel_left scheme (domain ++ path) (other ++ more) (sym p.whole ∙ q.whole))
 
+-- a text is an ID with one domain and one path at most
 pub one_id : (text domain path other more : List ℕ) → IsIdText text domain path → IsIdText text other more → (domain ≡ other) × (path ≡ more)
 one_id text domain path other more p q = same_parts text domain path other more (parts_of text domain path p) (parts_of text other more q)
 
@@ -54,6 +60,7 @@ data Behind (domain path : List ℕ) : NameError → Type 0 where
   in_path : {n : ℕ} → IsDomainText domain → FirstFault path n → Behind domain path (BadPath (length scheme + length domain + n))
   nowhere : IsDomainText domain → IsPath path → Behind domain path NoMemory
 
+-- the same parts have one cause at most
 one_behind : (domain path : List ℕ) {e f : NameError} → Behind domain path e → Behind domain path f → e ≡ f
 one_behind domain path (in_domain {e} p x) (in_domain {e = f} q y) = ap (moved (length scheme)) (one_domain_error domain e f p q)
 one_behind domain path (in_domain {e} p x) (in_path q g) = absurd (x (one_domain_error domain e NoMemory p q))
@@ -72,9 +79,11 @@ data Cause (text : List ℕ) : NameError → Type 0 where
   unlike : text ≢ [] → length text ≤ 2048 → ((rest : List ℕ) → text ≢ scheme ++ rest) → Cause text BadScheme
   behind : {domain path : List ℕ} {e : NameError} → HasParts text domain path → Behind domain path e → Cause text e
 
+-- an empty text has no parts, since it has no scheme
 no_parts_of_nothing : (text domain path : List ℕ) → text ≡ [] → HasParts text domain path → ⊥
 no_parts_of_nothing text domain path e parts = let whole = parts.whole in cc
 
+-- a text has one such cause at most
 one_cause : (text : List ℕ) {e f : NameError} → Cause text e → Cause text f → e ≡ f
 one_cause text (nothing p) (nothing q) = refl
 one_cause text (nothing p) (long q) = absurd (omega (arith, ap length p))
@@ -95,9 +104,11 @@ one_cause text (behind {domain} {path} {e} p b) (behind {domain = other} {path =
     let same = same_parts text domain path other more p q in
     one_behind other more (subst (λ d. Behind d more e) same.0 (subst (λ x. Behind domain x e) same.1 b)) c
 
+-- a refusal of the domain's part is a cause that lies after the scheme
 behind_domain : (text : List ℕ) (e : NameError) → e ≢ NoMemory → RefusesDomainPart text e → Cause text (moved (length scheme) e)
 behind_domain text e x (domain, path, (parts, p)) = behind parts (in_domain p x)
 
+-- each refusal of an ID is one of these causes
 cause_of : (text : List ℕ) (e : NameError) → RefusesId text e → Cause text e
 cause_of text Empty (inl p) = nothing p
 cause_of text Empty (inr p) = behind_domain text Empty (λ x. cc) p
@@ -112,6 +123,7 @@ cause_of text NoMemory (domain, path, p) = behind (parts_of text domain path p) 
 pub one_id_error : (text : List ℕ) (e f : NameError) → RefusesId text e → RefusesId text f → e ≡ f
 one_id_error text e f p q = one_cause text (cause_of text e p) (cause_of text f q)
 
+-- IDs with equal texts are equal as a whole, as `laws::one_reading` says
 pub one_value : (one other : Id) → IsId one → IsId other → one.text ≡ other.text → one ≡ other
 one_value one other p q e =
     let same = one_id other.text one.domain one.path other.domain other.path (subst (λ t. IsIdText t one.domain one.path) e p) q in

@@ -9,18 +9,23 @@ use Rattle.spiffe_name.specs.SpiffeId.{IsSegment, IsPath, FirstFault, FaultInSeg
 use Rattle.spiffe_name.proofs.Slashes.{passes, same_split}
 use Rattle.spiffe_name.proofs.Faults.{one_segment_fault, no_segment_fault}
 
+-- no byte of a segment is a slash
 segment_byte : (b : ℕ) → is_segment_byte b ≡ true → is_not_slash b ≡ true
 segment_byte b h = passes b (λ e. let k : is_segment_byte 47 ≡ true = subst (λ n. is_segment_byte n ≡ true) e h in cc)
 
+-- no byte of a domain name is a slash
 domain_byte : (b : ℕ) → is_domain_byte b ≡ true → is_not_slash b ≡ true
 domain_byte b h = passes b (λ e. let k : is_domain_byte 47 ≡ true = subst (λ n. is_domain_byte n ≡ true) e h in cc)
 
+-- a segment has no slash, so it ends at the next one
 pub no_slash_in_segment : (segment : List ℕ) → IsSegment segment → AllPass is_not_slash segment
 no_slash_in_segment segment good = All-weaker (λ b. is_segment_byte b ≡ true) (λ b. is_not_slash b ≡ true) segment_byte segment good.bytes
 
+-- a domain name has no slash, so it ends at the next one
 pub no_slash_in_domain : (domain : List ℕ) → AllPass is_domain_byte domain → AllPass is_not_slash domain
 no_slash_in_domain domain all = All-weaker (λ b. is_domain_byte b ≡ true) (λ b. is_not_slash b ≡ true) domain_byte domain all
 
+-- joined segments are empty or begin with a slash
 pub EmptyOrSlash-joined : (segments : List (List ℕ)) → EmptyOrSlash (path_of_segments segments)
 EmptyOrSlash-joined [] = tt
 EmptyOrSlash-joined (s ∷ segments) = refl
@@ -32,6 +37,7 @@ pub record Reads (path rest : List ℕ) : Type 0 where
   pub whole : path ≡ path_of_segments front ++ rest
   pub slash : EmptyOrSlash rest
 
+-- one good segment more is read: the step of the loop in `fault_in_path`
 pub Reads-more : (path rest after segment next : List ℕ) → Reads path rest → rest ≡ 47 ∷ after
     → SplitsAtSlash after segment next → IsSegment segment → Reads path next
 Reads-more path rest after segment next r e split good = record {
@@ -45,6 +51,7 @@ Reads-more path rest after segment next r e split good = record {
   slash = split.slash;
 }
 
+-- a rest that does not begin with a slash, though it is empty or does, is empty
 no_rest : (rest : List ℕ) → EmptyOrSlash rest → ((more : List ℕ) → rest ≢ 47 ∷ more) → rest ≡ []
 no_rest [] slash none = refl
 no_rest (b ∷ rest) slash none = absurd (none rest (ap (λ x. x ∷ rest) slash))
@@ -59,11 +66,12 @@ IsPath-read path rest r none = record {
       ∙ append-nil (path_of_segments r.front);
 }
 
+-- a rest that is empty or begins with a slash stays so with segments in front
 EmptyOrSlash-front : (segments : List (List ℕ)) (rest : List ℕ) → EmptyOrSlash rest → EmptyOrSlash (path_of_segments segments ++ rest)
 EmptyOrSlash-front [] rest h = h
 EmptyOrSlash-front (s ∷ segments) rest h = refl
 
--- the next segments of two paths are the same
+-- the next segments of two equal paths are equal
 next_segment : (s : List ℕ) (front : List (List ℕ)) (x segment rest : List ℕ) → AllPass is_not_slash s → EmptyOrSlash x
     → AllPass is_not_slash segment → EmptyOrSlash rest
     → path_of_segments (s ∷ front) ++ x ≡ 47 ∷ (segment ++ rest) → (s ≡ segment) × (path_of_segments front ++ x ≡ rest)
@@ -95,10 +103,12 @@ faults_meet (s ∷ front) (t ∷ other) p q segment rest a b m f apart more c d 
     let fronts = ap length same.0 in
     rw (length-append s (path_of_segments front), length-append t (path_of_segments other)) (omega arith)
 
+-- a path has one first fault at most
 pub one_fault : (path : List ℕ) (m n : ℕ) → FirstFault path m → FirstFault path n → m ≡ n
 one_fault path m n f g = f.counted ∙ faults_meet f.front g.front f.each g.each f.segment f.rest f.no_slash f.slash
     f.offset f.fault g.segment g.rest g.no_slash g.slash g.offset g.fault (sym f.whole ∙ g.whole) ∙ sym g.counted
 
+-- segments joined to a path have no fault
 fault_within : (front segments : List (List ℕ)) → AllByRecursion IsSegment front → AllByRecursion IsSegment segments
     → (segment rest : List ℕ) → AllPass is_not_slash segment → EmptyOrSlash rest → (m : ℕ) → FaultInSegment segment m
     → path_of_segments front ++ (47 ∷ (segment ++ rest)) ≡ path_of_segments segments → ⊥
@@ -112,8 +122,10 @@ fault_within (s ∷ front) (t ∷ segments) p q segment rest a b m f e =
     refl (no_slash_in_segment t q.0) (EmptyOrSlash-joined segments) e in
     fault_within front segments p.1 q.1 segment rest a b m f same.1
 
+-- a path has no fault, so no ID is refused for its path
 pub no_fault : (path : List ℕ) (n : ℕ) → IsPath path → FirstFault path n → ⊥
 no_fault path n p f = fault_within f.front p.segments f.each p.each f.segment f.rest f.no_slash f.slash f.offset f.fault (sym f.whole ∙ p.whole)
 
+-- a path is empty or begins with a slash, so the domain ends before it
 pub EmptyOrSlash-path : (path : List ℕ) → IsPath path → EmptyOrSlash path
 EmptyOrSlash-path path p = subst EmptyOrSlash (sym p.whole) (EmptyOrSlash-joined p.segments)

@@ -8,16 +8,19 @@ use Rattle.std.specs.List.{AllPass}
 use Rattle.std.specs.Str.{IsCharBoundary}
 use Rattle.spiffe_name.specs.Bytes.{is_not_slash, EmptyOrSlash, SplitsAtSlash}
 
+-- a byte that is not a slash passes the test for it
 pub passes : (b : ℕ) → b ≢ 47 → is_not_slash b ≡ true
 passes b h = grind (arith, nat_tests)
 
+-- a slash does not
 fails : (b : ℕ) → b ≡ 47 → is_not_slash b ≡ true → ⊥
 fails b h e = cc
 
+-- what is left from a slash on begins with one
 pub EmptyOrSlash-drop : (text : List ℕ) (n : ℕ) → n < length text → get_or text n 0 ≡ 47 → EmptyOrSlash (drop n text)
 EmptyOrSlash-drop text n within here = rw (drop-cons text n 0 within) here
 
--- at the first slash
+-- the text is split at its first slash
 pub splits_here : (text : List ℕ) (n : ℕ) → n < length text → get_or text n 0 ≡ 47
     → ((i : ℕ) → i < n → get_or text i 0 ≢ 47) → SplitsAtSlash text (take n text) (drop n text)
 splits_here text n within here before = record {
@@ -28,7 +31,7 @@ splits_here text n within here before = record {
   slash = EmptyOrSlash-drop text n within here;
 }
 
--- where there is none
+-- a text without a slash is all front
 pub splits_none : (text : List ℕ) → ((i : ℕ) → i < length text → get_or text i 0 ≢ 47) → SplitsAtSlash text text []
 splits_none text h = record {
   whole = sym (append-nil text);
@@ -36,7 +39,7 @@ splits_none text h = record {
   slash = tt;
 }
 
--- one text has one such split
+-- a text is split at its first slash in one way only
 pub same_split : (xs rest ys more : List ℕ) → AllPass is_not_slash xs → EmptyOrSlash rest → AllPass is_not_slash ys
     → EmptyOrSlash more → xs ++ rest ≡ ys ++ more → (xs ≡ ys) × (rest ≡ more)
 same_split [] rest [] more p s q t e = (refl, e)

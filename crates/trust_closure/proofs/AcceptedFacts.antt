@@ -28,34 +28,41 @@ use Rattle.trust_closure.proofs.HeldFacts.{filter_gets, filter_test}
 
 -- ---- what is shown of each number
 
+-- One step of `shown`, for either flag.
 shown-cases : (b : Bool) (o : Option Pair) (d : Bundle) → cond b (option_map (λ p. p.document) o) None ≡ Some d
     → (p : Pair) × (b ≡ true) × (o ≡ Some p) × (p.document ≡ d)
 shown-cases true (Some p) d e = (p, refl, refl, same_Some p.document d e)
 shown-cases true None d e = absurd (cc)
 shown-cases false o d e = absurd (cc)
 
+-- A document that is shown of a number is that of a pair whose flag is raised.
 shown : (pairs : List Pair) (flags : List Bool) (n : ℕ) (d : Bundle) → raised_document pairs flags n ≡ Some d
     → (p : Pair) × (is_raised flags n ≡ true) × (slice_get pairs n ≡ Some p) × (p.document ≡ d)
 shown pairs flags n d e = shown-cases (is_raised flags n) (slice_get pairs n) d e
 
+-- A number whose flag is raised shows its pair's document.
 shows : (pairs : List Pair) (flags : List Bool) (n : ℕ) (p : Pair) → is_raised flags n ≡ true
     → slice_get pairs n ≡ Some p → raised_document pairs flags n ≡ Some p.document
 shows pairs flags n p raised at = ap (λ b. cond b (option_map (λ q. q.document) (slice_get pairs n)) None) raised
     ∙ ap (λ o. option_map (λ (q : Pair). q.document) o) at
 
+-- The document that is shown of a number is that at its place.
 shown-document : (pairs : List Pair) (flags : List Bool) (n : ℕ) (d : Bundle) → raised_document pairs flags n ≡ Some d → (pair_at pairs n).document ≡ d
 shown-document pairs flags n d e =
     let s = shown pairs flags n d e in
     ap (λ (p : Pair). p.document) (get_or_from_slice_get pairs n s.0 no_pair s.2) ∙ s.3
 
+-- What is in a list after an option was put in front is the option's item or was there.
 onto-cases : {Y : Type 0} (o : Option Y) (ys : List Y) (y : Y) → Contains (cons_option o ys) y → (o ≡ Some y) ⊎ Contains ys y
 onto-cases None ys y c = inr c
 onto-cases (Some x) ys y c = elim (contains_cases x ys y c) [ inl e ↦ inl (ap (λ z. Some z) e) | inr later ↦ inr later ]
 
+-- What was in the list still is after an option is put in front.
 onto-later : {Y : Type 0} (o : Option Y) (ys : List Y) (y : Y) → Contains ys y → Contains (cons_option o ys) y
 onto-later None ys y c = c
 onto-later (Some x) ys y c = contains_later x ys y c
 
+-- Each item of the new list comes from one of the old list.
 from-filter_map : {X Y : Type 0} (h : X → Option Y) (xs : List X) (y : Y) → Contains (filter_map h xs) y → (x : X) × Contains xs x × (h x ≡ Some y)
 from-filter_map h [] y c = absurd (omega (arith, c.1))
 from-filter_map h (x ∷ xs) y c = elim (onto-cases (h x) (filter_map h xs) y c) [
@@ -63,6 +70,7 @@ from-filter_map h (x ∷ xs) y c = elim (onto-cases (h x) (filter_map h xs) y c)
   | inr later ↦ let f = from-filter_map h xs y later in (f.0, contains_later x xs f.0 f.1, f.2)
 ]
 
+-- What comes of an item of the old list is in the new one.
 in-filter_map : {X Y : Type 0} (h : X → Option Y) (xs : List X) (x : X) (y : Y) → Contains xs x → h x ≡ Some y → Contains (filter_map h xs) y
 in-filter_map h [] x y c e = absurd (omega (arith, c.1))
 in-filter_map h (z ∷ xs) x y c e = elim (contains_cases z xs x c) [
@@ -72,10 +80,12 @@ in-filter_map h (z ∷ xs) x y c e = elim (contains_cases z xs x c) [
 
 -- ---- in order
 
+-- What holds of a list, and of an option's item, holds of both together.
 onto-all : {Y : Type 0} (P : Y → Type 0) (o : Option Y) (ys : List Y) → ((y : Y) → o ≡ Some y → P y) → AllByRecursion P ys → AllByRecursion P (cons_option o ys)
 onto-all P None ys head all = all
 onto-all P (Some y) ys head all = (head y refl, all)
 
+-- An option's item that stands before a rising list makes it rise still.
 onto-sorted : (o : Option Bundle) (ds : List Bundle)
     → ((d : Bundle) → o ≡ Some d → AllByRecursion (λ e. document_cmp d e ≡ Less) ds)
     → IsStrictlySortedBy document_cmp ds → IsStrictlySortedBy document_cmp (cons_option o ds)
@@ -84,6 +94,7 @@ onto-sorted None ds head rest = rest
 onto-sorted (Some d) ds head rest = (head d refl, rest)
 
 module _ (pairs : List Pair) (flags : List Bool) where
+  -- A document that stands before those of all the numbers stands before all that are shown.
   below : (d : Bundle) (ns : List ℕ) → All (λ n. document_cmp d (pair_at pairs n).document ≡ Less) ns
       → AllByRecursion (λ e. document_cmp d e ≡ Less) (raised_documents pairs flags ns)
   below d [] all = tt
@@ -93,10 +104,12 @@ module _ (pairs : List Pair) (flags : List Bool) where
       (All-head (λ k. document_cmp d (pair_at pairs k).document ≡ Less) n ns all))
       (below d ns (All-tail (λ k. document_cmp d (pair_at pairs k).document ≡ Less) n ns all))
 
+  -- The empty list rises.
   sorted-empty : IsStrictlySortedBy document_cmp []
   unfolding IsStrictlySortedBy
   sorted-empty = tt
 
+  -- Where the documents of the numbers rise, those that are shown do.
   sorted : (ns : List ℕ) → AllPairs (λ i j. document_cmp (pair_at pairs i).document (pair_at pairs j).document ≡ Less)
       ns → IsStrictlySortedBy document_cmp (raised_documents pairs flags ns)
   sorted [] rise = sorted-empty
@@ -110,26 +123,31 @@ module _ (pairs : List Pair) (flags : List Bool) where
 
 -- ---- one domain
 
+-- What the test of equality accepts is equal.
 equal-from : (o : Ordering) → is_equal o ≡ true → o ≡ Equal
 equal-from Less e = absurd (cc)
 equal-from Equal e = refl
 equal-from Greater e = absurd (cc)
 
+-- What comes first by two comparisons does so by the first, or ties there.
 then-less : (a b : Ordering) → ordering_then a b ≡ Less → (a ≡ Less) ⊎ (a ≡ Equal)
 then-less Less b e = inl refl
 then-less Equal b e = inr refl
 then-less Greater b e = absurd (cc)
 
+-- An index is at most 2.
 index-most : (o : Ordering) → ordering_index o ≤ 2
 index-most Less = omega arith
 index-most Equal = omega arith
 index-most Greater = omega arith
 
+-- A domain before another stands to the one that is sought no later than that.
 domain-rises : (a b x : List ℕ) → domain_cmp a b ≡ Less → (o : Ordering) → domain_cmp b x ≡ o → ordering_index (domain_cmp a x) ≤ ordering_index o
 domain-rises a b x l Less e = let f : domain_cmp a x ≡ Less = nat_list_cmp_total.trans a b x l e in omega (arith, ap ordering_index f)
 domain-rises a b x l Equal e = let f : domain_cmp a x ≡ Less = ap (domain_cmp a) (sym (exact_bytes b x e)) ∙ l in omega (arith, ap ordering_index f)
 domain-rises a b x l Greater e = index-most (domain_cmp a x)
 
+-- A pair before another stands to the domain that is sought no later than that.
 pair-rises : (p q : Pair) (x : List ℕ) → pair_cmp p q ≡ Less → ordering_index (domain_cmp p.domain x) ≤ ordering_index (domain_cmp q.domain x)
 pair-rises p q x e = elim (then-less (domain_cmp p.domain q.domain) (document_cmp p.document q.document) e) [
   | inl l ↦ domain-rises p.domain q.domain x l (domain_cmp q.domain x) refl
@@ -137,6 +155,7 @@ pair-rises p q x e = elim (then-less (domain_cmp p.domain q.domain) (document_cm
       ap (λ a. ordering_index (domain_cmp a x)) (exact_bytes p.domain q.domain s) in omega (arith, f)
 ]
 
+-- Pairs in order rise for the search of a domain.
 pub domain-sought : (pairs : List Pair) (numbers : List ℕ) (x : List ℕ) → AreRising pairs numbers
     → IsRising (λ n. domain_cmp (pair_at pairs n).domain x) numbers
 domain-sought pairs numbers x h = record {
@@ -153,14 +172,17 @@ domain-sought pairs numbers x h = record {
       ];
 }
 
+-- The numbers of a domain's pairs are numbers of pairs.
 pub numbers-within : (pairs : List Pair) (numbers : List ℕ) (x : List ℕ) → All (λ n. n < length pairs) numbers
     → All (λ n. n < length pairs) (numbers_of pairs numbers x)
 numbers-within pairs numbers x h = All-filter (λ n. is_equal (domain_cmp (pair_at pairs n).domain x)) (λ n. n < length pairs) numbers h
 
 module _ (pairs : List Pair) (x : List ℕ) where
+  -- A pair that the search of the domain finds equal is of the domain.
   domain-is : (n : ℕ) → is_equal (domain_cmp (pair_at pairs n).domain x) ≡ true → (pair_at pairs n).domain ≡ x
   domain-is n e = exact_bytes (pair_at pairs n).domain x (equal-from (domain_cmp (pair_at pairs n).domain x) e)
 
+  -- Within one domain the documents of pairs in order rise.
   documents-rise : (ns : List ℕ) → All (λ n. is_equal (domain_cmp (pair_at pairs n).domain x) ≡ true) ns
       → AreRising pairs ns → AllPairs (λ i j. document_cmp (pair_at pairs i).document (pair_at pairs j).document ≡ Less)
       ns

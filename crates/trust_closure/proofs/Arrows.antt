@@ -7,12 +7,14 @@ use Rattle.std.proofs.lemmas.Option.{slice_get_within, same_Some}
 use Rattle.trust_closure.specs.Spots.{Spot, Arrow, arrow_at, arrows_from}
 use Rattle.closure_core.proofs.ContainsFacts.{contains_map, mapped}
 
+-- Each item of a mapped list is the image of one of the list.
 pub Contains-from_map : {X Y : Type 0} (f : X → Y) (xs : List X) (y : Y) → Contains (map f xs) y
     → (x : X) × Contains xs x × (f x ≡ y)
 Contains-from_map f xs y c = let h = mapped f xs y c in (h.item, h.has, h.is)
 
 -- the arrows are those of the spots
 
+-- the arrow leads from a node with a spot, and has one of that spot's labels
 pub record IsArrowOf {A : Type 0} (of : Spot A → List A) (node : ℕ) (spots : List (Spot A)) (arrow : Arrow A) : Type 0 where
   pub place : ℕ
   pub spot : Spot A
@@ -22,6 +24,7 @@ pub record IsArrowOf {A : Type 0} (of : Spot A → List A) (node : ℕ) (spots :
   pub node_is : arrow.node ≡ node + place
   pub label_is : arrow.label ≡ Some label
 
+-- Each arrow is one of a spot.
 pub arrow-cases : {A : Type 0} (of : Spot A → List A) (node : ℕ) (spots : List (Spot A)) (arrow : Arrow A)
     → Contains (arrows_from of node spots) arrow → IsArrowOf of node spots arrow
 arrow-cases of node [] arrow c = absurd (omega (arith, c.1))
@@ -51,6 +54,7 @@ arrow-cases {A = A} of node (spot ∷ spots) arrow c =
           }
     ]
 
+-- Each label of a spot has its arrow.
 pub arrow-has : {A : Type 0} (of : Spot A → List A) (node : ℕ) (spots : List (Spot A)) (place : ℕ) (spot : Spot A)
     (label : A) → slice_get spots place ≡ Some spot → Contains (of spot) label
     → Contains (arrows_from of node spots) (arrow_at (node + place) label)
@@ -68,6 +72,7 @@ arrow-has of node (other ∷ spots) (suc place) spot label at has =
 
 -- one more spot
 
+-- A spot at the end adds its own arrows at the end.
 pub arrows-push : {A : Type 0} (of : Spot A → List A) (node : ℕ) (spots : List (Spot A)) (spot : Spot A)
     → arrows_from of node (spots ++ spot ∷ []) ≡ arrows_from of node spots ++ map (arrow_at (node + length spots))
     (of spot)

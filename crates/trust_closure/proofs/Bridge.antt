@@ -21,11 +21,13 @@ use Rattle.trust_closure.proofs.Vouching.{vouches-from_offer, offer-from_vouches
 
 -- ---- the net of a closure
 
+-- the node is that of a configured document
 pub record IsSeedNode (seeds : List Seed) (node : ℕ) (spot : Spot Triple) : Type 0 where
   pub seed : Seed
   pub at : slice_get seeds node ≡ Some seed
   pub is : spot_of_seed seed ≡ spot
 
+-- the node is that of a receipt
 pub record IsReceiptNode (seeds : List Seed) (arrivals : List Receipt) (node : ℕ) (spot : Spot Triple) : Type 0 where
   pub place : ℕ
   pub receipt : Receipt
@@ -34,6 +36,7 @@ pub record IsReceiptNode (seeds : List Seed) (arrivals : List Receipt) (node : �
   pub is : spot_of_receipt receipt ≡ spot
 
 module _ (seeds : List Seed) (arrivals : List Receipt) where
+  -- Each node is that of a configured document or of a receipt.
   pub node-cases : (n : ℕ) (spot : Spot Triple) → slice_get (spots_of seeds arrivals) n ≡ Some spot
       → IsSeedNode seeds n spot ⊎ IsReceiptNode seeds arrivals n spot
   node-cases n spot e =
@@ -44,20 +47,24 @@ module _ (seeds : List Seed) (arrivals : List Receipt) where
             inr (record { place = a.place; receipt = f.0; node_is = omega (arith, a.is, length-map seeds spot_of_seed); at = f.1; is = f.2 })
       ]
 
+  -- A configured document stands at its own number.
   pub pair-of_seed_node : (n : ℕ) (s : Seed) → slice_get seeds n ≡ Some s → slice_get (pairs_of seeds arrivals) n ≡ Some (pair_of_seed s)
   pair-of_seed_node n s at = slice_get-left (map pair_of_seed seeds) (map pair_of arrivals) n (pair_of_seed s) (slice_get-map_at pair_of_seed seeds n s at)
 
+  -- A configured document's node has its spot.
   pub spot-of_seed_node : (n : ℕ) (s : Seed) → slice_get seeds n ≡ Some s → slice_get (spots_of seeds arrivals) n ≡ Some (spot_of_seed s)
   spot-of_seed_node n s at =
       slice_get-left (map spot_of_seed seeds) (map spot_of_receipt arrivals) n (spot_of_seed s)
       (slice_get-map_at spot_of_seed seeds n s at)
 
+  -- A receipt's document stands after the configured ones, in order of arrival.
   pub pair-of_receipt_node : (k : ℕ) (r : Receipt) → slice_get arrivals k ≡ Some r → slice_get (pairs_of seeds arrivals) (length seeds + k) ≡ Some (pair_of r)
   pair-of_receipt_node k r at =
       ap (λ n. slice_get (pairs_of seeds arrivals) (n + k)) (sym (length-map seeds pair_of_seed))
       ∙ slice_get-right (map pair_of_seed seeds) (map pair_of arrivals) k
       ∙ slice_get-map_at pair_of arrivals k r at
 
+  -- A receipt's node has its spot.
   pub spot-of_receipt_node : (k : ℕ) (r : Receipt) → slice_get arrivals k ≡ Some r
       → slice_get (spots_of seeds arrivals) (length seeds + k) ≡ Some (spot_of_receipt r)
   spot-of_receipt_node k r at =
@@ -97,6 +104,7 @@ pub record IsAccepted (m : Meaning) (arrivals : List Receipt) (node : ℕ) : Typ
   pub member : IsMember m pair
   pub released : (k : ℕ) (r : Receipt) → node ≡ length m.config.seeds + k → slice_get arrivals k ≡ Some r → IsReleased m r
 
+-- a reached node has the document
 pub record IsReachedAt (seeds : List Seed) (arrivals : List Receipt) (net : Net) (p : Pair) : Type 0 where
   pub node : ℕ
   pub reached : IsReached net node
@@ -108,9 +116,11 @@ module _ (m : Meaning) (arrivals : List Receipt) (same : (r : Receipt)
     (h : IsNetOf m.config.seeds arrivals m.records labels net) where
   -- reached is accepted
 
+  -- A configured document is accepted.
   member-seed : (s : Seed) → Contains m.config.seeds s → IsMember m (pair_of_seed s)
   member-seed s c = record { seed = s; configured = c; chain = []; held = tt; leads = refl }
 
+  -- A held receipt that an accepted document vouches for has its document accepted.
   member-on : (p : Pair) (r : Receipt) → IsMember m p → Contains m.held r → IsFitting m.config r → Vouches m.records p r → IsMember m (pair_of r)
   member-on p r a held fit v = record {
     seed = a.seed;
@@ -120,6 +130,7 @@ module _ (m : Meaning) (arrivals : List Receipt) (same : (r : Receipt)
     leads = leads_more m.config m.records (pair_of_seed a.seed) a.chain p r a.leads fit v;
   }
 
+  -- What stands at a reached node is accepted: the index accepts no more than the meaning does.
   pub accepted-from_reached : (n : ℕ) → IsReached net n → IsAccepted m arrivals n
   accepted-from_reached n (root e) =
       let spot = spot-of_root (spots_of m.config.seeds arrivals) labels (IsShutBy m.records) net h n e in
@@ -170,6 +181,7 @@ module _ (m : Meaning) (arrivals : List Receipt) (same : (r : Receipt)
 
   -- released is reached
 
+  -- A receipt that the document of a reached node vouches for has a reached node.
   pub reached-on_receipt : (v : ℕ) (p : Pair) (k : ℕ) (r : Receipt) → IsReached net v
       → slice_get (pairs_of m.config.seeds arrivals) v ≡ Some p → slice_get arrivals k ≡ Some r → Vouches m.records p r
       → IsReached net (length m.config.seeds + k)
@@ -183,6 +195,7 @@ module _ (m : Meaning) (arrivals : List Receipt) (same : (r : Receipt)
       refl
       (open-from_vouches m.records p r vouches)
 
+  -- A chain of held receipts from a reached node leads to a reached node.
   reached-along : (chain : List Receipt) (v : ℕ) (p to : Pair) → IsReached net v
       → slice_get (pairs_of m.config.seeds arrivals) v ≡ Some p → AllByRecursion (Contains m.held) chain
       → Leads m.config m.records p chain to → IsReachedAt m.config.seeds arrivals net to
@@ -192,6 +205,7 @@ module _ (m : Meaning) (arrivals : List Receipt) (same : (r : Receipt)
       reached-along chain (length m.config.seeds + place.0) (pair_of r) to (reached-on_receipt v p place.0 r reached at place.1 leads.1)
       (pair-of_receipt_node m.config.seeds arrivals place.0 r place.1) held.1 leads.2
 
+  -- An accepted document has a reached node: the index accepts no less than the meaning does.
   pub reached-from_member : (p : Pair) → IsMember m p → IsReachedAt m.config.seeds arrivals net p
   reached-from_member p a =
       let place = Contains-slice_get m.config.seeds a.seed a.configured in
@@ -200,6 +214,7 @@ module _ (m : Meaning) (arrivals : List Receipt) (same : (r : Receipt)
       (spot_of_seed a.seed) (spot-of_seed_node m.config.seeds arrivals place.0 a.seed place.1) in
       reached-along a.chain place.0 (pair_of_seed a.seed) p (root is) (pair-of_seed_node m.config.seeds arrivals place.0 a.seed place.1) a.held a.leads
 
+  -- A receipt that an accepted document vouches for has a reached node.
   pub reached-from_released : (k : ℕ) (r : Receipt) → slice_get arrivals k ≡ Some r → IsReleased m r → IsReached net (length m.config.seeds + k)
   reached-from_released k r at released =
       let v = reached-from_member released.voucher released.accepted in

@@ -29,9 +29,11 @@ use Rattle.closure_core.proofs.NodeFacts.{length-flags}
 use Rattle.closure_core.proofs.MemberFacts.{member_more}
 use Rattle.trust_closure.proofs.PlainFacts.{item_at, plain-tells}
 
+-- A flag that is raised is one of those that there are.
 raised-within : (flags : List Bool) (k : ℕ) → is_raised flags k ≡ true → k < length flags
 raised-within flags k e = elim (cases_lt k (length flags)) [ inl l ↦ l | inr l ↦ absurd (both_ways (is_raised flags k) (get_or_past flags k false l) e) ]
 
+-- With more receipts, and with fewer records of distrust, what was released stays so.
 released-more : (m n : Meaning) → m.config ≡ n.config → ((r : Receipt) → Contains m.held r → Contains n.held r)
     → ((x : Distrust) → Contains n.records x → Contains m.records x) → (r : Receipt) → IsReleased m r → IsReleased n r
 released-more m n same more fewer r is = record {
@@ -55,6 +57,7 @@ module _ (h new : Hoard) (p q : Paired) (offers : List Triple) (released others 
     (i : HasPlainFlags h p offers released) (j : HasPlainFlags new q offers others)
     (firsts : (node number : ℕ) → slice_get p.firsts node ≡ Some number → slice_get q.firsts node ≡ Some number)
     (sizes : length p.counts ≤ length q.counts) where
+  -- An accepted node stays so.
   had-carry : (node : ℕ) → IsAcceptedNode (length h.config.seeds) released node → IsAcceptedNode (length new.config.seeds) others node
   had-carry node had = elim had [
     | inl l ↦ inl (subst (λ (c : Configuration). node < length c.seeds) config l)
@@ -68,6 +71,7 @@ module _ (h new : Hoard) (p q : Paired) (offers : List Triple) (released others 
         )
   ]
 
+  -- A raised flag stays so.
   kept-carry : (k : ℕ) → is_raised (flags_of p.counts) k ≡ true
       → is_raised (flags_of q.counts) k ≡ true
   kept-carry k e =
@@ -75,6 +79,7 @@ module _ (h new : Hoard) (p q : Paired) (offers : List Triple) (released others 
       let at = firsts f.node k f.first in
       (j.flags k).1 record { node = f.node; below = slice_get_within q.firsts f.node k at; had = had-carry f.node f.had; first = at }
 
+  -- A number keeps its pair.
   pairs-carry : (n : ℕ) (x : Pair) → slice_get (pairs_of h.config.seeds h.arrived) n ≡ Some x → slice_get (pairs_of new.config.seeds new.arrived) n ≡ Some x
   pairs-carry n x at = elim (slice_get-append_cases (map pair_of_seed h.config.seeds) (map pair_of h.arrived) n x at) [
     | inl a ↦ subst (λ (c : Configuration). slice_get (pairs_of c.seeds new.arrived) n ≡ Some x) config
@@ -88,12 +93,15 @@ module _ (h new : Hoard) (p q : Paired) (offers : List Triple) (released others 
         ∙ ap (λ (y : Pair). Some y) r.2)
   ]
 
+  -- There are no fewer flags.
   flag-sizes : length (flags_of p.counts) ≤ length (flags_of q.counts)
   flag-sizes = omega (arith, sizes, length-flags p.counts, length-flags q.counts)
 
+  -- No fewer flags are raised, so the difference does not underflow.
   pub few-carry : raised_count (flags_of p.counts) ≤ raised_count (flags_of q.counts)
   few-carry = count-fewer (flags_of p.counts) (flags_of q.counts) flag-sizes kept-carry
 
+  -- The rise of the number of raised flags is what is accepted in addition.
   pub gain-carry : (n : ℕ) → raised_count (flags_of q.counts) ≡ raised_count (flags_of p.counts) + n
       → IsGain (meaning_of h) (meaning_of new) n
   gain-carry n count =
@@ -105,6 +113,7 @@ module _ (h new : Hoard) (p q : Paired) (offers : List Triple) (released others 
 
 -- ---- flags raised anew
 
+-- Flags that are computed anew for the receipts and for the documents settle the closure.
 pub settled-from : (h : Hoard) (p q : Paired) (offers : List Triple) (old released : List Bool) → IsSet h p offers old
     → length released ≡ length old → AreReleased (meaning_of h) h.arrived released
     → q.numbers ≡ p.numbers → q.firsts ≡ p.firsts → length q.counts ≡ length p.counts
@@ -125,6 +134,7 @@ settled-from h p q offers old released s size are numbers firsts flags raised = 
       (length h.config.seeds) released fs (length fs) n) (sym firsts) (raised n);
 }
 
+-- Each node's first number has a count.
 pub firsts-within : (h : Hoard) (p : Paired) (offers : List Triple) (released : List Bool)
     → IsSet h p offers released → All (λ f. f < length p.counts) p.firsts
 firsts-within h p offers released s k d l =
@@ -138,6 +148,7 @@ firsts-within h p offers released s k d l =
 
 -- ---- one more receipt
 
+-- What is kept besides the flags is right after one more receipt.
 pub set-more : (h new : Hoard) (p q : Paired) (offers : List Triple) (released : List Bool) (r : Receipt)
     → IsSet h p offers released → IsReceipt r → (Contains h.held r → ⊥) → new ≡ with_arrival h r
     → IsMeaning (meaning_of new)
@@ -155,6 +166,7 @@ set-more h new p q offers released r s form unheld is valid pairing =
       size = omega (arith, length_push released false, length_push h.arrived r, s.size);
     })
 
+-- With one more receipt what was released stays so.
 pub release-more : (h new : Hoard) (r : Receipt) → IsMeaning (meaning_of h) → IsReceipt r
     → ((s : Receipt) → Contains h.held s ↔ Contains h.arrived s) → new ≡ with_arrival h r → (s : Receipt)
     → IsReleased (meaning_of h) s → IsReleased (meaning_of new) s
@@ -164,10 +176,12 @@ release-more h new r valid form same is s released =
     (λ t c. (same-more h r valid form same t).1 (Contains-append_left h.arrived (r ∷ []) t ((same t).0 c)))
     (λ x c. c) s released)
 
+-- With one more receipt the earlier ones keep their places.
 pub arrivals-more : (h new : Hoard) (r : Receipt) → new ≡ with_arrival h r → (place : ℕ) (s : Receipt)
     → slice_get h.arrived place ≡ Some s → slice_get new.arrived place ≡ Some s
 arrivals-more h new r is place s at = ap (λ (x : Hoard). slice_get x.arrived place) is ∙ slice_get-more h.arrived (r ∷ []) place s at
 
+-- The flags, with a lowered one for the new receipt, raise no receipt wrongly.
 pub sound-push : (h new : Hoard) (p : Paired) (offers : List Triple) (released : List Bool) (r : Receipt)
     → HasPlainFlags h p offers released → IsReceipt r → new ≡ with_arrival h r
     → AreSound (meaning_of new) new.arrived (released ++ false ∷ [])
@@ -181,6 +195,7 @@ sound-push h new p offers released r i form is place s at raised =
 
 -- ---- one more record of distrust
 
+-- What is kept besides the flags is right after more records of distrust.
 pub set-closed : (old new : Hoard) (xs : List Distrust) (p : Paired) (offers : List Triple)
     (released lowered : List Bool) → IsSet old p offers released → IsBefore old xs new
     → IsMeaning (meaning_of new) → length lowered ≡ length released → IsSet new p offers lowered
@@ -199,6 +214,7 @@ set-closed old new xs p offers released lowered s before valid size =
           size ∙ s.size;
     })
 
+-- What is released with more records of distrust was released before.
 pub release-fewer : (old new : Hoard) (xs : List Distrust) → IsBefore old xs new → (s : Receipt)
     → IsReleased (meaning_of new) s → IsReleased (meaning_of old) s
 release-fewer old new xs before s released =
@@ -209,6 +225,7 @@ release-fewer old new xs before s released =
 
 -- ---- more room
 
+-- More room changes nothing else.
 pub settled-roomier : (h new : Hoard) (p q : Paired) (offers : List Triple) (released : List Bool)
     → HasPlainFlags h p offers released → new ≡ record h { capacity = new.capacity } → IsRoomierPaired p q
     → HasPlainFlags new q offers released
@@ -233,6 +250,7 @@ settled-roomier h new p q offers released i is r =
 
 -- ---- what is gained and lost
 
+-- Each node's first number has a count, also where as many other counts stand for these.
 pub firsts-lowered : (h : Hoard) (p low : Paired) (offers : List Triple) (released : List Bool)
     → IsSet h p offers released → low.firsts ≡ p.firsts → length low.counts ≡ length p.counts
     → All (λ f. f < length low.counts) low.firsts
@@ -241,6 +259,8 @@ firsts-lowered h p low offers released s firsts flags =
     (subst (λ (n : ℕ). All (λ f. f < n) p.firsts) (sym flags)
     (firsts-within h p offers released s))
 
+-- What the flags say, for equal numbers of configured documents, flags of receipts and first
+-- numbers.
 pub raised-as : (flags : List Bool) (a b : ℕ) (rs ss : List Bool) (fs gs : List ℕ) → a ≡ b → rs ≡ ss → fs ≡ gs
     → ((n : ℕ) → (is_raised flags n ≡ true) ↔ IsFirstAccepted a rs fs (length fs) n) → (n : ℕ)
     → (is_raised flags n ≡ true) ↔ IsFirstAccepted b ss gs (length gs) n
@@ -249,6 +269,7 @@ raised-as flags a b rs ss fs gs seeds released firsts raised n =
     (subst (λ (bs : List Bool). (is_raised flags n ≡ true) ↔ IsFirstAccepted a bs gs (length gs) n) released
     (subst (λ (ns : List ℕ). (is_raised flags n ≡ true) ↔ IsFirstAccepted a rs ns (length ns) n) firsts (raised n)))
 
+-- With one more receipt no fewer flags are raised, and the rise is what is gained.
 pub gain-added : (h new : Hoard) (p q : Paired) (offers : List Triple) (released others : List Bool) (r : Receipt)
     (first : ℕ) → HasPlainFlags h p offers released → IsReceipt r → new ≡ with_arrival h r
     → HasPlainFlags new q offers others
@@ -265,6 +286,7 @@ gain-added h new p q offers released others r first i form is j list size =
       gain-carry h new p q offers released others config (arrivals-more h new r is) (release-more h new r i.set.valid form i.set.same is) i j firsts sizes,
     )
 
+-- With more records of distrust no more flags are raised, and the fall is what is lost.
 pub loss-fallen : (old new : Hoard) (xs : List Distrust) (p q : Paired) (offers : List Triple)
     (released others : List Bool) → HasPlainFlags old p offers released → IsBefore old xs new
     → HasPlainFlags new q offers others

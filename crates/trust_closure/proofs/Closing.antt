@@ -26,14 +26,17 @@ use Rattle.trust_closure.proofs.InOrder.{then-first}
 
 -- ---- the labels of a key stand together
 
+-- the order of labels by domain and key, without the document
 abbrev by_key : Label → Label → Ordering
 by_key a b = ordering_then (nat_cmp a.domain b.domain) (slice_cmp nat_cmp a.key.0 b.key.0)
 
+-- The order by key is total.
 by_key-total : IsTotalOrder by_key
 by_key-total =
     then_total (on_total (λ (l : Label). l.domain) nat_cmp_total)
     (on_total (λ (l : Label). l.key.0) nat_list_cmp_total)
 
+-- What comes first by three comparisons does so by the first two, or ties there.
 then-less : (a b c : Ordering) → ordering_then a (ordering_then b c) ≡ Less
     → (ordering_then a b ≡ Less) ⊎ (ordering_then a b ≡ Equal)
 then-less Less b c e = inl refl
@@ -42,7 +45,7 @@ then-less Equal Equal c e = inr refl
 then-less Equal Greater c e = absurd (cc)
 then-less Greater b c e = absurd (cc)
 
--- what comes before the second stands to what is sought no later than that
+-- A label before another stands to what is sought no later than that.
 rises-less : (a b x : Label) → by_key a b ≡ Less → (o : Ordering) → by_key b x ≡ o
     → ordering_index (by_key a x) ≤ ordering_index o
 rises-less a b x l Less e =
@@ -57,6 +60,7 @@ rises-less a b x l Greater e = most (by_key a x)
     most Equal = omega arith
     most Greater = omega arith
 
+-- Labels in order rise by key.
 rises-by_key : (a b x : Label) → label_cmp a b ≡ Less
     → ordering_index (by_key a x) ≤ ordering_index (by_key b x)
 rises-by_key a b x l =
@@ -66,6 +70,7 @@ rises-by_key a b x l =
       | inr e ↦ omega (arith, ap ordering_index (by_key-total.congr a b x e))
     ]
 
+-- Labels in order rise for the search of a key in a domain.
 pub key-rises : (labels : List Label) (domain : ℕ) (key : KeyId) → IsInOrder labels
     → IsRising (cmp_to_key domain key) labels
 key-rises labels domain key h = record {
@@ -86,6 +91,7 @@ key-rises labels domain key h = record {
       ];
 }
 
+-- A label is in the place of the key exactly where it is one of the key.
 pub of_key-compared : (domain : ℕ) (key : KeyId) (label : Label)
     → (cmp_to_key domain key label ≡ Equal) ↔ IsOfKey domain key label
 of_key-compared domain key label = (from, to)
@@ -109,6 +115,7 @@ of_key-compared domain key label = (from, to)
 
 -- ---- what is filtered
 
+-- An item that passes is kept.
 Contains-filter : {X : Type 0} (p : X → Bool) (xs : List X) (x : X) → Contains xs x → p x ≡ true
     → Contains (filter p xs) x
 Contains-filter p [] x c t = absurd (omega (arith, c.1))
@@ -125,6 +132,7 @@ Contains-filter p (y ∷ ys) x c t =
     kept true h = contains_later y (filter p ys) x h
     kept false h = h
 
+-- An item that is kept was there and passes.
 Contains-from_filter : {X : Type 0} (p : X → Bool) (xs : List X) (x : X) → Contains (filter p xs) x
     → Contains xs x × (p x ≡ true)
 Contains-from_filter p xs x c = (
@@ -133,6 +141,7 @@ Contains-from_filter p xs x c = (
   All-contains (λ y. p y ≡ true) (filter p xs) x (filter_passes p xs) c,
 )
 
+-- No more are kept than there were.
 length-filtered : {X : Type 0} (p : X → Bool) (xs : List X) → length (filter p xs) ≤ length xs
 length-filtered p [] = omega arith
 length-filtered p (x ∷ xs) = one (p x) (length-filtered p xs)
@@ -142,6 +151,7 @@ length-filtered p (x ∷ xs) = one (p x) (length-filtered p xs)
     one true h = omega (arith, h)
     one false h = omega (arith, h)
 
+-- What the test of equality accepts is equal.
 equal-from : (o : Ordering) → is_equal o ≡ true → o ≡ Equal
 equal-from Less e = absurd (cc)
 equal-from Equal e = refl
@@ -150,16 +160,20 @@ equal-from Greater e = absurd (cc)
 -- ---- the numbers of the labels of a key
 
 module _ (stock : Stock Label) (domain : ℕ) (key : KeyId) where
+  -- how the label with the number stands to those of the key
   abbrev stands : ℕ → Ordering
   stands number = compared_at (cmp_to_key domain key) stock.items number
 
+  -- whether the label with the number is one of the key
   abbrev test : ℕ → Bool
   test number = is_equal (stands number)
 
+  -- No more labels are of the key than there are, so the list of those to be closed has room.
   pub key-fits : Arranges stock.order (length stock.items)
       → length (filter test stock.order) ≤ length stock.items
   key-fits h = omega (arith, length-filtered test stock.order, h.counted)
 
+  -- The numbers that are filtered are exactly those of the key's labels.
   pub key-numbers : Arranges stock.order (length stock.items)
       → AreNumbersOf stock.items (IsOfKey domain key) (filter test stock.order)
   key-numbers h = record {
@@ -181,6 +195,7 @@ module _ (stock : Stock Label) (domain : ℕ) (key : KeyId) where
 
 -- ---- the numbers of the labels that are meant, among the first ones
 
+-- of the labels before the place, the listed numbers are those of the ones that are meant
 pub record AreNumbersBelow (labels : List Label) (IsMeant : Label → Type 0) (count : ℕ)
     (numbers : List ℕ) : Type 0 where
   pub within : All (λ number. number < count) numbers
@@ -189,6 +204,7 @@ pub record AreNumbersBelow (labels : List Label) (IsMeant : Label → Type 0) (c
       → Contains numbers number ↔ IsMeant label
 
 module _ (labels : List Label) (IsMeant : Label → Type 0) where
+  -- Before the first label none is listed.
   pub meant-none : AreNumbersBelow labels IsMeant 0 []
   meant-none = record {
     within = λ k d l. absurd (omega (arith, l));
@@ -205,11 +221,13 @@ module _ (labels : List Label) (IsMeant : Label → Type 0) where
           | inr c ↦ elim c [ inl b ↦ inl b | inr b ↦ absurd (omega (arith, b, l)) ]
         ]
 
+    -- The label at the place is the one that was looked at.
     same-label : (number : ℕ) (label : Label) → number ≡ count
         → slice_get labels number ≡ Some label → here ≡ label
     same-label number label e is =
         same_Some here label (sym at ∙ ap (λ n. slice_get labels n) (sym e) ∙ is)
 
+    -- A label that is meant is listed next.
     pub meant-more : IsMeant here
         → AreNumbersBelow labels IsMeant (count + 1) (numbers ++ count ∷ [])
     meant-more meant = record {
@@ -236,6 +254,7 @@ module _ (labels : List Label) (IsMeant : Label → Type 0) where
           ];
     }
 
+    -- A label that is not meant is passed over.
     pub meant-same : (IsMeant here → ⊥) → AreNumbersBelow labels IsMeant (count + 1) numbers
     meant-same not_meant = record {
       within = λ k d l. let w = h.within k d l in omega (arith, w);
@@ -252,6 +271,7 @@ module _ (labels : List Label) (IsMeant : Label → Type 0) where
           ];
     }
 
+  -- At the end the list has all labels that are meant.
   pub meant-all : (count : ℕ) (numbers : List ℕ) → AreNumbersBelow labels IsMeant count numbers
       → length labels ≤ count → count ≤ length labels → AreNumbersOf labels IsMeant numbers
   meant-all count numbers h least most = record {
@@ -263,6 +283,7 @@ module _ (labels : List Label) (IsMeant : Label → Type 0) where
 
   -- ---- they are closed at once
 
+  -- When the listed labels are closed, exactly the ones that are meant are closed besides.
   pub closed-at-once : (numbers : List ℕ) (net : Net) → AreNumbersOf labels IsMeant numbers
       → length net.closed ≡ length labels
       → HasClosed net labels IsMeant (with_all_closed net numbers)

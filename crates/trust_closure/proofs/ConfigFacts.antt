@@ -31,28 +31,34 @@ use Rattle.closure_core.proofs.RisingFacts.{rising_same, with_items_has, with_it
 use Rattle.trust_closure.proofs.RecordFacts.{distrusts_rising, distrusts_with, record_of, record_total}
 use Rattle.trust_closure.proofs.HeldFacts.{picked_all, length_in_order}
 
+-- the domains that a configuration names, in the order of its parts
 abbrev names_of : Configuration → List (List ℕ)
 names_of c = map (λ r. r.domain) c.relationships ++ (map (λ r. r.endpoint.domain) c.relationships ++ map (λ s. s.domain) c.seeds)
 
+-- The empty list of domains rises.
 none_rising : IsStrictlySortedBy domain_cmp []
 unfolding IsStrictlySortedBy
 none_rising = tt
 
+-- A relationship's domain is one of the configuration.
 own_name : (c : Configuration) (d : List ℕ) → Contains (map (λ (r : Relationship). r.domain) c.relationships) d → HasDomain c d
 own_name c d has =
     let found : IsMapped (λ (r : Relationship). r.domain) c.relationships d = mapped (λ (r : Relationship). r.domain) c.relationships d has in
     inl (found.item, found.has, found.is)
 
+-- An endpoint's domain is one of the configuration.
 endpoint_name : (c : Configuration) (d : List ℕ) → Contains (map (λ (r : Relationship). r.endpoint.domain) c.relationships) d → HasDomain c d
 endpoint_name c d has =
     let found : IsMapped (λ (r : Relationship). r.endpoint.domain) c.relationships d = mapped (λ (r : Relationship). r.endpoint.domain) c.relationships d has in
     inr (inl (found.item, found.has, found.is))
 
+-- A configured document's domain is one of the configuration.
 seed_name : (c : Configuration) (d : List ℕ) → Contains (map (λ (s : Seed). s.domain) c.seeds) d → HasDomain c d
 seed_name c d has =
     let found : IsMapped (λ (s : Seed). s.domain) c.seeds d = mapped (λ (s : Seed). s.domain) c.seeds d has in
     inr (inr (found.item, found.has, found.is))
 
+-- Each name is a domain of the configuration.
 has_name : (c : Configuration) (d : List ℕ) → Contains (names_of c) d → HasDomain c d
 has_name c d has = elim (Contains-append_cases (map (λ (r : Relationship). r.domain) c.relationships) _ d has) [
   | inl here ↦ own_name c d here
@@ -62,6 +68,7 @@ has_name c d has = elim (Contains-append_cases (map (λ (r : Relationship). r.do
   ]
 ]
 
+-- Each domain of the configuration is among the names.
 name_has : (c : Configuration) (d : List ℕ) → HasDomain c d → Contains (names_of c) d
 name_has c d has = elim has [
   | inl own ↦
@@ -83,12 +90,14 @@ name_has c d has = elim has [
       ])
 ]
 
+-- Each domain of the rising list is among the names.
 in_names : (c : Configuration) (d : List ℕ) → Contains (domains_of c) d → Contains (names_of c) d
 in_names c d has = elim (with_items_has nat_list_cmp_total (names_of c) [] d has) [
   | inl here ↦ here
   | inr none ↦ absurd (contains_none d none)
 ]
 
+-- The rising list has exactly the domains of the configuration.
 pub are_domains : (c : Configuration) → AreDomains c (domains_of c)
 are_domains c = record {
   rising = with_items_rising nat_list_cmp_total (names_of c) [] none_rising;
@@ -98,6 +107,7 @@ are_domains c = record {
       (λ x h. tt) (λ x h. tt) d (name_has c d has);
 }
 
+-- There is one such list, whatever list was computed.
 pub one_domains : (c : Configuration) (ds : List (List ℕ)) → AreDomains c ds → ds ≡ domains_of c
 one_domains c ds are =
     rising_same nat_list_cmp_total ds (domains_of c) are.rising (are_domains c).rising
@@ -105,34 +115,41 @@ one_domains c ds are =
 
 -- ---- the place of a domain
 
+-- A place that has an item is within the list.
 below_some : {X : Type 0} (xs : List X) (n : ℕ) (x : X) → slice_get xs n ≡ Some x → n < length xs
 below_some [] n x e = absurd (cc)
 below_some (y ∷ ys) zero x e = omega arith
 below_some (y ∷ ys) (suc n) x e = let rest = below_some ys n x e in omega arith
 
+-- To read with a default gives the item that is there.
 get_some : {X : Type 0} (xs : List X) (n : ℕ) (x d : X) → slice_get xs n ≡ Some x → get_or xs n d ≡ x
 get_some [] n x d e = absurd (cc)
 get_some (y ∷ ys) zero x d e = cc
 get_some (y ∷ ys) (suc n) x d e = get_some ys n x d e
 
+-- A domain's place is within the list of domains.
 pub place_below : (c : Configuration) (domain : List ℕ) (n : ℕ) → IsPlace c domain (Some n) → n < length (domains_of c)
 place_below c domain n at = below_some (domains_of c) n domain (at (domains_of c) (are_domains c))
 
+-- At a domain's place stands the domain.
 pub place_is : (c : Configuration) (domain : List ℕ) (n : ℕ) → IsPlace c domain (Some n) → get_or (domains_of c) n [] ≡ domain
 place_is c domain n at = get_some (domains_of c) n domain [] (at (domains_of c) (are_domains c))
 
+-- A domain's place is below 1,024, so it fits a record.
 pub place_few : (c : Configuration) (domain : List ℕ) (n : ℕ) → IsConfiguration c → IsPlace c domain (Some n) → n < 1024
 place_few c domain n is at =
     let below : n < length (domains_of c) = place_below c domain n at in
     let few : length (domains_of c) ≤ 1024 = is.few_domains (domains_of c) (are_domains c) in
     omega arith
 
+-- What has a place is a domain of the configuration.
 pub place_has : (c : Configuration) (domain : List ℕ) (n : ℕ) → IsPlace c domain (Some n) → HasDomain c domain
 place_has c domain n at =
     (are_domains c).sound domain (subst (Contains (domains_of c)) (place_is c domain n at) (Contains-get_or (domains_of c) n [] (place_below c domain n at)))
 
 -- ---- what is held is a meaning
 
+-- A domain of the configuration is the name of a trust domain.
 domain_text : (c : Configuration) → IsConfiguration c → (d : List ℕ) → HasDomain c d → IsDomainText d
 domain_text c is d has = elim has [
   | inl own ↦ subst IsDomainText own.2 (each_has IsRelationship c.relationships own.0 is.each_relationship own.1).domain
@@ -142,14 +159,17 @@ domain_text c is d has = elim has [
   ]
 ]
 
+-- The number of a record stands for a domain of the configuration.
 own_domain : (c : Configuration) (r : Record) → r.domain < length (domains_of c) → HasDomain c (get_or (domains_of c) r.domain [])
 own_domain c r below = (are_domains c).sound (get_or (domains_of c) r.domain []) (Contains-get_or (domains_of c) r.domain [] below)
 
+-- All records of distrust are of domains of the configuration.
 all_domains : (c : Configuration) (records : List Record) → AreWithin (length (domains_of c)) records
     → AllByRecursion (λ x. HasDomain c x.domain) (distrusts_of (domains_of c) records)
 all_domains c [] within = tt
 all_domains c (r ∷ rs) within = (own_domain c r within.0, all_domains c rs within.1)
 
+-- All records of distrust are of their form.
 all_distrusts : (c : Configuration) → IsConfiguration c → (records : List Record)
     → AreWithin (length (domains_of c)) records → AllByRecursion (λ r. IsDigest r.key.0) records
     → AllByRecursion IsDistrust (distrusts_of (domains_of c) records)
@@ -157,6 +177,7 @@ all_distrusts c is [] within keys = tt
 all_distrusts c is (r ∷ rs) within keys =
     (record { domain = domain_text c is (get_or (domains_of c) r.domain []) (own_domain c r within.0); key = keys.0 }, all_distrusts c is rs within.1 keys.1)
 
+-- What is held is a meaning: its receipts and records are in order, fit and are within limits.
 pub hoard_meaning : (c : Configuration) (stock : Stock Receipt) (buckets : List ℕ) (records : List Record)
     → IsHoard c stock buckets records
     → IsMeaning (record { config = c; held = in_order stock; records = distrusts_of (domains_of c) records })
@@ -177,21 +198,26 @@ hoard_meaning c stock buckets records is =
 
 -- ---- nothing is held
 
+-- The empty list of records rises.
 no_record_rises : IsStrictlySortedBy record_cmp []
 unfolding IsStrictlySortedBy
 no_record_rises = tt
 
+-- The empty list of receipts rises in the order of lines.
 no_receipt_rises : IsStrictlySortedBy receipt_cmp []
 unfolding IsStrictlySortedBy
 no_receipt_rises = tt
 
+-- The empty list of receipts rises in the order of buckets.
 no_bucket_rises : IsStrictlySortedBy bucket_cmp []
 unfolding IsStrictlySortedBy
 no_bucket_rises = tt
 
+-- The empty order arranges no items.
 arranges_none : Arranges [] 0
 arranges_none = record { counted = refl; within = λ k d h. absurd (omega arith); each = λ n h. absurd (omega arith) }
 
+-- A closure without receipts and records holds what is to be held.
 pub hoard_none : (c : Configuration) → IsConfiguration c → IsHoard c (record { items = []; order = []; capacity = 0 }) [] []
 hoard_none c is = record {
   configuration = is;
@@ -210,10 +236,12 @@ hoard_none c is = record {
 
 -- ---- one record more
 
+-- What is held with a list of records is held with an equal one.
 hoard_with : (c : Configuration) (stock : Stock Receipt) (buckets : List ℕ) (old new : List Record)
     → IsHoard c stock buckets old → new ≡ old → IsHoard c stock buckets new
 hoard_with c stock buckets old new hoard e = subst (IsHoard c stock buckets) (sym e) hoard
 
+-- What is held stays so after a record was added, was there, or had no place.
 pub hoard_add : (c : Configuration) (stock : Stock Receipt) (buckets : List ℕ) (old new : List Record) (x : Record)
     → IsHoard c stock buckets old → x.domain < length (domains_of c) → IsDigest x.key.0 → (a : Addition)
     → InsertsRecord old x new a → IsHoard c stock buckets new
@@ -240,14 +268,17 @@ hoard_add c stock buckets old new x hoard below key Added h =
       few_records = omega arith;
     }
 
+-- the meaning that has these receipts and records
 abbrev pub meaning_with : Configuration → List Receipt → List Record → Meaning
 meaning_with c held records = record { config = c; held = held; records = distrusts_of (domains_of c) records }
 
+-- A record that is not held by its domain's number is not held by its domain's name.
 lacks : (c : Configuration) (old : List Record) (x : Record) → x.domain < length (domains_of c)
     → AreWithin (length (domains_of c)) old → (Contains old x → ⊥)
     → Contains (distrusts_of (domains_of c) old) (distrust_by (domains_of c) x) → ⊥
 lacks c old x below within unheld has = unheld (record_of (domains_of c) x old (are_domains c).rising below within has)
 
+-- What was done to the records by numbers is what is to be done to the records of distrust.
 pub told_adds : (c : Configuration) (held : List Receipt) (old new : List Record) (x : Record)
     → x.domain < length (domains_of c) → AreWithin (length (domains_of c)) old → (a : Addition)
     → InsertsRecord old x new a
@@ -277,6 +308,7 @@ told_adds c held old new x below within Added h =
 
 -- ---- whether a record is held
 
+-- A record is held by its number exactly where its record of distrust is held.
 pub distrust_held : (c : Configuration) (records : List Record) (x : Record) (b : Bool)
     → x.domain < length (domains_of c) → AreWithin (length (domains_of c)) records → (IsTrue b ↔ Contains records x)
     → IsTrue b ↔ Contains (distrusts_of (domains_of c) records) (distrust_by (domains_of c) x)
@@ -285,6 +317,7 @@ distrust_held c records x b below within holds = (
   λ has. holds.1 (record_of (domains_of c) x records (are_domains c).rising below within has),
 )
 
+-- No record of distrust is held of a domain that the configuration lacks.
 pub distrust_lacks : (c : Configuration) (records : List Record) (d : Distrust)
     → AreWithin (length (domains_of c)) records → (HasDomain c d.domain → ⊥)
     → Contains (distrusts_of (domains_of c) records) d → ⊥

@@ -15,22 +15,26 @@ use Rattle.closure_core.proofs.ContainsFacts.{contains_first, contains_cases, co
 
 -- ---- lists by places
 
+-- An item keeps its place when a list is appended.
 pub slice_get-left : {A : Type 0} (xs ys : List A) (i : ℕ) (x : A) → slice_get xs i ≡ Some x → slice_get (xs ++ ys) i ≡ Some x
 slice_get-left [] ys i x e = absurd (omega (arith, slice_get_within [] i x e))
 slice_get-left (z ∷ xs) ys zero x e = e
 slice_get-left (z ∷ xs) ys (suc i) x e = slice_get-left xs ys i x e
 
+-- An item of the second list stands further on by the length of the first.
 pub slice_get-right : {A : Type 0} (xs ys : List A) (k : ℕ) → slice_get (xs ++ ys) (length xs + k) ≡ slice_get ys k
 slice_get-right [] ys k = let e : 0 + k ≡ k = omega arith in ap (λ n. slice_get ys n) e
 slice_get-right (z ∷ xs) ys k =
     let e : suc (length xs) + k ≡ suc (length xs + k) = omega arith in
     ap (λ n. slice_get (z ∷ (xs ++ ys)) n) e ∙ slice_get-right xs ys k
 
+-- the item stands in the second of two lists
 pub record IsPast {A : Type 0} (xs ys : List A) (i : ℕ) (x : A) : Type 0 where
   pub place : ℕ
   pub is : i ≡ length xs + place
   pub at : slice_get ys place ≡ Some x
 
+-- An item of two lists stands in the first or in the second.
 pub slice_get-append_cases : {A : Type 0} (xs ys : List A) (i : ℕ) (x : A) → slice_get (xs ++ ys) i ≡ Some x → (slice_get xs i ≡ Some x) ⊎ IsPast xs ys i x
 slice_get-append_cases [] ys i x e = inr (record { place = i; is = omega arith; at = e })
 slice_get-append_cases (z ∷ xs) ys zero x e = inl e
@@ -40,20 +44,24 @@ slice_get-append_cases (z ∷ xs) ys (suc i) x e =
       | inr a ↦ inr (record { place = a.place; is = omega (arith, a.is); at = a.at })
     ]
 
+-- The image of an item stands at its place.
 pub slice_get-map_at : {A B : Type 0} (f : A → B) (xs : List A) (i : ℕ) (x : A) → slice_get xs i ≡ Some x → slice_get (map f xs) i ≡ Some (f x)
 slice_get-map_at f [] i x e = absurd (omega (arith, slice_get_within [] i x e))
 slice_get-map_at {B = B} f (z ∷ xs) zero x e = ap (λ y. Some (f y)) (same_Some z x e)
 slice_get-map_at f (z ∷ xs) (suc i) x e = slice_get-map_at f xs i x e
 
+-- What stands in a mapped list is the image of what stands there in the list.
 pub slice_get-map_cases : {A B : Type 0} (f : A → B) (xs : List A) (i : ℕ) (y : B) → slice_get (map f xs) i ≡ Some y
     → (x : A) × (slice_get xs i ≡ Some x) × (f x ≡ y)
 slice_get-map_cases f [] i y e = absurd (omega (arith, slice_get_within [] i y e))
 slice_get-map_cases f (z ∷ xs) zero y e = (z, refl, same_Some (f z) y e)
 slice_get-map_cases f (z ∷ xs) (suc i) y e = slice_get-map_cases f xs i y e
 
+-- What a list contains stands at some place.
 pub Contains-slice_get : {A : Type 0} (xs : List A) (x : A) → Contains xs x → (i : ℕ) × (slice_get xs i ≡ Some x)
 Contains-slice_get xs x c = (c.0, slice_get-get_or xs c.0 x c.1 ∙ ap (λ y. Some y) c.2)
 
+-- What stands at a place is contained.
 pub slice_get-Contains : {A : Type 0} (xs : List A) (i : ℕ) (x : A) → slice_get xs i ≡ Some x → Contains xs x
 slice_get-Contains xs i x e = (i, slice_get_within xs i x e, get_or_from_slice_get xs i x x e)
 
@@ -71,7 +79,7 @@ one_place xs once i j x a b =
 
 -- ---- edges and arrows
 
--- an edge is the arrow that it is mapped to
+-- An offer edge is among the arrows, as the one that it is mapped to.
 edge-offer_arrow : {A : Type 0} (labels : List A) (edges : List Edge) (i m l : ℕ) → IsEdge edges i m l
     → Contains (map (offer_arrow labels) edges) (record { node = m; label = slice_get labels l })
 edge-offer_arrow {A = A} labels edges i m l e =
@@ -84,6 +92,7 @@ edge-offer_arrow {A = A} labels edges i m l e =
     in
     subst (Contains (map (offer_arrow labels) edges)) same mapped
 
+-- A wait edge is among the arrows, as the one that it is mapped to.
 edge-wait_arrow : {A : Type 0} (labels : List A) (edges : List Edge) (i l n : ℕ) → IsEdge edges i l n
     → Contains (map (wait_arrow labels) edges) (record { node = n; label = slice_get labels l })
 edge-wait_arrow {A = A} labels edges i l n e =
@@ -96,6 +105,7 @@ edge-wait_arrow {A = A} labels edges i l n e =
     in
     subst (Contains (map (wait_arrow labels) edges)) same mapped
 
+-- An edge that is listed has a place.
 edge-from_contains : (edges : List Edge) (edge : Edge) → Contains edges edge → (i : ℕ) × IsEdge edges i edge.from edge.to
 edge-from_contains edges edge c =
     let at : edge_at edges c.0 ≡ edge = get_or_default edges c.0 (record { from = 0; to = 0 }) edge c.1 ∙ c.2 in
@@ -103,18 +113,21 @@ edge-from_contains edges edge c =
 
 -- ---- a net of spots
 
+-- an offer edge leads from the node to the label
 pub record HasOfferEdge {A : Type 0} (net : Net) (labels : List A) (node : ℕ) (label : A) : Type 0 where
   pub place : ℕ
   pub number : ℕ
   pub edge : IsEdge net.offers place node number
   pub named : slice_get labels number ≡ Some label
 
+-- a wait edge leads from the label to the node
 pub record HasWaitEdge {A : Type 0} (net : Net) (labels : List A) (node : ℕ) (label : A) : Type 0 where
   pub place : ℕ
   pub number : ℕ
   pub edge : IsEdge net.waits place number node
   pub named : slice_get labels number ≡ Some label
 
+-- the node's spot offers the label with the number
 pub record IsOfferOf {A : Type 0} (spots : List (Spot A)) (labels : List A) (node number : ℕ) : Type 0 where
   pub spot : Spot A
   pub label : A
@@ -122,6 +135,7 @@ pub record IsOfferOf {A : Type 0} (spots : List (Spot A)) (labels : List A) (nod
   pub has : Contains spot.offers label
   pub named : slice_get labels number ≡ Some label
 
+-- the node's spot awaits the label with the number
 pub record IsWaitOf {A : Type 0} (spots : List (Spot A)) (labels : List A) (node number : ℕ) : Type 0 where
   pub spot : Spot A
   pub label : A
@@ -129,12 +143,14 @@ pub record IsWaitOf {A : Type 0} (spots : List (Spot A)) (labels : List A) (node
   pub awaits : spot.awaits ≡ Some label
   pub named : slice_get labels number ≡ Some label
 
+-- What the list of an awaited label contains is awaited.
 awaits-from_list : {A : Type 0} (o : Option A) (label : A) → Contains (option_to_list o) label → o ≡ Some label
 awaits-from_list None label c = absurd (omega (arith, c.1))
 awaits-from_list (Some x) label c =
     elim (contains_cases x [] label c) [ inl e ↦ ap (λ y. Some y) e | inr d ↦ absurd (omega (arith, d.1)) ]
 
 module _ {A : Type 0} (spots : List (Spot A)) (labels : List A) (IsShut : A → Type 0) (net : Net) (h : Mirrors spots labels IsShut net) where
+  -- Each offer edge is an offer of a spot.
   pub offer-of_edge : (i m l : ℕ) → IsEdge net.offers i m l → IsOfferOf spots labels m l
   offer-of_edge i m l e =
       let r = arrow-cases offered_at 0 spots (record { node = m; label = slice_get labels l })
@@ -143,6 +159,7 @@ module _ {A : Type 0} (spots : List (Spot A)) (labels : List A) (IsShut : A → 
       let at : m ≡ r.place = omega (arith, r.node_is) in
       record { spot = r.spot; label = r.label; at = ap (λ n. slice_get spots n) at ∙ r.at; has = r.has; named = r.label_is }
 
+  -- Each wait edge is what a spot awaits.
   pub wait-of_edge : (j l n : ℕ) → IsEdge net.waits j l n → IsWaitOf spots labels n l
   wait-of_edge j l n e =
       let r = arrow-cases awaited_at 0 spots (record { node = n; label = slice_get labels l })
@@ -158,6 +175,7 @@ module _ {A : Type 0} (spots : List (Spot A)) (labels : List A) (IsShut : A → 
         named = r.label_is;
       }
 
+  -- Each offer of a spot has its offer edge.
   pub edge-of_offer : (m : ℕ) (spot : Spot A) (label : A) → slice_get spots m ≡ Some spot → Contains spot.offers label → HasOfferEdge net labels m label
   edge-of_offer m spot label at has =
       let c : Contains (map (offer_arrow labels) net.offers) (arrow_at (0 + m) label) =
@@ -173,6 +191,7 @@ module _ {A : Type 0} (spots : List (Spot A)) (labels : List A) (IsShut : A → 
         named = ap (λ (a : Arrow A). a.label) f.2;
       }
 
+  -- What a spot awaits has its wait edge.
   pub edge-of_wait : (n : ℕ) (spot : Spot A) (label : A) → slice_get spots n ≡ Some spot → spot.awaits ≡ Some label → HasWaitEdge net labels n label
   edge-of_wait n spot label at awaits =
       let has : Contains (awaited_at spot) label = subst (λ o. Contains (option_to_list o) label) (sym awaits) (contains_first label []) in
@@ -189,11 +208,13 @@ module _ {A : Type 0} (spots : List (Spot A)) (labels : List A) (IsShut : A → 
         named = ap (λ (a : Arrow A). a.label) f.2;
       }
 
+  -- A node is a root exactly where its spot says so.
   pub root-of_spot : (n : ℕ) (spot : Spot A) → slice_get spots n ≡ Some spot → is_root net n ≡ spot.rooted
   root-of_spot n spot at =
       ap (λ rs. get_or rs n false) h.roots ∙ get_or_from_slice_get (map (λ (s : Spot A). s.rooted) spots) n spot.rooted
       false (slice_get-map_at (λ (s : Spot A). s.rooted) spots n spot at)
 
+  -- A root has a spot.
   pub spot-of_root : (n : ℕ) → is_root net n ≡ true → (spot : Spot A) × (slice_get spots n ≡ Some spot)
   spot-of_root n e =
       elim (cases_lt n (length spots)) [
@@ -203,7 +224,8 @@ module _ {A : Type 0} (spots : List (Spot A)) (labels : List A) (IsShut : A → 
             absurd (both_ways (is_root net n) (get_or_past net.roots n false (omega (arith, g, size))) e)
       ]
 
-  -- an awaited label that is not shut, and that a reached node offers, reaches the node that awaits it
+  -- An awaited label that is not shut, and that a reached node offers, reaches the node that awaits
+  -- it.
   pub reached-on : (m n : ℕ) (here there : Spot A) (label : A) → IsReached net m → slice_get spots m ≡ Some here
       → slice_get spots n ≡ Some there → Contains here.offers label → there.awaits ≡ Some label → (IsShut label → ⊥)
       → IsReached net n

@@ -39,24 +39,29 @@ use Rattle.trust_closure.proofs.RecordFacts.{split_lacks}
 
 -- ---- the items with some numbers
 
+-- What holds of all items holds of the one at a place, if there is one.
 get_all : {X : Type 0} (P : X → Type 0) (xs : List X) → AllByRecursion P xs → (n : ℕ) → IfSome (slice_get xs n) P
 get_all P [] all n = tt
 get_all P (x ∷ xs) all zero = all.0
 get_all P (x ∷ xs) all (suc n) = get_all P xs all.1 n
 
+-- What holds of a list, and of an option's item, holds of both together.
 cons_all : {X : Type 0} (P : X → Type 0) (o : Option X) (rest : List X) → IfSome o P → AllByRecursion P rest → AllByRecursion P (cons_option o rest)
 cons_all P None rest h all = all
 cons_all P (Some x) rest h all = (h, all)
 
+-- What holds of all items holds of those with some numbers.
 pub picked_all : {X : Type 0} (P : X → Type 0) (items : List X) → AllByRecursion P items → (numbers : List ℕ) → AllByRecursion P (picked items numbers)
 picked_all P items all [] = tt
 picked_all P items all (n ∷ ns) = cons_all P (slice_get items n) (picked items ns) (get_all P items all n) (picked_all P items all ns)
 
+-- The items in order are as many as all items.
 pub length_in_order : (stock : Stock Receipt) → Arranges stock.order (length stock.items) → length (in_order stock) ≡ length stock.items
 length_in_order stock arranged = length-picked stock.items stock.order arranged.within ∙ arranged.counted
 
 -- ---- a search among them
 
+-- A receipt that the search finds is held.
 pub found_held : (stock : Stock Receipt) (r : Receipt) (number : ℕ) → AllByRecursion IsReceipt stock.items → IsReceipt r
     → IsNumber (λ s. receipt_cmp s r) stock number → Contains (in_order stock) r
 found_held stock r number all is found =
@@ -64,13 +69,15 @@ found_held stock r number all is found =
     let at : IsReceipt (get_or (in_order stock) found.place r) = All-from_recursion IsReceipt (in_order stock) held found.place r found.found.within in
     (found.place, found.found.within, one_receipt (get_or (in_order stock) found.place r) r at is (found.found.here r))
 
+-- A receipt that the search does not find is not held.
 pub missing_lacks : (xs : List Receipt) (r : Receipt) (place : ℕ) → IsMissing (λ s. receipt_cmp s r) xs place → Contains xs r → ⊥
 missing_lacks xs r place missing has = split_lacks receipt_total xs r place missing.before missing.after has
 
+-- A receipt that is not found is added by putting it where the search ended.
 pub missing_inserts : (xs : List Receipt) (r : Receipt) (place : ℕ) → IsMissing (λ s. receipt_cmp s r) xs place → with_receipt r xs ≡ insert xs place r
 missing_inserts xs r place missing = with_item_at receipt_total r xs place missing.within missing.before missing.after
 
--- what a search answers
+-- What a search returns says whether the receipt is held.
 pub finds_held : (stock : Stock Receipt) (r : Receipt) (found : Result ℕ ℕ) → AllByRecursion IsReceipt stock.items
     → IsReceipt r → FindsNumber (λ s. receipt_cmp s r) stock found → IsTrue (is_ok found) ↔ Contains (in_order stock) r
 finds_held stock r (Ok number) all is found = (λ t. found_held stock r number all is found, λ has. refl)
@@ -78,11 +85,13 @@ finds_held stock r (Err place) all is missing = (λ t. absurd (cc), λ has. absu
 
 -- ---- what is so of the items in their order is so of each
 
+-- What is read within the list stands there.
 slice_get_at : {X : Type 0} (xs : List X) (k : ℕ) (d : X) → k < length xs → slice_get xs k ≡ Some (get_or xs k d)
 slice_get_at [] k d below = absurd (omega arith)
 slice_get_at (y ∷ ys) zero d below = refl
 slice_get_at (y ∷ ys) (suc k) d below = slice_get_at ys k d (omega arith)
 
+-- What holds of the items in their order holds of the one with each number.
 all_numbers : (P : Receipt → Type 0) (items : List Receipt) (order : List ℕ) → Arranges order (length items)
     → AllByRecursion P (picked items order) → (n : ℕ) (d : Receipt) → n < length items → P (get_or items n d)
 all_numbers P items order arranged all n d below =
@@ -98,15 +107,18 @@ all_numbers P items order arranged all n d below =
     let one : get_or (picked items order) place.0 d ≡ get_or items n d = cc in
     subst P one here
 
+-- What holds of the items in their order holds of all.
 pub all_items : (P : Receipt → Type 0) (items : List Receipt) (order : List ℕ) → Arranges order (length items)
     → AllByRecursion P (picked items order) → AllByRecursion P items
 all_items P items order arranged all = recursion_from_All P items (all_numbers P items order arranged all)
 
 -- ---- the order of buckets
 
+-- The order by buckets is total.
 pub bucket_total : IsTotalOrder bucket_cmp
 bucket_total = then_total (on_total bucket_of nat_cmp_total) receipt_total
 
+-- Receipts in the order of buckets rise for the search of one.
 pub bucket_sought : (items lent : List Receipt) (buckets : List ℕ) (r s : Receipt) → Arranges buckets (length items)
     → IsStrictlySortedBy bucket_cmp (picked items buckets) → lent ≡ items → s ≡ r
     → IsRising (λ n. compared_at (λ x. bucket_cmp x s) lent n) buckets
@@ -118,15 +130,18 @@ bucket_sought items lent buckets r s arranged rising same e =
 abbrev IsOther : Receipt → Receipt → Type 0
 IsOther r s = receipt_cmp s r ≡ Equal → ⊥
 
+-- A receipt that is not held ties with none that is.
 others : (held : List Receipt) (r : Receipt) → IsReceipt r → AllByRecursion IsReceipt held → (Contains held r → ⊥) → AllByRecursion (IsOther r) held
 others held r is all unheld =
     each_from (IsOther r) held (λ s has tied. unheld (subst (Contains held) (one_receipt s r (each_has IsReceipt held s all has) is tied) has))
 
+-- One that ties with none, and does not come before, comes after.
 bucket_after : (x r : Receipt) → IsOther r x → (bucket_cmp x r ≡ Less → ⊥) → (o : Ordering) → bucket_cmp x r ≡ o → o ≡ Greater
 bucket_after x r other behind Less e = absurd (behind e)
 bucket_after x r other behind Equal e = absurd (other (both_equal (nat_cmp (bucket_of x) (bucket_of r)) (receipt_cmp x r) e).1)
 bucket_after x r other behind Greater e = refl
 
+-- In the order of buckets a receipt is added by putting it into its gap.
 pub bucket_inserts : (items : List Receipt) (buckets : List ℕ) (r : Receipt) (spot : ℕ)
     → Arranges buckets (length items) → AllByRecursion (IsOther r) items
     → IsGap (λ n. compared_at (λ x. bucket_cmp x r) items n) buckets spot
@@ -140,6 +155,7 @@ bucket_inserts items buckets r spot arranged other gap =
 
 -- ---- one receipt more
 
+-- What is held stays in order, in both orders, after a receipt is taken.
 pub hoard_more : (c : Configuration) (stock new : Stock Receipt) (buckets newer : List ℕ) (records : List Record)
     (r : Receipt) (place spot : ℕ) → IsHoard c stock buckets records → IsReceipt r → IsFitting c r
     → length stock.items < 65536 → IsMissing (λ s. receipt_cmp s r) (in_order stock) place
@@ -184,6 +200,7 @@ hoard_more c stock new buckets newer records r place spot hoard is fits few miss
 
 -- ---- why a receipt is refused
 
+-- Why a receipt does not fit is why it is refused.
 pub misfit_repels : (m : Meaning) (r : Receipt) (why : TakeError) → Misfits m.config r why → Repels m r why
 misfit_repels m r UnknownDomain h = h
 misfit_repels m r WrongEndpoint h = h
@@ -193,11 +210,13 @@ misfit_repels m r ConfigDiffers h = absurd h
 
 -- ---- the receipts of a bucket
 
+-- What is not less by two comparisons is not less by the first.
 then_not_less : (a b : Ordering) → is_lt (ordering_then a b) ≡ false → is_lt a ≡ false
 then_not_less Less b e = e
 then_not_less Equal b e = refl
 then_not_less Greater b e = refl
 
+-- Receipts in the order of buckets rise for the search of a bucket.
 pub buckets_rise : (items lent : List Receipt) (buckets : List ℕ) (b c : ℕ) → Arranges buckets (length items)
     → IsStrictlySortedBy bucket_cmp (picked items buckets) → lent ≡ items → c ≡ b
     → IsRising (λ n. compared_at (λ r. nat_cmp (bucket_of r) c) lent n) buckets
@@ -212,12 +231,15 @@ buckets_rise items lent buckets b c arranged rising same e =
           (sorted bucket_total (picked items buckets) rising k d low high));
     })
 
+-- The test of the comparison is the test of the numbers.
 equal_is : (x y : ℕ) → is_equal (nat_cmp x y) ≡ (x == y)
 equal_is x y = grind (arith, nat_tests)
 
+-- Numbers that the test finds equal are equal.
 from_equal : (x y : ℕ) → (x == y) ≡ true → x ≡ y
 from_equal x y e = grind (arith, nat_tests)
 
+-- Within one bucket, what stands before others by bucket stands before them by line.
 below_one : (b : ℕ) (x : Receipt) (xs : List Receipt) → bucket_of x ≡ b → AllByRecursion (λ r. bucket_of r ≡ b) xs
     → AllByRecursion (λ y. bucket_cmp x y ≡ Less) xs → AllByRecursion (λ y. receipt_cmp x y ≡ Less) xs
 below_one b x [] here all below = tt
@@ -227,15 +249,18 @@ below_one b x (y ∷ ys) here all below = (
   below_one b x ys here all.1 below.1,
 )
 
+-- Receipts of one bucket, in the order of buckets, are in the order of lines.
 one_bucket : (b : ℕ) (xs : List Receipt) → AllByRecursion (λ r. bucket_of r ≡ b) xs → IsStrictlySortedBy bucket_cmp xs → IsStrictlySortedBy receipt_cmp xs
 unfolding IsStrictlySortedBy
 one_bucket b [] all rising = tt
 one_bucket b (x ∷ xs) all rising = (below_one b x xs all.0 all.1 rising.0, one_bucket b xs all.1 rising.1)
 
+-- What is in the rest stays when an item is added or not.
 cond_later : {X : Type 0} (b : Bool) (x y : X) (rest : List X) → Contains rest y → Contains (cond b (x ∷ rest) rest) y
 cond_later true x y rest has = contains_later x rest y has
 cond_later false x y rest has = has
 
+-- An item that passes is kept.
 pub filter_gets : {X : Type 0} (p : X → Bool) (xs : List X) (y : X) → Contains xs y → p y ≡ true → Contains (filter p xs) y
 filter_gets p [] y has passes = absurd (contains_none y has)
 filter_gets p (x ∷ xs) y has passes = elim (contains_cases x xs y has) [
@@ -245,18 +270,22 @@ filter_gets p (x ∷ xs) y has passes = elim (contains_cases x xs y has) [
   | inr later ↦ cond_later (p x) x y (filter p xs) (filter_gets p xs y later passes)
 ]
 
+-- An item that is kept was there.
 pub filter_in : {X : Type 0} (p : X → Bool) (xs : List X) (y : X) → Contains (filter p xs) y → Contains xs y
 filter_in p xs y has = All-contains (Contains xs) (filter p xs) y (All-filter p (Contains xs) xs (All-contains_itself xs)) has
 
+-- An item that is kept passes.
 pub filter_test : {X : Type 0} (p : X → Bool) (xs : List X) (y : X) → Contains (filter p xs) y → p y ≡ true
 filter_test p xs y has = All-contains (λ x. p x ≡ true) (filter p xs) y (filter_passes p xs) has
 
+-- A picked item is one of the items.
 picked_in : (items : List Receipt) (numbers : List ℕ) (y : Receipt) → Contains (picked items numbers) y → Contains items y
 picked_in items numbers y has =
     each_has (Contains items) (picked items numbers) y
     (picked_all (Contains items) items (recursion_from_All (Contains items) items (All-contains_itself items)) numbers)
     has
 
+-- Each item is picked where the order has all numbers.
 in_picked : (items : List Receipt) (order : List ℕ) (y : Receipt) → Arranges order (length items) → Contains items y → Contains (picked items order) y
 in_picked items order y arranged has =
     each_has (Contains (picked items order)) items y
@@ -264,6 +293,7 @@ in_picked items order y arranged has =
     (recursion_from_All (Contains (picked items order)) (picked items order)
     (All-contains_itself (picked items order)))) has
 
+-- The receipts of a bucket in one order are those in another.
 moved : (items : List Receipt) (from to : List ℕ) (b : ℕ) (y : Receipt) → Arranges to (length items)
     → Contains (filter (is_in_bucket b) (picked items from)) y → Contains (filter (is_in_bucket b) (picked items to)) y
 moved items from to b y arranged has =
@@ -271,6 +301,7 @@ moved items from to b y arranged has =
     (in_picked items to y arranged (picked_in items from y (filter_in (is_in_bucket b) (picked items from) y has)))
     (filter_test (is_in_bucket b) (picked items from) y has)
 
+-- The stretch of a bucket, in the order of buckets, is the list of the bucket's receipts by line.
 pub bucket_list : (stock : Stock Receipt) (buckets : List ℕ) (b : ℕ) → Arranges stock.order (length stock.items)
     → Arranges buckets (length stock.items) → IsStrictlySortedBy receipt_cmp (in_order stock)
     → IsStrictlySortedBy bucket_cmp (picked stock.items buckets)

@@ -20,17 +20,20 @@ use Rattle.trust_closure.specs.declared.indexed.labels.label.Label.{Label}
 use Rattle.trust_closure.specs.Labels.{label_cmp, IsInOrder}
 use Rattle.closure_core.proofs.ContainsFacts.{contains_first, contains_later, contains_cases}
 
+-- The order of labels is total.
 pub label-total : IsTotalOrder label_cmp
 label-total =
     then_total (on_total (λ (l : Label). l.domain) nat_cmp_total)
     (then_total (on_total (λ (l : Label). l.key.0) nat_list_cmp_total)
     (on_total (λ (l : Label). l.document.0) nat_list_cmp_total))
 
+-- What ties by two comparisons ties by each.
 pub then-first : (a b : Ordering) → ordering_then a b ≡ Equal → (a ≡ Equal) × (b ≡ Equal)
 then-first Less b e = absurd (cc)
 then-first Equal b e = (refl, e)
 then-first Greater b e = absurd (cc)
 
+-- Labels that tie are equal.
 pub label-exact : (a b : Label) → label_cmp a b ≡ Equal → a ≡ b
 label-exact a b e =
     let keys : Ordering = slice_cmp nat_cmp a.key.0 b.key.0 in
@@ -46,7 +49,7 @@ label-exact a b e =
 
 -- ---- what is sought among labels in order
 
--- a first that stands before a second stands to what is sought no later than that
+-- A label before another stands to what is sought no later than that.
 index-rises : (a b x : Label) → label_cmp a b ≡ Less → (o : Ordering) → label_cmp b x ≡ o → ordering_index (label_cmp a x) ≤ ordering_index o
 index-rises a b x l Less e = let f : label_cmp a x ≡ Less = label-total.trans a b x l e in omega (arith, ap ordering_index f)
 index-rises a b x l Equal e =
@@ -60,6 +63,7 @@ index-rises a b x l Greater e = most (label_cmp a x)
     most Equal = omega arith
     most Greater = omega arith
 
+-- Labels in order rise for the search of one.
 pub rising-from_in_order : (labels : List Label) (x : Label) → IsInOrder labels → IsRising (λ a. label_cmp a x) labels
 rising-from_in_order labels x h = record {
   rising = λ i j d l within.
@@ -77,9 +81,11 @@ rising-from_in_order labels x h = record {
 
 -- a label that is missing comes into its place
 
+-- What stands after a label has that before it.
 after-less : (a x : Label) → label_cmp a x ≡ Greater → label_cmp x a ≡ Less
 after-less a x e = label-total.antisymm x a ∙ ap ordering_reverse e
 
+-- A label that is missing is put where the search ended, and all are in order.
 pub in_order-insert : (labels : List Label) (place : ℕ) (x : Label) → IsInOrder labels
     → IsMissing (λ a. label_cmp a x) labels place → IsInOrder (insert labels place x)
 in_order-insert labels place x h m i j d l within =
@@ -128,19 +134,23 @@ in_order-insert labels place x h m i j d l within =
 
 -- each item of an arena stands in its order
 
+-- What was in the list still is after an option is put in front.
 Contains-cons_option_later : {A : Type 0} (o : Option A) (rest : List A) (x : A) → Contains rest x → Contains (cons_option o rest) x
 Contains-cons_option_later None rest x c = c
 Contains-cons_option_later (Some y) rest x c = contains_later y rest x c
 
+-- An option's item is in the list after it is put in front.
 Contains-cons_option_here : {A : Type 0} (o : Option A) (rest : List A) (x : A) → o ≡ Some x → Contains (cons_option o rest) x
 Contains-cons_option_here None rest x e = absurd (none-some x e)
 Contains-cons_option_here (Some y) rest x e = subst (λ z. Contains (z ∷ rest) x) (sym (same_Some y x e)) (contains_first x rest)
 
+-- A place without an item is past the end.
 slice_get_none : {A : Type 0} (xs : List A) (i : ℕ) → slice_get xs i ≡ None → length xs ≤ i
 slice_get_none [] i e = omega arith
 slice_get_none (x ∷ xs) zero e = absurd (none-some x (sym e))
 slice_get_none (x ∷ xs) (suc i) e = let h = slice_get_none xs i e in omega (arith, h)
 
+-- The item with a listed number is picked.
 pub Contains-picked : {A : Type 0} (items : List A) (numbers : List ℕ) (number : ℕ) (x : A) → Contains numbers number
     → slice_get items number ≡ Some x → Contains (picked items numbers) x
 Contains-picked items [] number x c e = absurd (omega (arith, c.1))
@@ -150,16 +160,19 @@ Contains-picked items (n ∷ numbers) number x c e =
       | inr h ↦ Contains-cons_option_later (slice_get items n) (picked items numbers) x (Contains-picked items numbers number x h e)
     ]
 
+-- An option that has an item makes the list longer by one.
 length-cons_option_if : {A : Type 0} (o : Option A) (rest : List A) → (o ≡ None → ⊥) → length (cons_option o rest) ≡ suc (length rest)
 length-cons_option_if None rest n = absurd (n refl)
 length-cons_option_if (Some y) rest n = refl
 
+-- There is one picked item for each number.
 pub length-picked : {A : Type 0} (items : List A) (numbers : List ℕ) → All (λ n. n < length items) numbers → length (picked items numbers) ≡ length numbers
 length-picked items [] h = refl
 length-picked items (n ∷ numbers) h =
     length-cons_option_if (slice_get items n) (picked items numbers) (λ e. omega (arith, h 0 0 (omega arith), slice_get_none items n e))
     ∙ ap suc (length-picked items numbers (All-tail (λ k. k < length items) n numbers h))
 
+-- A label that the search does not find is not there.
 pub missing-not_contained : (stock : Stock Label) (place : ℕ) (x : Label) → Arranges stock.order (length stock.items)
     → IsMissing (λ a. label_cmp a x) (in_order stock) place → Contains stock.items x → ⊥
 missing-not_contained stock place x a m c =

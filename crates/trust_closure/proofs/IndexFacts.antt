@@ -64,22 +64,26 @@ use Rattle.trust_closure.proofs.Bridge.{IsAccepted, IsReachedAt, accepted-from_r
 use Rattle.trust_closure.proofs.PairFacts.{pairing-once}
 
 module _ (h : Hoard) (p : Paired) (w : Wired) (b : IsBuilt h p w) where
+  -- Each receipt fits, since what is held is a meaning.
   fits : (r : Receipt) → Contains h.arrived r → IsFitting h.config r
   fits r c = each_has (IsFitting h.config) h.held r b.valid.fitting ((b.same r).1 c)
 
+  -- What stands at a reached node is accepted.
   pub node-accepted : (n : ℕ) → IsReached w.net n → IsAccepted (meaning_of h) h.arrived n
   node-accepted n r = accepted-from_reached (meaning_of h) h.arrived b.same fits (map (triple_by b.domains) w.labels) w.net b.wired.mirrors n r
 
+  -- An accepted document has a reached node.
   pub member-reached : (q : Pair) → IsMember (meaning_of h) q → IsReachedAt h.config.seeds h.arrived w.net q
   member-reached q a = reached-from_member (meaning_of h) h.arrived b.same fits (map (triple_by b.domains) w.labels) w.net b.wired.mirrors q a
 
-  -- marked nodes are there
+  -- The marked nodes are nodes that there are.
   pub marked-within : All (λ n. n < length p.firsts) w.marked
   marked-within k d l =
       let c : Contains w.marked (get_or w.marked k d) = Contains-get_or w.marked k d l in
       let a = node-accepted (get_or w.marked k d) (b.reached.reached (get_or w.marked k d) c) in
       omega (arith, slice_get_within (pairs_of h.config.seeds h.arrived) (get_or w.marked k d) a.pair a.at, b.pairing.sizes)
 
+  -- Each node's first number has a count.
   pub firsts-within : All (λ f. f < length p.counts) p.firsts
   firsts-within k d l =
       let f = b.pairing.first k (get_or p.firsts k d) (slice_get-get_or p.firsts k d l) in
@@ -90,6 +94,7 @@ module _ (h : Hoard) (p : Paired) (w : Wired) (b : IsBuilt h p w) where
         b.pairing.counted,
       )
 
+  -- Where the raised flags are those of marked nodes, they say what is accepted.
   tells-flags : ((number : ℕ) → (is_raised (flags_of p.counts) number ≡ true) ↔ IsFirstOf p.firsts
       w.marked number) → TellsMembers (meaning_of h) (pairs_of h.config.seeds h.arrived) p.numbers
       (flags_of p.counts)
@@ -110,12 +115,13 @@ module _ (h : Hoard) (p : Paired) (w : Wired) (b : IsBuilt h p w) where
     once = λ one other q. pairing-once (pairs_of h.config.seeds h.arrived) p b.pairing one other q;
   }
 
+  -- Where the counts are those of marked nodes, their flags say what is accepted.
   pub tells : AreCounts p.firsts w.marked p.counts
       → TellsMembers (meaning_of h) (pairs_of h.config.seeds h.arrived) p.numbers
       (flags_of p.counts)
   tells are = tells-flags (flags-counted p.firsts w.marked p.counts marked-within are)
 
--- a raised flag is membership
+-- A pair's flag is raised exactly where its document is accepted.
 pub raised-member : (h : Hoard) (p : Paired) (w : Wired) → IsIndexed h p w → (q : Pair)
     → HasRaised (pairs_of h.config.seeds h.arrived) p q ↔ IsMember (meaning_of h) q
 raised-member h p w i q =
@@ -126,16 +132,18 @@ raised-member h p w i q =
 
 -- ---- one more receipt
 
+-- One more receipt has its pair last.
 pub pairs-push : (seeds : List Seed) (arrived : List Receipt) (r : Receipt) → pairs_of seeds (arrived ++ r ∷ []) ≡ pairs_of seeds arrived ++ pair_of r ∷ []
 pairs-push seeds arrived r = ap (λ ps. map pair_of_seed seeds ++ ps) (map_push pair_of arrived r)
     ∙ sym (append_assoc (map pair_of_seed seeds) (map pair_of arrived) (pair_of r ∷ []))
 
+-- One more receipt has its spot last.
 pub spots-push : (seeds : List Seed) (arrived : List Receipt) (r : Receipt)
     → spots_of seeds (arrived ++ r ∷ []) ≡ spots_of seeds arrived ++ spot_of_receipt r ∷ []
 spots-push seeds arrived r = ap (λ ss. map spot_of_seed seeds ++ ss) (map_push spot_of_receipt arrived r)
     ∙ sym (append_assoc (map spot_of_seed seeds) (map spot_of_receipt arrived) (spot_of_receipt r ∷ []))
 
--- other counts, as many
+-- Other counts, as many, leave each pair its number.
 pub pairing-counts : (pairs : List Pair) (p q : Paired) → IsPairing pairs p → q.numbers ≡ p.numbers
     → q.firsts ≡ p.firsts → length q.counts ≡ length p.counts → IsPairing pairs q
 pairing-counts pairs p q h numbers firsts counts =
@@ -170,19 +178,24 @@ pairing-counts pairs p q h numbers firsts counts =
       capacity = q.capacity;
     })) (sym firsts) one)
 
+-- Receipts of their form make sets: the order of lines tells them apart.
 receipt-sets : AreSets IsReceipt receipt_cmp
 receipt-sets = AreSets-from_total IsReceipt receipt_cmp receipt_total one_receipt
 
+-- Records of distrust make sets: their order tells any two apart.
 pub distrust-sets : AreSets Always distrust_cmp
 distrust-sets = AreSets-from_total Always distrust_cmp distrust_total (λ a b p q. one_distrust a b)
 
+-- What holds always holds of all items.
 pub always-all : {A : Type 0} (xs : List A) → AllByRecursion Always xs
 always-all [] = tt
 always-all (x ∷ xs) = (tt, always-all xs)
 
+-- the hoard with the receipt, which came last
 abbrev pub with_arrival : Hoard → Receipt → Hoard
 with_arrival h r = record h { arrived = h.arrived ++ r ∷ []; held = with_receipt r h.held }
 
+-- With one more receipt, what is held is still what has arrived.
 pub same-more : (h : Hoard) (r : Receipt) → IsMeaning (meaning_of h) → IsReceipt r
     → ((s : Receipt) → Contains h.held s ↔ Contains h.arrived s) → (s : Receipt)
     → Contains (with_receipt r h.held) s ↔ Contains (h.arrived ++ r ∷ []) s
@@ -195,6 +208,7 @@ same-more h r valid form same s =
       λ c. m.1 (elim (Contains-push_cases h.arrived r s c) [ inl d ↦ inr ((same s).1 d) | inr e ↦ inl e ]),
     )
 
+-- The index is built of what is held, after one more receipt.
 pub built-more : (h new : Hoard) (p q : Paired) (w v : Wired) (r : Receipt) → IsBuilt h p w → IsReceipt r
     → (Contains h.held r → ⊥) → new ≡ with_arrival h r → IsMeaning (meaning_of new)
     → ((domains : List (List ℕ)) (spots : List (Spot Triple)) → AreDomains h.config domains
@@ -216,6 +230,7 @@ built-more h new p q w v r b form unheld is valid wired reached pairing =
       pairing = subst (λ ps. IsPairing ps q) (sym (pairs-push h.config.seeds h.arrived r)) pairing;
     })
 
+-- Other counts, as many, leave it built.
 pub built-counts : (h : Hoard) (p q : Paired) (w : Wired) → IsBuilt h p w → q.numbers ≡ p.numbers
     → q.firsts ≡ p.firsts → length q.counts ≡ length p.counts → IsBuilt h q w
 built-counts h p q w b numbers firsts counts = record {
@@ -229,10 +244,11 @@ built-counts h p q w b numbers firsts counts = record {
   pairing = pairing-counts (pairs_of h.config.seeds h.arrived) p q b.pairing numbers firsts counts;
 }
 
+-- A lowered flag at the end is not counted.
 pub count-push : (flags : List Bool) → raised_count (flags ++ false ∷ []) ≡ raised_count flags
 count-push flags = sum_by_push (λ b. cond b 1 0) flags false ∙ (let e : sum_by (λ b. cond b 1 0) flags + 0 ≡ sum_by (λ b. cond b 1 0) flags = omega arith in e)
 
--- what is gained with one more receipt
+-- The rise of the number of raised flags, with one more receipt, is what is gained.
 pub gain-more : (h new : Hoard) (p q : Paired) (w v : Wired) (r : Receipt) (nodes : List ℕ) (n : ℕ) → IsIndexed h p w
     → IsIndexed new q v → new ≡ with_arrival h r
     → AddsNodes q.firsts nodes (p.counts ++ 0 ∷ []) q.counts
@@ -259,6 +275,7 @@ Shuts domains old new IsMeant = (label : Label) → label.domain < length domain
     → IsShutBy new (triple_by domains label) ↔
     (IsShutBy old (triple_by domains label) ⊎ IsMeant label)
 
+-- The wiring after a close mirrors the same spots under more records.
 wiring-closed : (domains : List (List ℕ)) (records more : List Distrust) (IsMeant : Label → Type 0)
     (spots : List (Spot Triple)) (old new : Wired) (turns : ℕ)
     → IsWiringOf domains records spots old → Shuts domains records more IsMeant
@@ -357,6 +374,7 @@ shuts-all domains old new more IsMeant is means label l =
       ],
     )
 
+-- the hoard with these records besides
 abbrev pub with_mistrust : Hoard → List Distrust → ℕ → Hoard
 with_mistrust h more capacity = record {
   config = h.config;
@@ -366,6 +384,7 @@ with_mistrust h more capacity = record {
   capacity = capacity;
 }
 
+-- A hoard that has more records is that one.
 pub hoard-before : (old new : Hoard) (more : List Distrust) → IsBefore old more new
     → new ≡ with_mistrust old more new.capacity
 hoard-before old new more b =
@@ -374,6 +393,7 @@ hoard-before old new more b =
     ∙ ap (λ a. let h : Hoard = record { config = old.config; arrived = old.arrived; held = a; records = new.records; capacity = new.capacity } in h) b.held
     ∙ ap (λ a. let h : Hoard = record { config = old.config; arrived = old.arrived; held = old.held; records = a; capacity = new.capacity } in h) b.records
 
+-- The index is built of what is held, after a close for more records of distrust.
 pub built-closed : (old new : Hoard) (more : List Distrust) (p q : Paired) (w v : Wired)
     (IsMeant : Label → Type 0) (turns : ℕ) → IsBuilt old p w → IsBefore old more new
     → IsMeaning (meaning_of new)
@@ -417,7 +437,7 @@ was-counted h p w v i IsMeant turns is c marked last = record {
   counts = is.counts;
 }
 
--- how much work a close was
+-- A close of the labels that records shut closes them at once, in the caller's words.
 pub closes-at_once : (old new : Hoard) (p : Paired) (w v : Wired) (was after : Spare)
     (before turns : ℕ) (records : List Distrust) (IsMeant : Label → Type 0) → IsBuilt old p w
     → Closes w IsMeant v turns
@@ -477,7 +497,7 @@ kept-closed old new xs p q w v i j before numbers k e =
           (get_or_past (flags_of q.counts) k false b) e)
     ]
 
--- what is lost with more records
+-- The fall of the number of raised flags, with more records of distrust, is what is lost.
 pub loss-closed : (old new : Hoard) (xs : List Distrust) (p q : Paired) (w v : Wired) (n : ℕ)
     → IsIndexed old p w → IsIndexed new q v → IsBefore old xs new
     → length q.counts ≡ length p.counts → q.numbers ≡ p.numbers
@@ -494,7 +514,7 @@ loss-closed old new xs p q w v n i j before size numbers count =
     (λ k y e f at. ap (λ ps. slice_get ps k) (sym same) ∙ at)
     n count (omega (arith, size, length-flags p.counts, length-flags q.counts))
 
--- the same hoard, where nothing of the meaning has changed
+-- Hoards with the same meaning, arrivals and capacity are the same.
 pub hoard-same : (old new : Hoard) → meaning_of new ≡ meaning_of old → new.arrived ≡ old.arrived → new.capacity ≡ old.capacity → new ≡ old
 hoard-same old new meaning arrived capacity =
     ap (λ (m : Meaning). let h : Hoard =
@@ -503,6 +523,7 @@ hoard-same old new meaning arrived capacity =
     ∙ ap (λ a. let h : Hoard = record { config = old.config; arrived = a; held = old.held; records = old.records; capacity = new.capacity } in h) arrived
     ∙ ap (λ n. let h : Hoard = record { config = old.config; arrived = old.arrived; held = old.held; records = old.records; capacity = n } in h) capacity
 
+-- A record that was added is the one that the new hoard has besides.
 pub before-added : (old new : Hoard) (x : Distrust) → HasAdded (meaning_of old) x (meaning_of new)
     → new.arrived ≡ old.arrived → IsBefore old (x ∷ []) new
 before-added old new x a arrived = record {
@@ -514,6 +535,7 @@ before-added old new x a arrived = record {
 
 -- ---- more room
 
+-- A wiring is as roomy as itself.
 same-wiring : (w : Wired) → IsRoomierWired w w
 same-wiring w = record {
   labels = refl;
@@ -524,6 +546,7 @@ same-wiring w = record {
   edges = omega arith;
 }
 
+-- More room leaves the index as it is.
 indexed-roomier : (h new : Hoard) (p q : Paired) (w v : Wired) → IsIndexed h p w
     → new ≡ record h { capacity = new.capacity } → q.numbers ≡ p.numbers → q.firsts ≡ p.firsts
     → q.counts ≡ p.counts → IsRoomierWired w v → IsIndexed new q v
@@ -551,6 +574,7 @@ indexed-roomier h new p q w v i is numbers firsts counts r =
           (subst (AreCounts p.firsts w.marked) (sym counts) i.counts));
     })
 
+-- The room that was promised is still there after more was reserved.
 pub room-kept : (h new : Hoard) (p q : Paired) (w v : Wired) (spare : Spare) → HasRoom h p w spare
     → new ≡ record h { capacity = new.capacity } → h.capacity ≤ new.capacity → q.firsts ≡ p.firsts
     → p.capacity ≤ q.capacity → IsRoomierWired w v → HasRoom new q v spare
@@ -562,6 +586,7 @@ room-kept h new p q w v spare r is held firsts pairs wired = record {
   few = omega (arith, r.few, ap length firsts);
 }
 
+-- What reserving did, where the new room is known.
 pub reserves-from : (h new : Hoard) (p q : Paired) (w v : Wired) (spare more : Spare)
     → IsIndexedClosure h p w spare → new ≡ record h { capacity = new.capacity } → q.numbers ≡ p.numbers
     → q.firsts ≡ p.firsts → q.counts ≡ p.counts → IsRoomierWired w v → HasRoom new q v more
@@ -579,7 +604,7 @@ reserves-from h new p q w v spare more k is numbers firsts counts r room receipt
   roomier = record { receipts = receipts; offers = offers };
 }
 
--- a refusal leaves the room
+-- A refusal leaves the room that was there.
 pub reserves-kept : (h new : Hoard) (p q : Paired) (w v : Wired) (spare : Spare)
     → IsIndexedClosure h p w spare → new ≡ record h { capacity = new.capacity } → h.capacity ≤ new.capacity
     → q.numbers ≡ p.numbers → q.firsts ≡ p.firsts → q.counts ≡ p.counts → p.capacity ≤ q.capacity
@@ -588,10 +613,12 @@ reserves-kept h new p q w v spare k is held numbers firsts counts pairs r =
     reserves-from h new p q w v spare spare k is numbers firsts counts r
     (room-kept h new p q w v spare k.room is held firsts pairs r) (omega arith) (omega arith)
 
+-- A refusal after only what is held got room leaves all else as it was.
 pub reserves-held : (h new : Hoard) (p : Paired) (w : Wired) (spare : Spare) → IsIndexedClosure h p w spare
     → new ≡ record h { capacity = new.capacity } → h.capacity ≤ new.capacity → Reserves h new p p w w spare spare
 reserves-held h new p w spare k is held = reserves-kept h new p p w w spare k is held refl refl refl (omega arith) (same-wiring w)
 
+-- A refusal after what is held and the documents got room leaves all else as it was.
 pub reserves-pairs : (h new : Hoard) (p q : Paired) (w : Wired) (spare : Spare) → IsIndexedClosure h p w spare
     → new ≡ record h { capacity = new.capacity } → h.capacity ≤ new.capacity → q.numbers ≡ p.numbers
     → q.firsts ≡ p.firsts → q.counts ≡ p.counts → p.capacity ≤ q.capacity
@@ -629,17 +656,19 @@ index-parts h p w b =
     get_or_seed (s ∷ seeds) zero l = (s, refl)
     get_or_seed (s ∷ seeds) (suc n) l = get_or_seed seeds n (omega (arith, l))
 
+-- What is built is an index in the caller's words.
 pub index-of_built : (h : Hoard) (p : Paired) (w : Wired) (spare : Spare) (turns : ℕ)
     → IsBuilt h p w → length h.arrived ≡ length h.held → IsIndexOf (indexed_of h w spare turns)
 index-of_built h p w spare turns b once =
     let parts = index-parts h p w b in
     record { labels = map (triple_by b.domains) w.labels; net = b.wired.mirrors; held = b.same; once = once; seeds = parts.0; receipts = parts.1 }
 
+-- All that a closure keeps is an index in the caller's words.
 pub index-of_kept : (h : Hoard) (p : Paired) (w : Wired) (spare : Spare) (turns : ℕ)
     → IsIndexedClosure h p w spare → length h.arrived ≡ length h.held → IsIndexOf (indexed_of h w spare turns)
 index-of_kept h p w spare turns k once = index-of_built h p w spare turns k.indexed.built once
 
--- the work of records that are held besides
+-- A close of all labels of distrusted keys is the work of the records that are held besides.
 pub work-of : (old new : Hoard) (more : List Distrust) (p q : Paired) (w v : Wired) (spare : Spare)
     (before turns : ℕ) → IsBefore old more new → IsBuilt old p w → IsBuilt new q v
     → length new.arrived ≡ length new.held → Closes w (IsDistrusted new) v turns
@@ -702,6 +731,7 @@ same-work old new meaning arrived net marked records count is =
 
 -- ---- configured documents
 
+-- More room leaves the wiring as it is.
 wiring-same : (domains : List (List ℕ)) (records : List Distrust) (spots : List (Spot Triple)) (w v : Wired)
     → IsWiringOf domains records spots w → IsRoomierWired w v → IsWiringOf domains records spots v
 wiring-same domains records spots w v h r = record {
@@ -710,6 +740,8 @@ wiring-same domains records spots w v h r = record {
       (subst (Mirrors spots (map (triple_by domains) w.labels) (IsShutBy records)) (sym r.net) h.mirrors);
 }
 
+-- The wiring mirrors one more configured document after its node, its root and its offers are
+-- added.
 pub wired-seed : (h : Hoard) (seeds : List Seed) (s : Seed) (w a b c d : Wired) (node : ℕ) (triples : List Triple)
     → ((domains : List (List ℕ)) → AreDomains h.config domains → IsWiringOf domains h.records (map spot_of_seed seeds) w)
     → IsRoomierWired w a → HasNode a b node → IsRooted b node c → triples ≡ offers_of (pair_of_seed s)
@@ -727,6 +759,7 @@ wired-seed h seeds s w a b c d node triples wired room has rooted is offers doma
     subst (λ ss. IsWiringOf domains h.records ss d) (sym (map_push spot_of_seed seeds s))
     (subst (λ (ts : List Triple). IsWiringOf domains h.records (spots ++ record { rooted = true; offers = ts; awaits = None } ∷ []) d) is third)
 
+-- The index is right for one more configured document.
 pub seeded-more : (h : Hoard) (seeds : List Seed) (s : Seed) (p a q : Paired) (w d : Wired) (first : ℕ) → h.arrived ≡ [] → IsSeeded h seeds p w
     → IsPairing (pairs_of seeds h.arrived ++ pair_of_seed s ∷ []) q → a.counts ≡ p.counts
     → a.firsts ≡ p.firsts → q.counts ≡ a.counts ++ 0 ∷ [] → q.firsts ≡ a.firsts ++ first ∷ []
@@ -753,9 +786,11 @@ seeded-more h seeds s p a q w d first none g pairing f1 f2 counts firsts room ca
       reached = reached;
     }
 
+-- The domain of each configured document is one of the configuration.
 pub seeds-domains : (c : Configuration) → All (λ (s : Seed). HasDomain c s.domain) c.seeds
 seeds-domains c k d l = inr (inr (get_or c.seeds k d, Contains-get_or c.seeds k d l, refl))
 
+-- With all configured documents the index is built of what is held: nothing else.
 pub built-seeded : (h : Hoard) (domains : List (List ℕ)) (p : Paired) (w : Wired) (seeds : List Seed)
     → IsMeaning (meaning_of h) → h.held ≡ [] → h.arrived ≡ [] → AreDomains h.config domains → seeds ≡ h.config.seeds
     → IsSeeded h seeds p w → IsBuilt h p w
@@ -776,6 +811,8 @@ built-seeded h domains p w seeds valid held arrived are is g =
       pairing = subst (λ ss. IsPairing (pairs_of ss h.arrived) p) is g.pairing;
     }
 
+-- After the counts of its marked nodes are raised, an index of the configured documents is all that
+-- a closure keeps, with no room yet.
 pub kept-seeded : (h : Hoard) (p q : Paired) (w : Wired) (nodes : List ℕ) (seeds : List Seed) → IsBuilt h p w
     → IsSeeded h seeds p w → h.arrived ≡ [] → length seeds ≤ 4096
     → q.numbers ≡ p.numbers → q.firsts ≡ p.firsts → q.capacity ≡ p.capacity → nodes ≡ w.marked
@@ -799,7 +836,7 @@ kept-seeded h p q w nodes seeds b g none few numbers firsts capacity is adds =
       };
     }
 
--- there are few nodes
+-- The number of nodes fits 32 bits.
 pub pairs-few : (h : Hoard) (p : Paired) → IsPairing (pairs_of h.config.seeds h.arrived) p
     → length h.config.seeds ≤ 4096 → length h.arrived ≤ 65536 → length p.firsts < 2 ^ 32
 pairs-few h p pairing seeds arrived =
@@ -817,6 +854,7 @@ pairs-few h p pairing seeds arrived =
 
 -- ---- pending receipts
 
+-- Items that differ pairwise are different.
 pub different-from_pairs : {A : Type 0} (xs : List A) → AllPairs ◌≢◌ xs → AreDifferent xs
 different-from_pairs [] h = tt
 different-from_pairs (x ∷ xs) h = (
@@ -824,22 +862,26 @@ different-from_pairs (x ∷ xs) h = (
   different-from_pairs xs (λ i j d l b. h (suc i) (suc j) d (omega (arith, l)) (omega (arith, b))),
 )
 
+-- All numbers below a bound pass the test that passes all.
 length-passing_all : (n : ℕ) → length (passing (λ k. true) n) ≡ n
 length-passing_all zero = refl
 length-passing_all (suc n) = ap suc (length-passing_all n)
 
+-- A listed node is among the nodes, by the test.
 pub among-from : (nodes : List ℕ) (n : ℕ) → Contains nodes n → is_among nodes n ≡ true
 among-from nodes n c = list_any_at (λ m. eqb m n) nodes c.0 n c.1 (eq-eqb (get_or nodes c.0 n) n c.2)
 
+-- What the test finds among the nodes is listed.
 pub among-to : (nodes : List ℕ) (n : ℕ) → is_among nodes n ≡ true → Contains nodes n
 among-to nodes n t =
     let a = Any-from_list_any (λ m. eqb m n) nodes t in
     (a.0, a.2, get_or_default nodes a.0 n a.1 a.2 ∙ a.3 ∙ eqb-true a.1 n a.4)
 
--- nodes that are not marked
+-- the nodes below the count that are not marked
 abbrev pub unmarked : List ℕ → ℕ → List ℕ
 unmarked marked count = passing (only_wide (λ k. is_among marked k) (λ k. true) (λ k e. refl)) count
 
+-- The nodes that are not marked and those that are add up to all.
 pub length-unmarked : (marked : List ℕ) (count : ℕ) → AllPairs ◌≢◌ marked
     → All (λ n. n < count) marked → length (unmarked marked count) + length marked ≡ count
 length-unmarked marked count once within =
@@ -852,6 +894,7 @@ length-unmarked marked count once within =
     (λ k c. passing-from among count k (All-contains (λ n. n < count) marked k within c) (among-from marked k c)) in
     omega (arith, length-only_wide among (λ k. true) (λ k e. refl) count, length-passing_all count, less, more)
 
+-- The number of nodes that are not marked is that of pending receipts.
 pub pending-count : (h : Hoard) (p : Paired) (w : Wired) (none : Receipt) (n : ℕ) → IsBuilt h p w
     → n + length w.marked ≡ length h.config.seeds + length h.arrived → IsPendingCount (meaning_of h) n
 pending-count h p w none n b total =
@@ -916,6 +959,7 @@ pending-count h p w none n b total =
           length-map h.arrived pair_of,
         )
 
+-- There are no more marked nodes than nodes, so the difference does not underflow.
 pub marked-few : (h : Hoard) (p : Paired) (w : Wired) → IsBuilt h p w → length w.marked ≤ length h.config.seeds + length h.arrived
 marked-few h p w b = omega (arith, length-unmarked w.marked (length h.config.seeds + length h.arrived) b.reached.once within)
   where

@@ -35,6 +35,7 @@ use Rattle.trust_closure.proofs.MergeFacts.{receipt_sets, record_sets, always}
 
 -- ---- a domain has one relationship
 
+-- A rising list of relationships has only one with a domain.
 same_relationship : (xs : List Relationship) (a b : Relationship) → IsStrictlySortedBy relationship_cmp xs
     → Contains xs a → Contains xs b → a.domain ≡ b.domain → a ≡ b
 same_relationship [] a b rising has holds e = absurd (contains_none a has)
@@ -64,6 +65,7 @@ same_relationship (x ∷ xs) a b rising has holds e =
       ]
     ]
 
+-- A receipt that fits has no wrong endpoint.
 fits_right : (c : Configuration) (r : Receipt) → IsConfiguration c → IsFitting c r → IsOfWrongEndpoint c r → ⊥
 fits_right c r is fits wrong =
     let one : fits.relationship ≡ wrong.relationship =
@@ -71,21 +73,25 @@ fits_right c r is fits wrong =
     wrong.has (fits.domain ∙ sym wrong.domain) in
     wrong.other (sym (ap (λ (x : Relationship). x.endpoint) one) ∙ fits.endpoint)
 
+-- A list of length 0 is empty.
 pub none_left : {X : Type 0} (xs : List X) → length xs ≡ 0 → xs ≡ []
 none_left [] e = refl
 none_left (x ∷ xs) e = absurd (omega arith)
 
 -- ---- sets grow
 
+-- One step of `with_item_grows`, for each way the item stands to the first.
 placed_grows : {X : Type 0} (o : Ordering) (x h : X) (t longer : List X) → length t ≤ length longer → length t + 1 ≤ length (placed o x h t longer)
 placed_grows Less x h t longer rest = omega arith
 placed_grows Equal x h t longer rest = omega arith
 placed_grows Greater x h t longer rest = omega arith
 
+-- Adding an item makes no set smaller.
 with_item_grows : {X : Type 0} (cmp : X → X → Ordering) (x : X) (xs : List X) → length xs ≤ length (with_item cmp x xs)
 with_item_grows cmp x [] = omega arith
 with_item_grows cmp x (h ∷ t) = let rest = placed_grows (cmp x h) x h t (with_item cmp x t) (with_item_grows cmp x t) in omega arith
 
+-- Adding many items makes no set smaller.
 with_items_grows : {X : Type 0} (cmp : X → X → Ordering) (items xs : List X) → length xs ≤ length (with_items cmp items xs)
 with_items_grows cmp [] xs = omega arith
 with_items_grows cmp (i ∷ items) xs = let first = with_item_grows cmp i xs in let rest = with_items_grows cmp items (with_item cmp i xs) in omega arith
@@ -99,12 +105,15 @@ pub record IsJoining (start now : HeldAndRoom) (all rest : List Receipt) : Type 
   pub held : with_items receipt_cmp rest now.meaning.held ≡ with_items receipt_cmp all start.meaning.held
   pub welcome : FitWithinRoom now rest
 
+-- Before the first receipt all are left: the loop's beginning.
 pub IsJoining-start : (start : HeldAndRoom) (all : List Receipt) → FitWithinRoom start all → IsJoining start start all all
 IsJoining-start start all welcome = record { config = refl; records = refl; held = refl; welcome = welcome }
 
+-- The offers of a list are those of its first receipt and of the later ones.
 offers_first : (r : Receipt) (later : List Receipt) → offers_count (r ∷ later) ≡ length (offers_of (pair_of r)) + offers_count later
 offers_first r later = sum_by-cons (λ s. length (offers_of (pair_of s))) r later
 
+-- A receipt that was taken, or was held, leaves the later ones to be joined.
 took : (start now new : HeldAndRoom) (all later : List Receipt) (r : Receipt) → IsMeaning now.meaning
     → IsJoining start now all (r ∷ later) → (taken : Taken) → Took now r new taken → IsJoining start new all later
 took start now new all later r is joining (TakenNew accepted) h =
@@ -143,6 +152,7 @@ took start now new all later r is joining TakenAlready h =
     } in
     subst (λ (s : HeldAndRoom). IsJoining start s all later) (sym h.same) stays
 
+-- No receipt that is left is refused, since it fits and there is room.
 never : (start now : HeldAndRoom) (all later : List Receipt) (r : Receipt) → IsConfiguration now.meaning.config
     → IsJoining start now all (r ∷ later) → (why : TakeError) → RefusesReceipt now.meaning now.room r why → ⊥
 never start now all later r is joining UnknownDomain h =
@@ -159,12 +169,14 @@ never start now all later r is joining NoMemory h =
     h.beyond (omega arith) (omega (arith, offers_first r later))
 never start now all later r is joining ConfigDiffers h = h
 
+-- Whatever the call returned, the later ones are left to be joined.
 takes_next : (start now new : HeldAndRoom) (all later : List Receipt) (r : Receipt) → IsMeaning now.meaning
     → IsConfiguration now.meaning.config → IsJoining start now all (r ∷ later) → (result : Result Taken Refused)
     → Takes now r new result → IsJoining start new all later
 takes_next start now new all later r is form joining (Ok taken) h = took start now new all later r is joining taken h
 takes_next start now new all later r is form joining (Err refused) h = absurd (never start now all later r form joining refused.why h.cause)
 
+-- The step of the loop over receipts.
 pub IsJoining-next : (start now new : HeldAndRoom) (m : Meaning) (all rest later : List Receipt) (r : Receipt)
     (result : Result Taken Refused) → m ≡ now.meaning → IsMeaning m → IsConfiguration m.config
     → IsJoining start now all rest → rest ≡ r ∷ later → Takes now r new result → IsJoining start new all later
@@ -173,6 +185,7 @@ IsJoining-next start now new m all rest later r result same is form joining e h 
     (subst (λ (k : Meaning). IsConfiguration k.config) same form) (subst (IsJoining start now all) e joining) result
     h
 
+-- Where none is left, all are held.
 pub IsJoining-end : (start now : HeldAndRoom) (all rest : List Receipt) → IsJoining start now all rest → rest ≡ []
     → now.meaning ≡ record start.meaning { held = with_items receipt_cmp all start.meaning.held }
 IsJoining-end start now all rest joining e =
@@ -184,17 +197,20 @@ IsJoining-end start now all rest joining e =
 
 -- ---- records in turn
 
+-- With those that are left the records will be those of all, and these are known.
 pub record IsDistrusting (start now : Meaning) (all rest : List Distrust) : Type 0 where
   pub config : now.config ≡ start.config
   pub held : now.held ≡ start.held
   pub records : with_items distrust_cmp rest now.records ≡ with_items distrust_cmp all start.records
   pub known : AreKnown now rest
 
+-- Before the first record all are left: the loop's beginning.
 pub IsDistrusting-start : (start : Meaning) (all : List Distrust) → AreKnown start all
     → IsDistrusting start start all all
 IsDistrusting-start start all known = record
     { config = refl; held = refl; records = refl; known = known }
 
+-- A record that was added, or was held, leaves the later ones to be added.
 distrusted : (start now new : Meaning) (all later : List Distrust) (x : Distrust) → IsMeaning now
     → IsDistrusting start now all (x ∷ later) → (done : Addition) → AddsRecord now x new done
     → IsDistrusting start new all later
@@ -224,6 +240,7 @@ distrusted start now new all later x is joining There h =
     }
 distrusted start now new all later x is joining NoPlace h = absurd h
 
+-- No record that is left is refused, since its domain is known and there is a place.
 never_distrusts : (start now : Meaning) (all later : List Distrust) (x : Distrust)
     → IsDistrusting start now all (x ∷ later) → (why : TakeError) → RefusesDistrust now x why → ⊥
 never_distrusts start now all later x joining UnknownDomain h = h (joining.known.domains x (contains_first x later))
@@ -237,6 +254,7 @@ never_distrusts start now all later x joining Full h =
 never_distrusts start now all later x joining NoMemory h = h
 never_distrusts start now all later x joining ConfigDiffers h = h
 
+-- Whatever the call returned, the later ones are left to be added.
 distrusts_next : (start now new : Meaning) (all later : List Distrust) (x : Distrust)
     → IsMeaning now → IsDistrusting start now all (x ∷ later) → (result : Result Addition TakeError)
     → AddsOrRefuses now x new result → IsDistrusting start new all later
@@ -245,6 +263,7 @@ distrusts_next start now new all later x is joining (Ok done) h = distrusted sta
 distrusts_next start now new all later x is joining (Err why) h = absurd
     (never_distrusts start now all later x joining why h.0)
 
+-- The step of the loop over records.
 pub IsDistrusting-next : (start now new : Meaning) (all rest later : List Distrust) (x : Distrust)
     (result : Result Addition TakeError) → IsMeaning now → IsDistrusting start now all rest
     → rest ≡ x ∷ later → AddsOrRefuses now x new result → IsDistrusting start new all later
@@ -252,6 +271,7 @@ IsDistrusting-next start now new all rest later x result is joining e h =
     distrusts_next start now new all later x is (subst (IsDistrusting start now all) e joining)
     result h
 
+-- Where none is left, all are held.
 pub IsDistrusting-end : (start now : Meaning) (all rest : List Distrust)
     → IsDistrusting start now all rest → rest ≡ []
     → now ≡ record start { records = with_items distrust_cmp all start.records }
@@ -266,15 +286,18 @@ IsDistrusting-end start now all rest joining e =
 abbrev pub HasGrown : Meaning → Meaning → Type 0
 HasGrown start now = (length start.records < length now.records) ⊎ (now ≡ start)
 
+-- More records than now are more than at the start.
 grows_to : (start now new : Meaning) → length now.records < length new.records → HasGrown start now
     → HasGrown start new
 grows_to start now new longer (inl more) = inl (omega (arith, more, longer))
 grows_to start now new longer (inr same) = inl
     (omega (arith, longer, ap (λ (m : Meaning). length m.records) same))
 
+-- No change now keeps what was so.
 stays_as : (start now new : Meaning) → new ≡ now → HasGrown start now → HasGrown start new
 stays_as start now new same grown = subst (HasGrown start) (sym same) grown
 
+-- Each record makes them more or changes nothing, so a close is needed only where they are more.
 pub grown_next : (start now new : Meaning) (x : Distrust) (result : Result Addition TakeError)
     → AddsOrRefuses now x new result → HasGrown start now → HasGrown start new
 grown_next start now new x (Ok Added) h grown =
@@ -287,12 +310,14 @@ grown_next start now new x (Err why) h grown = stays_as start now new h.1 grown
 
 -- ---- all in turn
 
+-- The records of what may be merged are known.
 pub share_known : (m now other : Meaning) (share : Share) (records : List Distrust) → IsShare m other share → now ≡ m
     → records ≡ other.records → AreKnown now records
 share_known m now other share records is same e =
     subst (λ (k : Meaning). AreKnown k records) (sym same)
     (subst (AreKnown m) (sym e) (record { domains = is.mergeable.of_config.domains; few = is.mergeable.few_records }))
 
+-- The copied receipts are welcome once there is room for them.
 pub share_welcome : (m other : Meaning) (roomy now : HeldAndRoom) (share : Share) (records : List Distrust)
     → IsShare m other share → roomy.meaning ≡ m
     → now.meaning ≡ record roomy.meaning { records = with_items distrust_cmp records roomy.meaning.records }
@@ -318,6 +343,7 @@ share_welcome m other roomy now share records is same e room roomier =
       }) k) (sym room) (record { receipts = more; offers = omega arith });
     }
 
+-- After the records and the receipts all is held that the merge promises.
 pub share_merged : (m other roomy less new : Meaning) (share : Share) (records : List Distrust) (n : ℕ)
     → IsShare m other share → n ≡ length share.copies.items → records ≡ other.records → roomy ≡ m
     → less ≡ record roomy { records = with_items distrust_cmp records roomy.records }
@@ -336,10 +362,12 @@ share_merged m other roomy less new share records n is size own e1 e2 e3 =
       count = omega arith;
     }
 
+-- What is an error is not a success.
 no_ok : {T E : Type 0} (r : Result T E) → is_err r ≡ true → IsOk r → ⊥
 no_ok (Ok v) e ok = absurd (cc)
 no_ok (Err v) e ok = absurd (cc)
 
+-- Where there was no room for the copies, a receipt had to be copied.
 wants : (m other : Meaning) (share : Share) (room : Room) (xs : List Receipt) → xs ≡ share.copies.items
     → IsShare m other share → (IsRoomier (record { receipts = length share.copies.items; offers = share.offers }) room
     → ⊥) → WantsCopies m other
@@ -359,6 +387,7 @@ wants m other share room (r ∷ rest) e is beyond =
       unheld = is.copies.unheld r has;
     }
 
+-- Where memory for the copies was refused, the merge is refused for lack of memory.
 pub share_wants : {T E : Type 0} (m other : Meaning) (share : Share) (room : Room) (n : ℕ) (r : Result T E)
     → IsShare m other share → n ≡ length share.copies.items → is_err r ≡ true
     → (IsRoomier (record { receipts = n; offers = share.offers }) room → IsOk r) → WantsCopies m other
@@ -367,12 +396,15 @@ share_wants m other share room n r is size err within =
     (λ roomier. no_ok r err
     (within (subst (λ k. IsRoomier (record { receipts = k; offers = share.offers }) room) (sym size) roomier)))
 
+-- What is promised on success holds where there is no error.
 pub on_ok : {T E : Type 0} (r : Result T E) (P : Type 0) → is_err r ≡ false → OnOk r P → P
 on_ok (Ok v) P e h = h
 on_ok (Err v) P e h = absurd (cc)
 
+-- A refusal of a merge, for equal meanings.
 pub refuses_same : (m n other same : Meaning) (why : TakeError) → m ≡ n → other ≡ same → RefusesMerge m other why → RefusesMerge n same why
 refuses_same m n other same why e f h = subst (λ (k : Meaning). RefusesMerge k same why) e (subst (λ (k : Meaning). RefusesMerge m k why) f h)
 
+-- A share of a merge, for equal meanings.
 pub share_same : (m n other same : Meaning) (share : Share) → m ≡ n → other ≡ same → IsShare m other share → IsShare n same share
 share_same m n other same share e f h = subst (λ (k : Meaning). IsShare k same share) e (subst (λ (k : Meaning). IsShare m k share) f h)

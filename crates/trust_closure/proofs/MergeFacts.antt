@@ -33,12 +33,15 @@ use Rattle.closure_core.proofs.RisingFacts.{not_again, with_items_keeps}
 
 -- ---- sets of receipts and of records
 
+-- Receipts of their form make sets: the order of lines tells them apart.
 pub receipt_sets : AreSets IsReceipt receipt_cmp
 receipt_sets = AreSets-from_total IsReceipt receipt_cmp receipt_total one_receipt
 
+-- Records of distrust make sets: their order tells any two apart.
 pub record_sets : AreSets Always distrust_cmp
 record_sets = AreSets-from_total Always distrust_cmp distrust_total (λ x y p q e. one_distrust x y e)
 
+-- What holds always holds of all records.
 pub always : (xs : List Distrust) → AllByRecursion Always xs
 always [] = tt
 always (x ∷ xs) = (tt, always xs)
@@ -50,6 +53,7 @@ pub record IsPassed {X : Type 0} (P : X → Type 0) (all rest : List X) : Type 0
   pub within : (x : X) → Contains rest x → Contains all x
   pub passed : (x : X) → Contains all x → Contains rest x ⊎ P x
 
+-- An item that has the property is passed.
 pub IsPassed-next : {X : Type 0} (P : X → Type 0) (all rest later : List X) (x : X) → IsPassed P all rest → rest ≡ x ∷ later → P x → IsPassed P all later
 IsPassed-next {X} P all rest later x passed e holds =
     let front : IsPassed P all (x ∷ later) = subst (IsPassed P all) e passed in
@@ -61,6 +65,7 @@ IsPassed-next {X} P all rest later x passed e holds =
       ];
     }
 
+-- Where nothing is left, all items have the property.
 pub IsPassed-end : {X : Type 0} (P : X → Type 0) (all rest : List X) → IsPassed P all rest → rest ≡ [] → (x : X) → Contains all x → P x
 IsPassed-end {X} P all rest passed e x has =
     elim (passed.passed x has) [
@@ -68,6 +73,7 @@ IsPassed-end {X} P all rest passed e x has =
       | inr done ↦ done
     ]
 
+-- The next item is one of all.
 pub IsPassed-has : {X : Type 0} (P : X → Type 0) (all rest later : List X) (x : X) → IsPassed P all rest → rest ≡ x ∷ later → Contains all x
 IsPassed-has {X} P all rest later x passed e = passed.within x (subst (λ (xs : List X). Contains xs x) (sym e) (contains_first x later))
 
@@ -78,6 +84,7 @@ abbrev pub IsLacking : {X : Type 0} → List X → List X → ℕ → Type 0
 IsLacking set [] n = n ≡ 0
 IsLacking set (x ∷ xs) n = (Contains set x × IsLacking set xs n) ⊎ ((Contains set x → ⊥) × ((m : ℕ) × (n ≡ m + 1) × IsLacking set xs m))
 
+-- Sets that have the same of these items lack the same number of them.
 IsLacking-other : {X : Type 0} (set more xs : List X) (n : ℕ)
     → ((x : X) → Contains xs x → Contains set x ↔ Contains more x) → IsLacking set xs n → IsLacking more xs n
 IsLacking-other set more [] n same lacking = lacking
@@ -88,6 +95,7 @@ IsLacking-other set more (x ∷ xs) n same lacking =
       | inr h ↦ inr (λ has. h.0 (here.1 has), (h.1.0, h.1.1, IsLacking-other set more xs h.1.0 (λ y has. same y (contains_later x xs y has)) h.1.2))
     ]
 
+-- Adding items makes a set larger by as many as it lacked.
 lacking_count : {X : Type 0} (P : X → Type 0) (cmp : X → X → Ordering) → AreSets P cmp → (xs set : List X) (n : ℕ)
     → AllByRecursion P xs → AllByRecursion P set → IsStrictlySortedBy cmp xs → IsStrictlySortedBy cmp set
     → IsLacking set xs n → length (with_items cmp xs set) ≡ length set + n
@@ -120,6 +128,7 @@ pub record IsCounted {X : Type 0} (set all rest : List X) (count limit : ℕ) : 
   pub lacking : (m : ℕ) → IsLacking set rest m → IsLacking set all (count + m)
   pub few : count + length rest ≤ limit
 
+-- An item that is held is not counted.
 pub IsCounted-held : {X : Type 0} (set all rest later : List X) (x : X) (count limit : ℕ)
     → IsCounted set all rest count limit → rest ≡ x ∷ later → Contains set x → IsCounted set all later count limit
 IsCounted-held set all rest later x count limit counted e has =
@@ -130,6 +139,7 @@ IsCounted-held set all rest later x count limit counted e has =
       few = omega arith;
     }
 
+-- An item that is not held is counted.
 pub IsCounted-new : {X : Type 0} (set all rest later : List X) (x : X) (count limit : ℕ)
     → IsCounted set all rest count limit → rest ≡ x ∷ later → (Contains set x → ⊥)
     → IsCounted set all later (count + 1) limit
@@ -142,16 +152,19 @@ IsCounted-new set all rest later x count limit counted e lacks =
       few = omega arith;
     }
 
+-- Where nothing is left, the count is how many are lacking.
 IsCounted-end : {X : Type 0} (set all rest : List X) (count limit : ℕ) → IsCounted set all rest count limit → rest ≡ [] → IsLacking set all count
 IsCounted-end set all rest count limit counted e =
     subst (IsLacking set all) (omega arith) (counted.lacking 0 (subst (λ xs. IsLacking set xs 0) (sym e) refl))
 
+-- The count is by how many receipts both together are more.
 pub counted_receipts : (m other : Meaning) (rest : List Receipt) (count limit : ℕ) → IsMeaning m → IsMeaning other
     → IsCounted m.held other.held rest count limit → rest ≡ [] → length (all_receipts m other) ≡ length m.held + count
 counted_receipts m other rest count limit is was counted e =
     lacking_count IsReceipt receipt_cmp receipt_sets other.held m.held count was.receipts is.receipts was.rising
     is.rising (IsCounted-end m.held other.held rest count limit counted e)
 
+-- The count is by how many records both together are more.
 pub counted_records : (m other : Meaning) (rest : List Distrust) (count limit : ℕ) → IsMeaning m → IsMeaning other
     → IsCounted m.records other.records rest count limit → rest ≡ []
     → length (all_records m other) ≡ length m.records + count
@@ -162,6 +175,7 @@ counted_records m other rest count limit is was counted e =
 
 -- ---- copies of what is not held
 
+-- Adding two lists of items is adding one after the other.
 with_items-append : {X : Type 0} (cmp : X → X → Ordering) (xs ys set : List X) → with_items cmp (xs ++ ys) set ≡ with_items cmp ys (with_items cmp xs set)
 with_items-append cmp [] ys set = refl
 with_items-append cmp (x ∷ xs) ys set = with_items-append cmp xs ys (with_item cmp x set)
@@ -174,6 +188,7 @@ pub record IsCopied (held all rest copies : List Receipt) : Type 0 where
   pub unheld : (r : Receipt) → Contains copies r → Contains held r → ⊥
   pub counted : IsCounted held all rest (length copies) 65536
 
+-- A receipt that is held is not copied.
 pub IsCopied-held : (held all rest later copies : List Receipt) (r : Receipt) → IsStrictlySortedBy receipt_cmp held
     → IsCopied held all rest copies → rest ≡ r ∷ later → Contains held r → IsCopied held all later copies
 IsCopied-held held all rest later copies r rising copied e has =
@@ -190,6 +205,7 @@ IsCopied-held held all rest later copies r rising copied e has =
       counted = IsCounted-held held all rest later r (length copies) 65536 copied.counted e has;
     }
 
+-- A receipt that is not held is copied.
 pub IsCopied-new : (held all rest later copies new : List Receipt) (r copy : Receipt) → IsCopied held all rest copies
     → rest ≡ r ∷ later → (Contains held r → ⊥) → new ≡ copies ++ copy ∷ [] → copy ≡ r → IsCopied held all later new
 IsCopied-new held all rest later copies new r copy copied e lacks push same =
@@ -208,6 +224,7 @@ IsCopied-new held all rest later copies new r copy copied e lacks push same =
       counted = subst (λ n. IsCounted held all later n 65536) (sym size) (IsCounted-new held all rest later r (length copies) 65536 copied.counted e lacks);
     }
 
+-- Where nothing is left, all are copied that are not held.
 pub IsCopied-end : (m other : Meaning) (rest copies : List Receipt) → IsMeaning m → IsMeaning other
     → IsCopied m.held other.held rest copies → rest ≡ [] → AreCopies m other copies
 IsCopied-end m other rest copies is was copied e = record {
@@ -218,13 +235,16 @@ IsCopied-end m other rest copies is was copied e = record {
   count = counted_receipts m other rest (length copies) 65536 is was copied.counted e;
 }
 
+-- The next receipt is one of all.
 pub IsCopied-has : (held all rest later copies : List Receipt) (r : Receipt) → IsCopied held all rest copies → rest ≡ r ∷ later → Contains all r
 IsCopied-has held all rest later copies r copied e = copied.within r (subst (λ (xs : List Receipt). Contains xs r) (sym e) (contains_first r later))
 
+-- A list that is not empty contains something.
 has_first : {X : Type 0} (xs : List X) → 0 < length xs → (x : X) × Contains xs x
 has_first [] some = absurd (omega arith)
 has_first (x ∷ xs) some = (x, contains_first x xs)
 
+-- Where a receipt was copied, the other has one that is not held.
 pub copies_new : (m other : Meaning) (copies : List Receipt) → AreCopies m other copies → 0 < length copies → HasNew m other
 copies_new m other copies are some =
     let first = has_first copies some in
@@ -232,18 +252,22 @@ copies_new m other copies are some =
 
 -- ---- what a test says
 
+-- What a test denies does not hold.
 pub lacks_of : (b : Bool) (P : Type 0) → b ≡ false → (IsTrue b ↔ P) → P → ⊥
 lacks_of b P e iff p = let t = iff.1 p in absurd (cc)
 
+-- A domain that has a place is one of the configuration.
 pub known_of : (c : Configuration) (domain : List ℕ) (place : Option ℕ) → IsPlace c domain place → is_some place ≡ true → HasDomain c domain
 known_of c domain None at e = absurd (cc)
 known_of c domain (Some n) at e = place_has c domain n at
 
+-- A receipt that fits changes nothing of what was found before it.
 pub fitting_next : {X : Type 0} (P : X → Type 0) (W : Type 0) (b : Bool) (all rest later : List X) (x : X)
     → MatchBool b (IsPassed P all rest) W → rest ≡ x ∷ later → P x → MatchBool b (IsPassed P all later) W
 fitting_next P W true all rest later x passed e holds = IsPassed-next P all rest later x passed e holds
 fitting_next P W false all rest later x wrong e holds = wrong
 
+-- A receipt that does not fit, and not for its domain, has a wrong endpoint.
 pub wrong_of : (c : Configuration) (r : Receipt) (why : TakeError) → Misfits c r why → false ≡ sameb the_type why UnknownDomain → IsOfWrongEndpoint c r
 wrong_of c r UnknownDomain h other = absurd (cc)
 wrong_of c r WrongEndpoint h other = h
@@ -251,14 +275,17 @@ wrong_of c r Full h other = absurd h
 wrong_of c r NoMemory h other = absurd h
 wrong_of c r ConfigDiffers h other = absurd h
 
+-- A receipt that fits is of a known domain.
 pub fit_known : (c : Configuration) (r : Receipt) → IsFitting c r → IsOfUnknownDomain c r → ⊥
 fit_known c r fits unknown = unknown fits.relationship fits.has fits.domain
 
+-- A receipt with a wrong endpoint is of a known domain.
 pub wrong_known : (c : Configuration) (r : Receipt) → IsOfWrongEndpoint c r → IsOfUnknownDomain c r → ⊥
 wrong_known c r wrong unknown = unknown wrong.relationship wrong.has wrong.domain
 
 -- ---- why a merge is refused
 
+-- A record of an unknown domain refuses the merge.
 pub refuses_record : (m other : Meaning) (c : Configuration) (xs : List Distrust) → c ≡ m.config → xs ≡ other.records
     → IsAlike m other → ((x : Distrust) × Contains xs x × (HasDomain c x.domain → ⊥))
     → RefusesMerge m other UnknownDomain
@@ -271,17 +298,20 @@ refuses_record m other c xs own its alike found = (
   ),
 )
 
+-- What was found of the records that were read holds of those of the other.
 pub knows_records : (m other : Meaning) (c : Configuration) (xs : List Distrust) → c ≡ m.config → xs ≡ other.records
     → ((x : Distrust) → Contains xs x → HasDomain c x.domain) → (x : Distrust) → Contains other.records x
     → HasDomain m.config x.domain
 knows_records m other c xs own its all x has =
     subst (λ (k : Configuration). HasDomain k x.domain) own (all x (subst (λ (ys : List Distrust). Contains ys x) (sym its) has))
 
+-- What was found of the receipts that were read holds of those of the other.
 pub fits_receipts : (m other : Meaning) (c : Configuration) (rs : List Receipt) → c ≡ m.config → rs ≡ other.held
     → ((r : Receipt) → Contains rs r → IsFitting c r) → (r : Receipt) → Contains other.held r → IsFitting m.config r
 fits_receipts m other c rs own its all r has =
     subst (λ (k : Configuration). IsFitting k r) own (all r (subst (λ (ys : List Receipt). Contains ys r) (sym its) has))
 
+-- A receipt that does not fit refuses the merge, for the cause that comes first.
 refuses_at : (m other : Meaning) → IsAlike m other
     → ((x : Distrust) → Contains other.records x → HasDomain m.config x.domain) → (why : TakeError)
     → MisfitsOne m.config other.held why → RefusesMerge m other why
@@ -292,6 +322,7 @@ refuses_at m other alike known Full h = absurd h
 refuses_at m other alike known NoMemory h = absurd h
 refuses_at m other alike known ConfigDiffers h = absurd h
 
+-- A receipt that does not fit, among those that were read, refuses the merge.
 pub refuses_receipt : (m other : Meaning) (c : Configuration) (rs : List Receipt) → c ≡ m.config → rs ≡ other.held
     → IsAlike m other → ((x : Distrust) → Contains other.records x → HasDomain m.config x.domain) → (why : TakeError)
     → MisfitsOne c rs why → RefusesMerge m other why
@@ -300,10 +331,12 @@ refuses_receipt m other c rs own its alike known why h =
     (subst (λ (k : Configuration). MisfitsOne k other.held why) own
     (subst (λ (ys : List Receipt). MisfitsOne c ys why) its h))
 
+-- A negation that is false has a true inside.
 turned_not : (b : Bool) → false ≡ not b → true ≡ b
 turned_not true e = refl
 turned_not false e = absurd (cc)
 
+-- Digests that the comparison finds equal are equal.
 pub alike_of : (m other : Meaning) (c d : Configuration) (a b : List ℕ) → c ≡ m.config → d ≡ other.config
     → a ≡ config_id_of c → b ≡ config_id_of d → false ≡ not (pointwise nat_eq a b) → IsAlike m other
 alike_of m other c d a b own its first second same =

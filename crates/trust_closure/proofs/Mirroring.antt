@@ -14,11 +14,13 @@ use Rattle.trust_closure.proofs.Arrows.{arrows-push}
 
 -- arrows name labels that are there, so more labels change none
 
+-- A label keeps its place when more come.
 pub slice_get-more : {A : Type 0} (xs ys : List A) (i : ℕ) (x : A) → slice_get xs i ≡ Some x → slice_get (xs ++ ys) i ≡ Some x
 slice_get-more [] ys i x e = absurd (omega (arith, slice_get_within [] i x e))
 slice_get-more (z ∷ xs) ys zero x e = e
 slice_get-more (z ∷ xs) ys (suc i) x e = slice_get-more xs ys i x e
 
+-- The new label stands at the end.
 pub slice_get-push : {A : Type 0} (xs : List A) (x : A) → slice_get (xs ++ x ∷ []) (length xs) ≡ Some x
 slice_get-push [] x = refl
 slice_get-push (z ∷ xs) x = slice_get-push xs x
@@ -28,19 +30,23 @@ abbrev pub AreNamed : {A : Type 0} → List (Arrow A) → Type 0
 AreNamed [] = Unit {0}
 AreNamed {A} (arrow ∷ arrows) = ((label : A) × (arrow.label ≡ Some label)) × AreNamed arrows
 
+-- The arrows of one node name labels.
 AreNamed-map : {A : Type 0} (node : ℕ) (labels : List A) → AreNamed (map (arrow_at node) labels)
 AreNamed-map node [] = tt
 AreNamed-map node (label ∷ labels) = ((label, refl), AreNamed-map node labels)
 
+-- What two lists of arrows name, both together do.
 AreNamed-append : {A : Type 0} (xs ys : List (Arrow A)) → AreNamed xs → AreNamed ys → AreNamed (xs ++ ys)
 AreNamed-append [] ys a b = b
 AreNamed-append (x ∷ xs) ys a b = (a.0, AreNamed-append xs ys a.1 b)
 
+-- The arrows of spots name labels.
 pub AreNamed-arrows : {A : Type 0} (of : Spot A → List A) (node : ℕ) (spots : List (Spot A)) → AreNamed (arrows_from of node spots)
 AreNamed-arrows of node [] = tt
 AreNamed-arrows of node (spot ∷ spots) =
     AreNamed-append (map (arrow_at node) (of spot)) (arrows_from of (node + 1) spots) (AreNamed-map node (of spot)) (AreNamed-arrows of (node + 1) spots)
 
+-- More labels leave the arrows of offer edges as they are.
 offers-named : {A : Type 0} (labels more : List A) (edges : List Edge) → AreNamed (map (offer_arrow labels) edges)
     → map (offer_arrow (labels ++ more)) edges ≡ map (offer_arrow labels) edges
 offers-named labels more [] a = refl
@@ -50,6 +56,7 @@ offers-named {A = A} labels more (edge ∷ edges) a =
     ap (λ (o : Option A). let arrow : Arrow A = record { node = edge.from; label = o } in arrow) e in
     ap (λ first. first ∷ map (offer_arrow (labels ++ more)) edges) same ∙ ap (λ rest. offer_arrow labels edge ∷ rest) (offers-named labels more edges a.1)
 
+-- More labels leave the arrows of wait edges as they are.
 waits-named : {A : Type 0} (labels more : List A) (edges : List Edge) → AreNamed (map (wait_arrow labels) edges)
     → map (wait_arrow (labels ++ more)) edges ≡ map (wait_arrow labels) edges
 waits-named labels more [] a = refl
@@ -59,7 +66,7 @@ waits-named {A = A} labels more (edge ∷ edges) a =
     ap (λ (o : Option A). let arrow : Arrow A = record { node = edge.to; label = o } in arrow) e in
     ap (λ first. first ∷ map (wait_arrow (labels ++ more)) edges) same ∙ ap (λ rest. wait_arrow labels edge ∷ rest) (waits-named labels more edges a.1)
 
--- what is the label at a place when one more is added
+-- What stands among labels with one more stood there or is the new one.
 pub slice_get-push_cases : {A : Type 0} (xs : List A) (x : A) (i : ℕ) (y : A) → slice_get (xs ++ x ∷ []) i ≡ Some y
     → ((i < length xs) × (slice_get xs i ≡ Some y)) ⊎ ((i ≡ length xs) × (x ≡ y))
 slice_get-push_cases [] x zero y e = inr (refl, same_Some x y e)
@@ -73,6 +80,7 @@ slice_get-push_cases (z ∷ xs) x (suc i) y e =
 
 -- ---- which labels are used
 
+-- A label that is used is so with one more spot.
 IsUsed-push : {A : Type 0} (spots : List (Spot A)) (spot : Spot A) (label : A) → IsUsed spots label
     → IsUsed (spots ++ spot ∷ []) label
 IsUsed-push spots spot label h = record {
@@ -81,6 +89,7 @@ IsUsed-push spots spot label h = record {
   uses = h.uses;
 }
 
+-- What the last spot offers or awaits is used.
 IsUsed-last : {A : Type 0} (spots : List (Spot A)) (spot : Spot A) (label : A)
     → Contains spot.offers label ⊎ (spot.awaits ≡ Some label) → IsUsed (spots ++ spot ∷ []) label
 IsUsed-last spots spot label uses = record {
@@ -89,7 +98,7 @@ IsUsed-last spots spot label uses = record {
   uses = uses;
 }
 
--- another last spot, which uses what that one does
+-- What is used stays so where the last spot is replaced by one that uses what it does.
 IsUsed-other : {A : Type 0} (spots : List (Spot A)) (spot other : Spot A) (label : A)
     → (Contains spot.offers label → Contains other.offers label)
     → (spot.awaits ≡ Some label → other.awaits ≡ Some label)
@@ -119,10 +128,11 @@ pub record MirrorsBut {A : Type 0} (IsNew : A → Type 0) (spots : List (Spot A)
   pub used : (label : A) → Contains labels label → IsUsed spots label ⊎ IsNew label
 
 module _ {A : Type 0} (spots : List (Spot A)) (labels : List A) (IsShut : A → Type 0) (net : Net) (h : Mirrors spots labels IsShut net) where
+  -- There is one node for each spot.
   pub length-roots : length net.roots ≡ length spots
   length-roots = ap length h.roots ∙ length-map spots (λ (s : Spot A). s.rooted)
 
-  -- a node is added
+  -- With a node more the net mirrors a bare spot more.
   pub Mirrors-node : Mirrors (spots ++ bare_spot ∷ []) labels IsShut (with_node net)
   Mirrors-node = record {
     roots = ap (λ rs. rs ++ false ∷ []) h.roots ∙ sym (map_push (λ (s : Spot A). s.rooted) spots bare_spot);
@@ -134,7 +144,7 @@ module _ {A : Type 0} (spots : List (Spot A)) (labels : List A) (IsShut : A → 
     used = λ label c. IsUsed-push spots bare_spot label (h.used label c);
   }
 
-  -- none is added
+  -- A net that mirrors the spots does so whichever labels are new.
   pub Mirrors-but : (IsNew : A → Type 0) → MirrorsBut IsNew spots labels IsShut net
   Mirrors-but IsNew = record {
     roots = h.roots;
@@ -146,7 +156,7 @@ module _ {A : Type 0} (spots : List (Spot A)) (labels : List A) (IsShut : A → 
     used = λ label c. inl (h.used label c);
   }
 
-  -- a label is added
+  -- With a new label the net mirrors the spots, but none needs to use that label.
   pub Mirrors-label : (IsNew : A → Type 0) (label : A) (closed : Bool) → IsNew label
       → (Contains labels label → ⊥) → ((closed ≡ true) ↔ IsShut label)
       → MirrorsBut IsNew spots (labels ++ label ∷ []) IsShut (with_label net closed)
@@ -175,7 +185,7 @@ module _ {A : Type 0} (spots : List (Spot A)) (labels : List A) (IsShut : A → 
         ];
   }
 
-  -- other words for what is shut, and other flags that say so
+  -- A net with other flags mirrors the spots where these flags say what is shut.
   pub Mirrors-shut : (IsShut' : A → Type 0) (flags : List Bool) → length flags ≡ length net.closed
       → ((number : ℕ) (label : A) → slice_get labels number ≡ Some label
       → (get_or flags number false ≡ true) ↔ IsShut' label)
@@ -192,17 +202,21 @@ module _ {A : Type 0} (spots : List (Spot A)) (labels : List A) (IsShut : A → 
 
 -- The last spot changes.
 
+-- the spot as that of a root
 abbrev pub rooted_spot : {A : Type 0} → Spot A → Spot A
 rooted_spot spot = record spot { rooted = true }
 
+-- the spot with one more offer
 abbrev pub offering_spot : {A : Type 0} → Spot A → A → Spot A
 offering_spot spot label = record spot { offers = spot.offers ++ label ∷ [] }
 
+-- the spot that awaits the label
 abbrev pub awaiting_spot : {A : Type 0} → Spot A → A → Spot A
 awaiting_spot spot label = record spot { awaits = Some label }
 
 module _ {A : Type 0} (spots : List (Spot A)) (spot : Spot A) (labels : List A) (IsShut : A
     → Type 0) (net : Net) (h : Mirrors (spots ++ spot ∷ []) labels IsShut net) where
+  -- When the last spot's node becomes a root, the net mirrors the rooted spot.
   pub Mirrors-root : Mirrors (spots ++ rooted_spot spot ∷ []) labels IsShut (with_root net (length spots))
   Mirrors-root = record {
     roots = ap (λ rs. set rs (length spots) true) (h.roots ∙ map_push (λ (s : Spot A). s.rooted) spots spot)
@@ -221,11 +235,13 @@ module _ {A : Type 0} (spots : List (Spot A)) (spot : Spot A) (labels : List A) 
 module _ {A : Type 0} (spots : List (Spot A)) (spot : Spot A) (labels : List A)
     (IsShut : A → Type 0) (net : Net) (label : A)
     (h : MirrorsBut (λ other. label ≡ other) (spots ++ spot ∷ []) labels IsShut net) where
+  -- The roots stay where the last spot is replaced by one that is a root exactly if it is.
   same-roots : (other : Spot A) → spot.rooted ≡ other.rooted → net.roots ≡ map (λ (s : Spot A). s.rooted) (spots ++ other ∷ [])
   same-roots other e =
       h.roots ∙ map_push (λ (s : Spot A). s.rooted) spots spot ∙ ap (λ b. map (λ (s : Spot A). s.rooted) spots ++ b ∷ []) e
       ∙ sym (map_push (λ (s : Spot A). s.rooted) spots other)
 
+  -- When the last spot's node offers the label, the net mirrors the spot with that offer.
   pub Mirrors-offer : (number : ℕ) → slice_get labels number ≡ Some label
       → Mirrors (spots ++ offering_spot spot label ∷ []) labels IsShut
       (with_offer net (length spots) number)
@@ -259,6 +275,7 @@ module _ {A : Type 0} (spots : List (Spot A)) (spot : Spot A) (labels : List A)
             ];
       }
 
+  -- When the last spot's node awaits the label, the net mirrors the spot that awaits it.
   pub Mirrors-wait : (number : ℕ) → spot.awaits ≡ None → slice_get labels number ≡ Some label
       → Mirrors (spots ++ awaiting_spot spot label ∷ []) labels IsShut
       (with_wait net number (length spots))

@@ -18,10 +18,12 @@ use Rattle.closure_core.proofs.NodeFacts.{is_counted, length-flags, flag-counted
 
 -- ---- flags of counts, one more
 
+-- A count of 0 at the end is a lowered flag at the end.
 pub flags-push : (old new : List ℕ) → new ≡ old ++ 0 ∷ []
     → flags_of new ≡ flags_of old ++ false ∷ []
 flags-push old new e = ap flags_of e ∙ map_push is_counted old 0
 
+-- A count of 0 at the end changes no count.
 pub count_at-push : (counts : List ℕ) (n : ℕ) → count_at (counts ++ 0 ∷ []) n ≡ count_at counts n
 count_at-push counts n = elim (cases_lt n (length counts)) [
   | inl l ↦ get_or_append_left counts (0 ∷ []) 0 n l
@@ -34,30 +36,36 @@ count_at-push counts n = elim (cases_lt n (length counts)) [
 
 -- ---- how many nodes have a document
 
+-- The nodes of two lists that have a document add up.
 pub nodes_with-append : (firsts xs ys : List ℕ) (n : ℕ)
     → nodes_with firsts (xs ++ ys) n ≡ nodes_with firsts xs n + nodes_with firsts ys n
 nodes_with-append firsts xs ys n = sum_by-append (λ node. cond (first_of_node firsts node == n) 1 0)
     xs ys
 
+-- No more nodes have a document than there are.
 pub nodes_with-few : (firsts nodes : List ℕ) (n : ℕ) → nodes_with firsts nodes n ≤ length nodes
 nodes_with-few firsts nodes n = count_by-le-length (λ node. first_of_node firsts node == n) nodes
 
+-- No more of the first nodes have a document than of all.
 pub nodes_with-taken : (firsts nodes : List ℕ) (k n : ℕ)
     → nodes_with firsts (take k nodes) n ≤ nodes_with firsts nodes n
 nodes_with-taken firsts nodes k n = sum_by-take-le
     (λ node. cond (first_of_node firsts node == n) 1 0) nodes k
 
+-- No more of the first k nodes have a document than k.
 pub nodes_with-short : (firsts nodes : List ℕ) (k n : ℕ) → nodes_with firsts (take k nodes) n ≤ k
 nodes_with-short firsts nodes k n = omega
     (arith, nodes_with-few firsts (take k nodes) n, length-take k nodes)
 
 module _ (firsts nodes : List ℕ) (k number : ℕ) (l : k < length nodes)
     (at : first_of_node firsts (get_or nodes k 0) ≡ number) where
+  -- The next node has this document, so there is one more of it.
   pub nodes_with-same : nodes_with firsts (take (k + 1) nodes) number ≡ nodes_with firsts
       (take k nodes) number + 1
   nodes_with-same = count_by_more_yes (λ node. first_of_node firsts node == number) nodes k 0 l
       (eq-eqb (first_of_node firsts (get_or nodes k 0)) number at)
 
+  -- The next node has none of the other documents.
   pub nodes_with-other : (n : ℕ) → (n ≡ number → ⊥)
       → nodes_with firsts (take (k + 1) nodes) n ≡ nodes_with firsts (take k nodes) n
   nodes_with-other n other =
@@ -72,6 +80,7 @@ module _ (firsts nodes : List ℕ) (k number : ℕ) (l : k < length nodes)
 
 -- ---- one after another
 
+-- The step of the loop that raises counts.
 pub AddsNodes-more : (firsts nodes old mid : List ℕ) (k number : ℕ) → k < length nodes
     → first_of_node firsts (get_or nodes k 0) ≡ number → number < length mid
     → AddsNodes firsts (take k nodes) old mid
@@ -96,6 +105,7 @@ AddsNodes-more firsts nodes old mid k number l at within h = record {
   ];
 }
 
+-- The step of the loop that lowers counts.
 pub AddsNodes-fewer : (firsts nodes old mid : List ℕ) (k number : ℕ) → k < length nodes
     → first_of_node firsts (get_or nodes k 0) ≡ number → number < length mid
     → 0 < count_at mid number
@@ -122,7 +132,7 @@ AddsNodes-fewer firsts nodes old mid k number l at within some h = record {
   ];
 }
 
--- the count of the next one is not 0
+-- The count of the next node's document is not 0, so it can be lowered.
 pub next-counted : (firsts nodes old mid : List ℕ) (k number : ℕ) → k < length nodes
     → first_of_node firsts (get_or nodes k 0) ≡ number
     → nodes_with firsts nodes number ≤ count_at old number
@@ -137,7 +147,7 @@ next-counted firsts nodes old mid k number l at counted h =
       h.each number,
     )
 
--- how many counts are not 0, where one is another
+-- How many counts are not 0 after one is set, by its old and its new value.
 pub counted-set : (counts : List ℕ) (number value : ℕ) → number < length counts
     → raised_count (flags_of (set counts number value)) + cond (is_counted (count_at counts number))
     1 0 ≡ raised_count (flags_of counts) + cond (is_counted value) 1 0
@@ -155,21 +165,26 @@ counted-set counts number value l =
 -- ---- a count is not 0 where one of the nodes has the document
 
 module _ (firsts : List ℕ) (n : ℕ) where
+  -- what a node adds to the number of those with the document
   abbrev one_at : ℕ → ℕ
   one_at node = cond (first_of_node firsts node == n) 1 0
 
+  -- The first node adds what it adds.
   with-cons : (node : ℕ) (nodes : List ℕ)
       → nodes_with firsts (node ∷ nodes) n ≡ one_at node + nodes_with firsts nodes n
   with-cons node nodes = sum_by-cons one_at node nodes
 
+  -- A node with the document adds 1.
   has-one : (node : ℕ) → first_of_node firsts node ≡ n → one_at node ≡ 1
   has-one node e = ap (λ b. cond b 1 0) (eq-eqb (first_of_node firsts node) n e)
 
+  -- A node has the document or adds nothing.
   one-has : (node : ℕ) → (b : Bool) → eqb (first_of_node firsts node) n ≡ b
       → (first_of_node firsts node ≡ n) ⊎ (one_at node ≡ 0)
   one-has node true e = inl (eqb-true (first_of_node firsts node) n e)
   one-has node false e = inr (ap (λ b. cond b 1 0) e)
 
+  -- Where a node has the document, the number of those is not 0.
   pub first-nodes : (nodes : List ℕ) → IsFirstOf firsts nodes n → 0 < nodes_with firsts nodes n
   first-nodes [] f = absurd (contains_none f.0 f.1)
   first-nodes (x ∷ xs) f = elim (contains_cases x xs f.0 f.1) [
@@ -182,6 +197,7 @@ module _ (firsts : List ℕ) (n : ℕ) where
     | inr later ↦ omega (arith, with-cons x xs, first-nodes xs (f.0, later, f.2))
   ]
 
+  -- Where the number is not 0, a node has the document.
   pub nodes-first : (nodes : List ℕ) → All (λ k. k < length firsts) nodes
       → 0 < nodes_with firsts nodes n → IsFirstOf firsts nodes n
   nodes-first [] small l = absurd (omega (arith, l))
@@ -272,10 +288,11 @@ pub counts-from_zero : (firsts nodes zeros counts : List ℕ) → ((n : ℕ) →
     → AddsNodes firsts nodes zeros counts → AreCounts firsts nodes counts
 counts-from_zero firsts nodes zeros counts none adds n = omega (arith, none n, adds.each n)
 
--- one count is another: as many are not 0 where both are or are not, one more where 0 has risen,
--- one less where it has
--- fallen to 0
+-- One count is set. As many counts are not 0 as before where both values are 0 or neither is, one
+-- more where 0 has risen, and one fewer where it has fallen to 0.
 module _ (counts : List ℕ) (number value : ℕ) (l : number < length counts) where
+  -- What one count that is set does to the number of those that are not 0: the three lemmas below
+  -- are its cases.
   one_more : (b c : Bool) → is_counted (count_at counts number) ≡ b → is_counted value ≡ c
       → raised_count (flags_of (set counts number value)) + cond b 1 0 ≡ raised_count
       (flags_of counts) + cond c 1 0
@@ -286,6 +303,7 @@ module _ (counts : List ℕ) (number value : ℕ) (l : number < length counts) w
     ap {B = ℕ} (λ b. cond b 1 0) f,
   )
 
+  -- Neither is 0: as many as before.
   pub count-stays : 0 < count_at counts number → 0 < value
       → raised_count (flags_of (set counts number value)) ≡ raised_count (flags_of counts)
   count-stays some still = omega (
@@ -294,6 +312,7 @@ module _ (counts : List ℕ) (number value : ℕ) (l : number < length counts) w
         (positive-counted (count_at counts number) some) (positive-counted value still),
   )
 
+  -- Only the old one is 0: one more.
   pub count-rises : count_at counts number ≡ 0 → 0 < value
       → raised_count (flags_of (set counts number value)) ≡ raised_count (flags_of counts) + 1
   count-rises none now = omega (
@@ -302,6 +321,7 @@ module _ (counts : List ℕ) (number value : ℕ) (l : number < length counts) w
         (positive-counted value now),
   )
 
+  -- Only the new one is 0: one fewer.
   pub count-falls : 0 < count_at counts number → value ≡ 0
       → raised_count (flags_of counts) ≡ raised_count (flags_of (set counts number value)) + 1
   count-falls some none = omega (

@@ -29,9 +29,11 @@ use Rattle.closure_core.specs.AcceptedList.{document_cmp}
 use Rattle.closure_core.specs.Inside.Nodes.{is_raised, flags_of}
 use Rattle.trust_closure.specs.Pairs.{pair_cmp, no_pair, pair_at, Paired, AreRising, IsPairing, PutsFirst, HasRaised}
 
+-- The order of pairs is total.
 pub pair-total : IsTotalOrder pair_cmp
 pair-total = then_total (on_total (λ (p : Pair). p.domain) nat_list_cmp_total) (on_total (λ (p : Pair). p.document) document_total)
 
+-- What ties by two comparisons ties by each.
 then-first : (a b : Ordering) → ordering_then a b ≡ Equal → (a ≡ Equal) × (b ≡ Equal)
 then-first Less b e = absurd (cc)
 then-first Equal b e = (refl, e)
@@ -50,7 +52,7 @@ pair-exact p q f g e =
     ap (λ (d : List ℕ). let x : Pair = record { domain = d; document = p.document } in x) domain
     ∙ ap (λ (b : Bundle). let x : Pair = record { domain = q.domain; document = b } in x) document
 
--- what stands before another stands to what is sought no later than that
+-- A pair before another stands to what is sought no later than that.
 index-rises : (a b x : Pair) → pair_cmp a b ≡ Less → (o : Ordering) → pair_cmp b x ≡ o → ordering_index (pair_cmp a x) ≤ ordering_index o
 index-rises a b x l Less e = let f : pair_cmp a x ≡ Less = pair-total.trans a b x l e in omega (arith, ap ordering_index f)
 index-rises a b x l Equal e = let f : pair_cmp a x ≡ Less = sym (alike_right pair-total b x a e) ∙ l in omega (arith, ap ordering_index f)
@@ -61,6 +63,7 @@ index-rises a b x l Greater e = most (pair_cmp a x)
     most Equal = omega arith
     most Greater = omega arith
 
+-- Pairs in order rise for the search of one.
 pub rising-sought : (pairs : List Pair) (numbers : List ℕ) (x : Pair) → AreRising pairs numbers → IsRising (λ n. pair_cmp (pair_at pairs n) x) numbers
 rising-sought pairs numbers x h = record {
   rising = λ i j d l within.
@@ -83,9 +86,11 @@ rising-sought pairs numbers x h = record {
 module _ (R : ℕ → ℕ → Type 0) (numbers : List ℕ) (place x : ℕ) (within : place ≤ length numbers)
     (before : (k : ℕ) → k < place → R (get_or numbers k 0) x) (after : (k : ℕ) → place ≤ k → k < length numbers
     → R x (get_or numbers k 0)) (h : AllPairs R numbers) where
+  -- A place within the list reads the same with any default.
   at_zero : (k : ℕ) (d : ℕ) → k < length (insert numbers place x) → get_or (insert numbers place x) k d ≡ get_or (insert numbers place x) k 0
   at_zero k d l = get_or_default (insert numbers place x) k d 0 l
 
+  -- Any two numbers of the longer list stand as the test wants.
   in_place : (i j : ℕ) → i < j → j < length (insert numbers place x) → R (get_or (insert numbers place x) i 0) (get_or (insert numbers place x) j 0)
   in_place i j l last =
       let size = length-insert numbers place x within in
@@ -128,6 +133,7 @@ module _ (R : ℕ → ℕ → Type 0) (numbers : List ℕ) (place x : ℕ) (with
             ]
       ]
 
+  -- So the longer list rises under the test.
   pub AllPairs-insert : AllPairs R (insert numbers place x)
   AllPairs-insert i j d l last =
       subst (λ a. R a (get_or (insert numbers place x) j d)) (sym (at_zero i d (omega (arith, l, last))))
@@ -135,10 +141,12 @@ module _ (R : ℕ → ℕ → Type 0) (numbers : List ℕ) (place x : ℕ) (with
 
 -- ---- one number for each different pair
 
+-- What is read within the list stands there.
 pair-from_at : (pairs : List Pair) (n : ℕ) (q : Pair) → n < length pairs → pair_at pairs n ≡ q → slice_get pairs n ≡ Some q
 pair-from_at pairs n q l e = slice_get-get_or pairs n no_pair l ∙ ap (λ (p : Pair). Some p) e
 
 module _ (pairs : List Pair) (p : Paired) (h : IsPairing pairs p) where
+  -- Two numbers in order with one pair are one number.
   pub pairing-once : (a b : ℕ) (q : Pair) → Contains p.numbers a → Contains p.numbers b → slice_get pairs a ≡ Some q → slice_get pairs b ≡ Some q → a ≡ b
   pairing-once a b q ca cb ea eb =
       let fa : pair_at pairs a ≡ q = get_or_from_slice_get pairs a q no_pair ea in
@@ -167,13 +175,14 @@ module _ (pairs : List Pair) (p : Paired) (h : IsPairing pairs p) where
             ]
       ]
 
-  -- what a number in the place of a pair stands for
+  -- A number in order whose pair ties with another has that pair.
   pub pair-at_equal : (n : ℕ) (q : Pair) → Contains p.numbers n → IsBundle q.document → pair_cmp (pair_at pairs n) q ≡ Equal → slice_get pairs n ≡ Some q
   pair-at_equal n q c f e =
       let l : n < length pairs = All-contains (λ k. k < length pairs) p.numbers n h.within c in
       let form : IsBundle (pair_at pairs n).document = h.forms n no_pair l in
       pair-from_at pairs n q l (pair-exact (pair_at pairs n) q form f e)
 
+  -- The flag of the number that the search finds says whether the pair is raised.
   pub raised-found : (place number : ℕ) (q : Pair) (flag : Bool) → IsBundle q.document
       → IsFound (λ n. pair_cmp (pair_at pairs n) q) p.numbers place
       → number ≡ get_or p.numbers place 0 → flag ≡ is_raised (flags_of p.counts) number
@@ -186,6 +195,7 @@ module _ (pairs : List Pair) (p : Paired) (h : IsPairing pairs p) where
             (pairing-once number r.number q has r.has at r.at) ∙ r.raised,
       )
 
+  -- A pair that the search does not find is not raised.
   pub raised-missing : (place : ℕ) (q : Pair) → IsMissing (λ n. pair_cmp (pair_at pairs n) q) p.numbers place → HasRaised pairs p q → ⊥
   raised-missing place q m r =
       let tied : pair_cmp (pair_at pairs (get_or p.numbers r.has.0 r.number)) q ≡ Equal =
@@ -200,12 +210,15 @@ module _ (pairs : List Pair) (p : Paired) (h : IsPairing pairs p) where
 
 -- ---- one more node
 
+-- What holds of all numbers, and of one more, holds after it is inserted.
 All-insert : {A : Type 0} (P : A → Type 0) (xs : List A) (i : ℕ) (x : A) → All P xs → P x → All P (insert xs i x)
 All-insert P xs i x h p = All-append P (take i xs) (x ∷ drop i xs) (All-take P i xs h) (All-cons P x (drop i xs) p (All-drop P i xs h))
 
+-- The number that is inserted is there.
 Contains-insert : {A : Type 0} (xs : List A) (i : ℕ) (x : A) → Contains (insert xs i x) x
 Contains-insert xs i x = Contains-append_right (take i xs) (x ∷ drop i xs) x (0, omega arith, refl)
 
+-- The numbers that were there still are.
 Contains-insert_old : {A : Type 0} (xs : List A) (i : ℕ) (x y : A) → Contains xs y → Contains (insert xs i x) y
 Contains-insert_old xs i x y c =
     elim (Contains-append_cases (take i xs) (drop i xs) y (subst (λ ys. Contains ys y) (sym (take-append-drop i xs)) c)) [
@@ -214,20 +227,25 @@ Contains-insert_old xs i x y c =
     ]
 
 module _ (pairs : List Pair) (q : Pair) where
+  -- An old number keeps its pair, with a default.
   at-left : (n : ℕ) → n < length pairs → pair_at (pairs ++ q ∷ []) n ≡ pair_at pairs n
   at-left n l = get_or_append_left pairs (q ∷ []) no_pair n l
 
+  -- An old number keeps its pair.
   get-left : (n : ℕ) → n < length pairs → slice_get (pairs ++ q ∷ []) n ≡ slice_get pairs n
   get-left n l =
       slice_get-get_or (pairs ++ q ∷ []) n no_pair (omega (arith, l, length_push pairs q))
       ∙ ap (λ (p : Pair). Some p) (at-left n l) ∙ sym (slice_get-get_or pairs n no_pair l)
 
+  -- The new number has the new pair, with a default.
   at-last : (n : ℕ) → n ≡ length pairs → pair_at (pairs ++ q ∷ []) n ≡ q
   at-last n e = get_or_push pairs q no_pair n (sym e)
 
+  -- The new number has the new pair.
   get-last : (n : ℕ) → n ≡ length pairs → slice_get (pairs ++ q ∷ []) n ≡ Some q
   get-last n e = slice_get-get_or (pairs ++ q ∷ []) n no_pair (omega (arith, e, length_push pairs q)) ∙ ap (λ (p : Pair). Some p) (at-last n e)
 
+  -- Old pairs stand to one another as they did.
   rises-still : (i j : ℕ) → i < length pairs → j < length pairs → pair_cmp (pair_at pairs i) (pair_at pairs j) ≡ Less
       → pair_cmp (pair_at (pairs ++ q ∷ []) i) (pair_at (pairs ++ q ∷ []) j) ≡ Less
   rises-still i j k l e =
@@ -243,14 +261,17 @@ module _ (pairs : List Pair) (q : Pair) where
     pub at : slice_get (pairs ++ q ∷ []) first ≡ Some q
 
   module _ (p : Paired) (h : IsPairing pairs p) (form : IsBundle q.document) where
+    -- The old numbers are numbers of the longer list.
     more-within : All (λ n. n < length (pairs ++ q ∷ [])) p.numbers
     more-within = All-weaker (λ n. n < length pairs) (λ n. n < length (pairs ++ q ∷ [])) (λ n l. omega (arith, l, length_push pairs q)) p.numbers h.within
 
+    -- The old numbers are still in order.
     more-rising : AreRising (pairs ++ q ∷ []) p.numbers
     more-rising i j d l last =
         rises-still (get_or p.numbers i d) (get_or p.numbers j d) (h.within i d (omega (arith, l, last)))
         (h.within j d last) (h.rising i j d l last)
 
+    -- The numbers in order have the new pair's first number.
     has-more : (number first : ℕ) (new : List ℕ) → number ≡ length pairs → PutsFirst pairs q number p.numbers new first → HasMore p.numbers new first
     has-more number first new e puts =
         elim puts [
@@ -294,6 +315,7 @@ module _ (pairs : List Pair) (q : Pair) where
               }
         ]
 
+-- After one more node each pair still has its first number.
 pub pairing-more : (pairs : List Pair) (old new : Paired) (q : Pair) (number first : ℕ)
     → IsPairing pairs old → IsBundle q.document → number ≡ length old.firsts
     → PutsFirst pairs q number old.numbers new.numbers first → new.firsts ≡ old.firsts ++ first ∷ []

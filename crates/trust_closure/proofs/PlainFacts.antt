@@ -28,19 +28,23 @@ use Rattle.trust_closure.proofs.Vouching.{vouches-from_offer, offer-from_vouches
 
 -- ---- an item is among others
 
+-- Of two tests of which one passes, the first or the second does.
 or_split : (b c : Bool) → (b || c) ≡ true → (b ≡ true) ⊎ (c ≡ true)
 or_split true c e = inl refl
 or_split false c e = inr e
 
+-- Where the first test passes, one of both does.
 or_first : (b c : Bool) → b ≡ true → (b || c) ≡ true
 or_first true c e = refl
 or_first false c e = absurd (both_ways false refl e)
 
+-- Where the second test passes, one of both does.
 or_second : (b c : Bool) → c ≡ true → (b || c) ≡ true
 or_second true c e = refl
 or_second false c e = e
 
 module _ {T : Type 0} (test : T → Bool) (t : T) where
+  -- Where a test that knows the item passes for some item of the list, the list contains it.
   pub any_has : ((x : T) → test x ≡ true → x ≡ t) → (xs : List T) → list_any test xs ≡ true → Contains xs t
   any_has exact [] e = absurd (both_ways false refl e)
   any_has exact (x ∷ xs) e = elim (or_split (test x) (list_any test xs) e) [
@@ -48,6 +52,7 @@ module _ {T : Type 0} (test : T → Bool) (t : T) where
     | inr later ↦ contains_later x xs t (any_has exact xs later)
   ]
 
+  -- Where the list contains the item, the test passes for one.
   pub has_any : test t ≡ true → (xs : List T) → Contains xs t → list_any test xs ≡ true
   has_any self [] has = absurd (contains_none t has)
   has_any self (x ∷ xs) has = elim (contains_cases x xs t has) [
@@ -55,6 +60,7 @@ module _ {T : Type 0} (test : T → Bool) (t : T) where
     | inr later ↦ or_second (test x) (list_any test xs) (has_any self xs later)
   ]
 
+-- A place within the list has an item.
 pub item_at : {T : Type 0} (xs : List T) (k : ℕ) → k < length xs → (x : T) × (slice_get xs k ≡ Some x)
 item_at [] k l = absurd (omega (arith, l))
 item_at (x ∷ xs) zero l = (x, refl)
@@ -63,9 +69,12 @@ item_at (x ∷ xs) (suc k) l = item_at xs k (omega (arith, l))
 -- ---- what is offered by receipts
 
 module _ (arrived : List Receipt) (released : List Bool) (t : Triple) where
+  -- Before the first receipt nothing is offered.
   pub offered-none : IsOfferedBelow arrived released t 0 → ⊥
   offered-none o = omega (arith, o.below)
 
+  -- Where no receipt before a place offers the triple, and the one there is not raised or does not
+  -- offer it, none up to it does.
   pub offered-step : (k : ℕ) (r : Receipt) → slice_get arrived k ≡ Some r
       → (is_raised released k ≡ true → Contains (offers_of (pair_of r)) t → ⊥)
       → (IsOfferedBelow arrived released t k → ⊥) → IsOfferedBelow arrived released t (k + 1) → ⊥
@@ -81,6 +90,7 @@ module _ (arrived : List Receipt) (released : List Bool) (t : Triple) where
 
 module _ (m : Meaning) (arrived : List Receipt) (seed_offers : List Triple) (offers : AreSeedOffers m.config.seeds seed_offers)
     (same : (r : Receipt) → Contains m.held r ↔ Contains arrived r) (valid : IsMeaning m) where
+  -- A receipt that is vouched for in a round is one that an accepted document vouches for.
   pub vouched-released : (released : List Bool) → AreSound m arrived released → (r : Receipt) → Contains arrived r
       → IsVouched m.records seed_offers arrived released r → IsReleased m r
   vouched-released released sound r has v =
@@ -107,6 +117,8 @@ module _ (m : Meaning) (arrived : List Receipt) (seed_offers : List Triple) (off
             }
       ]
 
+  -- Where a round finds none, the flags are exactly those of the receipts that an accepted document
+  -- vouches for.
   pub quiet-released : (released : List Bool) → AreSound m arrived released
       → AreQuietBelow m.records seed_offers arrived released (length arrived) → AreReleased m arrived released
   quiet-released released sound quiet place r at = (
@@ -136,7 +148,7 @@ module _ (m : Meaning) (arrived : List Receipt) (seed_offers : List Triple) (off
       all_offered p is = member_least m (λ (q : Pair). (t : Triple) → Contains (offers_of q) t → IsOffered seed_offers arrived released t)
           record { seeds = λ s has t c. inl ((offers t).1 (s, has, c)); steps = step } p is
 
--- one more flag is raised
+-- To raise the flag of a receipt that an accepted document vouches for raises none wrongly.
 pub sound-more : (m : Meaning) (arrived : List Receipt) (released : List Bool) (place : ℕ) (r : Receipt)
     → place < length released → slice_get arrived place ≡ Some r → IsReleased m r → AreSound m arrived released
     → AreSound m arrived (set released place true)
@@ -145,7 +157,7 @@ sound-more m arrived released place r below at is sound k s there raised = elim 
   | inr other ↦ sound k s there (sym (get_or-set_other released place k true false other) ∙ raised)
 ]
 
--- the next receipt is vouched for by none
+-- A round stays quiet past a receipt whose flag is raised or that nothing vouches for.
 pub quiet-more : (records : List Distrust) (seed_offers : List Triple) (arrived : List Receipt) (released : List Bool)
     (k : ℕ) (r : Receipt) → slice_get arrived k ≡ Some r
     → (is_raised released k ≡ false → IsVouched records seed_offers arrived released r → ⊥)
@@ -160,13 +172,16 @@ quiet-more records seed_offers arrived released k r at not quiet place s below t
 
 -- ---- flags of documents
 
+-- Before the first node nothing is accepted.
 pub first-none : (seeds : ℕ) (released : List Bool) (firsts : List ℕ) (number : ℕ) → IsFirstAccepted seeds released firsts 0 number → ⊥
 first-none seeds released firsts number f = omega (arith, f.below)
 
 module _ (seeds : ℕ) (released : List Bool) (firsts : List ℕ) (k : ℕ) where
+  -- What was accepted before a node is so after it.
   pub first-later : (number : ℕ) → IsFirstAccepted seeds released firsts k number → IsFirstAccepted seeds released firsts (k + 1) number
   first-later number f = record { node = f.node; below = omega (arith, f.below); had = f.had; first = f.first }
 
+  -- A node that is not accepted adds nothing.
   pub first-skip : (IsAcceptedNode seeds released k → ⊥) → (number : ℕ)
       → IsFirstAccepted seeds released firsts (k + 1) number → IsFirstAccepted seeds released firsts k number
   first-skip not number f = elim (cases_lt f.node k) [
@@ -174,6 +189,7 @@ module _ (seeds : ℕ) (released : List Bool) (firsts : List ℕ) (k : ℕ) wher
     | inr l ↦ let e : f.node ≡ k = omega (arith, l, f.below) in absurd (not (subst (IsAcceptedNode seeds released) e f.had))
   ]
 
+  -- An accepted node raises the flag of its document.
   pub first-more : (nodes : List ℕ) → nodes ≡ k ∷ [] → IsAcceptedNode seeds released k → (old new : List Bool) → Raises firsts nodes old new
       → ((number : ℕ) → (is_raised old number ≡ true) ↔ IsFirstAccepted seeds released firsts k number)
       → (number : ℕ) → (is_raised new number ≡ true) ↔ IsFirstAccepted seeds released firsts (k + 1) number
@@ -196,6 +212,7 @@ module _ (seeds : ℕ) (released : List Bool) (firsts : List ℕ) (k : ℕ) wher
       only n c = elim (contains_cases k [] n c) [ inl e ↦ sym e | inr none ↦ absurd (contains_none n none) ]
 
 module _ (h : Hoard) (p : Paired) (seed_offers : List Triple) (released : List Bool) (i : HasPlainFlags h p seed_offers released) where
+  -- The document of an accepted node is accepted.
   had-member : (node : ℕ) (q : Pair) → IsAcceptedNode (length h.config.seeds) released node
       → slice_get (pairs_of h.config.seeds h.arrived) node ≡ Some q → IsMember (meaning_of h) q
   had-member node q had at = elim (slice_get-append_cases (map pair_of_seed h.config.seeds) (map pair_of h.arrived) node q at) [
@@ -219,6 +236,7 @@ module _ (h : Hoard) (p : Paired) (seed_offers : List Triple) (released : List B
     pub had : IsAcceptedNode (length h.config.seeds) released node
     pub at : slice_get (pairs_of h.config.seeds h.arrived) node ≡ Some q
 
+  -- An accepted document has an accepted node.
   member-had : (q : Pair) → IsMember (meaning_of h) q → IsAt q
   member-had q is = elim (member_grounds (meaning_of h) q is) [
     | inl s ↦
@@ -237,6 +255,7 @@ module _ (h : Hoard) (p : Paired) (seed_offers : List Triple) (released : List B
         }
   ]
 
+  -- The flags of the documents say what is accepted.
   pub plain-tells : TellsMembers (meaning_of h) (pairs_of h.config.seeds h.arrived) p.numbers
       (flags_of p.counts)
   plain-tells = record {
@@ -252,7 +271,7 @@ module _ (h : Hoard) (p : Paired) (seed_offers : List Triple) (released : List B
     once = λ one other q. pairing-once (pairs_of h.config.seeds h.arrived) p i.set.pairing one other q;
   }
 
-  -- a raised flag is membership
+  -- A pair's flag is raised exactly where its document is accepted.
   pub plain-member : (q : Pair) → HasRaised (pairs_of h.config.seeds h.arrived) p q ↔ IsMember (meaning_of h) q
   plain-member q = (
     λ r. plain-tells.sound r.number q r.raised r.at,

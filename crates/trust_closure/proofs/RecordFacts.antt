@@ -26,6 +26,7 @@ use Rattle.closure_core.proofs.ContainsFacts.{IsMapped, mapped}
 use Rattle.closure_core.proofs.RisingFacts.{sought, with_item_at, with_item_rising, each_has, turned_less}
 use Rattle.std.proofs.lemmas.List.Edits.{length-insert}
 
+-- The order of records is total.
 pub record_total : IsTotalOrder record_cmp
 record_total = then_total (on_texts (λ (r : Record). r.key.0)) (on_total (λ (r : Record). r.domain) nat_cmp_total)
 
@@ -52,21 +53,24 @@ module _ {X : Type 0} {R : X → X → Ordering} (o : IsTotalOrder R) where
       let greater : R x x ≡ Greater = subst (λ y. R y x ≡ Greater) has.2 (after has.0 x above has.1) in cc)
       (cases_lt has.0 place)
 
-  -- a binary search's refusal
+  -- What a binary search that finds nothing says of a rising list.
   pub searched : (xs : List X) (x : X) (place : ℕ) → IsStrictlySortedBy R xs
       → (IsNonDecreasingBy (λ y. ordering_index (R y x)) xs
       → IsPartitionPoint (λ y. R y x ≡ Less) (λ y. R y x ≡ Greater) xs place)
       → IsPartitionPoint (λ y. R y x ≡ Less) (λ y. R y x ≡ Greater) xs place
   searched xs x place rising splits = splits (sought o xs x rising)
 
+-- A record that ties with what is sought is it, so it is held.
 pub held_at : (xs : List Record) (x : Record) (k : ℕ) → k < length xs → HoldsAt (λ y. record_cmp y x ≡ Equal) xs k → Contains xs x
 held_at xs x k below at = (k, below, one_record (get_or xs k x) x (at x))
 
 -- ---- numbers of domains are in the domains' order
 
+-- What stands before a domain has that after it.
 turned_greater : (d e : List ℕ) → domain_cmp e d ≡ Less → domain_cmp d e ≡ Greater
 turned_greater d e h = turned_less (on_texts (λ (x : List ℕ). x)) e d h
 
+-- Domains stand to one another as their numbers do.
 pub cmp_numbers : (domains : List (List ℕ)) (i j : ℕ) → IsStrictlySortedBy domain_cmp domains → i < length domains
     → j < length domains → domain_cmp (get_or domains i []) (get_or domains j []) ≡ nat_cmp i j
 cmp_numbers domains i j rising p q =
@@ -82,11 +86,13 @@ cmp_numbers domains i j rising p q =
     (cases_lt j i))
     (cases_lt i j)
 
+-- Records of distrust stand to one another as the records by number do.
 pub cmp_records : (domains : List (List ℕ)) (a b : Record) → IsStrictlySortedBy domain_cmp domains
     → a.domain < length domains → b.domain < length domains
     → distrust_cmp (distrust_by domains a) (distrust_by domains b) ≡ record_cmp a b
 cmp_records domains a b rising p q = ap (λ o. ordering_then (key_cmp a.key b.key) o) (cmp_numbers domains a.domain b.domain rising p q)
 
+-- One step of `distrusts_with`, for each way the record stands to the first.
 placed_map : (domains : List (List ℕ)) (r s : Ordering) (x h : Record) (t longer : List Record) → r ≡ s
     → map (distrust_by domains) (placed s x h t longer)
     ≡ placed r (distrust_by domains x) (distrust_by domains h) (distrusts_of domains t) (distrusts_of domains longer)
@@ -100,6 +106,7 @@ placed_map domains r Greater x h t longer e =
     ap (λ o. placed o (distrust_by domains x) (distrust_by domains h) (distrusts_of domains t)
     (distrusts_of domains longer)) (sym e)
 
+-- To add a record by number is to add its record of distrust.
 pub distrusts_with : (domains : List (List ℕ)) (x : Record) (records : List Record)
     → IsStrictlySortedBy domain_cmp domains → x.domain < length domains → AreWithin (length domains) records
     → distrusts_of domains (with_item record_cmp x records)
@@ -111,6 +118,7 @@ distrusts_with domains x (h ∷ t) rising within all =
     ∙ ap (λ longer. placed (distrust_cmp (distrust_by domains x) (distrust_by domains h)) (distrust_by domains x)
     (distrust_by domains h) (distrusts_of domains t) longer) (distrusts_with domains x t rising within all.1)
 
+-- What stands before all records by number stands before all records of distrust.
 below_map : (domains : List (List ℕ)) (x : Record) (records : List Record) → IsStrictlySortedBy domain_cmp domains
     → x.domain < length domains → AreWithin (length domains) records
     → AllByRecursion (λ y. record_cmp x y ≡ Less) records
@@ -119,6 +127,7 @@ below_map domains x [] rising within all below = tt
 below_map domains x (h ∷ t) rising within all below =
     (cmp_records domains x h rising within all.0 ∙ below.0, below_map domains x t rising within all.1 below.1)
 
+-- Records that rise by number make records of distrust that rise.
 pub distrusts_rising : (domains : List (List ℕ)) (records : List Record) → IsStrictlySortedBy domain_cmp domains
     → AreWithin (length domains) records → IsStrictlySortedBy record_cmp records
     → IsStrictlySortedBy distrust_cmp (distrusts_of domains records)
@@ -128,6 +137,7 @@ distrusts_rising domains (h ∷ t) rising all sorted = (below_map domains h t ri
 
 -- ---- a record is held exactly if its distrust is
 
+-- Where the record of distrust is held, so is the record by number.
 pub record_of : (domains : List (List ℕ)) (x : Record) (records : List Record) → IsStrictlySortedBy domain_cmp domains
     → x.domain < length domains → AreWithin (length domains) records
     → Contains (distrusts_of domains records) (distrust_by domains x) → Contains records x
@@ -139,17 +149,20 @@ record_of domains x records rising within all has =
     let same : found.item ≡ x = one_record found.item x (sym (cmp_records domains found.item x rising inside within) ∙ tied) in
     subst (Contains records) same found.has
 
+-- Without records all is kept as it should be.
 pub no_records : (capacity : ℕ) → 4096 ≤ capacity → AreRecords [] capacity
 unfolding IsStrictlySortedBy
 no_records capacity room = record { rising = tt; few = omega arith; room = room }
 
 -- ---- one record more
 
+-- A record is added by putting it where the search ended.
 pub with_record : (xs new : List Record) (x : Record) (place : ℕ) → IsStrictlySortedBy record_cmp xs
     → IsPartitionPoint (λ y. record_cmp y x ≡ Less) (λ y. record_cmp y x ≡ Greater) xs place → place ≤ length xs
     → new ≡ insert xs place x → new ≡ with_item record_cmp x xs
 with_record xs new x place rising split within e = e ∙ sym (with_item_at record_total x xs place within split.0 split.1)
 
+-- The records are kept as they should be after one more.
 pub more_records : (xs new : List Record) (x : Record) (place capacity room : ℕ) → AreRecords xs capacity
     → length xs < 4096 → place ≤ length xs → new ≡ insert xs place x → new ≡ with_item record_cmp x xs → capacity ≤ room
     → AreRecords new room
@@ -162,7 +175,7 @@ more_records xs new x place capacity room are few within inserted e wider =
       room = omega arith;
     }
 
--- what a binary search answers
+-- What a binary search returns says whether the record is held.
 pub holds_found : (xs : List Record) (x : Record) (r : Result ℕ ℕ) → IsStrictlySortedBy record_cmp xs
     → IsSearchInRange r (length xs) → IsBinarySearchResult (λ y. record_cmp y x) xs r → IsTrue (is_ok r) ↔ Contains xs x
 holds_found xs x (Ok k) rising range found = (λ t. held_at xs x k range found, λ h. refl)

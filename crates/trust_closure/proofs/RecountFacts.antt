@@ -14,7 +14,7 @@ use Rattle.closure_core.proofs.CountFacts.{no_longer, no_more}
 use Rattle.trust_closure.proofs.NodeCountFacts.{nodes_with-append}
 use Rattle.trust_closure.proofs.IndexFacts.{among-from, among-to, different-from_pairs, length-unmarked}
 
--- what is taken back was open, and what falls was reached
+-- What is taken back was open.
 taken-open : (net : Net) (closing : List ℕ) (label : ℕ) → IsTakenBack net closing label
     → IsOpen net label
 taken-open net closing label (itself c o) = o
@@ -22,6 +22,7 @@ taken-open net closing label (beyond {here = here} {node = node} {i = i} {j = j}
     let o = taken-open net closing here b in
     record { not_closed = c; offered = (j, node, e, step o.offered.3 o.offered.2 o.not_closed w) }
 
+-- A node that falls was reached.
 fallen-reached : (net : Net) (closing : List ℕ) (node : ℕ) → IsFallen net closing node
     → IsReached net node
 fallen-reached net closing node f =
@@ -30,6 +31,7 @@ fallen-reached net closing node f =
 
 -- ---- different items
 
+-- Lists of different items, which have none in common, are different together.
 different-both : {T : Type 0} (xs ys : List T) → AreDifferent xs → AreDifferent ys
     → ((x : T) → Contains xs x → Contains ys x → ⊥) → AreDifferent (xs ++ ys)
 different-both [] ys d e apart = e
@@ -39,6 +41,7 @@ different-both (x ∷ xs) ys d e apart = (
   different-both xs ys d.1 e (λ y a b. apart y (contains_later x xs y a) b),
 )
 
+-- The front of different items is different.
 different-front : {T : Type 0} (xs ys : List T) → AreDifferent (xs ++ ys) → AreDifferent xs
 different-front [] ys d = tt
 different-front (x ∷ xs) ys d = (
@@ -47,6 +50,7 @@ different-front (x ∷ xs) ys d = (
       d.1,
 )
 
+-- The rest of different items is different.
 different-back : {T : Type 0} (xs ys : List T) → AreDifferent (xs ++ ys) → AreDifferent ys
 different-back [] ys d = d
 different-back (x ∷ xs) ys d = different-back xs ys d.1
@@ -56,21 +60,25 @@ different-back (x ∷ xs) ys d = different-back xs ys d.1
 module _ (net : Net) (old closing fallen : List ℕ) (kept : ℕ) (marked : List ℕ)
     (r : ListsReached net old) (t : TellsFallen net closing fallen kept marked)
     (once : AllPairs ◌≢◌ marked) where
+  -- The nodes that are marked now are different.
   different : AreDifferent (take kept marked ++ drop kept marked)
   different = subst AreDifferent (sym (take-append-drop kept marked))
       (different-from_pairs marked once)
 
+  -- The nodes that stayed and those that fell are different.
   whole : AreDifferent (take kept marked ++ fallen)
   whole = different-both (take kept marked) fallen
       (different-front (take kept marked) (drop kept marked) different)
       (different-from_pairs fallen t.once) (λ n a b. ((t.front n).0 a).1 ((t.fell n).0 b))
 
+  -- The nodes that stayed and those that fell were marked.
   was : (n : ℕ) → Contains (take kept marked ++ fallen) n → Contains old n
   was n c = elim (Contains-append_cases (take kept marked) fallen n c) [
     | inl a ↦ r.all n ((t.front n).0 a).0
     | inr a ↦ r.all n (fallen-reached net closing n ((t.fell n).0 a))
   ]
 
+  -- What was marked stayed or fell.
   stands : (n : ℕ) → Contains old n → Contains (take kept marked ++ fallen) n
   stands n c = elim (cases_Bool (is_among fallen n)) [
     | inl a ↦ Contains-append_right (take kept marked) fallen n (among-to fallen n a)
@@ -82,10 +90,11 @@ module _ (net : Net) (old closing fallen : List ℕ) (kept : ℕ) (marked : List
         ))
   ]
 
+  -- What is marked again had fallen.
   again : (n : ℕ) → Contains (drop kept marked) n → Contains fallen n
   again n c = (t.fell n).1 ((t.again n).0 c).0
 
-  -- each document had as many of the ones as of the others
+  -- Each document had as many of the marked nodes as of those that stayed and of those that fell.
   pub nodes-before : (firsts : List ℕ) (n : ℕ)
       → nodes_with firsts old n ≡ nodes_with firsts (take kept marked) n + nodes_with firsts fallen
       n
@@ -98,6 +107,8 @@ module _ (net : Net) (old closing fallen : List ℕ) (kept : ℕ) (marked : List
         sum_by-append f (take kept marked) fallen,
       )
 
+  -- Each document has as many of the marked nodes as of those that stayed and of those marked
+  -- again.
   pub nodes-now : (firsts : List ℕ) (n : ℕ)
       → nodes_with firsts marked n ≡ nodes_with firsts (take kept marked) n + nodes_with firsts
       (drop kept marked) n
@@ -111,6 +122,7 @@ module _ (net : Net) (old closing fallen : List ℕ) (kept : ℕ) (marked : List
       (drop kept marked) fallen (different-back (take kept marked) (drop kept marked) different)
       again
 
+  -- As many nodes were marked as stayed and fell.
   lengths : length old ≡ length (take kept marked) + length fallen
   lengths = omega (
     arith,
@@ -119,14 +131,17 @@ module _ (net : Net) (old closing fallen : List ℕ) (kept : ℕ) (marked : List
     length-append (take kept marked) fallen,
   )
 
+  -- The number of those that stayed is within the list of marked nodes.
   pub kept-within : length fallen + kept ≡ length old → kept ≤ length marked
   kept-within many = omega (arith, many, lengths, length-take kept marked)
 
+  -- What holds of the nodes that were marked holds of those that fell.
   pub fallen-within : (P : ℕ → Type 0) → All P old → All P fallen
   fallen-within P h k d l = All-contains P old (get_or fallen k d) h
       (was (get_or fallen k d) (Contains-append_right (take kept marked) fallen (get_or fallen k d)
       (Contains-get_or fallen k d l)))
 
+  -- What holds of the nodes that were marked holds of those that are marked again.
   pub again-within : (P : ℕ → Type 0) → All P old → All P (drop kept marked)
   again-within P h k d l = All-contains P fallen (get_or (drop kept marked) k d) (fallen-within P h)
       (again (get_or (drop kept marked) k d) (Contains-get_or (drop kept marked) k d l))

@@ -22,6 +22,7 @@ use Rattle.trust_closure.specs.Plain.{AreSeedOffers, IsSet, HasPlainFlags, IsSow
 use Rattle.trust_closure.proofs.NodeCountFacts.{count_at-push}
 use Rattle.closure_core.proofs.FlagFacts.{passing, passing-to, passing-from, passing-differ, only_wide, length-only_wide, count-passing, different-map}
 
+-- The offers of the configured documents, with one document more.
 offers-more : (seeds : List Seed) (s : Seed) (offers more : List Triple) → AreSeedOffers seeds offers
     → more ≡ offers_of (pair_of_seed s) → AreSeedOffers (seeds ++ s ∷ []) (offers ++ more)
 offers-more seeds s offers more are is t = (
@@ -37,6 +38,7 @@ offers-more seeds s offers more are is t = (
   ],
 )
 
+-- What is sown is right for one more configured document.
 pub sown-more : (h : Hoard) (seeds : List Seed) (s : Seed) (p a q : Paired) (offers more all : List Triple) (first : ℕ)
     → h.arrived ≡ [] → IsSown h seeds p offers
     → IsPairing (pairs_of seeds h.arrived ++ pair_of_seed s ∷ []) q → a.counts ≡ p.counts
@@ -61,6 +63,7 @@ sown-more h seeds s p a q offers more all first none g pairing f1 f2 counts firs
       offers = subst (AreSeedOffers (seeds ++ s ∷ [])) (sym whole) (offers-more seeds s offers more g.offers is);
     }
 
+-- With all configured documents what is kept besides the flags is right.
 pub sown-set : (h : Hoard) (p : Paired) (offers : List Triple) (seeds : List Seed) → seeds ≡ h.config.seeds
     → IsMeaning (meaning_of h) → h.held ≡ [] → h.arrived ≡ [] → IsSown h seeds p offers → IsSet h p offers []
 sown-set h p offers seeds are valid held arrived g = record {
@@ -72,15 +75,18 @@ sown-set h p offers seeds are valid held arrived g = record {
   size = sym (ap length arrived);
 }
 
+-- Without receipts no flag has to be raised.
 pub none-released : (h : Hoard) (released : List Bool) → h.arrived ≡ [] → AreReleased (meaning_of h) h.arrived released
 none-released h released arrived place r at = absurd (omega (arith, slice_get_within h.arrived place r at, ap length arrived))
 
 -- ---- pending receipts
 
+-- All numbers below a bound pass the test that passes all.
 length-passing_every : (n : ℕ) → length (passing (λ k. true) n) ≡ n
 length-passing_every zero = refl
 length-passing_every (suc n) = ap suc (length-passing_every n)
 
+-- The number of receipts whose flags are not raised is that of pending receipts.
 pub pending-plain : (h : Hoard) (p : Paired) (offers : List Triple) (released : List Bool) (none : Receipt) (n : ℕ)
     → HasPlainFlags h p offers released → n + raised_count released ≡ length released → IsPendingCount (meaning_of h) n
 pending-plain h p offers released none n i total =

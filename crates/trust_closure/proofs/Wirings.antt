@@ -29,7 +29,7 @@ use Rattle.closure_core.proofs.RisingFacts.{each_has}
 
 -- ---- domains are different
 
--- what stands twice in a rising list stands at one place
+-- No item of a rising list stands at two places.
 pub rising-one_place : (xs : List (List ℕ)) → IsStrictlySortedBy domain_cmp xs → (i j : ℕ) (x : List ℕ) → i < j
     → slice_get xs i ≡ Some x → slice_get xs j ≡ Some x → ⊥
 unfolding IsStrictlySortedBy
@@ -44,6 +44,7 @@ rising-one_place (y ∷ xs) s zero (suc j) x l a b =
 rising-one_place (y ∷ xs) s (suc i) zero x l a b = omega arith
 rising-one_place (y ∷ xs) s (suc i) (suc j) x l a b = rising-one_place xs s.1 i j x (omega (arith, l)) a b
 
+-- A domain has one number.
 pub domain-one_number : (domains : List (List ℕ)) → IsStrictlySortedBy domain_cmp domains → (i j : ℕ)
     → i < length domains → j < length domains → get_or domains i [] ≡ get_or domains j [] → i ≡ j
 domain-one_number domains rising i j k l e =
@@ -59,7 +60,7 @@ domain-one_number domains rising i j k l e =
     ]
 
 module _ (domains : List (List ℕ)) (rising : IsStrictlySortedBy domain_cmp domains) where
-  -- labels of domains that are there stand for different triples
+  -- Labels that stand for one triple are one label.
   triple-one_label : (a b : Label) → a.domain < length domains → b.domain < length domains → triple_by domains a ≡ triple_by domains b → a ≡ b
   triple-one_label a b k l e =
       let domain : a.domain ≡ b.domain = domain-one_number domains rising a.domain b.domain k l (ap (λ (t : Triple). t.domain) e) in
@@ -71,12 +72,14 @@ module _ (domains : List (List ℕ)) (rising : IsStrictlySortedBy domain_cmp dom
 
   -- a label gets its number
 
+  -- the number is that of the triple's label, which alone may be used by no spot yet
   pub record IsNumbered (records : List Distrust) (spots : List (Spot Triple)) (more : List Label) (wider : Net) (number : ℕ) (t : Triple) : Type 0 where
     pub within : All (λ (label : Label). label.domain < length domains) more
     pub mirrors : MirrorsBut (λ other. t ≡ other) spots (map (triple_by domains) more)
         (IsShutBy records) wider
     pub named : slice_get (map (triple_by domains) more) number ≡ Some t
 
+  -- After its number is looked up or made, the label has it.
   numbered : (records : List Distrust) (spots : List (Spot Triple)) (labels : List Label) (net : Net) (label : Label)
       (closed : Bool) (more : List Label) (wider : Net) (number : ℕ) (t : Triple)
       → All (λ (l : Label). l.domain < length domains) labels → Mirrors spots (map (triple_by domains) labels) (IsShutBy records) net
@@ -125,6 +128,7 @@ module _ (domains : List (List ℕ)) (rising : IsStrictlySortedBy domain_cmp dom
   -- ---- one call
 
   module _ (records : List Distrust) (spots : List (Spot Triple)) (old new : Wired) where
+    -- When a node is added, the wiring mirrors a bare spot more.
     pub wiring-node : (node : ℕ) → IsWiringOf domains records spots old → HasNode old new node → IsWiringOf domains records (spots ++ bare_spot ∷ []) new
     wiring-node node h n = record {
       within = All-same (λ (x : Label). x.domain < length domains) new.labels old.labels n.labels h.within;
@@ -133,6 +137,7 @@ module _ (domains : List (List ℕ)) (rising : IsStrictlySortedBy domain_cmp dom
           (Mirrors-node spots (map (triple_by domains) old.labels) (IsShutBy records) old.net h.mirrors));
     }
 
+    -- When the last node becomes a root, the wiring mirrors a rooted spot.
     pub wiring-root : (spot : Spot Triple) (node : ℕ) → node ≡ length spots
         → IsWiringOf domains records (spots ++ spot ∷ []) old → IsRooted old node new
         → IsWiringOf domains records (spots ++ rooted_spot spot ∷ []) new
@@ -143,6 +148,7 @@ module _ (domains : List (List ℕ)) (rising : IsStrictlySortedBy domain_cmp dom
           (Mirrors-root spots spot (map (triple_by domains) old.labels) (IsShutBy records) old.net h.mirrors));
     }
 
+    -- When the last node offers a label, the wiring mirrors a spot with that offer.
     pub wiring-offer : (spot : Spot Triple) (node : ℕ) (label : Label) (closed : Bool) (t : Triple)
         → node ≡ length spots → label.domain < length domains → triple_by domains label ≡ t
         → ((closed ≡ true) ↔ IsShutBy records t) → IsWiringOf domains records (spots ++ spot ∷ []) old
@@ -156,6 +162,7 @@ module _ (domains : List (List ℕ)) (rising : IsStrictlySortedBy domain_cmp dom
               (Mirrors-offer spots spot (map (triple_by domains) new.labels) (IsShutBy records) o.wider t n.mirrors o.number n.named);
         }
 
+    -- When the last node awaits a label, the wiring mirrors a spot that awaits it.
     pub wiring-wait : (spot : Spot Triple) (node : ℕ) (label : Label) (closed : Bool) (t : Triple) → node ≡ length spots
         → spot.awaits ≡ None → label.domain < length domains → triple_by domains label ≡ t
         → ((closed ≡ true) ↔ IsShutBy records t) → IsWiringOf domains records (spots ++ spot ∷ []) old
@@ -171,10 +178,12 @@ module _ (domains : List (List ℕ)) (rising : IsStrictlySortedBy domain_cmp dom
 
 -- ---- labels of triples
 
+-- A triple's label names a domain that is there.
 pub label-within : (c : Configuration) (domains : List (List ℕ)) (t : Triple) (label : Label) → AreDomains c domains
     → IsLabelOf c t label → label.domain < length domains
 label-within c domains t label d h = slice_get_within domains label.domain t.domain (h.domain domains d)
 
+-- A triple's label stands for it.
 pub label-triple : (c : Configuration) (domains : List (List ℕ)) (t : Triple) (label : Label) → AreDomains c domains
     → IsLabelOf c t label → triple_by domains label ≡ t
 label-triple c domains t label d h =
@@ -185,12 +194,15 @@ label-triple c domains t label d h =
 
 -- ---- domains of receipts and of what they offer
 
+-- The domain of a receipt that fits is one of the configuration.
 pub fitting-domain : (c : Configuration) (r : Receipt) → IsFitting c r → HasDomain c r.domain
 fitting-domain c r h = inl (h.relationship, h.has, h.domain)
 
+-- The endpoint's domain of a receipt that fits is one of the configuration.
 pub fitting-endpoint : (c : Configuration) (r : Receipt) → IsFitting c r → HasDomain c r.endpoint.domain
 fitting-endpoint c r h = inr (inl (h.relationship, h.has, ap (λ e. e.domain) h.endpoint))
 
+-- What a document offers is of its own domain.
 pub offers-domain : (P : List ℕ → Type 0) (p : Pair) → P p.domain → All (λ (t : Triple). P t.domain) (offers_of p)
 offers-domain P p h k d l =
     let f = Contains-from_map (offer_of p) (key_ids p.document.authorities) (get_or (offers_of p) k d) (Contains-get_or (offers_of p) k d l) in
@@ -200,6 +212,7 @@ offers-domain P p h k d l =
 
 module _ (c : Configuration) (records : List Distrust) (old new : Wired) (node : ℕ) (label : Label) (closed : Bool)
     (t : Triple) (is : IsLabelOf c t label) (when : (closed ≡ true) ↔ IsShutBy records t) where
+  -- After the node offers the label, the wiring mirrors a spot with that offer.
   pub offer-mirrors : Offers old node label closed new
       → (domains : List (List ℕ)) (spots : List (Spot Triple)) (spot : Spot Triple) → AreDomains c domains
       → node ≡ length spots → IsWiringOf domains records (spots ++ spot ∷ []) old
@@ -208,6 +221,7 @@ module _ (c : Configuration) (records : List Distrust) (old new : Wired) (node :
       wiring-offer domains d.rising records spots old new spot node label closed t at
       (label-within c domains t label d is) (label-triple c domains t label d is) when h o
 
+  -- After the node awaits the label, the wiring mirrors a spot that awaits it.
   pub wait-mirrors : Awaits old node label closed new
       → (domains : List (List ℕ)) (spots : List (Spot Triple)) (spot : Spot Triple) → AreDomains c domains
       → node ≡ length spots → spot.awaits ≡ None → IsWiringOf domains records (spots ++ spot ∷ []) old
@@ -219,15 +233,18 @@ module _ (c : Configuration) (records : List Distrust) (old new : Wired) (node :
 -- offers come one after another
 
 module _ (domains : List (List ℕ)) (records : List Distrust) (spots : List (Spot Triple)) (spot : Spot Triple) (triples : List Triple) (w : Wired) where
+  -- Equal offers are mirrored alike.
   other-offers : (before after : List Triple) → before ≡ after
       → IsWiringOf domains records (spots ++ record spot { offers = before } ∷ []) w
       → IsWiringOf domains records (spots ++ record spot { offers = after } ∷ []) w
   other-offers before after e h = subst (λ (os : List Triple). IsWiringOf domains records (spots ++ record spot { offers = os } ∷ []) w) e h
 
+  -- Before the first offer the spot has its own offers alone: the loop's beginning.
   pub offers-none : IsWiringOf domains records (spots ++ spot ∷ []) w
       → IsWiringOf domains records (spots ++ record spot { offers = spot.offers ++ take 0 triples } ∷ []) w
   offers-none h = other-offers spot.offers (spot.offers ++ []) (sym (append-nil spot.offers)) h
 
+  -- One offer more of the list is mirrored: the loop's step.
   pub offers-more : (k : ℕ) (t : Triple) → k < length triples → t ≡ get_or triples k t
       → IsWiringOf domains records (spots ++ record spot { offers = (spot.offers ++ take k triples) ++ t ∷ [] } ∷ []) w
       → IsWiringOf domains records (spots ++ record spot { offers = spot.offers ++ take (k + 1) triples } ∷ []) w
@@ -237,6 +254,7 @@ module _ (domains : List (List ℕ)) (records : List Distrust) (spots : List (Sp
       ∙ ap (λ ts. spot.offers ++ ts) (ap (λ x. take k triples ++ x ∷ []) e ∙ sym (take_more triples k t l)))
       h
 
+  -- When no offer is left, all of the list are mirrored: the loop's end.
   pub offers-all : (k : ℕ) → length triples ≤ k
       → IsWiringOf domains records (spots ++ record spot { offers = spot.offers ++ take k triples } ∷ []) w
       → IsWiringOf domains records (spots ++ record spot { offers = spot.offers ++ triples } ∷ []) w
@@ -244,14 +262,17 @@ module _ (domains : List (List ℕ)) (records : List Distrust) (spots : List (Sp
 
 -- ---- marked nodes stay in their places
 
+-- What stays at the front twice stays there.
 pub front-trans : {A : Type 0} (xs ys zs : List A) → take (length xs) ys ≡ xs → take (length ys) zs ≡ ys → take (length xs) zs ≡ xs
 front-trans xs ys zs a b =
     let few : length xs ≤ length ys = omega (arith, ap length (sym a), length-take (length xs) ys) in
     sym (take-take (length xs) (length ys) zs few) ∙ ap (take (length xs)) b ∙ a
 
+-- Without an edge nothing changes.
 pub Widens-none : (w : Wired) → Widens 0 w w
 Widens-none w = record { roots = refl; front = take_all (length w.marked) w.marked (omega arith); nodes = refl; room = omega arith }
 
+-- Some edges, and then some more, take the room of both.
 pub Widens-more : (k n : ℕ) (a b d : Wired) → Widens k a b → Widens n b d → Widens (k + n) a d
 Widens-more k n a b d f g = record {
   roots = g.roots ∙ f.roots;
@@ -262,6 +283,7 @@ Widens-more k n a b d f g = record {
 
 -- ---- a receipt's node
 
+-- There is one node for each spot, so the next node's number is known.
 pub node-number : (domains : List (List ℕ)) (records : List Distrust) (spots : List (Spot Triple)) (w : Wired)
     → IsWiringOf domains records spots w → length w.net.roots ≡ length spots
 node-number domains records spots w h = length-roots spots (map (triple_by domains) w.labels) (IsShutBy records) w.net h.mirrors

@@ -36,6 +36,7 @@ before_all t h n =
       | inr e ↦ and_left (ltb 0 (get_or t.places n 0)) (leb (get_or t.places n 0) (length t.marked)) e ∙ sym e
     ]
 
+-- Counts over the nodes before the end of the list are counts over the marked nodes.
 count_marked : (net : Net) (t : Tally) → IsListing t.marked t.places
     → count_below (λ i. is_before t (length t.marked) (from_at net.offers i)) (length net.offers)
     ≡ count_below (λ i. is_marked_in t (from_at net.offers i)) (length net.offers)
@@ -55,7 +56,7 @@ taken-near net closing labels h l (itself c o) = h.has l c o
 taken-near net closing labels h l (beyond {here = here} {node = node} {i = i} {j = j} b w r e c) =
     h.goes_on here node l i j (taken-near net closing labels h here b) w e
 
--- with more labels no less is taken back
+-- With more labels no fewer are taken back.
 pub taken-more : (net : Net) (closing more : List ℕ) → ((l : ℕ) → Contains closing l → IsOpen net l → Contains more l)
     → (l : ℕ) → IsTakenBack net closing l → IsTakenBack net more l
 taken-more net closing more h l (itself c o) = itself (h l c o) o
@@ -96,6 +97,7 @@ none-taken net closing shut = record {
     none l (itself c o) = shut l c o
     none l (beyond {here = here} b w r e c) = none here b
 
+-- Where no label is taken back, no edge is.
 pub none-edges : (net : Net) → edges_taken_back net (λ l. false) ≡ 0
 none-edges net =
     omega (
@@ -126,9 +128,11 @@ module _ (net : Net) (closing : List ℕ) (now : Tally) (f : HasFallen net closi
       both_ways (is_open_in now l) (ap (is_open_in now) (sym (f.queue.placed l (get_or now.touched_places l 0 - 1) at))
       ∙ f.done (get_or now.touched_places l 0 - 1) within) o
 
+  -- An open label still has support: a counted offer edge leads to it.
   supported-from_open : (l : ℕ) → is_open_in now l ≡ true → 0 < support_in now l
   supported-from_open l o = elim (f.open_supported l o) [ inl a ↦ a | inr a ↦ absurd (untouched-from_open l o a) ]
 
+  -- An open label is one of the net's.
   open_within : (l : ℕ) → is_open_in now l ≡ true → l < length net.closed
   open_within l o =
       elim (cases_lt l (length now.opened)) [
@@ -136,6 +140,7 @@ module _ (net : Net) (closing : List ℕ) (now : Tally) (f : HasFallen net closi
         | inr a ↦ absurd (both_ways (is_open_in now l) (get_or_past now.opened l false a) o)
       ]
 
+  -- An open label is offered by a node that is still marked.
   offered_now : (l : ℕ) → is_open_in now l ≡ true → (i : ℕ) × (m : ℕ) × IsEdge net.offers i m l × (is_marked_in now m ≡ true)
   offered_now l o =
       let i = count_below-some (λ i. is_marked_in now (from_at net.offers i) && eqb (to_at net.offers i) l)
@@ -143,12 +148,13 @@ module _ (net : Net) (closing : List ℕ) (now : Tally) (f : HasFallen net closi
       let parts = and_parts (is_marked_in now (from_at net.offers i.0)) (eqb (to_at net.offers i.0) l) i.2 in
       (i.0, from_at net.offers i.0, record { within = i.1; from = refl; to = eqb-true (to_at net.offers i.0) l parts.1 }, parts.0)
 
+  -- What is still open was open in the net before the close.
   open-left : (l : ℕ) → is_open_in now l ≡ true → IsOpen net l
   open-left l o =
       let b = offered_now l o in
       record { not_closed = f.open_not_closed l o; offered = (b.0, b.1, b.2, f.sound b.1 b.3) }
 
--- The same fall, of a list with the same open labels
+-- The fall with some labels is that with others, where the same ones of them are open.
 pub HasFallen-alike : (net : Net) (closing others : List ℕ) (now : Tally)
     → ((l : ℕ) → Contains closing l → IsOpen net l → Contains others l)
     → ((l : ℕ) → Contains others l → IsOpen net l → Contains closing l) → HasFallen net closing now
@@ -177,6 +183,7 @@ HasFallen-alike net closing others now more less f = record {
 -- In a settled index
 
 module _ (net : Net) (t : Tally) (h : IsSettled net t) (queue : IsListing t.touched t.touched_places) where
+  -- No label is touched.
   pub none_touched : (l : ℕ) → is_touched_in t l ≡ true → ⊥
   none_touched l a =
       let place = placed-from_holds t.touched_places l a in
@@ -204,6 +211,7 @@ module _ (net : Net) (t : Tally) (h : IsSettled net t) (queue : IsListing t.touc
 
 module _ (net : Net) (t : Tally) (h : IsSettled net t) (queue : IsListing t.touched t.touched_places) (labels : (i : ℕ)
     → i < length net.offers → to_at net.offers i < length net.closed) where
+  -- An offered label is one of the net's.
   label_in : (i m l : ℕ) → IsEdge net.offers i m l → l < length net.closed
   label_in i m l e = omega (arith, labels i e.within, e.to)
 
@@ -221,11 +229,13 @@ module _ (net : Net) (t : Tally) (h : IsSettled net t) (queue : IsListing t.touc
       let opened = open-from_offer net t h queue i node label e (marked-from_reached node r) (label_in i node label e) c in
       inr (j, record { within = w.within; by = inl (ap (is_open_in t) w.from ∙ opened) }, w.to)
 
+  -- What is kept as open is open by the definition.
   pub open-shown : (l : ℕ) → l < length net.closed → is_open_in t l ≡ true → IsOpen net l
   open-shown l within o =
       let b = Follows-offered net (length t.marked) t h.follows l within (h.follows.steady.open_supported l o) in
       record { not_closed = h.follows.steady.open_not_closed l o; offered = (b.0, b.1, b.2, h.follows.steady.sound b.1 b.3) }
 
+  -- What is open by the definition is kept as open.
   pub open-from_shown : (l : ℕ) → IsOpen net l → is_open_in t l ≡ true
   open-from_shown l o =
       open-from_offer net t h queue o.offered.0 o.offered.1 l o.offered.2 (marked-from_reached o.offered.1 o.offered.3)
@@ -310,9 +320,11 @@ module _ (net : Net) (t : Tally) (h : IsSettled net t) (queue : IsListing t.touc
   -- The fall is over.
 
   module _ (closing : List ℕ) (now : Tally) (f : HasFallen net closing now) where
+    -- A touched label is taken back.
     touched-taken : (l : ℕ) → is_touched_in now l ≡ true → IsTakenBack net closing l
     touched-taken = f.near
 
+    -- What is open after the fall was open before it.
     opened_before : (l : ℕ) → is_open_in now l ≡ true → is_open_in t l ≡ true
     opened_before l o =
         let b = offered_now net closing now f l o in
@@ -355,6 +367,7 @@ module _ (net : Net) (t : Tally) (h : IsSettled net t) (queue : IsListing t.touc
     -- the wait edge of a node that falls
 
     module _ (once : WaitsOnce net) where
+      -- A node that awaits a touched label falls, unless it is a root.
       falls-from : (i : ℕ) → i < length net.waits → is_root net (to_at net.waits i) ≡ false
           → is_touched_in now (from_at net.waits i) ≡ true
           → falls_with net (is_touched_in now) (to_at net.waits i) ≡ true
@@ -366,6 +379,7 @@ module _ (net : Net) (t : Tally) (h : IsSettled net t) (queue : IsListing t.touc
           (and_from (eqb (to_at net.waits i) (to_at net.waits i)) (is_touched_in now (from_at net.waits i))
           (eq-eqb (to_at net.waits i) (to_at net.waits i) refl) a))
 
+      -- A node that falls is no root and awaits a touched label.
       falls-wait : (n : ℕ) → falls_with net (is_touched_in now) n ≡ true
           → (is_root net n ≡ false) × ((i : ℕ) × (i < length net.waits) × (to_at net.waits i ≡ n)
           × (is_touched_in now (from_at net.waits i) ≡ true))
@@ -470,12 +484,15 @@ module _ (net : Net) (t : Tally) (h : IsSettled net t) (queue : IsListing t.touc
             | inr d ↦ ap (is_touched_in now) (sym e.to) ∙ d
           ]
 
+      -- The touched labels are exactly those that are taken back, so a close can count its turns by
+      -- them.
       pub touched-all : AreTakenBack net closing (is_touched_in now)
       touched-all = record { only = touched-taken; all = taken-touched }
 
 -- The net with labels closed
 
 module _ (net : Net) (closing : List ℕ) where
+  -- A label that is not closed, and not among those to be closed, stays so.
   pub closed-other : (k : ℕ) → (Contains closing k → ⊥) → is_closed net k ≡ false → is_closed (with_all_closed net closing) k ≡ false
   closed-other k ne c =
       false_from_ne_true (is_closed (with_all_closed net closing) k) (λ e.
@@ -486,6 +503,7 @@ module _ (net : Net) (closing : List ℕ) where
   not_closed_before k e = false_from_ne_true (is_closed net k)
       (λ c. both_ways (is_closed (with_all_closed net closing) k) e (all_set-kept closing net.closed k c))
 
+  -- What is reached after the close was reached before it.
   pub reached-before : (n : ℕ) → IsReached (with_all_closed net closing) n → IsReached net n
   reached-before n (root e) = root e
   reached-before n (step {node = node} {label = k} {i = i} {j = j} r e c w) = step (reached-before node r) e (not_closed_before k c) w
@@ -495,12 +513,14 @@ module _ (net : Net) (closing : List ℕ) where
 module _ (net : Net) (t : Tally) (h : IsSettled net t) (queue : IsListing t.touched t.touched_places) (labels : (i : ℕ)
     → i < length net.offers → to_at net.offers i < length net.closed) (closing : List ℕ) (shut : (l : ℕ)
     → Contains closing l → is_open_in t l ≡ false) where
+  -- To close labels that are not open leaves reached what was.
   reached-without : (n : ℕ) → IsReached net n → IsReached (with_all_closed net closing) n
   reached-without n (root e) = root e
   reached-without n (step {node = node} {label = k} {i = i} {j = j} r e c w) =
       let opened = open-from_offer net t h queue i node k e (marked-from_reached net t h queue labels node r) (label_in net t h queue labels i node k e) c in
       step (reached-without node r) e (closed-other net closing k (λ a. both_ways (is_open_in t k) (shut k a) opened) c) w
 
+  -- A settled index is so for the net with the labels closed, too, without any work.
   pub IsSettled-shut : IsSettled (with_all_closed net closing) t
   IsSettled-shut =
       let steady = h.follows.steady in
@@ -531,6 +551,7 @@ module _ (net : Net) (t : Tally) (h : IsSettled net t) (queue : IsListing t.touc
 -- When the fall is over, the labels are closed, and what is left is reached without them.
 
 module _ (net : Net) (once : WaitsOnce net) (closing : List ℕ) (now : Tally) (f : HasFallen net closing now) where
+  -- What is still open is not among the labels to be closed.
   apart_from_open : (k : ℕ) → is_open_in now k ≡ true → Contains closing k → ⊥
   apart_from_open k o c = untouched-from_open net closing now f k o (f.first k c (open-left net closing now f k o))
 
@@ -552,6 +573,7 @@ module _ (net : Net) (once : WaitsOnce net) (closing : List ℕ) (now : Tally) (
             ]
       ]
 
+  -- The marks fit the net with the labels closed, so the following of edges can go on from there.
   pub Follows-fallen : Follows (with_all_closed net closing) now (length now.marked) 0 0
   Follows-fallen =
       let size = length-all_set closing net.closed in
@@ -621,6 +643,7 @@ visits_after net t h queue labels closing new k =
 
 -- How many turns a close takes
 
+-- Closing labels of which none is open takes no turn.
 pub ClosesIn-shut : (net : Net) (closing : List ℕ) (visits : ℕ) → ((l : ℕ) → Contains closing l → IsOpen net l → ⊥) → ClosesIn net closing visits visits 0
 ClosesIn-shut net closing visits shut = record {
   labels = λ l. false;
@@ -634,9 +657,11 @@ module _ (net : Net) (t : Tally) (h : IsSettled net t) (queue : IsListing t.touc
     → i < length net.offers → to_at net.offers i < length net.closed) (waits : (i : ℕ) → i < length net.waits
     → from_at net.waits i < length net.closed) (once : WaitsOnce net) (closing : List ℕ) (now : Tally)
     (f : HasFallen net closing now) where
+  -- The fall never raises the visits, so the difference does not underflow.
   pub visits_fall : now.visits ≤ t.visits
   visits_fall = omega (arith, visits_taken net t h queue labels closing now f once waits)
 
+  -- A close takes a turn for each visit that the fall takes away and for each that comes after it.
   pub ClosesIn-open : (after : ℕ) → now.visits ≤ after → ClosesIn net closing t.visits after ((t.visits - now.visits) + (after - now.visits))
   ClosesIn-open after l = record {
     labels = is_touched_in now;
@@ -652,7 +677,7 @@ pub ClosesIn-near : (net : Net) (closing : List ℕ) (before after turns : ℕ) 
     → turns ≤ 2 * edges_at net labels
 ClosesIn-near net closing before after turns labels c l h = omega (arith, c.visits, c.turns, l, taken-few net closing c.labels labels c.taken_back h)
 
--- no other number of turns
+-- A close takes one number of turns.
 pub ClosesIn-one : (net : Net) (closing others : List ℕ) (before after turns other : ℕ)
     → ((l : ℕ) → (Contains closing l ↔ Contains others l)) → ClosesIn net closing before after turns
     → ClosesIn net others before after other → turns ≡ other

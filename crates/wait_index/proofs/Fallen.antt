@@ -22,17 +22,21 @@ use Rattle.wait_index.proofs.Closing.{taken-open, untouched-from_open, taken-tou
 module _ (net : Net) (node : ℕ) (now : Tally) (visits : ℕ) (between new : Tally)
     (u : UnmarksNode node (record now { visits = visits }) between) (w : WithdrawsAll net node between new)
     (m : is_marked_in now node ≡ true) where
+  -- After that the marked nodes are those that were marked, without the node.
   held : (n : ℕ) → is_marked_in new n ≡ (is_marked_in now n && not (eqb n node))
   held n = ap (λ ps. holds ps n) w.places ∙ u.held n
 
+  -- After that a marked node is one that was marked, and another one.
   still-held : (n : ℕ) → is_marked_in new n ≡ true → (is_marked_in now n ≡ true) × (n ≢ node)
   still-held n a =
       let parts = and_parts (is_marked_in now n) (not (eqb n node)) (sym (held n) ∙ a) in
       (parts.0, λ s. both_ways (eqb n node) (not-true (eqb n node) parts.1) (eq-eqb n node s))
 
+  -- After that the node is not marked.
   out : is_marked_in new node ≡ false
   out = false_from_ne_true (is_marked_in new node) (λ a. (still-held node a).1 refl)
 
+  -- After that the list of what fell, with the node at its end, is right.
   fallen_node : (fallen : List ℕ) → IsReached net node → ListsFallen net now fallen → ListsFallen net new (fallen ++ node ∷ [])
   fallen_node fallen r h = record {
     reached = λ n c. elim (Contains-push_cases fallen node n c) [ inl a ↦ h.reached n a | inr a ↦ subst (IsReached net) a r ];
@@ -50,6 +54,7 @@ module _ (net : Net) (node : ℕ) (now : Tally) (visits : ℕ) (between new : Ta
         both_ways (is_marked_in now node) (h.unmarked node (subst (Contains fallen) e (Contains-get_or fallen k d l))) m);
   }
 
+  -- After that one node fewer is marked.
   one_less : IsListing now.marked now.places → IsListing new.marked new.places → length now.marked ≡ length new.marked + 1
   one_less listing listing_new =
       let size : length new.places ≡ length now.places = ap length w.places ∙ u.size in
@@ -68,6 +73,7 @@ module _ (net : Net) (node : ℕ) (now : Tally) (visits : ℕ) (between new : Ta
       and_yes true = refl
       and_yes false = refl
 
+-- One step keeps the list of what fell right, whether the node falls or stays as a root.
 pub ListsFallen-step : (net : Net) (node : ℕ) (now : Tally) (visits : ℕ) (new : Tally) (fallen : List ℕ)
     → Falls net node (record now { visits = visits }) new → is_marked_in now node ≡ true → IsReached net node
     → ListsFallen net now fallen → ListsFallen net new (with_fallen net node fallen)
@@ -99,6 +105,7 @@ fallen-many net node now visits new fallen falls m listing listing_new =
           )
     ]
 
+-- While all that is reached is marked, nothing fell.
 pub ListsFallen-none : (net : Net) (t : Tally) → ((n : ℕ) → IsReached net n → is_marked_in t n ≡ true) → ListsFallen net t []
 ListsFallen-none net t marked = record {
   reached = λ n c. absurd (omega (arith, c.1));
@@ -112,6 +119,7 @@ ListsFallen-none net t marked = record {
 module _ (net : Net) (t : Tally) (h : IsSettled net t) (queue : IsListing t.touched t.touched_places) (labels : (i : ℕ)
     → i < length net.offers → to_at net.offers i < length net.closed) (once : WaitsOnce net) (closing : List ℕ)
     (now : Tally) (f : HasFallen net closing now) (fallen : List ℕ) (listed : ListsFallen net now fallen) where
+  -- Each node of the list falls, by the definition.
   falls-from_listed : (n : ℕ) → Contains fallen n → IsFallen net closing n
   falls-from_listed n c =
       let out = listed.unmarked n c in
@@ -121,6 +129,7 @@ module _ (net : Net) (t : Tally) (h : IsSettled net t) (queue : IsListing t.touc
         awaits = (w.0, from_at net.waits w.0, record { within = w.1; from = refl; to = w.2 }, f.near (from_at net.waits w.0) w.3);
       }
 
+  -- Each node that falls, by the definition, is in the list.
   listed-from_falls : (n : ℕ) → IsFallen net closing n → Contains fallen n
   listed-from_falls n x =
       let i = x.awaits.0 in
@@ -147,25 +156,30 @@ module _ (net : Net) (t : Tally) (h : IsSettled net t) (queue : IsListing t.touc
 
   module _ (kept : ℕ) (marked : List ℕ) (same : take kept marked ≡ now.marked) (apart : AllPairs ◌≢◌ marked)
       (before : (n : ℕ) → Contains marked n → IsReached net n) where
+    -- The first ones are marked when the fall is over.
     marked-from_front : (n : ℕ) → Contains (take kept marked) n → is_marked_in now n ≡ true
     marked-from_front n c = holds-from_contains now.marked now.places f.listing n (subst (λ xs. Contains xs n) same c)
 
+    -- What is marked when the fall is over is among the first ones.
     front-from_marked : (n : ℕ) → is_marked_in now n ≡ true → Contains (take kept marked) n
     front-from_marked n m = subst (λ xs. Contains xs n) (sym same) (contains-from_holds now.marked now.places f.listing n m)
 
+    -- A node that falls is not marked when the fall is over.
     unmarked-from_falls : (n : ℕ) → IsFallen net closing n → is_marked_in now n ≡ true → ⊥
     unmarked-from_falls n x m = both_ways (is_marked_in now n) (listed.unmarked n (listed-from_falls n x)) m
 
-    -- none of the first ones is behind them
+    -- none of the first ones comes again after them
     front-once : (n : ℕ) → Contains (take kept marked) n → Contains (drop kept marked) n → ⊥
     front-once n a b =
         let size = length-take kept marked in
         apart a.0 (kept + b.0) n (omega (arith, a.1, size)) (omega (arith, b.1, length-drop kept marked))
         (sym (get_or-take kept marked a.0 n (omega (arith, a.1, size))) ∙ a.2 ∙ sym b.2 ∙ get_or-drop kept marked b.0 n)
 
+    -- What comes after the first ones is marked in the end.
     marked-from_again : (n : ℕ) → Contains (drop kept marked) n → Contains marked n
     marked-from_again n c = (kept + c.0, omega (arith, c.1, length-drop kept marked), sym (get_or-drop kept marked c.0 n) ∙ c.2)
 
+    -- A node that falls, and is marked in the end, comes after the first ones.
     again-from_falls : (n : ℕ) → IsFallen net closing n → Contains marked n → Contains (drop kept marked) n
     again-from_falls n x c =
         elim (cases_lt c.0 kept) [
@@ -177,6 +191,8 @@ module _ (net : Net) (t : Tally) (h : IsSettled net t) (queue : IsListing t.touc
               (c.0 - kept, omega (arith, l, c.1, length-drop kept marked), get_or-drop kept marked (c.0 - kept) n ∙ ap (λ i. get_or marked i n) at ∙ c.2)
         ]
 
+    -- The list, and the number of nodes that were kept, say what fell, as the index promises after
+    -- a close.
     pub TellsFallen-listed : TellsFallen net closing fallen kept marked
     TellsFallen-listed = record {
       fell = λ n. (falls-from_listed n, listed-from_falls n);

@@ -53,18 +53,23 @@ CanFall-marked net closing t index label link node h m visits e some =
 module _ (net : Net) (closing : List ℕ) (t : Tally) (index label link : ℕ) (h : IsFalling net closing t index 0 0)
     (l : index < length t.touched) (at : label ≡ get_or t.touched index 0) (within : label < length net.closed)
     (last : IsLast net.waits label (length net.waits) link) where
+  -- the tally once the label is not open
   shut_label : Tally
   shut_label = record t { opened = set t.opened label false }
 
+  -- The label was open.
   was_open : is_open_in t label ≡ true
   was_open = ap (is_open_in t) at ∙ h.todo index (omega arith) l
 
+  -- The label is touched.
   was_touched : is_touched_in t label ≡ true
   was_touched = holds-from_placed t.touched_places label (omega (arith, ap (λ k. get_or t.touched_places k 0) at, h.queue.listed index l))
 
+  -- The label's flag is lowered.
   shut_here : get_or (set t.opened label false) label false ≡ false
   shut_here = flag-here t.opened label false (omega (arith, within, h.sizes.opened))
 
+  -- Each other flag stays.
   shut_other : (k : ℕ) → k ≢ label → get_or (set t.opened label false) k false ≡ is_open_in t k
   shut_other k ne = flag-other t.opened label k false ne
 
@@ -76,6 +81,7 @@ module _ (net : Net) (closing : List ℕ) (t : Tally) (index label link : ℕ) (
         | inr s ↦ (sym (shut_other k s) ∙ e, s)
       ]
 
+  -- The wait edges of open labels are fewer by those of this label.
   fewer_open : count_below (λ i. is_open_in t (from_at net.waits i)) (length net.waits)
       ≡ count_below (λ i. get_or (set t.opened label false) (from_at net.waits i) false) (length net.waits) +
       count_below (λ i. eqb (from_at net.waits i) label) (length net.waits)
@@ -94,6 +100,7 @@ module _ (net : Net) (closing : List ℕ) (t : Tally) (index label link : ℕ) (
         | inr s ↦ omega (arith, ap bit (shut_other (from_at net.waits i) s), bit-false (eqb (from_at net.waits i) label) (ne_eqb (from_at net.waits i) label s))
       ])
 
+  -- The fall goes on, with all wait edges of this label left to be taken back.
   pub IsFalling-start : IsFalling net closing (record t { opened = set t.opened label false }) (index + 1) label link
   IsFalling-start = record {
     sizes = record { places = h.sizes.places; support = h.sizes.support; opened = length-set t.opened label false ∙ h.sizes.opened; touched = h.sizes.touched };
@@ -170,7 +177,7 @@ module _ (net : Net) (closing : List ℕ) (t : Tally) (index label link : ℕ) (
         shut_other (get_or t.touched k 0) apart ∙ h.todo k (omega (arith, a)) b;
   }
 
--- no wait edges of the label are left
+-- When no wait edge of a label is left, the fall is between two labels.
 pub IsFalling-between : (net : Net) (closing : List ℕ) (t : Tally) (index label : ℕ) → IsFalling net closing t index label 0 → IsFalling net closing t index 0 0
 IsFalling-between net closing t index label h = record {
   sizes = h.sizes;
@@ -211,21 +218,27 @@ pub record TakesBackFrom (net : Net) (closing : List ℕ) (index label link : �
 module _ (net : Net) (once : WaitsOnce net) (closing : List ℕ) (index label edge link next : ℕ) (old now : Tally)
     (h : TakesBackFrom net closing index label link old now) (e : link ≡ edge + 1)
     (last : IsLast net.waits label edge next) where
+  -- The edge of the link is one of the wait edges.
   edge_within : edge < length net.waits
   edge_within = omega (arith, h.at.within, e)
 
+  -- The edge is one of the label.
   owner : from_at net.waits edge ≡ label
   owner = h.at.owned edge e
 
+  -- The edge is still followed.
   followed : StillFollowed net now label link edge
   followed = record { within = edge_within; by = inr (owner, omega (arith, e)) }
 
+  -- The node to which the edge leads is marked, since the edge is followed.
   pub node_marked : is_marked_in now (to_at net.waits edge) ≡ true
   node_marked = h.falling.released edge followed
 
+  -- What is followed with the next link is followed with this one.
   wider : (i : ℕ) → StillFollowed net now label next i → StillFollowed net now label link i
   wider i a = record { within = a.within; by = elim a.by [ inl o ↦ inl o | inr o ↦ inr (o.0, omega (arith, o.1, last.below, e)) ] }
 
+  -- What is followed with this link, other than the edge, is followed with the next one.
   narrower : (i : ℕ) → StillFollowed net now label link i → i ≢ edge → StillFollowed net now label next i
   narrower i a ne = record {
     within = a.within;
@@ -235,6 +248,7 @@ module _ (net : Net) (once : WaitsOnce net) (closing : List ℕ) (index label ed
     ];
   }
 
+  -- The edge is not followed with the next link.
   no_longer : StillFollowed net now label next edge → ⊥
   no_longer a =
       elim a.by [
@@ -242,17 +256,20 @@ module _ (net : Net) (once : WaitsOnce net) (closing : List ℕ) (index label ed
         | inr o ↦ omega (arith, o.1, last.below)
       ]
 
+  -- One edge of the label fewer is left.
   one_less : count_below (λ i. eqb (from_at net.waits i) label) link ≡ count_below (λ i. eqb (from_at net.waits i) label) next + 1
   one_less = ap (count_below (λ i. eqb (from_at net.waits i) label)) e ∙ count_owned-step net.waits label edge next owner last
 
+  -- The visits are not 0, so one can be taken back.
   pub visits_some : now.visits ≡ (now.visits - 1) + 1
   visits_some = omega (arith, h.falling.counted.visits, one_less)
 
+  -- The node can fall, by the counts without this edge.
   pub node_can : CanFall net (record now { visits = now.visits - 1 }) (to_at net.waits edge)
   node_can = CanFall-marked net closing now (index + 1) label link (to_at net.waits edge) h.falling node_marked
       (now.visits - 1) visits_some (omega (arith, one_less))
 
-  -- a root stays
+  -- A root stays, and the fall goes on.
   falling_root : is_root net (to_at net.waits edge) ≡ true → IsFalling net closing (record now { visits = now.visits - 1 }) (index + 1) label next
   falling_root r =
       let f = h.falling in
@@ -291,14 +308,17 @@ module _ (net : Net) (once : WaitsOnce net) (closing : List ℕ) (index label ed
       (u : UnmarksNode (to_at net.waits edge) (record now { visits = now.visits - 1 }) between)
       (w : WithdrawsAll net (to_at net.waits edge) between new) (listing : IsListing new.marked new.places)
       (queue : IsListing new.touched new.touched_places) where
+    -- After that the marked nodes are those that were marked, without the node.
     held : (n : ℕ) → is_marked_in new n ≡ (is_marked_in now n && not (eqb n (to_at net.waits edge)))
     held n = ap (λ ps. holds ps n) w.places ∙ u.held n
 
+    -- After that a marked node is one that was marked, and another one.
     held_parts : (n : ℕ) → is_marked_in new n ≡ true → (is_marked_in now n ≡ true) × (n ≢ to_at net.waits edge)
     held_parts n a =
         let parts = and_parts (is_marked_in now n) (not (eqb n (to_at net.waits edge))) (sym (held n) ∙ a) in
         (parts.0, λ s. both_ways (eqb n (to_at net.waits edge)) (not-true (eqb n (to_at net.waits edge)) parts.1) (eq-eqb n (to_at net.waits edge) s))
 
+    -- Each other marked node stays marked.
     held_from : (n : ℕ) → is_marked_in now n ≡ true → n ≢ to_at net.waits edge → is_marked_in new n ≡ true
     held_from n a ne = held n ∙ and_from (is_marked_in now n) (not (eqb n (to_at net.waits edge))) a (ap not (ne_eqb n (to_at net.waits edge) ne))
 
@@ -310,6 +330,7 @@ module _ (net : Net) (once : WaitsOnce net) (closing : List ℕ) (index label ed
           | inr b ↦ inr (eqb-true n (to_at net.waits edge) (not-false (eqb n (to_at net.waits edge)) b))
         ]
 
+    -- In each count of marked nodes, just this node is left out.
     held_bit : (n : ℕ) → bit (is_marked_in now n) ≡ bit (is_marked_in new n) + bit (eqb n (to_at net.waits edge))
     held_bit n =
         elim (cases_eq n (to_at net.waits edge)) [
@@ -336,16 +357,20 @@ module _ (net : Net) (once : WaitsOnce net) (closing : List ℕ) (index label ed
         and_yes true = refl
         and_yes false = refl
 
+    -- The flags of open labels stay.
     open_same : (l : ℕ) → is_open_in new l ≡ is_open_in now l
     open_same l = ap (λ flags. get_or flags l false) (w.opened ∙ u.opened)
 
+    -- What was touched stays so.
     touched_kept : (l : ℕ) → is_touched_in now l ≡ true → is_touched_in new l ≡ true
     touched_kept l a = w.kept l (ap (λ ps. holds ps l) u.touched_places ∙ a)
 
+    -- Each open label that the node offers is touched.
     touched_all : (i : ℕ) → i < length net.offers → from_at net.offers i ≡ to_at net.waits edge
         → is_open_in now (to_at net.offers i) ≡ true → is_touched_in new (to_at net.offers i) ≡ true
     touched_all i a b o = w.all i a b (ap (λ flags. get_or flags (to_at net.offers i) false) u.opened ∙ o)
 
+    -- What is touched now was touched, or is open and offered by the node.
     touched_only : (l : ℕ) → is_touched_in new l ≡ true
         → (is_touched_in now l ≡ true)
         ⊎ ((is_open_in now l ≡ true) × ((i : ℕ) × IsEdge net.offers i (to_at net.waits edge) l))
@@ -355,21 +380,27 @@ module _ (net : Net) (once : WaitsOnce net) (closing : List ℕ) (index label ed
           | inr b ↦ inr (ap (λ flags. get_or flags l false) (sym u.opened) ∙ b.0, b.1)
         ]
 
+    -- The new touched labels come at the end of the list.
     touched_front : take (length now.touched) new.touched ≡ now.touched
     touched_front = ap (λ (xs : List ℕ). take (length xs) new.touched) (sym u.touched) ∙ w.front ∙ u.touched
 
+    -- The list of touched labels does not get shorter.
     touched_longer : length now.touched ≤ length new.touched
     touched_longer = omega (arith, length-take (length now.touched) new.touched, ap length touched_front)
 
+    -- The old touched labels keep their places.
     touched_item : (k : ℕ) → k < length now.touched → get_or new.touched k 0 ≡ get_or now.touched k 0
     touched_item k a = sym (get_or-take (length now.touched) new.touched k 0 a) ∙ ap (λ xs. get_or xs k 0) touched_front
 
+    -- There is still one support for each label.
     label_size : length between.support ≡ length net.closed
     label_size = ap length u.support ∙ h.falling.sizes.support
 
+    -- Each label's support falls by the node's offer edges to it.
     support_is : (l : ℕ) → l < length net.closed → support_in new l + offers_between net (to_at net.waits edge) l ≡ support_in now l
     support_is l a = w.support l (omega (arith, a, label_size)) ∙ ap (λ xs. get_or xs l 0) u.support
 
+    -- What is touched now is taken back, by the definition.
     new_near : (l : ℕ) → is_touched_in new l ≡ true → IsTakenBack net closing l
     new_near l a =
         elim (touched_only l a) [
@@ -379,6 +410,7 @@ module _ (net : Net) (once : WaitsOnce net) (closing : List ℕ) (index label ed
               (h.falling.open_not_closed l b.0)
         ]
 
+    -- What is touched and not yet taken up is still open.
     new_todo : (k : ℕ) → index + 1 ≤ k → k < length new.touched → is_open_in new (get_or new.touched k 0) ≡ true
     new_todo k a b =
         elim (cases_lt k (length now.touched)) [
@@ -398,6 +430,7 @@ module _ (net : Net) (once : WaitsOnce net) (closing : List ℕ) (index label ed
               ]
         ]
 
+    -- The fall goes on after a node that is no root.
     falling_node : IsFalling net closing new (index + 1) label next
     falling_node =
         let f = h.falling in
@@ -518,6 +551,7 @@ module _ (net : Net) (once : WaitsOnce net) (closing : List ℕ) (index label ed
               | inr a ↦ absurd (both_ways (is_open_in now l) (get_or_past now.opened l false a) o)
             ]
 
+  -- The fall goes on after each wait edge, whether its node falls or stays as a root.
   pub TakesBackFrom-step : (new : Tally) → Falls net (to_at net.waits edge) (record now { visits = now.visits - 1 }) new
       → IsListing new.marked new.places → IsListing new.touched new.touched_places
       → TakesBackFrom net closing index label next old new

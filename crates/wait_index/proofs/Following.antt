@@ -19,12 +19,15 @@ use Rattle.wait_index.proofs.Spread.{front-trans}
 
 module _ (items places newer_items newer_places : List ℕ) (a : IsListing items places)
     (b : IsListing newer_items newer_places) (front : take (length items) newer_items ≡ items) where
+  -- The newer list is no shorter.
   longer : length items ≤ length newer_items
   longer = omega (arith, length-take (length items) newer_items, ap length front)
 
+  -- The items of the older list keep their places.
   item_kept : (i : ℕ) → i < length items → get_or newer_items i 0 ≡ get_or items i 0
   item_kept i l = sym (get_or-take (length items) newer_items i 0 l) ∙ ap (λ xs. get_or xs i 0) front
 
+  -- A number that was listed keeps its place.
   pub place_kept : (n : ℕ) → 0 < get_or places n 0 → get_or newer_places n 0 ≡ get_or places n 0
   place_kept n l =
       let i = get_or places n 0 - 1 in
@@ -33,6 +36,7 @@ module _ (items places newer_items newer_places : List ℕ) (a : IsListing items
       let item : get_or newer_items i 0 ≡ n = item_kept i within ∙ a.placed n i at in
       ap (λ k. get_or newer_places k 0) (sym item) ∙ b.listed i (omega (arith, within, longer)) ∙ sym at
 
+  -- A number that was not listed is not listed, or comes after the older list.
   pub place_later : (n : ℕ) → get_or places n 0 ≡ 0 → (get_or newer_places n 0 ≡ 0) ⊎ (length items < get_or newer_places n 0)
   place_later n e =
       let place = get_or newer_places n 0 in
@@ -72,10 +76,11 @@ before_kept old new cursor a b front l n =
     and_no true y e = e
     and_no false y e = refl
 
--- one flag that is set
+-- The flag that is set has its new value.
 pub flag-here : (flags : List Bool) (l : ℕ) (v : Bool) → l < length flags → get_or (set flags l v) l false ≡ v
 flag-here flags l v h = get_or-set_same flags l v false h
 
+-- Each other flag stays.
 pub flag-other : (flags : List Bool) (l k : ℕ) (v : Bool) → k ≢ l → get_or (set flags l v) k false ≡ get_or flags k false
 flag-other flags l k v h = get_or-set_other flags l k v false h
 
@@ -83,22 +88,28 @@ flag-other flags l k v h = get_or-set_other flags l k v false h
 
 module _ (net : Net) (label : ℕ) (t new : Tally) (within : label < length net.closed) (h : IsSteady net t)
     (listing : IsListing new.marked new.places) (o : Opens net label t new) where
+  -- The flags of open labels are the old ones, with this label's raised.
   opened_is : new.opened ≡ set t.opened label true
   opened_is = o.releases.opened
 
+  -- The label is open.
   open_here : is_open_in new label ≡ true
   open_here = ap (λ flags. get_or flags label false) opened_is ∙ flag-here t.opened label true (omega (arith, within, h.sizes.opened))
 
+  -- Each other label is as open as it was.
   open_other : (k : ℕ) → k ≢ label → is_open_in new k ≡ is_open_in t k
   open_other k ne = ap (λ flags. get_or flags k false) opened_is ∙ flag-other t.opened label k true ne
 
+  -- What was open stays so.
   open_kept : (k : ℕ) → is_open_in t k ≡ true → is_open_in new k ≡ true
   open_kept k e = elim (cases_eq k label) [ inl s ↦ ap (is_open_in new) s ∙ open_here | inr s ↦ open_other k s ∙ e ]
 
+  -- To open a label changes no support.
   support_is : (k : ℕ) → support_in new k ≡ support_in t k
   support_is k = ap (λ xs. get_or xs k 0) o.releases.support
 
-  -- who offers it
+  -- When a label that a marked node offers is opened, what holds of marks and open labels still
+  -- holds.
   pub Opens-steady : (i m : ℕ) → IsEdge net.offers i m label → is_marked_in t m ≡ true → IsSteady net new
   Opens-steady i m edge marked = record {
     sizes = record {
@@ -131,6 +142,7 @@ module _ (net : Net) (label : ℕ) (t new : Tally) (within : label < length net.
         ];
   }
 
+  -- The wait edges of open labels are more by those of this label.
   more_open : count_below (λ i. is_open_in new (from_at net.waits i)) (length net.waits)
       ≡ count_below (λ i. is_open_in t (from_at net.waits i)) (length net.waits) + waits_of net label
   more_open =
@@ -146,6 +158,7 @@ module _ (net : Net) (label : ℕ) (t new : Tally) (within : label < length net.
         | inr s ↦ omega (arith, ap bit (open_other (from_at net.waits i) s), bit-false (eqb (from_at net.waits i) label) (ne_eqb (from_at net.waits i) label s))
       ])
 
+  -- The counts are right once more, with the label's wait edges among them.
   pub Opens-counted : (cursor node link : ℕ) → cursor ≤ length t.marked → IsCounted net t cursor node link → IsCounted net new cursor node link
   Opens-counted cursor node link l c =
       let before = before_kept t new cursor h.listing listing o.releases.front l in
@@ -204,7 +217,7 @@ Leaves-opened net label t new o others = record {
       ];
 }
 
--- a label is settled, and all holds that held
+-- When a label is settled, all still holds that holds while edges are followed.
 pub Settles-follows : (net : Net) (label cursor node link : ℕ) (t new : Tally) → label < length net.closed
     → cursor ≤ length t.marked → IsSteady net t → IsCounted net t cursor node link → IsListing new.marked new.places
     → (0 < support_in t label → (i : ℕ) × (m : ℕ) × IsEdge net.offers i m label × (is_marked_in t m ≡ true))
@@ -222,10 +235,11 @@ Settles-follows net label cursor node link t new within l h c listing offered ot
           }
     ]
 
--- what a settled label leaves
+-- Where nothing changes nothing is taken back.
 pub Spreads-refl : (t : Tally) → Spreads t t
 Spreads-refl t = record { front = take_all (length t.marked) t.marked (omega arith); touched = refl; touched_places = refl; visits = omega arith }
 
+-- Where nothing is taken back twice, nothing is taken back in all.
 pub Spreads-trans : (a b c : Tally) → Spreads a b → Spreads b c → Spreads a c
 Spreads-trans a b c h k = record {
   front = front-trans a.marked b.marked c.marked h.front k.front;
@@ -234,6 +248,7 @@ Spreads-trans a b c h k = record {
   visits = omega (arith, h.visits, k.visits);
 }
 
+-- To settle a label takes nothing back.
 pub Settles-spreads : (net : Net) (label : ℕ) (t new : Tally) → SettlesLabel net label t new → Spreads t new
 Settles-spreads net label t new s =
     elim s [
@@ -247,16 +262,18 @@ Settles-spreads net label t new s =
       }
     ]
 
+-- While nothing is taken back no fewer nodes are marked.
 pub Spreads-longer : (a b : Tally) → Spreads a b → length a.marked ≤ length b.marked
 Spreads-longer a b h = omega (arith, length-take (length a.marked) b.marked, ap length h.front)
 
+-- While nothing is taken back each mark stays.
 pub Spreads-held : (a b : Tally) → IsListing a.marked a.places → IsListing b.marked b.places → Spreads a b → (n : ℕ)
     → is_marked_in a n ≡ true → is_marked_in b n ≡ true
 Spreads-held a b h k s n e =
     let place = placed-from_holds a.places n e in
     holds-from_placed b.places n (omega (arith, place, place_kept a.marked a.places b.marked b.places h k s.front n place))
 
--- the test of two is the sum of the tests
+-- Where a test is split into two that never both pass, it stays so together with another test.
 pub bit-and-add : (a b c x : Bool) → bit a ≡ bit b + bit c → bit (a && x) ≡ bit (b && x) + bit (c && x)
 bit-and-add a b c true e = omega (arith, e, ap bit (and_true a), ap bit (and_true b), ap bit (and_true c))
   where
@@ -312,6 +329,7 @@ pub record OffersFrom (net : Net) (cursor node link : ℕ) (old now : Tally) : T
   pub held : is_marked_in now node ≡ true
   pub spreads : Spreads old now
 
+-- Before the first offer edge of the node all of them are left to be followed.
 pub OffersFrom-start : (net : Net) (cursor node link : ℕ) (t : Tally) → Follows net t cursor 0 0
     → cursor < length t.marked → node ≡ get_or t.marked cursor 0 → IsLast net.offers node (length net.offers) link
     → OffersFrom net cursor node link t t
@@ -357,12 +375,15 @@ abbrev pub with_support : Tally → ℕ → Tally
 with_support t label = record t { support = set t.support label (support_in t label + 1); visits = t.visits + 1 }
 
 module _ (net : Net) (t : Tally) (label : ℕ) (within : label < length net.closed) (h : IsSteady net t) where
+  -- This label's support is one more.
   pub with_support-here : support_in (with_support t label) label ≡ support_in t label + 1
   with_support-here = get_or-set_same t.support label (support_in t label + 1) 0 (omega (arith, within, h.sizes.support))
 
+  -- Each other label's support stays.
   pub with_support-other : (k : ℕ) → k ≢ label → support_in (with_support t label) k ≡ support_in t k
   with_support-other k ne = get_or-set_other t.support label k (support_in t label + 1) 0 ne
 
+  -- What holds of marks and open labels still holds.
   pub with_support-steady : IsSteady net (with_support t label)
   with_support-steady = record {
     sizes = record {
@@ -385,6 +406,7 @@ module _ (net : Net) (t : Tally) (label : ℕ) (within : label < length net.clos
         ];
   }
 
+-- One offer edge more is followed, and its label settled.
 pub OffersFrom-step : (net : Net) (cursor node edge link next : ℕ) (old now new : Tally)
     → OffersFrom net cursor node link old now → link ≡ edge + 1 → to_at net.offers edge < length net.closed
     → IsLast net.offers node edge next → IsListing new.marked new.places → Supports net (to_at net.offers edge) now new
@@ -449,11 +471,13 @@ Follows-visits net cursor node link t h =
       count_below-le (λ i. is_open_in t (from_at net.waits i)) (length net.waits),
     )
 
+-- No label's support is above the number of offer edges, so it can be raised by one.
 pub Follows-support : (net : Net) (cursor node link : ℕ) (t : Tally) → Follows net t cursor node link → (l : ℕ)
     → l < length net.closed → support_in t l ≤ length net.offers
 Follows-support net cursor node link t h l a =
     omega (arith, h.counted.support l a, count_below-le (λ i. is_before t cursor (from_at net.offers i) && eqb (to_at net.offers i) l) (length net.offers))
 
+-- No more nodes are marked than there are, so the work ends.
 pub Follows-nodes : (net : Net) (cursor node link : ℕ) (t : Tally) → Follows net t cursor node link → length t.marked ≤ length net.roots
 Follows-nodes net cursor node link t h =
     omega (arith, h.steady.listing.many, h.steady.sizes.places, count_below-le (λ n. holds t.places n) (length t.places))
@@ -472,6 +496,7 @@ Follows-offered net cursor t h l a s =
 abbrev pub with_untouched : Tally → List ℕ → ℕ → Tally
 with_untouched t touched label = record t { touched = touched; touched_places = set t.touched_places label 0 }
 
+-- A touched label is settled again, which keeps what holds while edges are followed.
 pub Restore-step : (net : Net) (cursor label : ℕ) (touched : List ℕ) (t new : Tally) → Follows net t cursor 0 0
     → label < length net.closed → cursor ≤ length t.marked → IsListing new.marked new.places
     → SettlesLabel net label (with_untouched t touched label) new → Follows net new cursor 0 0

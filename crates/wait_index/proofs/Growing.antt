@@ -31,9 +31,11 @@ reached-more old new h n (step {node = m} {label = l} {i = i} {j = j} r e c w) =
 -- A root is added.
 
 module _ (net : Net) (node : ℕ) (l : node < length net.roots) where
+  -- The node is a root of the net with that root.
   root-here : is_root (with_root net node) node ≡ true
   root-here = flag-here net.roots node true l
 
+  -- The net with the root has more, so it reaches no less.
   pub IsMore-root : IsMore net (with_root net node)
   IsMore-root = record {
     roots = λ n a. elim (cases_eq n node) [ inl s ↦ ap (is_root (with_root net node)) s ∙ root-here | inr s ↦ flag-other net.roots node n true s ∙ a ];
@@ -42,6 +44,7 @@ module _ (net : Net) (node : ℕ) (l : node < length net.roots) where
     waits = λ i k n e. (i, record { within = e.within; from = e.from; to = e.to });
   }
 
+  -- The node's mark fits the net with the root, so the following of edges can go on from it.
   pub Follows-root : (t new : Tally) → IsSettled net t → MarksNode node t new → IsListing new.marked new.places
       → Follows (with_root net node) new (length t.marked) 0 0
   Follows-root t new h m listing =
@@ -109,6 +112,7 @@ module _ (net : Net) (node : ℕ) (l : node < length net.roots) where
 -- A wait edge is added.
 
 module _ (net : Net) (label node : ℕ) where
+  -- The net with the wait edge has more, so it reaches no less.
   pub IsMore-wait : IsMore net (with_wait net label node)
   IsMore-wait = record {
     roots = λ n a. a;
@@ -135,6 +139,7 @@ module _ (net : Net) (label node : ℕ) where
       (length_push net.waits (record { from = label; to = node }))
       ∙ omega (arith, test, same, ap bit last)
 
+  -- The marks fit the net with the wait edge, so the following of edges can go on from there.
   pub Follows-wait : (t new : Tally) → label < length net.closed → IsSettled net t → FollowsWait label node t new
       → IsListing new.marked new.places → Follows (with_wait net label node) new (length t.marked) 0 0
   Follows-wait t new l h f listing =
@@ -258,6 +263,7 @@ module _ (net : Net) (label node : ℕ) where
 -- An offer edge is added.
 
 module _ (net : Net) (node label : ℕ) where
+  -- The net with the offer edge has more, so it reaches no less.
   pub IsMore-offer : IsMore net (with_offer net node label)
   IsMore-offer = record {
     roots = λ n a. a;
@@ -283,6 +289,7 @@ module _ (net : Net) (node label : ℕ) where
             (λ i a. ap test (from_at-old net.offers (record { from = node; to = label }) i a)),
       )
 
+  -- One more offer edge is counted where its node passes and it leads to the label.
   offer_counted_to : (test : ℕ → Bool) (k : ℕ)
       → count_below (λ i. test (from_at (net.offers ++ record { from = node; to = label } ∷ []) i) && eqb
       (to_at (net.offers ++ record { from = node; to = label } ∷ []) i) k)
@@ -307,6 +314,7 @@ module _ (net : Net) (node label : ℕ) where
             ∙ ap (λ m. test (from_at net.offers i) && eqb m k) (to_at-old net.offers (record { from = node; to = label }) i a)),
       )
 
+  -- What holds of marks and open labels holds in the net with the offer edge.
   steady_offer : (t : Tally) → IsSteady net t → IsSteady (with_offer net node label) t
   steady_offer t steady = record {
     sizes = record { places = steady.sizes.places; support = steady.sizes.support; opened = steady.sizes.opened; touched = steady.sizes.touched };
@@ -318,6 +326,7 @@ module _ (net : Net) (node label : ℕ) where
     open_supported = steady.open_supported;
   }
 
+  -- The marks fit the net with the offer edge, so the following of edges can go on from there.
   pub Follows-offer : (t new : Tally) → label < length net.closed → IsSettled net t
       → ((is_marked_in t node ≡ true) × Supports (with_offer net node label) label t new)
       ⊎ ((is_marked_in t node ≡ false) × (new ≡ t)) → IsListing new.marked new.places
@@ -387,7 +396,7 @@ module _ (net : Net) (node label : ℕ) where
       and_no true y e = e
       and_no false y e = refl
 
--- what a list has after a value is pushed that is read past its end
+-- To push the value that is read past the end changes nothing that is read.
 pub push_default : {X : Type 0} (xs : List X) (d : X) (n : ℕ) → get_or (xs ++ d ∷ []) n d ≡ get_or xs n d
 push_default xs d n =
     elim (cases_lt n (length xs)) [
@@ -406,6 +415,7 @@ within-from_flag flags k e =
 
 -- A node is added.
 
+-- The net with one node more has more, so it reaches no less.
 pub IsMore-node : (net : Net) → IsMore net (with_node net)
 IsMore-node net = record {
   roots = λ n a. push_default net.roots false n ∙ a;
@@ -414,6 +424,7 @@ IsMore-node net = record {
   waits = λ i k n e. (i, record { within = e.within; from = e.from; to = e.to });
 }
 
+-- An index stays settled with one node more, which is not marked.
 pub IsSettled-node : (net : Net) (t : Tally) → IsSettled net t → IsSettled (with_node net) (record t { places = t.places ++ 0 ∷ [] })
 IsSettled-node net t h =
     let steady = h.follows.steady in
@@ -467,9 +478,11 @@ IsSettled-node net t h =
 -- A label is added.
 
 module _ (net : Net) (closed : Bool) (labels : (i : ℕ) → i < length net.offers → to_at net.offers i < length net.closed) where
+  -- The older labels are closed or not as they were.
   pub closed-old : (k : ℕ) → k < length net.closed → is_closed (with_label net closed) k ≡ is_closed net k
   closed-old k l = get_or_append_left net.closed (closed ∷ []) false k l
 
+  -- What was reached is so in the net with one label more.
   pub reached-label : (n : ℕ) → IsReached net n → IsReached (with_label net closed) n
   reached-label n (root e) = root e
   reached-label n (step {node = m} {label = l} {i = i} {j = j} r e c w) =
@@ -477,6 +490,7 @@ module _ (net : Net) (closed : Bool) (labels : (i : ℕ) → i < length net.offe
       step (reached-label m r) (record { within = e.within; from = e.from; to = e.to }) (closed-old l within ∙ c)
       (record { within = w.within; from = w.from; to = w.to })
 
+  -- An index stays settled with one label more, which is not open.
   pub IsSettled-label : (t : Tally) → IsSettled net t
       → IsSettled (with_label net closed) (record t {
         support = t.support ++ 0 ∷ [];

@@ -8,6 +8,7 @@ use Rattle.wait_index.specs.declared.edges.Edge.{Edge}
 use Rattle.wait_index.specs.Net.{Net, is_closed, IsReached, root, step, IsClosedUnder, with_all_closed, is_among, is_open_among, visits_of}
 use Rattle.wait_index.proofs.Following.{flag-here, flag-other}
 
+-- Each set that is closed under the net's steps has all reached nodes: the law `least`.
 pub reached-least : (net : Net) (nodes : ℕ → Bool) → IsClosedUnder net nodes → (node : ℕ) → IsReached net node → nodes node ≡ true
 reached-least net nodes h node (root e) = h.roots node e
 reached-least net nodes h node (step {node = m} {label = l} {i = i} {j = j} r e c w) = h.steps m l node i j (reached-least net nodes h m r) e c w
@@ -16,10 +17,12 @@ reached-least net nodes h node (step {node = m} {label = l} {i = i} {j = j} r e 
 abbrev pub all_set : List Bool → List ℕ → List Bool
 all_set flags labels = fold (λ closed label. set closed label true) flags labels
 
+-- To set flags makes no flag more.
 pub length-all_set : (labels : List ℕ) (flags : List Bool) → length (all_set flags labels) ≡ length flags
 length-all_set [] flags = refl
 length-all_set (l ∷ ls) flags = length-all_set ls (set flags l true) ∙ length-set flags l true
 
+-- What a list contains is its first item or stands in the rest.
 pub contains-cons : (l : ℕ) (ls : List ℕ) (k : ℕ) → Contains (l ∷ ls) k → (k ≡ l) ⊎ Contains ls k
 contains-cons l ls k c =
     elim (cases_eq c.0 0) [
@@ -29,6 +32,7 @@ contains-cons l ls k c =
           inr (c.0 - 1, omega (arith, c.1, z), sym (ap (λ i. get_or (l ∷ ls) i k) at) ∙ c.2)
     ]
 
+-- Raising one flag lowers none.
 pub set-kept : (flags : List Bool) (l k : ℕ) → get_or flags k false ≡ true → get_or (set flags l true) k false ≡ true
 set-kept flags l k e =
     elim (cases_eq k l) [
@@ -40,10 +44,12 @@ set-kept flags l k e =
       | inr s ↦ flag-other flags l k true s ∙ e
     ]
 
+-- Raising many flags lowers none.
 pub all_set-kept : (labels : List ℕ) (flags : List Bool) (k : ℕ) → get_or flags k false ≡ true → get_or (all_set flags labels) k false ≡ true
 all_set-kept [] flags k e = e
 all_set-kept (m ∷ ms) flags k e = all_set-kept ms (set flags m true) k (set-kept flags m k e)
 
+-- A flag that was raised, or whose label is listed, is raised after all.
 pub all_set-from : (labels : List ℕ) (flags : List Bool) (k : ℕ) → k < length flags
     → (get_or flags k false ≡ true) ⊎ Contains labels k → get_or (all_set flags labels) k false ≡ true
 all_set-from [] flags k l h = elim h [ inl e ↦ e | inr c ↦ absurd (omega (arith, c.1)) ]
@@ -58,6 +64,7 @@ all_set-from (m ∷ ms) flags k l h =
           ]
     ])
 
+-- A flag that is raised after all was raised, or its label is listed.
 pub all_set-to : (labels : List ℕ) (flags : List Bool) (k : ℕ) → get_or (all_set flags labels) k false ≡ true
     → (get_or flags k false ≡ true) ⊎ Contains labels k
 all_set-to [] flags k e = inl e
@@ -71,10 +78,12 @@ all_set-to (m ∷ ms) flags k e =
       | inr a ↦ inr (suc a.0, omega (arith, a.1), a.2)
     ]
 
+-- Closed after many closes is what was closed or is listed: the law `closes_in_any_order`.
 pub closed-all : (net : Net) (labels : List ℕ) (label : ℕ) → label < length net.closed
     → ((is_closed (with_all_closed net labels) label ≡ true) ↔ ((is_closed net label ≡ true) ⊎ Contains labels label))
 closed-all net labels label l = (all_set-to labels net.closed label, all_set-from labels net.closed label l)
 
+-- Lists with the same labels close to one net: the law `closes_in_any_order`.
 pub closed-order : (net : Net) (labels others : List ℕ)
     → ((label : ℕ) → (Contains labels label ↔ Contains others label))
     → with_all_closed net labels ≡ with_all_closed net others
@@ -94,6 +103,7 @@ closed-order net labels others h =
     in
     ap (λ closed. record net { closed = closed }) same
 
+-- The visits are at most as many as the edges: the law `no_edge_twice`.
 pub visits-few : (net : Net) (nodes : List ℕ) → visits_of net nodes ≤ length net.offers + length net.waits
 visits-few net nodes =
     omega (

@@ -9,6 +9,7 @@ use Rattle.wait_index.specs.Edge.{edge_at, from_at, to_at, IsEdge}
 use Rattle.wait_index.specs.Inside.Links.{IsLink, IsLast, AreLinked}
 use Rattle.wait_index.proofs.Counts.{bit-true, count_below-more, count_below-gap}
 
+-- An owner's last edge is a link of that owner.
 pub IsLink-last : (es : List Edge) (owner n link : ℕ) → n ≤ length es → IsLast es owner n link → IsLink es owner link
 IsLink-last es owner n link l h = record { within = omega (arith, h.below); owned = h.owned }
 
@@ -18,6 +19,7 @@ pub count_owned : (es : List Edge) (owner n link : ℕ) → IsLast es owner n li
 count_owned es owner n link h =
     count_below-gap (λ i. eqb (from_at es i) owner) link n h.below (λ k a b. ne_eqb (from_at es k) owner (h.none_later k a b))
 
+-- An owner's edges below a bound that pass a test are those below the link that do.
 pub count_owned_and : (es : List Edge) (owner : ℕ) (test : ℕ → Bool) (n link : ℕ) → IsLast es owner n link
     → count_below (λ i. eqb (from_at es i) owner && test i) n
     ≡ count_below (λ i. eqb (from_at es i) owner && test i) link
@@ -36,6 +38,7 @@ count_owned-step es owner i next e h =
       count_owned es owner i next h,
     )
 
+-- One edge of the owner is taken from those left that pass a test.
 pub count_owned_and-step : (es : List Edge) (owner : ℕ) (test : ℕ → Bool) (i next : ℕ) → from_at es i ≡ owner
     → IsLast es owner i next → count_below (λ k. eqb (from_at es k) owner && test k) (i + 1)
     ≡ count_below (λ k. eqb (from_at es k) owner && test k) next + bit (test i)
@@ -46,24 +49,31 @@ count_owned_and-step es owner test i next e h =
 -- an edge that is added at the end
 
 module _ (es : List Edge) (e : Edge) where
+  -- An old edge keeps its place.
   edge_at-old : (i : ℕ) → i < length es → edge_at (es ++ e ∷ []) i ≡ edge_at es i
   edge_at-old i l = get_or_append_left es (e ∷ []) (record { from = 0; to = 0 }) i l
 
+  -- The new edge stands at the end.
   edge_at-new : edge_at (es ++ e ∷ []) (length es) ≡ e
   edge_at-new = get_or_push es e (record { from = 0; to = 0 }) (length es) refl
 
+  -- An old edge still leads from where it did, and `to_at-old` says the same of where it leads to.
   pub from_at-old : (i : ℕ) → i < length es → from_at (es ++ e ∷ []) i ≡ from_at es i
   from_at-old i l = ap (λ (x : Edge). x.from) (edge_at-old i l)
 
+  -- An old edge still leads to where it did.
   pub to_at-old : (i : ℕ) → i < length es → to_at (es ++ e ∷ []) i ≡ to_at es i
   to_at-old i l = ap (λ (x : Edge). x.to) (edge_at-old i l)
 
+  -- The new edge leads from its start, and `to_at-new` says the same of its end.
   pub from_at-new : from_at (es ++ e ∷ []) (length es) ≡ e.from
   from_at-new = ap (λ (x : Edge). x.from) edge_at-new
 
+  -- The new edge leads to its end.
   pub to_at-new : to_at (es ++ e ∷ []) (length es) ≡ e.to
   to_at-new = ap (λ (x : Edge). x.to) edge_at-new
 
+  -- An old edge is an edge of the longer list.
   pub IsEdge-old : (i here there : ℕ) → IsEdge es i here there → IsEdge (es ++ e ∷ []) i here there
   IsEdge-old i here there h = record {
     within = omega (arith, h.within, length_push es e);
@@ -71,6 +81,7 @@ module _ (es : List Edge) (e : Edge) where
     to = to_at-old i h.within ∙ h.to;
   }
 
+  -- The new edge is an edge of the longer list.
   pub IsEdge-new : IsEdge (es ++ e ∷ []) (length es) e.from e.to
   IsEdge-new = record { within = omega (arith, length_push es e); from = from_at-new; to = to_at-new }
 
@@ -84,6 +95,7 @@ module _ (es : List Edge) (e : Edge) where
             inr (at, sym from_at-new ∙ ap (from_at (es ++ e ∷ [])) (sym at) ∙ h.from, sym to_at-new ∙ ap (to_at (es ++ e ∷ [])) (sym at) ∙ h.to)
       ]
 
+  -- The last edge among the old ones stays the last of them.
   IsLast-old : (owner n link : ℕ) → n ≤ length es → IsLast es owner n link → IsLast (es ++ e ∷ []) owner n link
   IsLast-old owner n link l h = record {
     below = h.below;
@@ -91,7 +103,7 @@ module _ (es : List Edge) (e : Edge) where
     none_later = λ i a b c. h.none_later i a b (sym (from_at-old i (omega arith)) ∙ c);
   }
 
-  -- past the new edge, for its owner and for another
+  -- The new edge is the last one of its owner.
   IsLast-owner : IsLast (es ++ e ∷ []) e.from (length es + 1) (length es + 1)
   IsLast-owner = record {
     below = omega arith;
@@ -99,6 +111,7 @@ module _ (es : List Edge) (e : Edge) where
     none_later = λ i a b c. absurd (omega arith);
   }
 
+  -- The last edge of another owner stays its last.
   IsLast-other : (owner link : ℕ) → owner ≢ e.from → IsLast es owner (length es) link → IsLast (es ++ e ∷ []) owner (length es + 1) link
   IsLast-other owner link ne h =
       let old = IsLast-old owner (length es) link (omega arith) h in
@@ -164,14 +177,17 @@ module _ (es : List Edge) (e : Edge) where
 
 -- what is read of the lists of edges
 
+-- Where an edge that was read leads to, in the words of the net.
 pub read_to : (es : List Edge) (i : ℕ) (e : Edge) → i < length es → e ≡ get_or es i e → e.to ≡ to_at es i
 read_to es i e l r = ap (λ (x : Edge). x.to) (get_or_read es i e l r (record { from = 0; to = 0 }))
 
+-- The link read for an owner is that of its last edge: so a loop over its edges begins there.
 pub first_link : (es : List Edge) (newest earlier : List ℕ) (owner link : ℕ) → AreLinked es newest earlier
     → owner < length newest → link ≡ get_or newest owner link → IsLast es owner (length es) link
 first_link es newest earlier owner link h l r =
     subst (λ k. IsLast es owner (length es) k) (sym (get_or_read newest owner link l r 0)) (h.last owner l)
 
+-- The link read for an edge is that of the owner's edge before it: so the loop goes on there.
 pub next_link : (es : List Edge) (newest earlier : List ℕ) (owner edge link next : ℕ) → AreLinked es newest earlier
     → IsLink es owner link → link ≡ edge + 1 → next ≡ get_or earlier edge next → IsLast es owner edge next
 next_link es newest earlier owner edge link next h k e r =

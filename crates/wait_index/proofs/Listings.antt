@@ -10,19 +10,23 @@ use Rattle.wait_index.specs.Inside.Count.{bit, count_below}
 use Rattle.wait_index.specs.Inside.Listing.{holds, IsListing}
 use Rattle.wait_index.proofs.Counts.{count_below-change, count_below-less, count_below-same, count_below-more, bit-false}
 
--- a number is listed exactly where its place is not 0
+-- A listed number has a place, which is not 0.
 pub placed-from_holds : (places : List ℕ) (n : ℕ) → holds places n ≡ true → 0 < get_or places n 0
 placed-from_holds places n h = ltb-true 0 (get_or places n 0) h
 
+-- A number with a place is listed.
 pub holds-from_placed : (places : List ℕ) (n : ℕ) → 0 < get_or places n 0 → holds places n ≡ true
 holds-from_placed places n h = lt-ltb 0 (get_or places n 0) h
 
+-- A number that is not listed has no place.
 pub unplaced-from_holds : (places : List ℕ) (n : ℕ) → holds places n ≡ false → get_or places n 0 ≡ 0
 unplaced-from_holds places n h = omega (arith, ltb-false 0 (get_or places n 0) h)
 
+-- A number without a place is not listed.
 pub holds-from_unplaced : (places : List ℕ) (n : ℕ) → get_or places n 0 ≡ 0 → holds places n ≡ false
 holds-from_unplaced places n h = le-ltb 0 (get_or places n 0) (omega (arith, h))
 
+-- A listed number is one of those that have an entry.
 pub within-from_holds : (places : List ℕ) (n : ℕ) → holds places n ≡ true → n < length places
 within-from_holds places n h =
     elim (cases_lt n (length places)) [
@@ -33,6 +37,7 @@ within-from_holds places n h =
 -- what is listed is held
 
 module _ (items places : List ℕ) (h : IsListing items places) where
+  -- A held number is in the list.
   pub contains-from_holds : (n : ℕ) → holds places n ≡ true → Contains items n
   contains-from_holds n e =
       let place = placed-from_holds places n e in
@@ -40,14 +45,17 @@ module _ (items places : List ℕ) (h : IsListing items places) where
       let within = h.placed_within n (get_or places n 0 - 1) at in
       (get_or places n 0 - 1, within, get_or_default items (get_or places n 0 - 1) n 0 within ∙ h.placed n (get_or places n 0 - 1) at)
 
+  -- Where a number is held, the list is not empty.
   pub some-from_holds : (n : ℕ) → holds places n ≡ true → 0 < length items
   some-from_holds n e = let c = contains-from_holds n e in omega (arith, c.1)
 
+  -- A number in the list is held.
   pub holds-from_contains : (n : ℕ) → Contains items n → holds places n ≡ true
   holds-from_contains n c =
       let item : get_or items c.0 0 ≡ n = get_or_default items c.0 0 n c.1 ∙ c.2 in
       holds-from_placed places n (omega (arith, ap (λ k. get_or places k 0) (sym item), h.listed c.0 c.1))
 
+  -- No number is listed twice.
   pub listed-once : AllPairs ◌≢◌ items
   listed-once i j d l within e =
       let a = get_or_default items i d 0 (omega (arith, l, within)) in
@@ -57,12 +65,15 @@ module _ (items places : List ℕ) (h : IsListing items places) where
 -- what is held after one place is set
 
 module _ (places : List ℕ) (n v : ℕ) (l : n < length places) where
+  -- The entry that is set has the new place.
   pub get-here : get_or (set places n v) n 0 ≡ v
   get-here = get_or-set_same places n v 0 l
 
+  -- Each other entry has its old place.
   pub get-other : (m : ℕ) → m ≢ n → get_or (set places n v) m 0 ≡ get_or places m 0
   get-other m ne = get_or-set_other places n m v 0 ne
 
+-- When an entry is set to 0, just its number is held no longer.
 pub holds-remove : (places : List ℕ) (n : ℕ) → n < length places → (m : ℕ) → holds (set places n 0) m ≡ (holds places m && not (eqb m n))
 holds-remove places n l m =
     elim (cases_eq m n) [
@@ -81,10 +92,11 @@ holds-remove places n l m =
     and-true true = refl
     and-true false = refl
 
--- there is room for one that is not listed
+-- The list is shorter than the places where a number is not listed, so there is room for it.
 pub fewer : (items places : List ℕ) (n : ℕ) → IsListing items places → n < length places → holds places n ≡ false → length items < length places
 fewer items places n h l e = omega (arith, h.many, count_below-less (λ m. holds places m) n (length places) l e)
 
+-- With a new number at its end the list and its places stay right.
 pub IsListing-insert : (items places : List ℕ) (n : ℕ) → IsListing items places → n < length places
     → holds places n ≡ false → IsListing (items ++ n ∷ []) (set places n (length items + 1))
 IsListing-insert items places n h l e =
@@ -134,7 +146,7 @@ IsListing-insert items places n h l e =
           ap (count_below (λ m. holds (set places n v) m)) size ∙ omega (arith, change, h.many, more);
     }
 
--- a number that is added at the end is not in the set
+-- With one number more, which is not listed, the list and its places stay right.
 pub IsListing-grow : (items places : List ℕ) → IsListing items places → IsListing items (places ++ 0 ∷ [])
 IsListing-grow items places h =
     let more : length (places ++ 0 ∷ []) ≡ length places + 1 = length_push places 0 in
@@ -164,7 +176,7 @@ IsListing-grow items places h =
           ap (count_below (λ m. holds (places ++ 0 ∷ []) m)) more ∙ step;
     }
 
--- the last of the list is taken out
+-- Without the last number the list and its places stay right.
 pub IsListing-pop : (items places : List ℕ) (n : ℕ) → IsListing (items ++ n ∷ []) places → IsListing items (set places n 0)
 IsListing-pop items places n h =
     let more : length (items ++ n ∷ []) ≡ length items + 1 = length_push items n in
@@ -204,21 +216,27 @@ IsListing-pop items places n h =
 -- one is taken out, and the last of the list takes its place
 module _ (items places : List ℕ) (n index last : ℕ) (h : IsListing items places) (at : get_or places n 0 ≡ index + 1)
     (moved : get_or items (length items - 1) 0 ≡ last) where
+  -- The place is one of the list.
   in_list : index < length items
   in_list = h.placed_within n index at
 
+  -- The number stands at its place.
   item_n : get_or items index 0 ≡ n
   item_n = h.placed n index at
 
+  -- The last number has an entry.
   last_within : last < length places
   last_within = omega (arith, moved, h.within (length items - 1) (omega (arith, in_list)))
 
+  -- The last number's entry is the length of the list.
   last_place : get_or places last 0 ≡ length items
   last_place = ap (λ k. get_or places k 0) (sym moved) ∙ h.listed (length items - 1) (omega (arith, in_list)) ∙ omega (arith, in_list)
 
+  -- The number has an entry.
   n_within : n < length places
   n_within = within-from_holds places n (holds-from_placed places n (omega (arith, at)))
 
+  -- Just the number is held no longer.
   pub holds-swap : (m : ℕ) → holds (set (set places last (index + 1)) n 0) m ≡ (holds places m && not (eqb m n))
   holds-swap m =
       let within : n < length (set places last (index + 1)) = omega (arith, n_within, length-set places last (index + 1)) in
@@ -239,14 +257,17 @@ module _ (items places : List ℕ) (n index last : ℕ) (h : IsListing items pla
       in
       holds-remove (set places last (index + 1)) n within m ∙ ap (λ b. b && not (eqb m n)) first
 
+  -- The number has no place any more.
   place_n : get_or (set (set places last (index + 1)) n 0) n 0 ≡ 0
   place_n = get-here (set places last (index + 1)) n 0 (omega (arith, n_within, length-set places last (index + 1)))
 
+  -- Each number besides these two has its old place.
   place_other : (m : ℕ) → m ≢ n → m ≢ last → get_or (set (set places last (index + 1)) n 0) m 0 ≡ get_or places m 0
   place_other m a b = get-other (set places last (index + 1)) n 0
       (omega (arith, n_within, length-set places last (index + 1))) m a
       ∙ get-other places last (index + 1) last_within m b
 
+  -- The last number has the place that is free now.
   place_last : last ≢ n → get_or (set (set places last (index + 1)) n 0) last 0 ≡ index + 1
   place_last a = get-other (set places last (index + 1)) n 0
       (omega (arith, n_within, length-set places last (index + 1))) last a
@@ -256,14 +277,17 @@ module _ (items places : List ℕ) (n index last : ℕ) (h : IsListing items pla
   last_is : last ≡ n → index + 1 ≡ length items
   last_is e = omega (arith, at, last_place, ap (λ k. get_or places k 0) e)
 
+  -- The list is shorter by one.
   size_items : (d : ℕ) → length (swap_remove items index d) ≡ length items - 1
   size_items d = length-take-le (length items - 1) (set items index (get_or items (length items - 1) d))
       (omega (arith, length-set items index (get_or items (length items - 1) d)))
 
+  -- Each other place below the new length has its old number.
   item_at : (d i : ℕ) → i < length items - 1 → i ≢ index → get_or (swap_remove items index d) i 0 ≡ get_or items i 0
   item_at d i a b = get_or-take (length items - 1) (set items index (get_or items (length items - 1) d)) i 0 a
       ∙ get_or-set_other items index i (get_or items (length items - 1) d) 0 b
 
+  -- The free place has the last number.
   item_moved : (d : ℕ) → index < length items - 1 → get_or (swap_remove items index d) index 0 ≡ last
   item_moved d a =
       get_or-take (length items - 1) (set items index (get_or items (length items - 1) d)) index 0 a
@@ -295,6 +319,7 @@ module _ (items places : List ℕ) (n index last : ℕ) (h : IsListing items pla
             ]
       ]
 
+  -- Without the number the list and its places stay right: the last one has taken its place.
   pub IsListing-swap : (d : ℕ) → IsListing (swap_remove items index d) (set (set places last (index + 1)) n 0)
   IsListing-swap d =
       let size : length (set (set places last (index + 1)) n 0) ≡ length places =

@@ -21,6 +21,7 @@ use Rattle.wait_index.proofs.Closing.{before_all, open-from_offer, marked-from_r
 use Rattle.wait_index.proofs.Growing.{within-from_flag}
 
 module _ (items places : List ℕ) (h : IsListing items places) where
+  -- A number is in the list exactly where it is held.
   pub is_among-holds : (n : ℕ) → is_among items n ≡ holds places n
   is_among-holds n =
       elim (cases_Bool (holds places n)) [
@@ -37,6 +38,7 @@ module _ (items places : List ℕ) (h : IsListing items places) where
 
 module _ (net : Net) (t : Tally) (h : IsSettled net t) (queue : IsListing t.touched t.touched_places) (labels : (i : ℕ)
     → i < length net.offers → to_at net.offers i < length net.closed) where
+  -- The marked nodes are the reached ones, each once.
   pub lists-reached : ListsReached net t.marked
   lists-reached =
       let listing = h.follows.steady.listing in
@@ -46,9 +48,11 @@ module _ (net : Net) (t : Tally) (h : IsSettled net t) (queue : IsListing t.touc
         once = listed-once t.marked t.places listing;
       }
 
+  -- A node is in the list of marked nodes exactly where it is marked.
   among : (n : ℕ) → is_among t.marked n ≡ is_marked_in t n
   among = is_among-holds t.marked t.places h.follows.steady.listing
 
+  -- A label is open by the list of marked nodes exactly where its flag is raised.
   open_among : (l : ℕ) → is_open_among net t.marked l ≡ is_open_in t l
   open_among l =
       elim (cases_Bool (is_open_in t l)) [
@@ -78,6 +82,7 @@ module _ (net : Net) (t : Tally) (h : IsSettled net t) (queue : IsListing t.touc
             (not-true (is_closed net l) parts.0))) ∙ sym o
       ]
 
+  -- The turns that are counted are those by the definition.
   pub visits-shown : t.visits ≡ visits_of net t.marked
   visits-shown =
       omega (
@@ -96,7 +101,7 @@ module _ (net : Net) (t : Tally) (h : IsSettled net t) (queue : IsListing t.touc
 pub lists : (g : Graph) (m : Marks) → IsSettled (net_of g) (tally_of m) → ListsReached (net_of g) m.marked.items.items
 lists g m h = lists-reached (net_of g) (tally_of m) h m.touched.listed g.shaped.labels
 
--- ... also where only room was added
+-- The marked nodes are listed also after room was added.
 pub lists-grown : (g more : Graph) (m grown : Marks) → IsSettled (net_of g) (tally_of m) → net_of more ≡ net_of g
     → tally_of grown ≡ tally_of m → ListsReached (net_of more) grown.marked.items.items
 lists-grown g more m grown h net tally =

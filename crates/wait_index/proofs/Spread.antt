@@ -31,6 +31,7 @@ pub record ReleasesFrom (net : Net) (label link : ℕ) (old now : Tally) : Type 
   pub touched_places : now.touched_places ≡ old.touched_places
   pub visits : now.visits + count_below (λ i. eqb (from_at net.waits i) label) link ≡ old.visits + waits_of net label
 
+-- Before the first wait edge of the label all of them are left to be followed.
 pub ReleasesFrom-start : (net : Net) (label link : ℕ) (t : Tally) → HasSizes net t
     → IsLast net.waits label (length net.waits) link → ReleasesFrom net label link t t
 ReleasesFrom-start net label link t s h = record {
@@ -107,7 +108,7 @@ ReleasesFrom-step net label edge link next old now then new h e is last m =
       );
     }
 
--- the count does not pass the bound
+-- The visits stay within the number of wait edges, so one can be added.
 pub ReleasesFrom-fits : (net : Net) (label edge link : ℕ) (old now : Tally) → ReleasesFrom net label link old now
     → link ≡ edge + 1 → now.visits + 1 ≤ old.visits + length net.waits
 ReleasesFrom-fits net label edge link old now h e =

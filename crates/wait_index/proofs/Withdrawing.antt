@@ -32,6 +32,7 @@ pub record WithdrawsFrom (net : Net) (node link : ℕ) (old now : Tally) : Type 
   pub size : length now.touched_places ≡ length old.touched_places
   pub visits : now.visits + offer_count_of net node ≡ old.visits + count_below (λ i. eqb (from_at net.offers i) node) link
 
+-- Before the first offer edge of the node all of them are left to be taken back.
 pub WithdrawsFrom-start : (net : Net) (node link : ℕ) (t : Tally) → CanFall net t node
     → IsLast net.offers node (length net.offers) link → WithdrawsFrom net node link t t
 WithdrawsFrom-start net node link t c h = record {
@@ -51,7 +52,8 @@ WithdrawsFrom-start net node link t c h = record {
   visits = ap (λ n. t.visits + n) (count_owned net.offers node (length net.offers) link h);
 }
 
--- there is still something to take back
+-- Where an offer edge is left, neither the visits nor its label's support are 0, so both can be
+-- lowered.
 pub WithdrawsFrom-some : (net : Net) (node edge link : ℕ) (old now : Tally) → WithdrawsFrom net node link old now
     → link ≡ edge + 1 → to_at net.offers edge < length net.closed
     → (0 < now.visits) × (0 < support_in now (to_at net.offers edge))
@@ -69,6 +71,7 @@ WithdrawsFrom-some net node edge link old now h e within =
       ),
     )
 
+-- One offer edge more is taken back.
 pub WithdrawsFrom-step : (net : Net) (node edge link next : ℕ) (old now new : Tally)
     → WithdrawsFrom net node link old now → link ≡ edge + 1 → to_at net.offers edge < length net.closed
     → IsLast net.offers node edge next → Withdraws (to_at net.offers edge) now new → WithdrawsFrom net node next old new

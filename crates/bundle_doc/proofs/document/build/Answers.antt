@@ -17,6 +17,7 @@ returns-then-len-gt-MAX_DOCUMENT_BYTES c =
     } in
     too_long-built _ _ _ _ _ _ built c.len.result (c.len.ensures ∙ c.write_numbers.new.out.bytes.ok.0) c.if-len-gt-MAX_DOCUMENT_BYTES.true
 
+-- what was written, within the limit, is that of the entries and the numbers
 built : (c : goal.Else-len-gt-MAX_DOCUMENT_BYTES)
     → IsBuilt c.args.contents.found.entries c.args.contents.rank c.args.contents.hint
     c.in_ok-authorities.authorities.items (string_bytes c.in_ok-authorities.canonical)
@@ -31,6 +32,7 @@ built c = record {
   hint_fits = c.requires.hint_fits;
 }
 
+-- the length that is compared with the limit is that of the text
 measured : (c : goal.Else-len-gt-MAX_DOCUMENT_BYTES) → c.len.result ≡ length (string_bytes c.write_numbers.new.out)
 measured c = c.len.ensures ∙ c.write_numbers.new.out.bytes.ok.0
 

@@ -5,6 +5,7 @@ use Rattle.sha2.specs.Sha256.{sha256}
 use Rattle.receipt_core.specs.Parts.{pieces}
 use Rattle.receipt_core.proofs.line.id_of.Goals as goal
 
+-- the receipt of the call's arguments
 abbrev receipt : goal.After-finalize → Receipt
 receipt c = record { domain = c.args.domain.now; endpoint = c.args.endpoint.now; document = c.args.document.now; voucher = c.args.voucher; key = c.args.key }
 

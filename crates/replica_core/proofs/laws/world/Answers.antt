@@ -11,7 +11,7 @@ use Rattle.replica_core.proofs.Whole.{now-comes, saved-comes, means, members-clo
 use Rattle.replica_core.proofs.Whole.{agreed}
 use Rattle.replica_core.proofs.laws.world.Goals as goal
 
--- what the joins of sets are
+-- The sets of receipts and of records keep the laws of joins.
 joins : Laws
 joins = record {
   receipts = joins-of receipt_cmp IsReceipt IsReceipt (λ r h. h) (AreSets-from_total IsReceipt receipt_cmp receipt_total one_receipt);

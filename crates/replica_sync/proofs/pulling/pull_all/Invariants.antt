@@ -1,4 +1,4 @@
--- So many buckets were asked about, and each line took at least one byte.
+-- The buckets so far were asked about, and each line took at least one byte.
 use Rattle.std.proofs.Common.{◌+◌, ◌<◌, ◌^◌}
 use Rattle.byte_lines.specs.Streams.{stream_of, left_of}
 use Rattle.replica_sync.proofs.PullingFacts.{AskedUpTo}

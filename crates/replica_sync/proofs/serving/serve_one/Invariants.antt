@@ -1,4 +1,4 @@
--- So many questions were answered, each of which took at least one byte.
+-- The questions so far were answered, and each took at least one byte.
 use Rattle.std.proofs.Common.{◌+◌, ◌^◌, ◌<◌}
 use Rattle.byte_lines.specs.Streams.{stream_of, left_of}
 use Rattle.replica_sync.specs.Inside.Serving.{Served}

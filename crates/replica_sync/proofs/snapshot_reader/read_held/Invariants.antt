@@ -1,4 +1,5 @@
--- The lines so far are those of what is held, and the last of them and the number of the next are known.
+-- The lines so far are those of what is held, and the last of them and the number of the next are
+-- known.
 use Rattle.std.proofs.Common.{◌≡◌}
 use Rattle.byte_lines.specs.Streams.{stream_of, left_of}
 use Rattle.replica_sync.specs.Snapshots.{last_line, next_number}

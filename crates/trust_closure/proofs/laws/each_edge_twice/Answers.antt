@@ -7,6 +7,7 @@ use Rattle.trust_closure.specs.Indexed.{Indexed}
 use Rattle.trust_closure.specs.Work.{ClosesAtOnce}
 use Rattle.trust_closure.proofs.laws.each_edge_twice.Goals as goal
 
+-- The turns are at most twice the edges, since all labels together are such a set.
 twice : (old new : Indexed) (records : List Distrust) → ClosesAtOnce old records new
     → new.turns ≤ 2 * (length old.wired.net.offers + length old.wired.net.waits)
 twice old new records is =

@@ -4,15 +4,19 @@ use Rattle.fed_config.proofs.DomainFacts.{one_list}
 use Rattle.fed_config.proofs.TextFacts.{config_of}
 use Rattle.fed_config.proofs.config.Config.of_sets.Goals as goal
 
+-- the slices that are lent out are the two lists
 lent : (c : goal.In_ok-id) → config_of c.as_slice.result.now c.as_slice-2.result.now ≡ config_of c.args.relationships.items c.args.seeds.items
 lent c = ap₂ config_of c.as_slice.ensures.value c.as_slice-2.ensures.value
 
+-- the domains that were gathered are those of the two lists
 all : (c : goal.In_ok-id) → AreDomains (config_of c.args.relationships.items c.args.seeds.items) c.in_ok-domains.domains.items
 all c = subst (λ v. AreDomains v c.in_ok-domains.domains.items) (lent c) c.in_ok-domains.ensures
 
+-- they are within the limit
 few : (c : goal.In_ok-id) → length c.in_ok-domains.domains.items ≤ 1024
 few c = subst (λ n. n ≤ 1024) (c.len.ensures ∙ c.in_ok-domains.domains.ok.0) c.if-len-gt-MAX_DOMAINS.false
 
+-- so the two lists are a configuration
 configuration : (c : goal.In_ok-id) → IsConfiguration (config_of c.args.relationships.items c.args.seeds.items)
 configuration c = record {
   rising_relationships = c.requires.rising_relationships;

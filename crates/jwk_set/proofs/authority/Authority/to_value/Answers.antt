@@ -7,6 +7,7 @@ use Rattle.jwk_set.specs.Element.{IsElement, tree_of}
 use Rattle.jwk_set.proofs.TreeFacts.{IsElement-tree_of}
 use Rattle.jwk_set.proofs.authority.Authority.to_value.Goals as goal
 
+-- the object that was made is the element of the authority
 written : (c : goal.In_ok-members_of) → view (Object c.in_ok-members_of.field-0) ≡ tree_of c.args.self.now
 written c = view-Object c.in_ok-members_of.field-0 ∙ ap object c.in_ok-members_of.ensures.members
 

@@ -5,7 +5,7 @@ use Rattle.poll_log.specs.Inside.Standings.{after, kept_standing}
 use Rattle.poll_log.proofs.PollFacts.{Adds-at, IsLog-more, kept-set, slice_get-domain}
 use Rattle.poll_log.proofs.log.PollLog.add.Goals as goal
 
--- the standings as they are afterwards
+-- the standings in memory after the change are the log after it
 changed : (c : goal.After-self-1) → map kept_standing (set c.self.inside.standings.items c.args.place c.add.new.self)
     ≡ set c.args.self.now c.args.place
     (after (get_or c.args.self.now c.args.place (kept_standing c.index_mut.result.now)) c.args.moment.nanosecond
@@ -13,6 +13,7 @@ changed : (c : goal.After-self-1) → map kept_standing (set c.self.inside.stand
 changed c = kept-set c.self.inside.standings.items c.args.self.now c.args.place c.index_mut.result.now c.add.new.self
     c.args.moment.nanosecond c.args.ok c.self.view_is c.index_mut.ensures.value c.requires c.add.ensures
 
+-- any poll of this domain, moment and outcome is the one that is recorded
 adds : (c : goal.After-self-1) (p : Poll) → p.moment ≡ c.args.moment.nanosecond → p.ok ≡ c.args.ok
     → slice_get (polled_domains c.args.self.now) c.args.place ≡ Some p.domain
     → RecordsPoll c.args.self.now p (map kept_standing (set c.self.inside.standings.items c.args.place c.add.new.self))

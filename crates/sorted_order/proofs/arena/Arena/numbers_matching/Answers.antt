@@ -6,7 +6,7 @@ use Rattle.sorted_order.specs.Stock.{Stock, compared_at}
 use Rattle.sorted_order.proofs.PickedFacts.{by_rises}
 use Rattle.sorted_order.proofs.arena.Arena.numbers_matching.Goals as goal
 
--- The same of the lent items and what is sought, in the words of the arena.
+-- What is kept of the lent items is what is kept of the arena's, since both are the same.
 same_numbers : {T P : Type 0} (compared : P → T → Ordering) (p q : P) (items lent : List T)
     (order : List ℕ) (capacity : ℕ) (stock : Stock T)
     → record { items = items; order = order; capacity = capacity } ≡ stock → q ≡ p → lent ≡ items

@@ -1,4 +1,4 @@
--- The labels of the key are closed, and what fell is counted no more.
+-- The labels of the key are closed, and what fell is no longer counted.
 use Rattle.std.proofs.Common.{◌<◌, ◌∷◌, [], List, ℕ, length, arith, sym, ap, subst, ◌∙◌}
 use Rattle.std.specs.Prelude.{◌↔◌}
 use Rattle.fed_config.specs.Configuration.{Configuration, AreDomains}

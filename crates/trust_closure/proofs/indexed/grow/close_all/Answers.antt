@@ -1,4 +1,4 @@
--- The labels of distrusted keys are closed, and what fell is counted no more.
+-- The labels of distrusted keys are closed, and what fell is no longer counted.
 use Rattle.std.proofs.Common.{List, ℕ, length, arith, sym, ap, subst}
 use Rattle.fed_config.specs.Configuration.{Configuration, AreDomains}
 use Rattle.trust_closure.specs.Labels.{Closes}

@@ -1,4 +1,4 @@
--- What fell is counted no more, and what was marked again is.
+-- What fell is no longer counted, and what was marked again is.
 use Rattle.std.proofs.Common.{◌≡◌, ◌∙◌, ◌<◌, ◌≤◌, ℕ, List, length, take, drop, arith, sym, ap, subst}
 use Rattle.std.specs.Prelude.{AllPairs, ◌≢◌}
 use Rattle.std.specs.List.{All}

@@ -1,4 +1,4 @@
--- One more document that is had has its count.
+-- One more node that is accepted has its document counted.
 use Rattle.std.proofs.Common.{◌≡◌, ◌∙◌, ◌+◌, ◌<◌, ◌≤◌, ◌∷◌, [], ℕ, List, true, length, arith, sym, ap, subst, refl}
 use Rattle.std.specs.Prelude.{◌↔◌}
 use Rattle.std.proofs.lemmas.Bool.{both_ways}

@@ -1,4 +1,5 @@
--- The flags are those of receipts that accepted documents vouch for, and there are more with each round.
+-- The flags are those of receipts that accepted documents vouch for, and there are more with each
+-- round.
 use Rattle.std.proofs.Common.{◌≡◌, ◌-◌, length}
 use Rattle.closure_core.specs.Inside.Flags.{raised_count}
 use Rattle.trust_closure.specs.Held.{meaning_of}

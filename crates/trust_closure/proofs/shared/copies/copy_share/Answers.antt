@@ -1,4 +1,4 @@
--- So many offers are those of some copies.
+-- Where the offers are too many to count, some receipt was copied.
 use Rattle.std.proofs.Common.{length, ap, arith}
 use Rattle.trust_closure.specs.Held.{meaning_of}
 use Rattle.trust_closure.proofs.MergeFacts.{copies_new}

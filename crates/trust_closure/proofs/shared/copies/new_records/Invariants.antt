@@ -1,4 +1,4 @@
--- So many of the records so far are not held.
+-- The count is that of the records so far that are not held.
 use Rattle.trust_closure.proofs.MergeFacts.{IsCounted}
 use Rattle.trust_closure.proofs.shared.copies.new_records.Given as goal
 

@@ -1,4 +1,4 @@
--- One more node is counted no more.
+-- One more node is no longer counted.
 use Rattle.std.proofs.Common.{◌≡◌, ◌∙◌, ◌+◌, ℕ, List, sym, ap, get_or, take, arith, subst}
 use Rattle.std.proofs.lemmas.List.{get_or_default}
 use Rattle.trust_closure.specs.NodeCounts.{AddsNodes, first_of_node}

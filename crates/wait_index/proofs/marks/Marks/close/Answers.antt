@@ -17,6 +17,7 @@ use Rattle.wait_index.proofs.marks.Marks.close.Goals as goal
 
 -- None is touched.
 
+-- A set of labels whose length is 0 has no label.
 none_touched : (touched : LabelSet) (empty : Bool) → empty ≡ eqb touched.items.len 0 → empty ≡ true → touched.items.items ≡ []
 none_touched touched empty is e = nil_from_length touched.items.items (omega (arith, touched.items.ok.0, eqb-true touched.items.len 0 (sym is ∙ e)))
 

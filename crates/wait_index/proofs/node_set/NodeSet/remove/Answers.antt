@@ -11,6 +11,7 @@ record Read (s : NodeSet) (node place : ℕ) : Type 0 where
   pub at : get_or s.places.items node 0 ≡ (place - 1) + 1
   pub in_list : place - 1 < length s.items.items
 
+-- What was read for a node of the set is its place.
 read_of : (s : NodeSet) (node place : ℕ) → node < length s.places.items → holds s.places.items node ≡ true
     → place ≡ get_or s.places.items node place → Read s node place
 read_of s node place l h e =

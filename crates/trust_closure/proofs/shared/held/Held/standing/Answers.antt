@@ -13,6 +13,7 @@ use Rattle.closure_core.proofs.RisingFacts.{sought}
 use Rattle.trust_closure.proofs.HeldFacts.{misfit_repels, found_held, missing_lacks, length_in_order}
 use Rattle.trust_closure.proofs.shared.held.Held.standing.Goals as goal
 
+-- the receipt fits the configuration of what is held
 abbrev Fits : Hoard → Receipt → Type 0
 Fits h r = IsFitting h.config r
 
