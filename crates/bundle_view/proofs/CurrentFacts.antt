@@ -3,10 +3,11 @@ use Rattle.std.proofs.Common.{◌≡◌, ℕ, inl, inr, List, [], ◌∷◌, Opt
 use Rattle.std.specs.List.{Contains, last_or}
 use Rattle.std.specs.List.Sorted.{IsStrictlySortedBy}
 use Rattle.bundle_doc.specs.Bundle.{Bundle}
-use Rattle.receipt_core.specs.Acceptance.{Meaning}
-use Rattle.closure_core.specs.AcceptedList.{document_cmp, IsAcceptedList}
+use Rattle.receipt_core.specs.Receipt.{Pair}
+use Rattle.receipt_core.specs.Acceptance.{Meaning, IsMember}
+use Rattle.closure_core.specs.AcceptedList.{document_cmp, document_of, IsAcceptedList}
 use Rattle.closure_core.specs.Order.{document_total}
-use Rattle.bundle_view.specs.Current.{IsCurrent}
+use Rattle.bundle_view.specs.Current.{IsCurrent, IsNoLower}
 use Rattle.bundle_view.proofs.ListFacts.{contains_first, contains_later, contains_none, contains_cases}
 use Rattle.bundle_view.proofs.ListFacts.{not_below_itself, not_both, rising_first, rising_rest, only_one}
 
@@ -56,3 +57,11 @@ one_current m domain ds (Some d) None list p q = absurd (q d p.accepted)
 one_current m domain ds (Some d) (Some e) list p q =
     ap Some (only_one document_cmp ds d e list.rising (list.complete d p.accepted) (list.complete e q.accepted)
     (p.greatest e q.accepted) (q.greatest d p.accepted))
+
+-- where all that was accepted is accepted, the current document is no lower than it was
+pub no_lower : (old new : Meaning) (domain : List ℕ) (before after : Option Bundle)
+    → ((p : Pair) → IsMember old p → IsMember new p) → IsCurrent old domain before → IsCurrent new domain after
+    → IsNoLower before after
+no_lower old new domain None after more was is = tt
+no_lower old new domain (Some d) None more was is = is d (more (document_of domain d) was.accepted)
+no_lower old new domain (Some d) (Some e) more was is = is.greatest d (more (document_of domain d) was.accepted)

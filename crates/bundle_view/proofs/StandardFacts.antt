@@ -8,6 +8,7 @@ use Rattle.bundle_doc.specs.declared.document.DocId.{DocId}
 use Rattle.receipt_core.specs.declared.distrust.Distrust.{Distrust}
 use Rattle.closure_core.specs.AcceptedList.{document_cmp}
 use Rattle.bundle_view.specs.declared.conflict.ConflictKind.TheVariants.{Keys, HintOnly}
+use Rattle.bundle_view.specs.Current.{IsNoLower}
 use Rattle.bundle_view.specs.Conflicts.{IsOfKind}
 use Rattle.bundle_view.specs.Report.{current_line, conflict_line, distrust_line, records_of, sequence_text}
 use Rattle.bundle_view.proofs.ListFacts.{contains_first, contains_later, contains_none, contains_cases}
@@ -29,6 +30,20 @@ rank_decides keys more hint = refl
 -- a document with a sequence number is above one without
 greater_rank : (keys more : List Authority) → document_cmp (document keys (Some 1) None) (document more None None) ≡ Greater
 greater_rank keys more = refl
+
+-- ---- a current document is no lower than another where it is the same or greater
+
+no_lower_than_none : (later : Option Bundle) → IsNoLower None later
+no_lower_than_none later = tt
+
+greater_is_no_lower : (keys more : List Authority) → IsNoLower (Some (document keys (Some 1) None)) (Some (document more (Some 2) None))
+greater_is_no_lower keys more h = cc
+
+lower_is_lower : (keys more : List Authority) → IsNoLower (Some (document keys (Some 2) None)) (Some (document more (Some 1) None)) → ⊥
+lower_is_lower keys more h = h refl
+
+none_is_lower : (d : Bundle) → IsNoLower (Some d) None → ⊥
+none_is_lower d h = h
 
 -- ---- kinds of conflicts: other authorities, or other hints alone
 

@@ -15,3 +15,9 @@ pub record IsGreatest (m : Meaning) (domain : List ℕ) (d : Bundle) : Type 0 wh
 abbrev pub IsCurrent : Meaning → List ℕ → Option Bundle → Type 0
 IsCurrent m domain None = (d : Bundle) → IsMember m (document_of domain d) → ⊥
 IsCurrent m domain (Some d) = IsGreatest m domain d
+
+-- Where there was a current document there is one, and it is no lower.
+abbrev pub IsNoLower : Option Bundle → Option Bundle → Type 0
+IsNoLower None later = Unit {0}
+IsNoLower (Some d) None = ⊥
+IsNoLower (Some d) (Some e) = document_cmp e d ≡ Less → ⊥

@@ -8,7 +8,7 @@ ghost use Rattle.bundle_view.specs.Explain.{IsShortest};
 ghost use Rattle.bundle_doc.specs.Bundle.{Bundle};
 ghost use Rattle.receipt_core.specs.Acceptance.{Meaning, IsMember, pair_of_seed};
 ghost use Rattle.closure_core.specs.AcceptedList.{IsAcceptedList};
-ghost use Rattle.bundle_view.specs.Current.{IsCurrent};
+ghost use Rattle.bundle_view.specs.Current.{IsCurrent, IsNoLower};
 ghost use Rattle.bundle_view.specs.Conflicts.{Clash, AreConflicts, ReportedConflict};
 ghost use Rattle.bundle_view.specs.Conflicts.{AreAllConflicts};
 ghost use Rattle.bundle_view.specs.Report.{IsReport};
@@ -32,6 +32,17 @@ pub fn one_view()
         → IsCurrent m domain a → IsCurrent m domain b → a ≡ b }
 {
     closure_core::laws::one_number();
+}
+
+/// As receipts are added, and no record of distrust, the current document of a domain never gets
+/// lower: it stays, or a greater one takes its place.
+pub fn current_grows()
+    ensures { (old new : Meaning) → old.config ≡ new.config → old.records ≡ new.records
+        → ((r : Receipt) → Contains old.held r → Contains new.held r) → (domain : List ℕ)
+        → (before after : Option Bundle) → IsCurrent old domain before
+        → IsCurrent new domain after → IsNoLower before after }
+{
+    closure_core::laws::larger_and_smaller();
 }
 
 /// What explains a document is a chain to anybody who has the configuration and the records of

@@ -16,6 +16,7 @@ use Rattle.closure_core.specs.declared.outcome.Distrusted.TheVariants.{Already a
 use Rattle.closure_core.specs.Count.{IsCount}
 use Rattle.closure_core.specs.Refusals.{Room, IsRoomier, RefusesReceipt, RefusesDistrust}
 use Rattle.closure_core.specs.Refusals.{RefusesMerge, IsOfConfig, all_receipts, all_records}
+use Rattle.closure_core.specs.Refusals.{offers_count}
 
 -- what a closure holds, and how much more it has memory for
 pub record HeldAndRoom : Type 0 where
@@ -99,17 +100,29 @@ TakesDistrust old x new result = MatchResult result (Distrusts old x new)
 
 -- ---- another closure
 
+-- what both hold, under the configuration of the first
+abbrev pub union_of : Meaning → Meaning → Meaning
+union_of m other = record {
+  config = m.config;
+  held = all_receipts m other;
+  records = all_records m other;
+}
+
 -- Receipts and records are those of both, and n receipts were not held.
 pub record HasMerged (old other new : Meaning) (n : ℕ) : Type 0 where
   pub of_config : IsOfConfig old other
   pub few : length (all_receipts old other) ≤ 65536
   pub few_records : length (all_records old other) ≤ 4096
-  pub meaning : new ≡ record {
-    config = old.config;
-    held = all_receipts old other;
-    records = all_records old other;
-  }
+  pub meaning : new ≡ union_of old other
   pub count : length (all_receipts old other) ≡ length old.held + n
+
+-- Both together are held, and no more room has gone than that of the n receipts and their offers.
+pub record HasMergedInRoom (old : HeldAndRoom) (other : Meaning) (new : HeldAndRoom)
+    (n : ℕ) : Type 0 where
+  pub merged : HasMerged old.meaning other new.meaning n
+  pub receipts : old.room.receipts ≤ new.room.receipts + n
+  pub offers : old.room.offers + offers_count old.meaning.held
+      ≤ new.room.offers + offers_count (all_receipts old.meaning other)
 
 -- Nothing is joined.
 pub record HasRefusedMerge (old : HeldAndRoom) (other : Meaning) (new : HeldAndRoom)
@@ -118,5 +131,5 @@ pub record HasRefusedMerge (old : HeldAndRoom) (other : Meaning) (new : HeldAndR
   pub unchanged : IsUnchanged old new
 
 abbrev pub Merges : HeldAndRoom → Meaning → HeldAndRoom → Result ℕ TakeError → Type 0
-Merges old other new result = MatchResult result (HasMerged old.meaning other new.meaning)
+Merges old other new result = MatchResult result (HasMergedInRoom old other new)
     (HasRefusedMerge old other new)

@@ -62,7 +62,7 @@ pub trait Closure: Drop {
         ensures { Takes (state self.old) receipt (state self.new) result };
 
     /// Takes all receipts and all records of distrust of another closure, or none, and returns how
-    /// many receipts were not held.
+    /// many receipts were not held. It uses up no more room than these and their offers.
     ///
     /// # Errors
     /// What is held stays. `ConfigDiffers` comes first; of the others the first that holds:

@@ -4,15 +4,30 @@ ghost use Rattle.std.specs.List.Sorted.{IsStrictlySortedBy};
 ghost use Rattle.bundle_doc.specs.Bundle.{Bundle};
 ghost use Rattle.receipt_core.specs.declared.distrust.Distrust.{Distrust};
 ghost use Rattle.receipt_core.specs.Receipt.{Receipt, Pair, receipt_cmp, distrust_cmp};
-ghost use Rattle.receipt_core.specs.Acceptance.{Meaning, IsMember, IsClosed};
-ghost use Rattle.closure_core.specs.Changes.{IsGain};
+ghost use Rattle.receipt_core.specs.Acceptance.{Meaning, IsMeaning, IsMember, IsClosed};
+ghost use Rattle.closure_core.specs.Changes.{IsGain, union_of};
 ghost use Rattle.closure_core.specs.AcceptedList.{IsAcceptedList, IsPendingCount};
 
+use std::marker::Brand;
+
+/// A set of documents of domains. A caller's proof picks one where the call passes [`Brand`].
+pub trait DocumentSet {
+    ghost use Rattle.receipt_core.specs.Receipt.{Pair};
+
+    ghost has: { Pair → Type 0 };
+}
+
+impl DocumentSet for Brand {
+    ghost has = { λ p. Unit {0} };
+}
+
 /// What is accepted is the least set that has the configured documents and, with a document, that
-/// of each held receipt that it vouches for: it is such a set, and each such set has all of it.
-pub fn least()
+/// of each held receipt that it vouches for: it is such a set, and each such set has all of it,
+/// also one that no test decides.
+pub fn least<S: DocumentSet>()
     ensures closed { (m : Meaning) → IsClosed m (IsMember m) }
-    ensures least { (m : Meaning) (set : Pair → Bool) → IsClosed m (λ p. set p ≡ true) → (p : Pair)
+    ensures least { (m : Meaning) → IsClosed m S.has → (p : Pair) → IsMember m p → S.has p }
+    ensures tests { (m : Meaning) (set : Pair → Bool) → IsClosed m (λ p. set p ≡ true) → (p : Pair)
         → IsMember m p → set p ≡ true }
 {}
 
@@ -47,4 +62,14 @@ pub fn one_list()
         → ((x : Distrust) → (Contains xs x ↔ Contains ys x)) → xs ≡ ys }
     ensures accepted { (m : Meaning) (domain : List ℕ) (ds es : List Bundle)
         → IsAcceptedList m domain ds → IsAcceptedList m domain es → ds ≡ es }
+{}
+
+/// Two closures may be merged in any order, three in any grouping, and one with itself, which
+/// changes nothing. So replicas of one configuration that merge with each other come to one union.
+pub fn merges()
+    ensures order { (m n : Meaning) → IsMeaning m → IsMeaning n → m.config ≡ n.config
+        → union_of m n ≡ union_of n m }
+    ensures grouping { (l m n : Meaning) → IsMeaning l → IsMeaning m → IsMeaning n
+        → union_of (union_of l m) n ≡ union_of l (union_of m n) }
+    ensures itself { (m : Meaning) → IsMeaning m → union_of m m ≡ m }
 {}

@@ -613,11 +613,6 @@ reserves-kept h new p q w v spare k is held numbers firsts counts pairs r =
     reserves-from h new p q w v spare spare k is numbers firsts counts r
     (room-kept h new p q w v spare k.room is held firsts pairs r) (omega arith) (omega arith)
 
--- A refusal after only what is held got room leaves all else as it was.
-pub reserves-held : (h new : Hoard) (p : Paired) (w : Wired) (spare : Spare) → IsIndexedClosure h p w spare
-    → new ≡ record h { capacity = new.capacity } → h.capacity ≤ new.capacity → Reserves h new p p w w spare spare
-reserves-held h new p w spare k is held = reserves-kept h new p p w w spare k is held refl refl refl (omega arith) (same-wiring w)
-
 -- A refusal after what is held and the documents got room leaves all else as it was.
 pub reserves-pairs : (h new : Hoard) (p q : Paired) (w : Wired) (spare : Spare) → IsIndexedClosure h p w spare
     → new ≡ record h { capacity = new.capacity } → h.capacity ≤ new.capacity → q.numbers ≡ p.numbers

@@ -7,6 +7,7 @@ use Rattle.std.specs.List.{Contains}
 use Rattle.std.specs.List.Sorted.{IsStrictlySortedBy}
 use Rattle.std.specs.Prelude.{Result, Ok, Err, IsOk, OnOk}
 use Rattle.std.specs.Result.{is_err}
+use Rattle.std.specs.Prelude.{sum_by}
 use Rattle.std.proofs.lemmas.List.Sums.{sum_by-cons}
 use Rattle.std.proofs.lemmas.Map.Keys.{sorted_head, sorted_tail}
 use Rattle.fed_config.specs.Configuration.{Configuration, IsConfiguration, relationship_cmp}
@@ -16,13 +17,13 @@ use Rattle.receipt_core.specs.Order.{receipt_total}
 use Rattle.receipt_core.specs.Receipt.{Receipt, receipt_cmp, distrust_cmp, pair_of, offers_of}
 use Rattle.receipt_core.specs.Rising.{placed, with_item, with_items}
 use Rattle.receipt_core.specs.Acceptance.{IsFitting, Meaning, IsMeaning}
-use Rattle.closure_core.specs.Changes.{HeldAndRoom, Takes, HasMerged, Took}
+use Rattle.closure_core.specs.Changes.{HeldAndRoom, Takes, HasMerged, HasMergedInRoom, Took}
 use Rattle.trust_closure.specs.Held.{AddsRecord, AddsOrRefuses}
 use Rattle.trust_closure.specs.declared.shared.records.Addition.{Addition}
 use Rattle.trust_closure.specs.declared.shared.records.Addition.TheVariants.{Added, There, Full as NoPlace}
 use Rattle.closure_core.specs.Refusals.{offers_count, Room, IsRoomier, IsOfWrongEndpoint, RefusesReceipt, RefusesDistrust, RefusesMerge, WantsCopies}
-use Rattle.closure_core.specs.Refusals.{all_records}
-use Rattle.trust_closure.specs.Merge.{IsShare, AreKnown, FitWithinRoom}
+use Rattle.closure_core.specs.Refusals.{all_records, all_receipts}
+use Rattle.trust_closure.specs.Merge.{IsShare, AreKnown, FitWithinRoom, HasSpentOn}
 use Rattle.trust_closure.specs.declared.shared.copies.Share.{Share}
 use Rattle.closure_core.specs.declared.error.TakeError.{TakeError}
 use Rattle.closure_core.specs.declared.error.TakeError.TheVariants.{UnknownDomain, WrongEndpoint, Full, NoMemory, ConfigDiffers}
@@ -31,7 +32,7 @@ use Rattle.closure_core.specs.declared.outcome.Taken.{Taken}
 use Rattle.closure_core.specs.declared.outcome.Taken.TheVariants.{New as TakenNew, Already as TakenAlready}
 use Rattle.closure_core.proofs.ContainsFacts.{contains_first, contains_later, contains_none, contains_cases}
 use Rattle.closure_core.proofs.RisingFacts.{with_item_longer, each_has}
-use Rattle.trust_closure.proofs.MergeFacts.{receipt_sets, record_sets, always}
+use Rattle.closure_core.proofs.UnionFacts.{receipt_sets, record_sets, always}
 
 -- ---- a domain has one relationship
 
@@ -98,16 +99,26 @@ with_items_grows cmp (i ∷ items) xs = let first = with_item_grows cmp i xs in 
 
 -- ---- receipts in turn
 
--- With those that are left the receipts will be those of all, and these are welcome.
+-- With those that are left the receipts will be those of all, and these are welcome. So far no more
+-- room has gone than that of all but those that are left.
 pub record IsJoining (start now : HeldAndRoom) (all rest : List Receipt) : Type 0 where
   pub config : now.meaning.config ≡ start.meaning.config
   pub records : now.meaning.records ≡ start.meaning.records
   pub held : with_items receipt_cmp rest now.meaning.held ≡ with_items receipt_cmp all start.meaning.held
   pub welcome : FitWithinRoom now rest
+  pub receipts : start.room.receipts + length rest ≤ now.room.receipts + length all
+  pub offers : start.room.offers + offers_count rest ≤ now.room.offers + offers_count all
 
 -- Before the first receipt all are left: the loop's beginning.
 pub IsJoining-start : (start : HeldAndRoom) (all : List Receipt) → FitWithinRoom start all → IsJoining start start all all
-IsJoining-start start all welcome = record { config = refl; records = refl; held = refl; welcome = welcome }
+IsJoining-start start all welcome = record {
+  config = refl;
+  records = refl;
+  held = refl;
+  welcome = welcome;
+  receipts = omega arith;
+  offers = omega arith;
+}
 
 -- The offers of a list are those of its first receipt and of the later ones.
 offers_first : (r : Receipt) (later : List Receipt) → offers_count (r ∷ later) ≡ length (offers_of (pair_of r)) + offers_count later
@@ -120,6 +131,8 @@ took start now new all later r is joining (TakenNew accepted) h =
     let few = joining.welcome.few in
     let receipts = joining.welcome.room.receipts in
     let offers = joining.welcome.room.offers in
+    let spent = joining.receipts in
+    let spent_offers = joining.offers in
     let left = h.receipts in
     let left_offers = h.offers in
     let size : length new.meaning.held ≤ length now.meaning.held + 1 =
@@ -135,11 +148,15 @@ took start now new all later r is joining (TakenNew accepted) h =
         few = omega arith;
         room = record { receipts = omega arith; offers = omega (arith, offers_first r later) };
       };
+      receipts = omega (arith, spent);
+      offers = omega (arith, spent_offers, offers_first r later);
     }
 took start now new all later r is joining TakenAlready h =
     let few = joining.welcome.few in
     let receipts = joining.welcome.room.receipts in
     let offers = joining.welcome.room.offers in
+    let spent = joining.receipts in
+    let spent_offers = joining.offers in
     let stays : IsJoining start now all later = record {
       config = joining.config;
       records = joining.records;
@@ -149,6 +166,8 @@ took start now new all later r is joining TakenAlready h =
         few = omega arith;
         room = record { receipts = omega arith; offers = omega (arith, offers_first r later) };
       };
+      receipts = omega (arith, spent);
+      offers = omega (arith, spent_offers, offers_first r later);
     } in
     subst (λ (s : HeldAndRoom). IsJoining start s all later) (sym h.same) stays
 
@@ -194,6 +213,14 @@ IsJoining-end start now all rest joining e =
     let config = joining.config in
     let records = joining.records in
     λ i. record { config = config i; held = held i; records = records i }
+
+-- after all of them, no more room has gone than theirs
+pub IsJoining-spent : (start now : HeldAndRoom) (all rest : List Receipt) → IsJoining start now all rest → rest ≡ []
+    → HasSpentOn start.room all now.room
+IsJoining-spent start now all rest joining e =
+    let receipts = joining.receipts in
+    let offers = joining.offers in
+    record { receipts = omega arith; offers = omega arith }
 
 -- ---- records in turn
 
@@ -360,6 +387,62 @@ share_merged m other roomy less new share records n is size own e1 e2 e3 =
           ∙ ap (λ (k : Meaning). record k { records = with_items distrust_cmp other.records k.records }) e1)
           ∙ (λ i. record { config = m.config; held = joined i; records = all_records m other });
       count = omega arith;
+    }
+
+-- ---- what all that are held offer
+
+placed_sum : {X : Type 0} (f : X → ℕ) (o : Ordering) (x h : X) (t longer : List X)
+    → length (placed o x h t longer) ≡ length (h ∷ t) + 1
+    → (length longer ≡ length t + 1 → sum_by f longer ≡ sum_by f t + f x)
+    → sum_by f (placed o x h t longer) ≡ sum_by f (h ∷ t) + f x
+placed_sum f Less x h t longer e rest = omega (arith, sum_by-cons f x (h ∷ t))
+placed_sum f Equal x h t longer e rest = absurd (omega (arith, e))
+placed_sum f Greater x h t longer e rest =
+    let more = rest (omega (arith, e)) in
+    omega (arith, more, sum_by-cons f h longer, sum_by-cons f h t)
+
+-- where a set is longer with an item, its sum is greater by the item's
+with_item_sum : {X : Type 0} (f : X → ℕ) (cmp : X → X → Ordering) (x : X) (xs : List X)
+    → length (with_item cmp x xs) ≡ length xs + 1 → sum_by f (with_item cmp x xs) ≡ sum_by f xs + f x
+with_item_sum f cmp x [] e = omega (arith, sum_by-cons f x [])
+with_item_sum f cmp x (h ∷ t) e = placed_sum f (cmp x h) x h t (with_item cmp x t) e (with_item_sum f cmp x t)
+
+with_items_longest : (items held : List Receipt) → length (with_items receipt_cmp items held) ≤ length held + length items
+with_items_longest [] held = omega arith
+with_items_longest (r ∷ items) held =
+    omega (arith, with_items_longest items (with_item receipt_cmp r held), with_item_longer receipt_total r held)
+
+-- where no receipt of these was held, all together offer what those that were held and these offer
+joined_offers : (items held : List Receipt) → length (with_items receipt_cmp items held) ≡ length held + length items
+    → offers_count (with_items receipt_cmp items held) ≡ offers_count held + offers_count items
+joined_offers [] held e = omega arith
+joined_offers (r ∷ items) held e =
+    let one : length (with_item receipt_cmp r held) ≡ length held + 1 =
+    omega (arith, e, with_items_longest items (with_item receipt_cmp r held), with_item_longer receipt_total r held) in
+    omega (
+      arith,
+      joined_offers items (with_item receipt_cmp r held) (omega (arith, e, one)),
+      with_item_sum (λ s. length (offers_of (pair_of s))) receipt_cmp r held one,
+      offers_first r items,
+    )
+
+-- of the room that there was before, no more has gone than that of the copies
+pub share_spent : (old roomy less new : HeldAndRoom) (other : Meaning) (share : Share) (n : ℕ)
+    → IsShare old.meaning other share → n ≡ length share.copies.items → HasMerged old.meaning other new.meaning n
+    → IsRoomier old.room roomy.room → less.room ≡ roomy.room → HasSpentOn less.room share.copies.items new.room
+    → HasMergedInRoom old other new n
+share_spent old roomy less new other share n is size merged roomier same spent =
+    let receipts : old.room.receipts ≤ less.room.receipts =
+    omega (arith, roomier.receipts, ap (λ (k : Room). k.receipts) same) in
+    let offers : old.room.offers ≤ less.room.offers =
+    omega (arith, roomier.offers, ap (λ (k : Room). k.offers) same) in
+    let sum = joined_offers share.copies.items old.meaning.held (ap length is.copies.all ∙ is.copies.count) in
+    let all : offers_count (all_receipts old.meaning other) ≡ offers_count old.meaning.held + offers_count share.copies.items =
+    sym (ap offers_count is.copies.all) ∙ sum in
+    record {
+      merged = merged;
+      receipts = omega (arith, receipts, spent.receipts, size);
+      offers = omega (arith, offers, spent.offers, all);
     }
 
 -- What is an error is not a success.

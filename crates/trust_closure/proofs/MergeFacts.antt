@@ -13,13 +13,11 @@ use Rattle.std.proofs.lemmas.List.{length-append}
 use Rattle.std.proofs.lemmas.List.Elements.{Contains-push_cases}
 use Rattle.std.proofs.lemmas.Map.Keys.{sorted_head, sorted_tail}
 use Rattle.receipt_core.specs.declared.distrust.Distrust.{Distrust}
-use Rattle.receipt_core.specs.Order.{receipt_total, distrust_total}
+use Rattle.receipt_core.specs.Order.{receipt_total}
 use Rattle.receipt_core.specs.Receipt.{Receipt, IsReceipt, receipt_cmp, distrust_cmp}
 use Rattle.receipt_core.specs.Rising.{with_item, with_items}
 use Rattle.receipt_core.specs.Sets.{AreSets, Always}
 use Rattle.receipt_core.specs.Acceptance.{Meaning, IsMeaning, IsFitting}
-use Rattle.receipt_core.proofs.LineFacts.{one_receipt, one_distrust}
-use Rattle.receipt_core.proofs.RisingFacts.{AreSets-from_total}
 use Rattle.closure_core.specs.contracts.error.TakeError.{the_type}
 use denote.Enum.Bare.{sameb}
 use lib.Pointwise.{pointwise}
@@ -30,21 +28,7 @@ use Rattle.closure_core.specs.declared.error.TakeError.TheVariants.{UnknownDomai
 use Rattle.trust_closure.proofs.ConfigFacts.{place_has}
 use Rattle.closure_core.proofs.ContainsFacts.{contains_first, contains_later, contains_none, contains_cases}
 use Rattle.closure_core.proofs.RisingFacts.{not_again, with_items_keeps}
-
--- ---- sets of receipts and of records
-
--- Receipts of their form make sets: the order of lines tells them apart.
-pub receipt_sets : AreSets IsReceipt receipt_cmp
-receipt_sets = AreSets-from_total IsReceipt receipt_cmp receipt_total one_receipt
-
--- Records of distrust make sets: their order tells any two apart.
-pub record_sets : AreSets Always distrust_cmp
-record_sets = AreSets-from_total Always distrust_cmp distrust_total (λ x y p q e. one_distrust x y e)
-
--- What holds always holds of all records.
-pub always : (xs : List Distrust) → AllByRecursion Always xs
-always [] = tt
-always (x ∷ xs) = (tt, always xs)
+use Rattle.closure_core.proofs.UnionFacts.{receipt_sets, record_sets, always}
 
 -- ---- how far a loop has come
 

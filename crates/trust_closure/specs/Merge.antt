@@ -6,7 +6,7 @@ use Rattle.receipt_core.specs.Receipt.{Receipt, receipt_cmp, distrust_cmp}
 use Rattle.receipt_core.specs.Rising.{with_items}
 use Rattle.receipt_core.specs.Acceptance.{IsFitting, Meaning}
 use Rattle.closure_core.specs.Refusals.{IsRoomier, IsOfConfig, IsOfUnknownDomain, IsOfWrongEndpoint}
-use Rattle.closure_core.specs.Refusals.{all_receipts, all_records, offers_count}
+use Rattle.closure_core.specs.Refusals.{all_receipts, all_records, offers_count, Room}
 use Rattle.closure_core.specs.Changes.{HeldAndRoom}
 use Rattle.closure_core.specs.declared.error.TakeError.{TakeError}
 use Rattle.closure_core.specs.declared.error.TakeError.TheVariants.{UnknownDomain, WrongEndpoint}
@@ -51,6 +51,11 @@ MisfitsOne c receipts ConfigDiffers = ⊥
 pub record AreKnown (m : Meaning) (records : List Distrust) : Type 0 where
   pub domains : (x : Distrust) → Contains records x → HasDomain m.config x.domain
   pub few : length (with_items distrust_cmp records m.records) ≤ 4096
+
+-- No more room has gone than that of these receipts and their offers.
+pub record HasSpentOn (old : Room) (taken : List Receipt) (new : Room) : Type 0 where
+  pub receipts : old.receipts ≤ new.receipts + length taken
+  pub offers : old.offers ≤ new.offers + offers_count taken
 
 -- These fit, there may be so many more, and there is room for them.
 pub record FitWithinRoom (old : HeldAndRoom) (receipts : List Receipt) : Type 0 where

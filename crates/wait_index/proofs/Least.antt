@@ -9,7 +9,7 @@ use Rattle.wait_index.specs.Net.{Net, is_closed, IsReached, root, step, IsClosed
 use Rattle.wait_index.proofs.Following.{flag-here, flag-other}
 
 -- Each set that is closed under the net's steps has all reached nodes: the law `least`.
-pub reached-least : (net : Net) (nodes : ℕ → Bool) → IsClosedUnder net nodes → (node : ℕ) → IsReached net node → nodes node ≡ true
+pub reached-least : (net : Net) (nodes : ℕ → Type 0) → IsClosedUnder net nodes → (node : ℕ) → IsReached net node → nodes node
 reached-least net nodes h node (root e) = h.roots node e
 reached-least net nodes h node (step {node = m} {label = l} {i = i} {j = j} r e c w) = h.steps m l node i j (reached-least net nodes h m r) e c w
 

@@ -62,7 +62,7 @@ abbrev pub others : ℕ → Bool
 others n = eqb n 0 || (eqb n 2 || eqb n 3)
 
 -- The set of these nodes is closed under the steps of the net without label 0.
-others-closed : IsClosedUnder less others
+others-closed : IsClosedUnder less (λ n. others n ≡ true)
 others-closed = record { roots = roots; steps = steps }
   where
     roots : (node : ℕ) → is_root less node ≡ true → others node ≡ true
@@ -91,7 +91,7 @@ others-closed = record { roots = roots; steps = steps }
 
 -- Node 1 is not reached while label 0 is closed.
 pub not_node_1 : IsReached less 1 → ⊥
-not_node_1 r = both_ways false refl (reached-least less others others-closed 1 r)
+not_node_1 r = both_ways false refl (reached-least less (λ n. others n ≡ true) others-closed 1 r)
 
 -- an open label is offered by a reached node and not closed
 pub label_2 : IsOpen less 2

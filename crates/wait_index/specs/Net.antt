@@ -41,10 +41,10 @@ pub record ListsReached (net : Net) (nodes : List ℕ) : Type 0 where
 
 -- the set has the roots, and with a node each one that awaits what the node offers, by a label that
 -- is not closed
-pub record IsClosedUnder (net : Net) (nodes : ℕ → Bool) : Type 0 where
-  pub roots : (node : ℕ) → is_root net node ≡ true → nodes node ≡ true
-  pub steps : (node label next i j : ℕ) → nodes node ≡ true → IsEdge net.offers i node label
-      → is_closed net label ≡ false → IsEdge net.waits j label next → nodes next ≡ true
+pub record IsClosedUnder (net : Net) (nodes : ℕ → Type 0) : Type 0 where
+  pub roots : (node : ℕ) → is_root net node ≡ true → nodes node
+  pub steps : (node label next i j : ℕ) → nodes node → IsEdge net.offers i node label
+      → is_closed net label ≡ false → IsEdge net.waits j label next → nodes next
 
 -- The new net has at least the roots and edges of the old one, and of its labels none is closed
 -- that was not.

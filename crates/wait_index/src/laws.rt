@@ -5,15 +5,29 @@ ghost use Rattle.wait_index.specs.Edge.{IsEdge};
 ghost use Rattle.wait_index.specs.Net.{Net, is_root, is_closed, IsReached, IsMore, IsClosedUnder};
 ghost use Rattle.wait_index.specs.Net.{ClosesIn, with_closed, with_all_closed, visits_of};
 
+use std::marker::Brand;
+
+/// A set of nodes. A caller's proof picks one where the call passes [`Brand`].
+pub trait SetOfNodes {
+    ghost has: { ℕ → Type 0 };
+}
+
+impl SetOfNodes for Brand {
+    ghost has = { λ node. Unit {0} };
+}
+
 /// What is reached is the least set that has the roots, and with a node each one that awaits what
-/// the node offers, by a label that is not closed.
-pub fn least()
+/// the node offers, by a label that is not closed: it is such a set, and each such set has all of
+/// it, also one that no test decides.
+pub fn least<S: SetOfNodes>()
     ensures roots { (net : Net) (node : ℕ) → is_root net node ≡ true → IsReached net node }
     ensures steps { (net : Net) (node label next i j : ℕ) → IsReached net node
         → IsEdge net.offers i node label
         → is_closed net label ≡ false → IsEdge net.waits j label next → IsReached net next }
-    ensures least { (net : Net) (nodes : ℕ → Bool) → IsClosedUnder net nodes → (node : ℕ)
-        → IsReached net node → nodes node ≡ true }
+    ensures least { (net : Net) → IsClosedUnder net S.has → (node : ℕ) → IsReached net node
+        → S.has node }
+    ensures tests { (net : Net) (nodes : ℕ → Bool) → IsClosedUnder net (λ node. nodes node ≡ true)
+        → (node : ℕ) → IsReached net node → nodes node ≡ true }
 {}
 
 /// A net with more roots and edges, and no label closed that was not, reaches no less.

@@ -16,9 +16,6 @@ use closure_core::{Refused, TakeError, Taken};
 use receipt_core::Receipt;
 use std::alloc::AllocError;
 
-/// The most nodes, whose numbers have 32 bits.
-const MOST_NODES: usize = 0xffff_ffff;
-
 /// For how many receipts more, and for how many offers of theirs, there is room.
 #[derive(Clone, Copy, Debug, PartialEq, Eq, Drop)]
 pub(crate) struct Spare {
@@ -83,16 +80,10 @@ pub(crate) fn reserve(
     }
     let receipts = receipts.max(spare.receipts);
     let offers = offers.max(spare.offers);
-    let nodes = pairs.len();
-    let Some(edges) = receipts.checked_add(offers) else {
-        return Err(AllocError);
-    };
-    if receipts > MOST_NODES - nodes {
-        return Err(AllocError);
-    }
-    held.try_reserve(receipts)?;
+    // Past 2^32 nodes the first growth is refused, and past 64 bits of edges the last.
     pairs.try_reserve(receipts)?;
-    wiring.try_reserve(receipts, edges)?;
+    held.try_reserve(receipts)?;
+    wiring.try_reserve(receipts, receipts.saturating_add(offers))?;
     spare.receipts = receipts;
     spare.offers = offers;
     Ok(())

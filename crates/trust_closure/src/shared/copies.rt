@@ -14,7 +14,6 @@ use crate::shared::held::{Held, fit};
 use closure_core::{Distrusts, NoMemory, Receipts, TakeError};
 use fed_config::Config;
 use receipt_core::Receipt;
-use std::alloc::AllocError;
 
 /// What is to be taken in: copies of the receipts that are not held, and how many offers they have
 /// together.
@@ -135,10 +134,14 @@ fn copy_share(held: &Held, other: &Held) -> Result<Share, NoMemory>
     ensures { MatchResult result (IsShare (meaning_of held.now) (meaning_of other.now))
         (λ _. HasNew (meaning_of held.now) (meaning_of other.now)) }
 {
-    let copies = copies_of_new(held, other)?;
+    let mut copies = copies_of_new(held, other)?;
     match offers_of_all(&copies) {
         Some(offers) => Ok(Share { copies, offers }),
-        None => Err(AllocError),
+        None => {
+            // There is no room for so many: it asks for a growth that is always refused.
+            copies.try_reserve(usize::MAX)?;
+            Ok(Share { copies, offers: 0 })
+        }
     }
 }
 

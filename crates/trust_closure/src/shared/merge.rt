@@ -5,7 +5,7 @@ ghost use Rattle.receipt_core.specs.Receipt.{receipt_cmp, distrust_cmp};
 ghost use Rattle.receipt_core.specs.Rising.{with_items};
 ghost use Rattle.closure_core.specs.Changes.{Merges};
 ghost use Rattle.trust_closure.specs.Held.{meaning_of};
-ghost use Rattle.trust_closure.specs.Merge.{FitWithinRoom, AreKnown};
+ghost use Rattle.trust_closure.specs.Merge.{FitWithinRoom, HasSpentOn, AreKnown};
 ghost use Rattle.trust_closure.specs.Work.{AreOld};
 
 use crate::shared::copies::share_of;
@@ -109,6 +109,8 @@ fn take_all<C: Mergeable>(closure: &mut C, receipts: Vec<Receipt>)
     requires { FitWithinRoom (C.state closure.old) receipts.items }
     ensures meaning { (C.state closure.new).meaning ≡ record (C.state closure.old).meaning
         { held = with_items receipt_cmp receipts.items (C.state closure.old).meaning.held } }
+    ensures room { HasSpentOn (C.state closure.old).room receipts.items
+        (C.state closure.new).room }
     ensures turns { C.turns closure.new ≡ C.turns closure.old }
 {
     for receipt in receipts {

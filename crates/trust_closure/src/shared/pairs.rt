@@ -130,21 +130,23 @@ impl Pairs {
         self.firsts.len()
     }
 
-    /// Makes room for this many more nodes.
+    /// Makes room for this many more nodes, if there are then fewer than 2^32.
     pub(crate) fn try_reserve(&mut self, nodes: usize) -> Result<(), AllocError>
         requires counts { length self.old.counts ≡ length self.old.firsts }
         requires numbers { length self.old.numbers ≤ length self.old.firsts }
-        requires few { length self.old.firsts + nodes < 2 ^ 64 }
         ensures numbers { self.new.numbers ≡ self.old.numbers }
         ensures firsts { self.new.firsts ≡ self.old.firsts }
         ensures counts { self.new.counts ≡ self.old.counts }
         ensures capacity { self.old.capacity ≤ self.new.capacity }
         ensures ok { OnOk result (length self.new.firsts + nodes ≤ self.new.capacity) }
+        ensures few { OnOk result (length self.new.firsts + nodes < 2 ^ 32) }
     {
-        let more = self.firsts.len() - self.order.len() + nodes;
+        let more = (self.firsts.len() - self.order.len()).saturating_add(nodes);
         self.order.try_reserve(more)?;
         self.firsts.try_reserve(nodes)?;
         self.counts.try_reserve(nodes)?;
+        // That there are so few stands on this call.
+        let _few = self.order.len();
         Ok(())
     }
 

@@ -1,6 +1,6 @@
 //! A net whose labels are found by what they stand for.
-ghost use Rattle.std.specs.Prelude.{◌≡◌, ◌+◌, ◌-◌, ◌<◌, ◌≤◌, false, [], length, vec_capacity, IsOk};
-ghost use Rattle.std.specs.Prelude.{OnOk};
+ghost use Rattle.std.specs.Prelude.{◌≡◌, ◌+◌, ◌-◌, ◌^◌, ◌<◌, ◌≤◌, false, [], length, vec_capacity};
+ghost use Rattle.std.specs.Prelude.{IsOk, OnOk};
 ghost use Rattle.sorted_order.specs.Stock.{in_order};
 ghost use Rattle.wait_index.specs.Net.{ListsReached, has_wait, with_label};
 ghost use Rattle.trust_closure.specs.Labels.{IsInOrder, HasNumber, AreNumbersOf};
@@ -66,6 +66,7 @@ impl Wiring {
         ensures roomier { IsRoomierIndex self.old self.new }
         ensures nodes { OnOk result (nodes ≤ self.new.nodes) }
         ensures edges { OnOk result (edges ≤ self.new.edges) }
+        ensures few { OnOk result (edges < 2 ^ 63) }
         ensures within { nodes ≤ self.old.nodes → edges ≤ self.old.edges → IsOk result }
     {
         let (spare_nodes, spare_edges) = self.room();
@@ -159,6 +160,7 @@ impl Wiring {
     pub(crate) fn room(&self) -> (usize, usize)
         ensures nodes { result.0 ≡ self.now.nodes }
         ensures edges { result.1 ≡ self.now.edges }
+        ensures few { result.1 < 2 ^ 63 }
     {
         let (nodes, labels, edges) = self.reach.room();
         let listed = self.closing.capacity() - self.labels.len();
@@ -212,14 +214,15 @@ fn add_label(reach: &mut Reach, closed: bool) -> LabelNo
     }
 }
 
-/// Makes room in the list for this many labels and `more` of them, and forgets what it had.
+/// Makes room in the list for this many labels and `more` of them, and forgets what it had. Past 64
+/// bits it asks for a growth that is always refused.
 fn reserve_list(list: &mut Vec<LabelNo>, labels: usize, more: usize) -> Result<(), AllocError>
     ensures grows { vec_capacity list.old ≤ vec_capacity list.new }
     ensures ok { OnOk result (labels + more ≤ vec_capacity list.new) }
+    ensures few { OnOk result (labels + more < 2 ^ 63) }
 {
     list.clear();
-    let all = labels.checked_add(more).ok_or(AllocError)?;
-    list.try_reserve(all)
+    list.try_reserve(labels.saturating_add(more))
 }
 
 /// Lists the numbers, in place of what the list had. There is room for each of them.

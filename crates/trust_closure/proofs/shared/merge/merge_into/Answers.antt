@@ -6,7 +6,7 @@ use Rattle.receipt_core.specs.declared.distrust.Distrust.{Distrust}
 use Rattle.trust_closure.specs.Held.{meaning_of}
 use Rattle.trust_closure.specs.Work.{AreOld}
 use Rattle.closure_core.specs.Refusals.{IsRoomier}
-use Rattle.trust_closure.proofs.JoinFacts.{on_ok, refuses_same, share_same, share_known, share_welcome, share_merged, share_wants}
+use Rattle.trust_closure.proofs.JoinFacts.{on_ok, refuses_same, share_same, share_known, share_welcome, share_merged, share_spent, share_wants}
 use Rattle.trust_closure.proofs.shared.merge.merge_into.Goals as goal
 
 pub returns-in_err-share-clause-merges : goal.returns-in_err-share-clause-merges
@@ -62,13 +62,15 @@ returns-clause-merges g c =
     let other = (g.C.Mergeable.state c.args.other.now).meaning in
     let share = c.in_ok-share.share in
     let is = share_same (meaning_of c.held.result.now) m (meaning_of c.held-2.result.now) other share c.held.ensures c.held-2.ensures c.in_ok-share.ensures in
-    share_merged m other (g.C.Mergeable.state c.make_room.new.self).meaning
-    (g.C.Mergeable.state c.distrust_all.new.self).meaning
-    (g.C.Mergeable.state c.take_all.new.closure).meaning share c.distrusts.result
-    c.len-count.result is
-    (c.len-count.ensures ∙ share.copies.ok.0)
+    let roomy = g.C.Mergeable.state c.make_room.new.self in
+    let less = g.C.Mergeable.state c.distrust_all.new.self in
+    let new = g.C.Mergeable.state c.take_all.new.closure in
+    let size = c.len-count.ensures ∙ share.copies.ok.0 in
+    share_spent (g.C.Mergeable.state c.args.closure.now) roomy less new other share c.len-count.result is size
+    (share_merged m other roomy.meaning less.meaning new.meaning share c.distrusts.result c.len-count.result is size
     (c.distrusts.ensures ∙ ap (λ (k : Meaning). k.records) c.held-3.ensures)
-    c.make_room.ensures.meaning c.distrust_all.ensures.meaning c.take_all.ensures.meaning
+    c.make_room.ensures.meaning c.distrust_all.ensures.meaning c.take_all.ensures.meaning)
+    c.make_room.ensures.room c.distrust_all.ensures.room c.take_all.ensures.room
 
 pub returns-clause-work : goal.returns-clause-work
 returns-clause-work g c =

@@ -4,8 +4,8 @@ use Rattle.std.specs.Vec.Iter.{into_iter_items}
 use Rattle.receipt_core.specs.Receipt.{Receipt, receipt_cmp}
 use Rattle.receipt_core.specs.Rising.{with_items}
 use Rattle.trust_closure.specs.Held.{meaning_of}
-use Rattle.trust_closure.specs.Merge.{FitWithinRoom}
-use Rattle.trust_closure.proofs.JoinFacts.{IsJoining-start, IsJoining-next, IsJoining-end, none_left}
+use Rattle.trust_closure.specs.Merge.{FitWithinRoom, HasSpentOn}
+use Rattle.trust_closure.proofs.JoinFacts.{IsJoining-start, IsJoining-next, IsJoining-end, IsJoining-spent, none_left}
 use Rattle.trust_closure.proofs.shared.merge.take_all.Goals as goal
 
 pub loop-receipt-init : goal.loop-receipt-init
@@ -55,3 +55,12 @@ returns-clause-meaning g c =
     (none_left (into_iter_items c.loop-receipt.receipt-iterator) (sym c.loop-receipt.invariant.size ∙ c.in-None.ensures.steps.0))
     ∙ ap (λ (xs : List Receipt). record start.meaning { held = with_items receipt_cmp xs start.meaning.held })
     c.into_iter-receipt-iterator.ensures.into_iter_gives.0
+
+pub returns-clause-room : goal.returns-clause-room
+returns-clause-room g c =
+    let start = g.C.Mergeable.state c.args.closure.now in
+    let now = g.C.Mergeable.state c.loop-receipt.closure in
+    subst (λ (xs : List Receipt). HasSpentOn start.room xs now.room) c.into_iter-receipt-iterator.ensures.into_iter_gives.0
+    (IsJoining-spent start now (into_iter_items c.into_iter-receipt-iterator.result)
+    (into_iter_items c.loop-receipt.receipt-iterator) c.loop-receipt.invariant.joining
+    (none_left (into_iter_items c.loop-receipt.receipt-iterator) (sym c.loop-receipt.invariant.size ∙ c.in-None.ensures.steps.0)))
