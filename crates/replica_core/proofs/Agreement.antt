@@ -9,7 +9,7 @@ use Rattle.receipt_core.specs.declared.distrust.Distrust.{Distrust}
 use Rattle.receipt_core.specs.Receipt.{Receipt, IsReceipt, IsDistrust}
 use Rattle.replica_core.specs.State.{State, bucket_of_id}
 use Rattle.replica_core.specs.World.{Message, World, Rules, happens, run_from}
-use Rattle.replica_core.specs.Convergence.{Course, at_question, at_answer, at_taking, after_taking, HasAll, IsPartOf, Lacks, IsQuiet, Settles}
+use Rattle.replica_core.specs.Convergence.{Inquiry, IsInquiry, Course, at_question, at_answer, at_taking, after_taking, HasAll, IsPartOf, Lacks, IsQuiet, Settles}
 use Rattle.replica_core.specs.declared.event.Event.{Event}
 use Rattle.replica_core.specs.declared.event.Event.TheVariants.{Take, Revoke, Ask, Answer, Absorb, Part, Join, Save, Restart}
 use Rattle.replica_core.proofs.Members.{contains-later, contains-none}
@@ -39,20 +39,20 @@ course-parts i j b before asked answered after q a event h =
     ]
 
 -- An event of one part of a course is one of its events.
-in-course : (i j b : ℕ) (events : List Event) (c : Course i j b events) (event : Event)
+in-course : (q : Inquiry) (events : List Event) (c : Course q events) (event : Event)
     → (Contains c.before event ⊎ (Contains c.asked event ⊎ (Contains c.answered event ⊎ Contains c.after event))) → Contains events event
-in-course i j b events c event h =
+in-course q events c event h =
     subst (λ es. Contains es event) (sym c.order)
-    (course-parts i j b c.before c.asked c.answered c.after c.question_place c.answer_place event h)
+    (course-parts q.asker q.answerer q.bucket c.before c.asked c.answered c.after c.question_place c.answer_place event h)
 
 -- All events of a course come to what its last part does to the world after the taking.
-course-run : (i j b : ℕ) (events : List Event) (rules : Rules) (start : World) (c : Course i j b events)
+course-run : (q : Inquiry) (events : List Event) (rules : Rules) (start : World) (c : Course q events)
     → run_from rules start events ≡ run_from rules (after_taking rules start c) c.after
-course-run i j b events rules start c =
+course-run q events rules start c =
     ap (run_from rules start) c.order
     ∙ fold-append (happens rules) start c.before _
-    ∙ fold-append (happens rules) (happens rules (at_question rules start c) (Ask i b)) c.asked _
-    ∙ fold-append (happens rules) (happens rules (at_answer rules start c) (Answer j c.question_place)) c.answered _
+    ∙ fold-append (happens rules) (happens rules (at_question rules start c) (Ask q.asker q.bucket)) c.asked _
+    ∙ fold-append (happens rules) (happens rules (at_answer rules start c) (Answer q.answerer c.question_place)) c.answered _
 
 -- ---- what is quiet
 
@@ -120,21 +120,21 @@ held-end laws rules w since s =
 -- ---- what one replica has from another
 
 -- all that is held at the answer and at the taking is well formed
-pub course-forms : (laws : Laws) (rules : Rules) (i j b : ℕ) (events : List Event) (w : World) (c : Course i j b events) → IsKept IsReceipt IsDistrust 0 ⊤ w
+pub course-forms : (laws : Laws) (rules : Rules) (q : Inquiry) (events : List Event) (w : World) (c : Course q events) → IsKept IsReceipt IsDistrust 0 ⊤ w
     → ((event : Event) → Contains events event → Admits rules IsReceipt IsDistrust 0 ⊤ event)
     → IsKept IsReceipt IsDistrust 0 ⊤ (at_answer rules w c) × IsKept IsReceipt IsDistrust 0 ⊤ (at_taking rules w c)
-course-forms laws rules i j b events w c h a =
+course-forms laws rules q events w c h a =
     let answering : IsKept IsReceipt IsDistrust 0 ⊤ (at_answer rules w c) =
-    kept-run laws IsReceipt IsDistrust 0 ⊤ rules c.asked (happens rules (at_question rules w c) (Ask i b))
-    (kept-event laws IsReceipt IsDistrust 0 ⊤ rules (at_question rules w c) (Ask i b)
+    kept-run laws IsReceipt IsDistrust 0 ⊤ rules c.asked (happens rules (at_question rules w c) (Ask q.asker q.bucket))
+    (kept-event laws IsReceipt IsDistrust 0 ⊤ rules (at_question rules w c) (Ask q.asker q.bucket)
     (kept-run laws IsReceipt IsDistrust 0 ⊤ rules c.before w h
-    (λ event d. a event (in-course i j b events c event (inl d)))) tt)
-    (λ event d. a event (in-course i j b events c event (inr (inl d))))
+    (λ event d. a event (in-course q events c event (inl d)))) tt)
+    (λ event d. a event (in-course q events c event (inr (inl d))))
     in (
       answering,
-      kept-run laws IsReceipt IsDistrust 0 ⊤ rules c.answered (happens rules (at_answer rules w c) (Answer j c.question_place))
-          (kept-event laws IsReceipt IsDistrust 0 ⊤ rules (at_answer rules w c) (Answer j c.question_place) answering tt)
-          (λ event d. a event (in-course i j b events c event (inr (inr (inl d))))),
+      kept-run laws IsReceipt IsDistrust 0 ⊤ rules c.answered (happens rules (at_answer rules w c) (Answer q.answerer c.question_place))
+          (kept-event laws IsReceipt IsDistrust 0 ⊤ rules (at_answer rules w c) (Answer q.answerer c.question_place) answering tt)
+          (λ event d. a event (in-course q events c event (inr (inr (inl d))))),
     )
 
 -- In the end a replica has all that another one held of a bucket at the start.
@@ -142,14 +142,16 @@ pub from-other : (laws : Laws) (rules : Rules) (w : World) (since : List Event) 
     → Settles rules w since → i < rules.replicas → j < rules.replicas → i ≢ j → b ≤ 255
     → HasAll b (w.now j) ((run_from rules w since).now i)
 from-other laws rules w since i j b start s l m d n =
-    let x = s.exchanges i j b l m d n in
+    let q : Inquiry = record { asker = i; answerer = j; bucket = b } in
+    let is : IsInquiry rules.replicas q = record { asker = l; answerer = m; bucket = n } in
+    let x = s.exchanges q is d in
     let c = x.course in
     let quiet : (event : Event)
     → (Contains c.before event ⊎ (Contains c.asked event ⊎ (Contains c.answered event ⊎ Contains c.after event)))
-    → IsQuiet (length w.sent) event = λ event h. s.quiet event (in-course i j b since c event h) in
+    → IsQuiet (length w.sent) event = λ event h. s.quiet event (in-course q since c event h) in
     let v = at_answer rules w c in
     let u = at_taking rules w c in
-    let formed = course-forms laws rules i j b since w c start.forms
+    let formed = course-forms laws rules q since w c start.forms
     (λ event h. quiet-admits_all rules IsReceipt IsDistrust (length w.sent) event (s.quiet event h)) in
     let given : IsPartOf (w.now j) (v.now j) =
     part-trans (w.now j) ((at_question rules w c).now j) (v.now j) (part-run laws rules j c.before w (λ h. quiet (Restart j) (inl h)))
@@ -158,10 +160,10 @@ from-other laws rules w since i j b start s l m d n =
     (part-run laws rules j c.asked (happens rules (at_question rules w c) (Ask i b)) (λ h. quiet (Restart j) (inr (inl h)))))
     in
     let kept : IsPartOf ((after_taking rules w c).now i) ((run_from rules w since).now i) =
-    subst (λ (z : World). IsPartOf ((after_taking rules w c).now i) (z.now i)) (sym (course-run i j b since rules w c))
+    subst (λ (z : World). IsPartOf ((after_taking rules w c).now i) (z.now i)) (sym (course-run q since rules w c))
     (part-run laws rules i c.after (after_taking rules w c) (λ h. quiet (Restart i) (inr (inr (inr h)))))
     in
-    let has = exchange-gives laws rules w i j b since l m n x (formed.0.now j) (formed.1.now i) in
+    let has = exchange-gives laws rules w q since is x (formed.0.now j) (formed.1.now i) in
     record {
       receipts = λ r h e. let found = has.receipts r (given.receipts r h) e in (found.0, kept.receipts found.0 found.1, found.2);
       distrusts = λ y h. kept.distrusts y (has.distrusts y (given.distrusts y h));

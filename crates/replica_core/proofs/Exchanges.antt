@@ -7,7 +7,7 @@ use Rattle.std.proofs.lemmas.Slice.Eq.{bytes_eq-Decides}
 use Rattle.receipt_core.specs.Receipt.{Receipt, IsReceipt, IsDistrust, receipt_id_of}
 use Rattle.replica_core.specs.State.{State, id_cmp, joined, is_within_limits, bucket_of_id, is_of_bucket, is_named, ids_held, receipts_lacking}
 use Rattle.replica_core.specs.World.{question, answer, World, Rules, sends, where_so, replies, takes_whole, gained, apply, happens, is_replica}
-use Rattle.replica_core.specs.Convergence.{Exchange, at_question, at_answer, at_taking, after_taking, HasAll, IsPartOf}
+use Rattle.replica_core.specs.Convergence.{Inquiry, IsInquiry, Exchange, at_question, at_answer, at_taking, after_taking, HasAll, IsPartOf}
 use Rattle.replica_core.specs.declared.event.Event.{Event}
 use Rattle.replica_core.specs.declared.event.Event.TheVariants.{Ask, Answer, Absorb}
 use Rattle.replica_core.proofs.Members.{filter-from, filter-to, map-from, any-from, each-to, get-new, contains-none}
@@ -84,24 +84,27 @@ gives laws i b asking given before part forms own = record {
 }
 
 -- After the exchange the asker has what the answerer held of the bucket.
-pub exchange-gives : (laws : Laws) (rules : Rules) (start : World) (i j b : ℕ) (events : List Event) → i < rules.replicas → j < rules.replicas → b ≤ 255
-    → (x : Exchange rules start i j b events) → Keeps IsReceipt IsDistrust ((at_answer rules start x.course).now j)
-    → Keeps IsReceipt IsDistrust ((at_taking rules start x.course).now i)
-    → HasAll b ((at_answer rules start x.course).now j) ((after_taking rules start x.course).now i)
-exchange-gives laws rules start i j b events l m n x forms own =
+pub exchange-gives : (laws : Laws) (rules : Rules) (start : World) (inquiry : Inquiry) (events : List Event) → IsInquiry rules.replicas inquiry
+    → (x : Exchange rules start inquiry events) → Keeps IsReceipt IsDistrust ((at_answer rules start x.course).now inquiry.answerer)
+    → Keeps IsReceipt IsDistrust ((at_taking rules start x.course).now inquiry.asker)
+    → HasAll inquiry.bucket ((at_answer rules start x.course).now inquiry.answerer) ((after_taking rules start x.course).now inquiry.asker)
+exchange-gives laws rules start inquiry events is x forms own =
+    let i = inquiry.asker in
+    let j = inquiry.answerer in
+    let b = inquiry.bucket in
     let w = at_question rules start x.course in
     let v = at_answer rules start x.course in
     let u = at_taking rules start x.course in
     let q : slice_get v.sent x.course.question_place ≡ Some (question i b (ids_held (w.now i) b)) =
     sent-stays rules x.course.asked (happens rules w (Ask i b)) x.course.question_place (question i b (ids_held (w.now i) b))
-    (subst (λ k. slice_get (happens rules w (Ask i b)).sent k ≡ Some (question i b (ids_held (w.now i) b))) (sym x.asked_at) (asked-here rules w i b l n))
+    (subst (λ k. slice_get (happens rules w (Ask i b)).sent k ≡ Some (question i b (ids_held (w.now i) b))) (sym x.asked_at) (asked-here rules w i b is.asker is.bucket))
     in
     let a : slice_get u.sent x.course.answer_place ≡ Some (answer j x.course.question_place (content_of (v.now j) b (ids_held (w.now i) b))) =
     sent-stays rules x.course.answered (happens rules v (Answer j x.course.question_place)) x.course.answer_place
     (answer j x.course.question_place (content_of (v.now j) b (ids_held (w.now i) b)))
     (subst (λ k. slice_get (happens rules v (Answer j x.course.question_place)).sent k
     ≡ Some (answer j x.course.question_place (content_of (v.now j) b (ids_held (w.now i) b)))) (sym x.answered_at)
-    (answered-here rules v i j b x.course.question_place (ids_held (w.now i) b) m q))
+    (answered-here rules v i j b x.course.question_place (ids_held (w.now i) b) is.answerer q))
     in
     let part : IsPartOf (w.now i) (u.now i) =
     part-trans (w.now i) (v.now i) (u.now i)
@@ -113,6 +116,6 @@ exchange-gives laws rules start i j b events l m n x forms own =
     in
     subst (HasAll b (v.now j))
     (sym (absorbed-here rules u i j x.course.answer_place x.course.question_place
-    (content_of (v.now j) b (ids_held (w.now i) b)) l a
+    (content_of (v.now j) b (ids_held (w.now i) b)) is.asker a
     (x.whole (content_of (v.now j) b (ids_held (w.now i) b)) a)))
     (gives laws i b (w.now i) (v.now j) (u.now i) part forms own)

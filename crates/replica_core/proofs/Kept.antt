@@ -11,6 +11,7 @@ use Rattle.replica_core.specs.declared.event.Event.{Event}
 use Rattle.replica_core.specs.declared.event.Event.TheVariants.{Take, Revoke, Ask, Answer, Absorb, Part, Join, Save, Restart}
 use Rattle.replica_core.proofs.Members.{contains-here, contains-later, contains-cases, contains-none, filter-from, get-cases}
 use Rattle.replica_core.proofs.Joins.{Laws, Keeps, keeps-joined, keeps-first}
+use Rattle.replica_core.proofs.Growing.{at-here}
 
 -- what an answer brings has the properties
 abbrev pub KeepsMessage : (Receipt → Type 0) → (Distrust → Type 0) → Message → Type 0
@@ -57,6 +58,26 @@ kept-gained : (P : Receipt → Type 0) (Q : Distrust → Type 0) (place : ℕ) (
 kept-gained P Q place A true w i state h s = kept-state P Q place A w i state h s
 kept-gained P Q place A false w i state h s = h
 
+-- Of what is gained only what comes to be held needs the properties.
+pub kept-held : (laws : Laws) (P : Receipt → Type 0) (Q : Distrust → Type 0) (place : ℕ) (A : Type 0) (b : Bool) (w : World) (i : ℕ) (gain : State)
+    → IsKept P Q place A w
+    → ((r : Receipt) → Contains gain.held r → Contains ((gained b w i (joined (w.now i) gain)).now i).held r → P r)
+    → ((x : Distrust) → Contains gain.records x → Contains ((gained b w i (joined (w.now i) gain)).now i).records x → Q x)
+    → IsKept P Q place A (gained b w i (joined (w.now i) gain))
+kept-held laws P Q place A true w i gain h p q =
+    let state = joined (w.now i) gain in
+    kept-state P Q place A w i state h (record {
+      receipts = λ r c. elim (laws.receipts.only gain.held (w.now i).held r c) [
+        | inl a ↦ p r a (subst (λ (s : State). Contains s.held r) (sym (at-here i state w.now)) c)
+        | inr b ↦ (h.now i).receipts r b
+      ];
+      records = λ x c. elim (laws.records.only gain.records (w.now i).records x c) [
+        | inl a ↦ q x a (subst (λ (s : State). Contains s.records x) (sym (at-here i state w.now)) c)
+        | inr b ↦ (h.now i).records x b
+      ];
+    })
+kept-held laws P Q place A false w i gain h p q = h
+
 -- It stays so when a replica gains what has the properties.
 kept-gains : (laws : Laws) (P : Receipt → Type 0) (Q : Distrust
     → Type 0) (place : ℕ) (A : Type 0) (w : World) (i : ℕ) (gain : State) → IsKept P Q place A w → Keeps P Q gain
@@ -83,7 +104,7 @@ kept-saves P Q place A w i h = record {
 }
 
 -- It stays so where an effect depends on a test, and it does when the test passes.
-kept-where : (P : Receipt → Type 0) (Q : Distrust → Type 0) (place : ℕ) (A : Type 0) (b : Bool) (w : World)
+pub kept-where : (P : Receipt → Type 0) (Q : Distrust → Type 0) (place : ℕ) (A : Type 0) (b : Bool) (w : World)
     (effect : Effect) → IsKept P Q place A w → (b ≡ true → IsKept P Q place A (apply w effect))
     → IsKept P Q place A (apply w (where_so b effect))
 kept-where P Q place A true w effect h g = g refl

@@ -2,8 +2,10 @@ pub mod Members
 pub mod RisingLists
 pub mod FitFacts
 mod Joins
-mod Kept
+mod WorldJoins
 mod Growing
+mod Kept
+mod Provenance
 mod Tidy
 mod Exchanges
 pub mod Buckets
@@ -18,6 +20,7 @@ mod JudgeFacts
 mod JoiningFacts
 mod AbsorbFacts
 mod GatheringFacts
+mod EffectFacts
 mod SoundFacts
 mod PlayingFacts
 mod StandardFacts

@@ -1,7 +1,7 @@
 -- The clauses of the law, each of every list of events.
-use Rattle.std.proofs.Common.{◌≡◌, ◌≢◌, ℕ, ◌<◌, ◌≤◌, ◌⊎◌, inl, inr, Bool, true, false, cond, ◌&&◌, nat_le, List, []}
-use Rattle.std.proofs.Common.{◌∷◌, ◌++◌, length, arith, refl, sym, ap, ◌∙◌, subst, leb-true, ◌+◌}
-use Rattle.std.specs.Prelude.{Contains, Some, None, ⊤, bytes_eq}
+use Rattle.std.proofs.Common.{◌≡◌, ◌≢◌, ℕ, ◌<◌, ◌⊎◌, inl, inr, Bool, true, false, cond, ◌&&◌, nat_le, List, []}
+use Rattle.std.proofs.Common.{◌∷◌, ◌++◌, length, arith, refl, sym, ap, ◌∙◌, subst, leb-true}
+use Rattle.std.specs.Prelude.{Contains, ⊤, bytes_eq}
 use Rattle.std.specs.List.{AllByRecursion, list_any}
 use Rattle.std.proofs.lemmas.Bool.{and_parts}
 use Rattle.std.proofs.lemmas.Slice.Eq.{bytes_eq-Decides}
@@ -15,60 +15,18 @@ use Rattle.receipt_core.specs.Receipt.{Receipt, IsReceipt, IsDistrust, Pair, pai
 use Rattle.receipt_core.specs.Acceptance.{Meaning, IsMeaning, IsFitting, Vouches, Leads, IsMember, IsClosed, pair_of_seed}
 use Rattle.replica_core.specs.State.{no_state, meaning_of_state}
 use Rattle.replica_core.specs.World.{Message, question, answer, World, empty_world, Rules, rules_of, same_id, is_fitting, is_known, happens, run_from, run}
-use Rattle.replica_core.specs.World.{is_replica}
-use Rattle.replica_core.specs.Convergence.{IsEvent, AreEvents, Lacks, WasTaken, WasRevoked, ComesFrom, IsPartOf, Exchange, at_answer, after_taking, HasAll}
-use Rattle.replica_core.specs.Convergence.{Settles}
+use Rattle.replica_core.specs.World.{WorldRun, rules_in, world_after, held_by, saved_by, followed_by}
+use Rattle.replica_core.specs.Convergence.{IsEvent, AreEvents, Lacks, IsPartOf, Inquiry, IsInquiry, Exchange, at_answer, after_taking, HasAll, Settles}
 use Rattle.replica_core.specs.declared.event.Event.{Event}
 use Rattle.replica_core.specs.declared.event.Event.TheVariants.{Take, Revoke, Ask, Answer, Absorb, Part, Join, Save, Restart}
-use Rattle.replica_core.proofs.Members.{contains-none, any-from, each-from, each-to}
+use Rattle.replica_core.proofs.Members.{any-from, each-from, each-to}
 use Rattle.replica_core.proofs.Joins.{Laws}
+use Rattle.replica_core.proofs.Provenance.{empty-kept}
 use Rattle.replica_core.proofs.Kept.{IsKept, KeepsMessage, Admits, kept-run}
 use Rattle.replica_core.proofs.Growing.{part-event, saved-run, saved-here, restarted-here}
 use Rattle.replica_core.proofs.Tidy.{IsTidy, IsOutside, Throughout, throughout-run, tidy-kept, tidy-empty, outside-kept, outside-empty}
 use Rattle.replica_core.proofs.Exchanges.{exchange-gives}
 use Rattle.replica_core.proofs.Agreement.{IsStart, course-forms, agree}
-
--- At the beginning all that is held, saved and sent has every property.
-empty-kept : (P : Receipt → Type 0) (Q : Distrust → Type 0) (place : ℕ) (A : Type 0) → IsKept P Q place A empty_world
-empty-kept P Q place A = record {
-  now = λ i. record { receipts = λ r c. absurd (contains-none r c); records = λ x c. absurd (contains-none x c) };
-  saved = λ a i. record { receipts = λ r c. absurd (contains-none r c); records = λ x c. absurd (contains-none x c) };
-  sent = λ n message l e. absurd (let none : None ≡ Some message = e in cc);
-}
-
--- ---- what is held was taken
-
--- What passes the world's test is a number below that of the replicas.
-inside : (rules : Rules) (i : ℕ) → is_replica rules i ≡ true → i < rules.replicas
-inside rules i o = let within : i + 1 ≤ rules.replicas = leb-true (i + 1) rules.replicas o in omega arith
-
--- Each event of the list takes and distrusts only what the list says.
-taken-admits : (rules : Rules) (events : List Event) (event : Event) → Contains events event
-    → Admits rules (WasTaken rules.replicas events) (WasRevoked rules.replicas events) 0 ⊤ event
-taken-admits rules events (Take i r) c = λ o e. (i, inside rules i o, c)
-taken-admits rules events (Revoke i x) c = λ o e. (i, inside rules i o, c)
-taken-admits rules events (Ask i b) c = tt
-taken-admits rules events (Answer j k) c = tt
-taken-admits rules events (Absorb i k) c = omega arith
-taken-admits rules events (Part i k m) c = omega arith
-taken-admits rules events (Join i j) c = tt
-taken-admits rules events (Save i) c = tt
-taken-admits rules events (Restart i) c = tt
-
--- So all that is held, saved and sent was taken or distrusted in the list.
-comes-from : (laws : Laws) (rules : Rules) (events : List Event)
-    → IsKept (WasTaken rules.replicas events) (WasRevoked rules.replicas events) 0 ⊤ (run rules events)
-comes-from laws rules events =
-    kept-run laws (WasTaken rules.replicas events) (WasRevoked rules.replicas events) 0 ⊤ rules events empty_world
-    (empty-kept (WasTaken rules.replicas events) (WasRevoked rules.replicas events) 0 ⊤) (taken-admits rules events)
-
--- The clause `comes`: what is held was taken, or distrusted, at some replica.
-pub now-comes : (laws : Laws) (rules : Rules) (events : List Event) (i : ℕ) → ComesFrom rules.replicas events ((run rules events).now i)
-now-comes laws rules events i = let h = (comes-from laws rules events).now i in record { receipts = h.receipts; distrusts = h.records }
-
--- The clause `saved_comes`: what is saved was taken, or distrusted, at some replica.
-pub saved-comes : (laws : Laws) (rules : Rules) (events : List Event) (i : ℕ) → ComesFrom rules.replicas events ((run rules events).saved i)
-saved-comes laws rules events i = let h = (comes-from laws rules events).saved tt i in record { receipts = h.receipts; distrusts = h.records }
 
 -- ---- what is held is a meaning
 
@@ -151,10 +109,12 @@ all-tidy : (laws : Laws) (rules : Rules) (events : List Event) → Throughout (�
 all-tidy laws rules events = throughout-run rules (λ i state. IsTidy state) (tidy-kept laws rules) events empty_world tidy-empty
 
 -- The clause `means`: what a replica holds is what a closure can mean.
-pub means : (laws : Laws) (config : Configuration) (n : ℕ) (events : List Event) (i : ℕ) → AreEvents events
-    → IsMeaning (meaning_of_state config ((run (rules_of config n) events).now i))
-means laws config n events i h =
-    let state = (run (rules_of config n) events).now i in
+pub means : (laws : Laws) (past : WorldRun) (i : ℕ) → AreEvents past.events → IsMeaning (meaning_of_state past.config (held_by past i))
+means laws past i h =
+    let config = past.config in
+    let n = past.replicas in
+    let events = past.events in
+    let state = held_by past i in
     let forms = (all-forms laws config n events h).now i in
     let tidy = (all-tidy laws (rules_of config n) events).now i in
     let within = and_parts (nat_le (length state.held) 65536) (nat_le (length state.records) 4096) tidy.within in
@@ -172,31 +132,31 @@ means laws config n events i h =
 -- ---- growth, saves and restarts
 
 -- The clause `grows`: no event but its own restart takes anything from a replica.
-pub grows : (laws : Laws) (rules : Rules) (events : List Event) (event : Event) (i : ℕ) → event ≢ Restart i
-    → IsPartOf ((run rules events).now i) ((run rules (events ++ event ∷ [])).now i)
-grows laws rules events event i d =
-    subst (λ (w : World). IsPartOf ((run rules events).now i) (w.now i))
-    (sym (fold-append (happens rules) empty_world events (event ∷ [])))
-    (part-event laws rules (run rules events) i event d)
+pub grows : (laws : Laws) (past : WorldRun) (event : Event) (i : ℕ) → event ≢ Restart i
+    → IsPartOf (held_by past i) (held_by (followed_by past (event ∷ [])) i)
+grows laws past event i d =
+    subst (λ (w : World). IsPartOf (held_by past i) (w.now i))
+    (sym (fold-append (happens (rules_in past)) empty_world past.events (event ∷ [])))
+    (part-event laws (rules_in past) (world_after past) i event d)
 
 -- The clause `restarts`: a restart gives what was saved last.
-pub restarts-saved : (rules : Rules) (events : List Event) (i : ℕ) → i < rules.replicas
-    → (run rules (events ++ Restart i ∷ [])).now i ≡ (run rules events).saved i
-restarts-saved rules events i l =
-    ap (λ (w : World). w.now i) (fold-append (happens rules) empty_world events (Restart i ∷ []))
-    ∙ restarted-here rules i (run rules events) l
+pub restarts-saved : (past : WorldRun) (i : ℕ) → i < past.replicas → held_by (followed_by past (Restart i ∷ [])) i ≡ saved_by past i
+restarts-saved past i l =
+    ap (λ (w : World). w.now i) (fold-append (happens (rules_in past)) empty_world past.events (Restart i ∷ []))
+    ∙ restarted-here (rules_in past) i (world_after past) l
 
 -- The clause `saves`: what was saved stays until the next save.
-pub saved-last : (rules : Rules) (events since : List Event) (i : ℕ) → i < rules.replicas → Lacks since (Save i)
-    → (run rules (events ++ Save i ∷ since)).saved i ≡ (run rules events).now i
-saved-last rules events since i l h =
-    ap (λ (w : World). w.saved i) (fold-append (happens rules) empty_world events (Save i ∷ since))
-    ∙ saved-run rules i since (happens rules (run rules events) (Save i)) h
-    ∙ saved-here rules i (run rules events) l
+pub saved-last : (past : WorldRun) (since : List Event) (i : ℕ) → i < past.replicas → Lacks since (Save i)
+    → saved_by (followed_by past (Save i ∷ since)) i ≡ held_by past i
+saved-last past since i l h =
+    let rules = rules_in past in
+    ap (λ (w : World). w.saved i) (fold-append (happens rules) empty_world past.events (Save i ∷ since))
+    ∙ saved-run rules i since (happens rules (world_after past) (Save i)) h
+    ∙ saved-here rules i (world_after past) l
 
 -- The clause `never_saved`: who never saved has saved nothing.
-pub never-saved : (rules : Rules) (events : List Event) (i : ℕ) → Lacks events (Save i) → (run rules events).saved i ≡ no_state
-never-saved rules events i h = saved-run rules i events empty_world h
+pub never-saved : (past : WorldRun) (i : ℕ) → Lacks past.events (Save i) → saved_by past i ≡ no_state
+never-saved past i h = saved-run (rules_in past) i past.events empty_world h
 
 -- ---- exchanges and agreement
 
@@ -237,27 +197,28 @@ starts laws config n events h =
     }
 
 -- The clause `exchanged`: who takes another's whole answer has what that held of the bucket.
-pub exchanged : (laws : Laws) (config : Configuration) (n : ℕ) (first since : List Event) (i j b : ℕ) → AreEvents first
-    → AreEvents since → i < n → j < n → b ≤ 255
-    → (x : Exchange (rules_of config n) (run (rules_of config n) first) i j b since)
-    → HasAll b ((at_answer (rules_of config n) (run (rules_of config n) first) x.course).now j)
-    ((after_taking (rules_of config n) (run (rules_of config n) first) x.course).now i)
-exchanged laws config n first since i j b f s l m k x =
-    let w = run (rules_of config n) first in
-    let formed = course-forms laws (rules_of config n) i j b since w x.course (starts laws config n first f).forms
-    (λ event c. event-admits (rules_of config n) event (each-from IsEvent since s event c)) in
-    exchange-gives laws (rules_of config n) w i j b since l m k x (formed.0.now j) (formed.1.now i)
+pub exchanged : (laws : Laws) (past : WorldRun) (since : List Event) (q : Inquiry) → AreEvents past.events
+    → AreEvents since → IsInquiry past.replicas q → (x : Exchange (rules_in past) (world_after past) q since)
+    → HasAll q.bucket ((at_answer (rules_in past) (world_after past) x.course).now q.answerer)
+    ((after_taking (rules_in past) (world_after past) x.course).now q.asker)
+exchanged laws past since q f s is x =
+    let rules = rules_in past in
+    let w = world_after past in
+    let formed = course-forms laws rules q since w x.course (starts laws past.config past.replicas past.events f).forms
+    (λ event c. event-admits rules event (each-from IsEvent since s event c)) in
+    exchange-gives laws rules w q since is x (formed.0.now q.answerer) (formed.1.now q.asker)
 
 -- The clause `agreed`: after all exchanges in quiet any two replicas hold the same.
-pub agreed : (laws : Laws) (config : Configuration) (n : ℕ) (first since : List Event) (i j : ℕ) → AreEvents first → i < n → j < n
-    → Settles (rules_of config n) (run (rules_of config n) first) since
-    → (run (rules_of config n) (first ++ since)).now i ≡ (run (rules_of config n) (first ++ since)).now j
-agreed laws config n first since i j f l m s =
-    let rules = rules_of config n in
+pub agreed : (laws : Laws) (past : WorldRun) (since : List Event) (i j : ℕ) → AreEvents past.events → i < past.replicas → j < past.replicas
+    → Settles (rules_in past) (world_after past) since → held_by (followed_by past since) i ≡ held_by (followed_by past since) j
+agreed laws past since i j f l m s =
+    let rules = rules_in past in
+    let first = past.events in
     let same : run rules (first ++ since) ≡ run_from rules (run rules first) since = fold-append (happens rules) empty_world first since in
     let tidy : Throughout (λ k state. IsTidy state) (run_from rules (run rules first) since) =
     subst (Throughout (λ k state. IsTidy state)) same (all-tidy laws rules (first ++ since)) in
-    subst (λ (w : World). w.now i ≡ w.now j) (sym same) (agree laws rules (run rules first) since i j (starts laws config n first f) tidy s l m)
+    subst (λ (w : World). w.now i ≡ w.now j) (sym same)
+    (agree laws rules (run rules first) since i j (starts laws past.config past.replicas first f) tidy s l m)
 
 -- ---- accepted is least
 

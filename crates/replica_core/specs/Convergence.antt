@@ -1,11 +1,12 @@
 -- What is so of every list of events.
-use Rattle.std.specs.Prelude.{◌≡◌, ◌≢◌, ℕ, ◌<◌, ◌≤◌, ⊤, true, List, ◌∷◌, ◌++◌, length, Contains}
+use Rattle.std.specs.Prelude.{◌≡◌, ◌≢◌, ℕ, ◌<◌, ◌≤◌, ⊤, true, List, [], ◌∷◌, ◌++◌, length, Contains}
 use Rattle.std.specs.Prelude.{slice_get, Some}
 use Rattle.std.specs.List.{AllByRecursion}
 use Rattle.receipt_core.specs.declared.distrust.Distrust.{Distrust}
 use Rattle.receipt_core.specs.Receipt.{Receipt, IsReceipt, IsDistrust, receipt_id_of}
 use Rattle.replica_core.specs.State.{State, joined, is_within_limits, bucket_of_id}
 use Rattle.replica_core.specs.World.{World, Rules, answer, happens, run_from}
+use Rattle.replica_core.specs.World.{WorldRun, world_after, held_by, followed_by}
 use Rattle.replica_core.specs.declared.event.Event.{Event}
 use Rattle.replica_core.specs.declared.event.Event.TheVariants.{Take, Revoke, Ask, Answer, Absorb}
 use Rattle.replica_core.specs.declared.event.Event.TheVariants.{Part, Join, Save, Restart}
@@ -28,16 +29,49 @@ AreEvents = AllByRecursion IsEvent
 abbrev pub Lacks : List Event → Event → Type 0
 Lacks events event = Contains events event → ⊥
 
--- one of so many replicas took the receipt, or came to hold the record
-abbrev pub WasTaken : ℕ → List Event → Receipt → Type 0
-WasTaken replicas events r = (i : ℕ) × (i < replicas) × Contains events (Take i r)
+-- ---- where it came from
 
-abbrev pub WasRevoked : ℕ → List Event → Distrust → Type 0
-WasRevoked replicas events x = (i : ℕ) × (i < replicas) × Contains events (Revoke i x)
+-- A replica took the receipt, and held it right after.
+pub record WasTaken (past : WorldRun) (r : Receipt) : Type 0 where
+  pub before : List Event
+  pub replica : ℕ
+  pub after : List Event
+  pub inside : replica < past.replicas
+  pub order : past.events ≡ before ++ Take replica r ∷ after
+  pub held : Contains (held_by (record past { events = before ++ Take replica r ∷ [] })
+      replica).held r
 
-pub record ComesFrom (replicas : ℕ) (events : List Event) (state : State) : Type 0 where
-  pub receipts : (r : Receipt) → Contains state.held r → WasTaken replicas events r
-  pub distrusts : (x : Distrust) → Contains state.records x → WasRevoked replicas events x
+-- A replica came to distrust the key, and held the record right after.
+pub record WasRevoked (past : WorldRun) (x : Distrust) : Type 0 where
+  pub before : List Event
+  pub replica : ℕ
+  pub after : List Event
+  pub inside : replica < past.replicas
+  pub order : past.events ≡ before ++ Revoke replica x ∷ after
+  pub held : Contains (held_by (record past { events = before ++ Revoke replica x ∷ [] })
+      replica).records x
+
+pub record ComesFrom (past : WorldRun) (state : State) : Type 0 where
+  pub receipts : (r : Receipt) → Contains state.held r → WasTaken past r
+  pub distrusts : (x : Distrust) → Contains state.records x → WasRevoked past x
+
+-- ---- what an event brings
+
+abbrev pub only_receipt : Receipt → State
+only_receipt r = record { held = r ∷ []; records = [] }
+
+abbrev pub only_record : Distrust → State
+only_record x = record { held = []; records = x ∷ [] }
+
+-- By the event the replica comes to hold all this too, where that is not too much.
+abbrev pub Gains : WorldRun → Event → ℕ → State → Type 0
+Gains past event replica gain = is_within_limits (joined (held_by past replica) gain) ≡ true
+    → held_by (followed_by past (event ∷ [])) replica ≡ joined (held_by past replica) gain
+
+-- the message at this place is an answer with this content
+abbrev pub HasAnswer : WorldRun → ℕ → State → Type 0
+HasAnswer past place content = (answerer question : ℕ)
+    × (slice_get (world_after past).sent place ≡ Some (answer answerer question content))
 
 -- all that the one holds the other holds too
 pub record IsPartOf (state other : State) : Type 0 where
@@ -46,10 +80,22 @@ pub record IsPartOf (state other : State) : Type 0 where
 
 -- ---- an exchange about one bucket
 
+-- who asks whom, and about which bucket
+pub record Inquiry : Type 0 where
+  pub asker : ℕ
+  pub answerer : ℕ
+  pub bucket : ℕ
+
+-- both are among so many replicas, and the bucket is a byte
+pub record IsInquiry (replicas : ℕ) (q : Inquiry) : Type 0 where
+  pub asker : q.asker < replicas
+  pub answerer : q.answerer < replicas
+  pub bucket : q.bucket ≤ 255
+
 -- The events have a question of the asker about the bucket, an answer of the answerer to it, and
 -- the asker's taking of that answer. What comes before the question, between question and answer,
 -- and between answer and taking is free.
-pub record Course (asker answerer bucket : ℕ) (events : List Event) : Type 0 where
+pub record Course (q : Inquiry) (events : List Event) : Type 0 where
   pub before : List Event
   pub asked : List Event
   pub answered : List Event
@@ -57,42 +103,42 @@ pub record Course (asker answerer bucket : ℕ) (events : List Event) : Type 0 w
   pub question_place : ℕ
   pub answer_place : ℕ
   pub order : events ≡ before
-      ++ (Ask asker bucket ∷ asked
-      ++ (Answer answerer question_place ∷ answered ++ (Absorb asker answer_place ∷ after)))
+      ++ (Ask q.asker q.bucket ∷ asked
+      ++ (Answer q.answerer question_place ∷ answered ++ (Absorb q.asker answer_place ∷ after)))
 
 -- the worlds at the question, at the answer and at the taking
-abbrev pub at_question : {asker answerer bucket : ℕ} {events : List Event} → Rules → World
-    → Course asker answerer bucket events → World
+abbrev pub at_question : {q : Inquiry} {events : List Event} → Rules → World → Course q events
+    → World
 at_question rules start c = run_from rules start c.before
 
-abbrev pub at_answer : {asker answerer bucket : ℕ} {events : List Event} → Rules → World
-    → Course asker answerer bucket events → World
-at_answer {asker = asker} {bucket = bucket} rules start c = run_from rules
-    (happens rules (at_question rules start c) (Ask asker bucket)) c.asked
+abbrev pub at_answer : {q : Inquiry} {events : List Event} → Rules → World → Course q events
+    → World
+at_answer {q = q} rules start c = run_from rules
+    (happens rules (at_question rules start c) (Ask q.asker q.bucket)) c.asked
 
-abbrev pub at_taking : {asker answerer bucket : ℕ} {events : List Event} → Rules → World
-    → Course asker answerer bucket events → World
-at_taking {answerer = answerer} rules start c = run_from rules
-    (happens rules (at_answer rules start c) (Answer answerer c.question_place)) c.answered
+abbrev pub at_taking : {q : Inquiry} {events : List Event} → Rules → World → Course q events
+    → World
+at_taking {q = q} rules start c = run_from rules
+    (happens rules (at_answer rules start c) (Answer q.answerer c.question_place)) c.answered
 
-abbrev pub after_taking : {asker answerer bucket : ℕ} {events : List Event} → Rules → World
-    → Course asker answerer bucket events → World
-after_taking {asker = asker} rules start c = happens rules (at_taking rules start c)
-    (Absorb asker c.answer_place)
+abbrev pub after_taking : {q : Inquiry} {events : List Event} → Rules → World → Course q events
+    → World
+after_taking {q = q} rules start c = happens rules (at_taking rules start c)
+    (Absorb q.asker c.answer_place)
 
 -- The answer is to that question, the taking is of that answer, whole, and the asker doesn't
 -- restart in between.
-pub record Exchange (rules : Rules) (start : World) (asker answerer bucket : ℕ)
+pub record Exchange (rules : Rules) (start : World) (q : Inquiry)
     (events : List Event) : Type 0 where
-  pub course : Course asker answerer bucket events
+  pub course : Course q events
   pub asked_at : course.question_place ≡ length (at_question rules start course).sent
   pub answered_at : course.answer_place ≡ length (at_answer rules start course).sent
   pub whole : (content : State)
       → slice_get (at_taking rules start course).sent course.answer_place
-      ≡ Some (answer answerer course.question_place content)
-      → is_within_limits (joined ((at_taking rules start course).now asker) content) ≡ true
-  pub no_restart : Lacks course.asked (Restart asker)
-  pub none_later : Lacks course.answered (Restart asker)
+      ≡ Some (answer q.answerer course.question_place content)
+      → is_within_limits (joined ((at_taking rules start course).now q.asker) content) ≡ true
+  pub no_restart : Lacks course.asked (Restart q.asker)
+  pub none_later : Lacks course.answered (Restart q.asker)
 
 -- of the bucket's receipts the other has each, or one with its id, and it has all records
 pub record HasAll (bucket : ℕ) (given taken : State) : Type 0 where
@@ -121,5 +167,5 @@ pub record Settles (rules : Rules) (start : World) (since : List Event) : Type 0
   pub quiet : (event : Event) → Contains since event → IsQuiet (length start.sent) event
   pub one_id : (i j : ℕ) (r s : Receipt) → Contains (start.now i).held r
       → Contains (start.now j).held s → receipt_id_of r ≡ receipt_id_of s → r ≡ s
-  pub exchanges : (i j bucket : ℕ) → i < rules.replicas → j < rules.replicas → i ≢ j → bucket ≤ 255
-      → Exchange rules start i j bucket since
+  pub exchanges : (q : Inquiry) → IsInquiry rules.replicas q → q.asker ≢ q.answerer
+      → Exchange rules start q since

@@ -138,6 +138,30 @@ run_from rules w events = fold (happens rules) w events
 abbrev pub run : Rules → List Event → World
 run rules events = run_from rules empty_world events
 
+-- ---- what happened to replicas of one configuration
+
+pub record WorldRun : Type 0 where
+  pub config : Configuration
+  pub replicas : ℕ
+  pub events : List Event
+
+abbrev pub rules_in : WorldRun → Rules
+rules_in past = rules_of past.config past.replicas
+
+abbrev pub world_after : WorldRun → World
+world_after past = run (rules_in past) past.events
+
+-- what a replica holds then, and what it saved last
+abbrev pub held_by : WorldRun → ℕ → State
+held_by past replica = (world_after past).now replica
+
+abbrev pub saved_by : WorldRun → ℕ → State
+saved_by past replica = (world_after past).saved replica
+
+-- these happened after those
+abbrev pub followed_by : WorldRun → List Event → WorldRun
+followed_by past since = record past { events = past.events ++ since }
+
 -- ---- closures in memory
 
 -- There are so many closures, and each means what the state of its number says.

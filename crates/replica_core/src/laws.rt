@@ -1,77 +1,104 @@
-//! What is so of every world of replicas.
-ghost use Rattle.std.specs.Prelude.{◌≡◌, ◌≢◌, ℕ, ◌<◌, ◌≤◌, ◌++◌, ◌∷◌, [], List, Bool, Some, true};
-ghost use Rattle.std.specs.Prelude.{length};
-ghost use Rattle.fed_config.specs.Configuration.{Configuration, IsConfiguration};
-ghost use Rattle.receipt_core.specs.Receipt.{Pair};
-ghost use Rattle.receipt_core.specs.Acceptance.{Meaning, IsMeaning, IsMember, IsClosed};
-ghost use Rattle.replica_core.specs.State.{State, no_state, meaning_of_state};
-ghost use Rattle.replica_core.specs.World.{rules_of, run};
-ghost use Rattle.replica_core.specs.Convergence.{AreEvents, Lacks, ComesFrom, IsPartOf, Exchange};
-ghost use Rattle.replica_core.specs.Convergence.{HasAll, Settles, at_answer, after_taking};
+//! What is so of every world of replicas: of whatever list of events happens to replicas of one
+//! configuration. Messages may be lost, repeated, late and in any order, and replicas may restart.
+//! A call that needs a law calls its function, which does nothing, and cites what it ensures.
+ghost use Rattle.std.specs.Prelude.{◌≡◌, ◌≢◌, ℕ, ◌<◌, ◌++◌, ◌∷◌, [], List, Bool, true};
+ghost use Rattle.fed_config.specs.Configuration.{HasDomain};
+ghost use Rattle.receipt_core.specs.Receipt.{Receipt, Pair};
+ghost use Rattle.receipt_core.specs.declared.distrust.Distrust.{Distrust};
+ghost use Rattle.receipt_core.specs.Acceptance.{IsFitting, IsMeaning, IsMember, IsClosed};
+ghost use Rattle.replica_core.specs.State.{State, no_state, first_of, meaning_of_state};
+ghost use Rattle.replica_core.specs.World.{WorldRun, rules_in, world_after, held_by, saved_by};
+ghost use Rattle.replica_core.specs.World.{followed_by};
+ghost use Rattle.replica_core.specs.Convergence.{AreEvents, Lacks, ComesFrom, IsPartOf, Gains};
+ghost use Rattle.replica_core.specs.Convergence.{only_receipt, only_record, HasAnswer, Inquiry};
+ghost use Rattle.replica_core.specs.Convergence.{IsInquiry, Exchange, HasAll, Settles, at_answer};
+ghost use Rattle.replica_core.specs.Convergence.{after_taking};
 ghost use Rattle.replica_core.specs.declared.event.Event.{Event};
-ghost use Rattle.replica_core.specs.declared.event.Event.TheVariants.{Save, Restart};
+ghost use Rattle.replica_core.specs.declared.event.Event.TheVariants.{Take, Revoke, Absorb, Part};
+ghost use Rattle.replica_core.specs.declared.event.Event.TheVariants.{Join, Save, Restart};
 
-/// Of `n` replicas with one configuration, whatever list of events happens to them: messages may be
-/// lost, repeated, late and in any order, and replicas may restart.
+/// Where it comes from: each receipt that a replica holds or saved was taken at some replica, which
+/// held it right after. The same is so of each record of distrust.
 ///
-/// - `comes`, `saved_comes`: what a replica holds or saved was taken, or distrusted, at some
-///   replica.
-/// - `means`, `closed`, `least`: what it holds is what a closure can mean, and what that accepts is
-///   the least set.
-/// - `grows`, `restarts`, `saves`, `never_saved`: only a restart takes anything away, and it gives
-///   what was saved last.
+/// - `comes`: what it holds.
+/// - `saved_comes`: what it saved last.
+pub fn provenance()
+    ensures comes { (past : WorldRun) (i : ℕ) → ComesFrom past (held_by past i) }
+    ensures saved_comes { (past : WorldRun) (i : ℕ) → ComesFrom past (saved_by past i) }
+{}
+
+/// What each event brings to a replica that would not come to hold too much by it.
+///
+/// - `takes`: a receipt that fits the configuration is held then.
+/// - `revokes`: so is a record whose domain is one of the configuration.
+/// - `absorbs`, `parts`: all of an answer is, or its first records and receipts.
+/// - `joins`: all that another replica holds is.
+pub fn effects()
+    ensures takes { (past : WorldRun) (i : ℕ) (r : Receipt) → i < past.replicas
+        → IsFitting past.config r → Gains past (Take i r) i (only_receipt r) }
+    ensures revokes { (past : WorldRun) (i : ℕ) (x : Distrust) → i < past.replicas
+        → HasDomain past.config x.domain → Gains past (Revoke i x) i (only_record x) }
+    ensures absorbs { (past : WorldRun) (i place : ℕ) (content : State) → i < past.replicas
+        → HasAnswer past place content → Gains past (Absorb i place) i content }
+    ensures parts { (past : WorldRun) (i place count : ℕ) (content : State) → i < past.replicas
+        → HasAnswer past place content
+        → Gains past (Part i place count) i (first_of count content) }
+    ensures joins { (past : WorldRun) (i j : ℕ) → i < past.replicas → j < past.replicas
+        → Gains past (Join i j) i (held_by past j) }
+{}
+
+/// What a replica holds is what a closure can mean.
+///
+/// - `means`: its receipts and records have their form, rise, fit, and are not too many.
+/// - `closed`, `least`: what that accepts is the least closed set.
+pub fn validity()
+    ensures means { (past : WorldRun) (i : ℕ) → AreEvents past.events
+        → IsMeaning (meaning_of_state past.config (held_by past i)) }
+    ensures closed { (past : WorldRun) (i : ℕ)
+        → let m = meaning_of_state past.config (held_by past i) in IsClosed m (IsMember m) }
+    ensures least { (past : WorldRun) (i : ℕ) (set : Pair → Bool)
+        → let m = meaning_of_state past.config (held_by past i) in IsClosed m (λ p. set p ≡ true)
+        → (p : Pair) → IsMember m p → set p ≡ true }
+{}
+
+/// Only a restart takes anything away, and it gives what was saved last.
+///
+/// - `grows`: by every other event a replica keeps what it holds.
+/// - `restarts`: a restart gives what was saved.
+/// - `saves`: a save's content stays saved up to the next one.
+/// - `never_saved`: before the first save nothing is saved.
+pub fn persistence()
+    ensures grows { (past : WorldRun) (event : Event) (i : ℕ) → event ≢ Restart i
+        → IsPartOf (held_by past i) (held_by (followed_by past (event ∷ [])) i) }
+    ensures restarts { (past : WorldRun) (i : ℕ) → i < past.replicas
+        → held_by (followed_by past (Restart i ∷ [])) i ≡ saved_by past i }
+    ensures saves { (past : WorldRun) (since : List Event) (i : ℕ) → i < past.replicas
+        → Lacks since (Save i)
+        → saved_by (followed_by past (Save i ∷ since)) i ≡ held_by past i }
+    ensures never_saved { (past : WorldRun) (i : ℕ) → Lacks past.events (Save i)
+        → saved_by past i ≡ no_state }
+{}
+
+/// What one exchange gives.
+///
 /// - `exchanged`: who takes another's whole answer to its own question holds each receipt of the
 ///   bucket that the other held when it answered, or one with its id, and each record.
+pub fn exchange()
+    ensures exchanged { (past : WorldRun) (since : List Event) (q : Inquiry)
+        → AreEvents past.events → AreEvents since → IsInquiry past.replicas q
+        → (x : Exchange (rules_in past) (world_after past) q since)
+        → HasAll q.bucket
+        ((at_answer (rules_in past) (world_after past) x.course).now q.answerer)
+        ((after_taking (rules_in past) (world_after past) x.course).now q.asker) }
+{}
+
+/// When replicas hold the same.
+///
 /// - `agreed`: replicas that each took, in quiet, the whole answers of all others about all buckets
-///   hold the same, and so all that is written of what they hold is the same.
-pub fn world()
-    ensures comes { (config : Configuration) (n : ℕ) (events : List Event) (i : ℕ)
-        → ComesFrom n events ((run (rules_of config n) events).now i) }
-    ensures saved_comes { (config : Configuration) (n : ℕ) (events : List Event) (i : ℕ)
-        → ComesFrom n events ((run (rules_of config n) events).saved i) }
-
-    ensures means { (config : Configuration) (n : ℕ) (events : List Event) (i : ℕ)
-        → AreEvents events
-        → IsMeaning (meaning_of_state config ((run (rules_of config n) events).now i)) }
-    ensures closed { (config : Configuration) (n : ℕ) (events : List Event) (i : ℕ)
-        → let m = meaning_of_state config ((run (rules_of config n) events).now i) in IsClosed m
-        (IsMember m) }
-    ensures least { (config : Configuration) (n : ℕ) (events : List Event) (i : ℕ)
-        (set : Pair → Bool)
-        → let m = meaning_of_state config ((run (rules_of config n) events).now i) in
-        IsClosed m (λ p. set p ≡ true) → (p : Pair) → IsMember m p → set p ≡ true }
-
-    ensures grows { (config : Configuration) (n : ℕ) (events : List Event) (event : Event) (i : ℕ)
-        → event ≢ Restart i
-        → IsPartOf ((run (rules_of config n) events).now i)
-        ((run (rules_of config n) (events ++ event ∷ [])).now i) }
-    ensures restarts { (config : Configuration) (n : ℕ) (events : List Event) (i : ℕ) → i < n
-        → (run (rules_of config n) (events ++ Restart i ∷ [])).now i
-        ≡ (run (rules_of config n) events).saved i }
-    ensures saves { (config : Configuration) (n : ℕ) (events since : List Event) (i : ℕ) → i < n
-        → Lacks since (Save i)
-        → (run (rules_of config n) (events ++ Save i ∷ since)).saved i
-        ≡ (run (rules_of config n) events).now i }
-    ensures never_saved { (config : Configuration) (n : ℕ) (events : List Event) (i : ℕ)
-        → Lacks events (Save i)
-        → (run (rules_of config n) events).saved i ≡ no_state }
-
-    ensures exchanged { (config : Configuration) (n : ℕ) (first since : List Event) (i j bucket : ℕ)
-        → AreEvents first → AreEvents since → i < n → j < n → bucket ≤ 255
-        → (x : Exchange (rules_of config n) (run (rules_of config n) first) i j bucket since)
-        → HasAll bucket ((at_answer (rules_of config n) (run (rules_of config n) first)
-        x.course).now j)
-        ((after_taking (rules_of config n) (run (rules_of config n) first) x.course).now i) }
-
-    ensures agreed { (config : Configuration) (n : ℕ) (first since : List Event) (i j : ℕ)
-        → AreEvents first → i < n → j < n
-        → Settles (rules_of config n) (run (rules_of config n) first) since
-        → (run (rules_of config n) (first ++ since)).now i
-        ≡ (run (rules_of config n) (first ++ since)).now j }
-    ensures same_texts { (config : Configuration) (n : ℕ) (first since : List Event) (i j : ℕ)
-        (text : State → List ℕ)
-        → AreEvents first → i < n → j < n
-        → Settles (rules_of config n) (run (rules_of config n) first) since
-        → text ((run (rules_of config n) (first ++ since)).now i)
-        ≡ text ((run (rules_of config n) (first ++ since)).now j) }
+///   hold the same.
+pub fn agreement()
+    ensures agreed { (past : WorldRun) (since : List Event) (i j : ℕ) → AreEvents past.events
+        → i < past.replicas → j < past.replicas
+        → Settles (rules_in past) (world_after past) since
+        → held_by (followed_by past since) i ≡ held_by (followed_by past since) j }
 {}

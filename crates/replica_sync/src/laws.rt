@@ -1,5 +1,5 @@
-//! What is so of every snapshot and of every stream of messages; the law of worlds is handed on. A
-//! call that needs a law calls its function, which does nothing, and cites what it ensures.
+//! What is so of every snapshot and of every stream of messages; the laws of worlds are handed on.
+//! A call that needs a law calls its function, which does nothing, and cites what it ensures.
 ghost use Rattle.std.specs.Prelude.{◌≡◌, ◌≢◌, List, Option, Some, ℕ};
 ghost use Rattle.std.specs.Io.KnownBytes.{Consumes};
 ghost use Rattle.fed_config.specs.Configuration.{Configuration, IsConfiguration};
@@ -15,7 +15,7 @@ ghost use Rattle.replica_sync.specs.Answers.{IsAnswer, RefusesGive};
 ghost use Rattle.replica_sync.specs.Pulling.{PullsAll, PullsUpTo};
 ghost use Rattle.replica_sync.specs.Snapshots.{IsSnapshot, RefusesSnapshot};
 
-pub use replica_core::laws::world;
+pub use replica_core::laws::{agreement, effects, exchange, persistence, provenance, validity};
 
 /// What a stream says is one: it is the text of one set at most, and none that a replica of a valid
 /// configuration reads has a fault. Only a source that fails, or lack of memory, may keep it from

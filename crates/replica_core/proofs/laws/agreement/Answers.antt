@@ -1,0 +1,6 @@
+use Rattle.replica_core.proofs.WorldJoins.{joins}
+use Rattle.replica_core.proofs.Whole.{agreed}
+use Rattle.replica_core.proofs.laws.agreement.Goals as goal
+
+pub returns : goal.returns
+returns c = record { agreed = agreed joins }

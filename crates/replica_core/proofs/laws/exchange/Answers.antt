@@ -1,0 +1,6 @@
+use Rattle.replica_core.proofs.WorldJoins.{joins}
+use Rattle.replica_core.proofs.Whole.{exchanged}
+use Rattle.replica_core.proofs.laws.exchange.Goals as goal
+
+pub returns : goal.returns
+returns c = record { exchanged = exchanged joins }
