@@ -45,7 +45,7 @@ told-line : (r : Reply) → IsAnswer r → IsToldLine (told_text (told_of r)) (t
 told-line r is = record { is = is.told; spelt = refl }
 
 -- A number of 64 bits has 20 digits at most.
-short-number : (n : ℕ) → n < 2 ^ 64 → length (decimal n) ≤ 20
+pub short-number : (n : ℕ) → n < 2 ^ 64 → length (decimal n) ≤ 20
 short-number n h = length-decimal-le 20 n (omega arith) (omega (arith, h)) h
 
 -- The part on records is short.

@@ -128,7 +128,7 @@ inside_ids ids h = All-from_recursion (λ b. is_inside b ≡ true) (join_by quot
 -- ---- the first id
 
 -- An id in quotation marks has 66 bytes.
-length-quoted : (id : List ℕ) → IsDigest id → length (quoted id) ≡ 66
+pub length-quoted : (id : List ℕ) → IsDigest id → length (quoted id) ≡ 66
 length-quoted id is =
     let size = length-encode_lower id is in
     let behind = length-append (encode_lower id) (34 ∷ []) in

@@ -25,5 +25,8 @@ mod Written
 mod ServingFacts
 mod TakingFacts
 mod PullingFacts
+mod WelcomeFacts
 mod SessionFacts
+mod OwnMessageFacts
+mod UnderstandingFacts
 mod StandardFacts

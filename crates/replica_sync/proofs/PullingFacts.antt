@@ -209,7 +209,7 @@ longer_with_item cmp x [] = omega arith
 longer_with_item cmp x (h ∷ t) = longer_placed (cmp x h) x h t (with_item cmp x t) (longer_with_item cmp x t)
 
 -- Adding many items makes no set smaller.
-longer_with_items : {A : Type 0} (cmp : A → A → Ordering) (items set : List A) → length set ≤ length (with_items cmp items set)
+pub longer_with_items : {A : Type 0} (cmp : A → A → Ordering) (items set : List A) → length set ≤ length (with_items cmp items set)
 longer_with_items cmp [] set = omega arith
 longer_with_items cmp (x ∷ items) set =
     let first = longer_with_item cmp x set in

@@ -1,13 +1,14 @@
 -- A session's stream is read to its end, or has a fault, and never both.
-use Rattle.std.proofs.Common.{◌≡◌, ◌≢◌, ℕ, ◌+◌, ◌<◌, inl, inr, List, [], ◌∷◌, ◌++◌, length, length-append, Option, None}
+use Rattle.std.proofs.Common.{◌≡◌, ◌≢◌, ℕ, ◌+◌, ◌<◌, inl, inr, List, [], ◌∷◌, ◌++◌, length, length-append, Option, None, ◌⊎◌}
 use Rattle.std.proofs.Common.{Some, refl, ap, sym, ◌∙◌, subst, arith, append_assoc}
 use Rattle.std.specs.Io.KnownBytes.{Consumes}
 use Rattle.std.specs.List.{AllByRecursion, flat_map}
-use Rattle.fed_config.specs.Configuration.{Configuration}
-use Rattle.receipt_core.specs.Acceptance.{Meaning}
+use Rattle.fed_config.specs.Configuration.{Configuration, IsConfiguration}
+use Rattle.receipt_core.specs.Acceptance.{Meaning, IsMeaning}
 use Rattle.byte_lines.specs.Lines.{HasLine}
 use Rattle.closure_core.specs.declared.error.TakeError.{TakeError}
-use Rattle.replica_core.specs.State.{State, meaning_of_state}
+use Rattle.closure_core.specs.declared.error.TakeError.TheVariants.{NoMemory as NoTakeMemory}
+use Rattle.replica_core.specs.State.{State, joined, meaning_of_state}
 use Rattle.replica_core.specs.Session.{Question, Reply, state_of}
 use Rattle.replica_sync.specs.Snapshots.{ended, last_of}
 use Rattle.replica_sync.specs.declared.entry_line.Wanted.{Wanted}
@@ -16,11 +17,13 @@ use Rattle.replica_core.specs.declared.error.SyncError.TheVariants.{BadHeader, C
 use Rattle.replica_core.specs.declared.error.SyncError.TheVariants.{Refused, Io, NoMemory}
 use Rattle.replica_sync.specs.Messages.{asked_of, asked_text, question_text, reply_text}
 use Rattle.replica_sync.specs.Questions.{IsQuestionOf, RefusesFurther, RefusesQuestion, ServesAll, ServesUpTo}
-use Rattle.replica_sync.specs.Answers.{content_lines}
+use Rattle.replica_sync.specs.Entries.{IsRefused}
+use Rattle.replica_sync.specs.Answers.{IsContent, content_lines}
 use Rattle.replica_sync.specs.Pulling.{AreReplies, IsReply, PullsAll, PullsUpTo, RefusesAnswer, after_replies, line_count, refused_line}
 use Rattle.replica_sync.proofs.AskableFacts.{no-question-fault, same-question}
 use Rattle.replica_sync.proofs.GatherFacts.{short-entry}
 use Rattle.replica_sync.proofs.GiveFacts.{IsGood, no-fault-behind, no-head-fault, same-reply}
+use Rattle.replica_sync.proofs.WelcomeFacts.{IsRisingState, meaning-within, none-refused, rising-joined, rising-meaning, within-after}
 
 -- ---- questions
 
@@ -86,7 +89,7 @@ no-fault-of-asked config (q ∷ questions) (o ∷ others) left e is valid w calm
     no-fault-of-asked config questions others left e is.1 valid.1 same.behind calm ample h
 
 -- In a stream of questions no fault comes after some of them, in the words of streams.
-unserved : (config : Configuration) (bytes : List ℕ) (questions others : List Question) (left : Option (List ℕ))
+pub unserved : (config : Configuration) (bytes : List ℕ) (questions others : List Question) (left : Option (List ℕ))
     (e : SyncError) → AllByRecursion (IsQuestionOf config) questions → AllByRecursion (IsQuestionOf config) others
     → bytes ≡ asked_texts questions → Consumes (Some bytes) left (asked_texts others) → e ≢ Io → e ≢ NoMemory → RefusesFurther config left e → ⊥
 unserved config bytes questions others None e is valid whole begins calm ample h = begins
@@ -100,7 +103,7 @@ served-or-not m bytes old new before after count e calm ample all part =
     unserved m.config bytes all.questions part.questions part.left e all.each part.asks.each all.text part.asks.text calm ample part.cause
 
 -- Two lists of questions with one text are one list.
-same-questions : (config : Configuration) (questions others : List Question)
+pub same-questions : (config : Configuration) (questions others : List Question)
     → AllByRecursion (IsQuestionOf config) questions → AllByRecursion (IsQuestionOf config) others
     → asked_texts questions ≡ asked_texts others
     → questions ≡ others
@@ -121,12 +124,58 @@ served-once m bytes old new before after count number all other =
 -- ---- answers
 
 -- the fault is not that what a line says is refused
-abbrev IsSpelling : SyncError → Type 0
+abbrev pub IsSpelling : SyncError → Type 0
 IsSpelling e = (n : ℕ) (why : TakeError) → e ≢ Refused n why
+
+-- All that the answer brings can be held.
+record HoldsAnswer (config : Configuration) (state whole : State) : Type 0 where
+  pub configured : IsConfiguration config
+  pub rising : IsRisingState state
+  pub valid : IsMeaning (meaning_of_state config (joined state whole))
+
+-- All that the answers bring can be held; the state is that after the others.
+pub record HoldsAnswers (config : Configuration) (from state : State) (replies others : List Reply) : Type 0 where
+  pub configured : IsConfiguration config
+  pub rising : IsRisingState from
+  pub valid : IsMeaning (meaning_of_state config (after_replies from replies))
+  pub at : state ≡ after_replies from others
+
+first-holds : (config : Configuration) (from state : State) (r : Reply) (replies : List Reply)
+    → HoldsAnswers config from state (r ∷ replies) [] → HoldsAnswer config state r.content
+first-holds config from state r replies h =
+    subst (λ (s : State). HoldsAnswer config s r.content) (sym h.at)
+    (record {
+      configured = h.configured;
+      rising = h.rising;
+      valid = meaning-within config (joined from r.content) (after_replies from (r ∷ replies))
+          (within-after (joined from r.content) replies) (rising-joined from r.content h.rising) h.valid;
+    })
+
+later-holds : (config : Configuration) (from state : State) (r o : Reply) (replies others : List Reply) → r ≡ o
+    → HoldsAnswers config from state (r ∷ replies) (o ∷ others) → HoldsAnswers config (joined from r.content) state replies others
+later-holds config from state r o replies others same h = record {
+  configured = h.configured;
+  rising = rising-joined from r.content h.rising;
+  valid = h.valid;
+  at = h.at ∙ ap (λ (t : Reply). after_replies (joined from t.content) others) (sym same);
+}
+
+-- what a line says is not refused
+not-refused : (config : Configuration) (state whole content : State) (wanted : Wanted) (text : List ℕ) (e : SyncError)
+    → IsSpelling e ⊎ HoldsAnswer config state whole → IsContent whole → IsContent content → IsGood whole content wanted text
+    → (n : ℕ) (why : TakeError) → e ≡ Refused n why → why ≢ NoTakeMemory
+    → IsRefused wanted (meaning_of_state config (joined state content)) (last_of (content_lines content)) text why → ⊥
+not-refused config state whole content wanted text e (inl spelt) is begun good n why same ample h = spelt n why same
+not-refused config state whole content wanted text e (inr holds) is begun good n why same ample h =
+    none-refused config holds.configured state whole content holds.rising holds.valid is begun wanted (last_of (content_lines content)) text
+    good.later why good.lines ample h
 
 -- A good line has no fault of its spelling.
 no-line-fault : (config : Configuration) (state : State) (first : ℕ) (whole content : State) (wanted : Wanted)
-    (text : List ℕ) (e : SyncError) → e ≢ NoMemory → IsSpelling e → IsGood whole content wanted text
+    (text : List ℕ) (e : SyncError) → e ≢ NoMemory
+    → ((n : ℕ) (why : TakeError) → e ≡ Refused n why → why ≢ NoTakeMemory
+    → IsRefused wanted (meaning_of_state config (joined state content)) (last_of (content_lines content)) text why → ⊥)
+    → IsGood whole content wanted text
     → refused_line config state first content wanted (last_of (content_lines content)) text e → ⊥
 no-line-fault config state first whole content wanted text BadHeader ample spelt good h = h
 no-line-fault config state first whole content wanted text ConfigDiffers ample spelt good h = h
@@ -138,7 +187,7 @@ no-line-fault config state first whole content wanted text (NotCanonical n) ampl
 no-line-fault config state first whole content wanted text (NotRising n) ample spelt good h = h.1.below good.next.above
 no-line-fault config state first whole content wanted text BadCount ample spelt good h = h
 no-line-fault config state first whole content wanted text Truncated ample spelt good h = h
-no-line-fault config state first whole content wanted text (Refused n why) ample spelt good h = spelt n why refl
+no-line-fault config state first whole content wanted text (Refused n why) ample spelt good h = spelt n why refl h.1 h.2
 no-line-fault config state first whole content wanted text Io ample spelt good h = h
 no-line-fault config state first whole content wanted text NoMemory ample spelt good h = ample refl
 
@@ -149,58 +198,80 @@ told_texts replies = flat_map reply_text replies
 -- The answer with which a stream goes on has no fault of its spelling.
 no-fault-of-reply : (config : Configuration) (state : State) (bucket first : ℕ) (content : State) (r : Reply)
     (left rest : List ℕ) (e : SyncError) → IsReply config bucket r → left ≡ reply_text r ++ rest
-    → e ≢ Io → e ≢ NoMemory → IsSpelling e → RefusesAnswer config state bucket first content (Some left) e → ⊥
+    → e ≢ Io → e ≢ NoMemory → IsSpelling e ⊎ HoldsAnswer config state r.content
+    → RefusesAnswer config state bucket first content (Some left) e → ⊥
 no-fault-of-reply config state bucket first content r left rest e is begins calm ample spelt (inl head) =
     no-head-fault (Some (record { config = config; bucket = bucket })) left r rest is.answer is.about is.own begins head.after e calm ample head.cause
 no-fault-of-reply config state bucket first content r left rest e is begins calm ample spelt (inr fault) =
     no-fault-behind (Some (record { config = config; bucket = bucket })) left r rest is.answer is.about is.own begins
     (refused_line config state first content) fault.count fault.distrusts content fault.further fault.after e
-    (λ wanted text. no-line-fault config state first r.content content wanted text e ample spelt) calm ample fault.begins fault.cause
+    (λ wanted text good. no-line-fault config state first r.content content wanted text e ample
+    (not-refused config state r.content content wanted text e spelt is.answer.valid fault.begins.begun.valid good) good)
+    calm ample fault.begins fault.cause
 
 -- The text of a list of answers is that of the first and of the others.
 joined-texts : (r : Reply) (replies : List Reply) (rest : List ℕ) → told_texts (r ∷ replies) ++ rest ≡ reply_text r ++ (told_texts replies ++ rest)
 joined-texts r replies rest = append_assoc (reply_text r) (told_texts replies) rest
 
 -- In a stream of answers no fault of spelling comes before the last of them.
-no-fault-of-told : (config : Configuration) (state : State) (start bucket first : ℕ) (content : State)
+no-fault-of-told : (config : Configuration) (from state : State) (start bucket first : ℕ) (content : State)
     (replies others : List Reply) (rest left : List ℕ) (e : SyncError)
     → AreReplies config start replies → AreReplies config start others → length others < length replies → bucket ≡ start + length others
-    → told_texts replies ++ rest ≡ told_texts others ++ left → e ≢ Io → e ≢ NoMemory → IsSpelling e
-    → RefusesAnswer config state bucket first content (Some left) e → ⊥
-no-fault-of-told config state start bucket first content [] others rest left e is valid few at w calm ample spelt h = omega (arith, few)
-no-fault-of-told config state start bucket first content (r ∷ replies) [] rest left e is valid few at w calm ample spelt h =
+    → told_texts replies ++ rest ≡ told_texts others ++ left → e ≢ Io → e ≢ NoMemory
+    → IsSpelling e ⊎ HoldsAnswers config from state replies others → RefusesAnswer config state bucket first content (Some left) e → ⊥
+no-fault-of-told config from state start bucket first content [] others rest left e is valid few at w calm ample fine h = omega (arith, few)
+no-fault-of-told config from state start bucket first content (r ∷ replies) [] rest left e is valid few at w calm ample fine h =
     let same : start ≡ bucket = omega (arith, at) in
     no-fault-of-reply config state bucket first content r left (told_texts replies ++ rest) e
-    (subst (λ (b : ℕ). IsReply config b r) same is.0) (sym w ∙ joined-texts r replies rest) calm ample spelt h
-no-fault-of-told config state start bucket first content (r ∷ replies) (o ∷ others) rest left e is valid few at w calm ample spelt h =
+    (subst (λ (b : ℕ). IsReply config b r) same is.0) (sym w ∙ joined-texts r replies rest) calm ample
+    (elim fine [ inl spelt ↦ inl spelt | inr holds ↦ inr (first-holds config from state r replies holds) ]) h
+no-fault-of-told config from state start bucket first content (r ∷ replies) (o ∷ others) rest left e is valid few at w calm ample fine h =
     let same = same-reply (told_texts (r ∷ replies) ++ rest) r o (told_texts replies ++ rest)
     (told_texts others ++ left) is.0.answer valid.0.answer (joined-texts r replies rest)
     (w ∙ joined-texts o others left) in
-    no-fault-of-told config state (start + 1) bucket first content replies others rest left e is.1 valid.1
-    (omega (arith, few)) (omega (arith, at)) same.behind calm ample spelt h
+    no-fault-of-told config (joined from r.content) state (start + 1) bucket first content replies others rest left e is.1 valid.1
+    (omega (arith, few)) (omega (arith, at)) same.behind calm ample
+    (elim fine [ inl spelt ↦ inl spelt | inr holds ↦ inr (later-holds config from state r o replies others same.reply holds) ]) h
 
 -- No fault of spelling comes before the last answer, in the words of streams.
-unpulled : (config : Configuration) (state : State) (bytes : List ℕ) (first : ℕ) (content : State)
+pub unpulled : (config : Configuration) (from state : State) (bytes : List ℕ) (first : ℕ) (content : State)
     (replies others : List Reply) (rest left : Option (List ℕ)) (e : SyncError)
     → AreReplies config 0 replies → AreReplies config 0 others → length others < length replies
     → Consumes (Some bytes) rest (told_texts replies) → Consumes (Some bytes) left (told_texts others)
-    → e ≢ Io → e ≢ NoMemory → IsSpelling e → RefusesAnswer config state (length others) first content left e → ⊥
-unpulled config state bytes first content replies others None left e is valid few whole begins calm ample spelt h = whole
-unpulled config state bytes first content replies others (Some rest) None e is valid few whole begins calm ample spelt h = begins
-unpulled config state bytes first content replies others (Some rest) (Some left) e is valid few whole begins calm ample spelt h =
+    → e ≢ Io → e ≢ NoMemory → IsSpelling e ⊎ HoldsAnswers config from state replies others
+    → RefusesAnswer config state (length others) first content left e → ⊥
+unpulled config from state bytes first content replies others None left e is valid few whole begins calm ample fine h = whole
+unpulled config from state bytes first content replies others (Some rest) None e is valid few whole begins calm ample fine h = begins
+unpulled config from state bytes first content replies others (Some rest) (Some left) e is valid few whole begins calm ample fine h =
     let at : length others ≡ 0 + length others = omega arith in
-    no-fault-of-told config state 0 (length others) first content replies others rest left e is valid few at (sym whole ∙ begins) calm ample spelt h
+    no-fault-of-told config from state 0 (length others) first content replies others rest left e is valid few at (sym whole ∙ begins) calm ample fine h
+
+-- where a stream begins with all answers, a pull has no fault that is excluded here
+all-or-part : (old : Meaning) (bytes : List ℕ) (before after since then : Option (List ℕ)) (new now : Meaning)
+    (e : SyncError) → e ≢ Io → e ≢ NoMemory → (all : PullsAll old (Some bytes) before new after)
+    → (part : PullsUpTo old (Some bytes) since now then e)
+    → IsSpelling e ⊎ HoldsAnswers old.config (state_of old) (after_replies (state_of old) part.replies) all.replies part.replies → ⊥
+all-or-part old bytes before after since then new now e calm ample all part fine =
+    let many = all.all in
+    let few = part.few in
+    unpulled old.config (state_of old) (after_replies (state_of old) part.replies) bytes (line_count part.replies + 1) part.content
+    all.replies part.replies all.left part.left e all.session.each part.session.each (omega (arith, many, few))
+    all.session.text part.session.text calm ample fine part.cause
 
 -- The clause `pulled`: a stream of all answers has no fault but that what a line says is refused.
 pub pulled-or-not : (old : Meaning) (bytes : List ℕ) (before after since then : Option (List ℕ)) (new now : Meaning)
     (e : SyncError) → e ≢ Io → e ≢ NoMemory → ((n : ℕ) (why : TakeError) → e ≢ Refused n why)
     → PullsAll old (Some bytes) before new after → PullsUpTo old (Some bytes) since now then e → ⊥
 pulled-or-not old bytes before after since then new now e calm ample spelt all part =
-    let many = all.all in
-    let few = part.few in
-    unpulled old.config (after_replies (state_of old) part.replies) bytes (line_count part.replies + 1) part.content
-    all.replies part.replies all.left part.left e all.session.each part.session.each (omega (arith, many, few))
-    all.session.text part.session.text calm ample spelt part.cause
+    all-or-part old bytes before after since then new now e calm ample all part (inl spelt)
+
+-- Where what the answers bring can be held, nothing of it is refused.
+pub taken-or-not : (old : Meaning) (bytes : List ℕ) (before after since then : Option (List ℕ)) (new now : Meaning)
+    (e : SyncError) → IsConfiguration old.config → IsMeaning old → IsMeaning new → e ≢ Io → e ≢ NoMemory
+    → PullsAll old (Some bytes) before new after → PullsUpTo old (Some bytes) since now then e → ⊥
+taken-or-not old bytes before after since then new now e configured valid held calm ample all part =
+    all-or-part old bytes before after since then new now e calm ample all part
+    (inr (record { configured = configured; rising = rising-meaning old valid; valid = subst IsMeaning all.meaning held; at = refl }))
 
 -- Two lists of as many answers with which a stream begins are one list.
 same-replies : (config : Configuration) (start : ℕ) (replies others : List Reply) (rest left : List ℕ)

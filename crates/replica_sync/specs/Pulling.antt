@@ -1,6 +1,6 @@
 -- A session in which a replica asks about each bucket and takes what is answered.
 use Rattle.std.specs.Prelude.{◌≡◌, ℕ, ◌+◌, ◌<◌, ◌⊎◌, List, [], ◌∷◌, ◌++◌, length, flat_map, fold}
-use Rattle.std.specs.Prelude.{Option, Some, Result, Ok, Err}
+use Rattle.std.specs.Prelude.{Option, Some, Result, Ok, Err, Bool, false}
 use Rattle.std.specs.Io.KnownBytes.{Appends, Consumes}
 use Rattle.fed_config.specs.Configuration.{Configuration, config_id_of}
 use Rattle.receipt_core.specs.Acceptance.{Meaning}
@@ -10,6 +10,7 @@ use Rattle.replica_sync.specs.Entries.{RefusesEntryLine}
 use Rattle.replica_sync.specs.declared.entry_line.Wanted.{Wanted}
 use Rattle.replica_core.specs.declared.error.SyncError.{SyncError}
 use Rattle.replica_sync.specs.Messages.{question_text, reply_text}
+use Rattle.replica_sync.specs.Snapshots.{is_io}
 use Rattle.replica_sync.specs.Answers.{IsAnswer, AnswerBegins, RefusesHead, RefusesNextEntry}
 use Rattle.replica_sync.specs.Answers.{next_entry_number}
 use Rattle.replica_sync.specs.Questions.{IsWritten}
@@ -125,3 +126,8 @@ Pulls old stream before new after (Ok count) = PullsAll old stream before new af
     × HasGained old new count
 Pulls old stream before new after (Err fault) = PullsUpTo old stream before new after fault.why
     × HasGained old new fault.taken
+
+-- a device was at fault
+abbrev pub is_pull_io : Result ℕ PullFault → Bool
+is_pull_io (Ok count) = false
+is_pull_io (Err fault) = is_io {T = ℕ} (Err fault.why)

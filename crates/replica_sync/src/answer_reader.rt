@@ -25,7 +25,9 @@ use std::alloc::{AllocError, Global};
 /// tells.
 ///
 /// # Errors
-/// The lines up to the fault are used up. The first fault in the order of the stream:
+/// The lines up to the fault are used up; but where memory ran out the last of them may still be
+/// next, and where the source failed nothing is known of what is next. The first fault in the order
+/// of the stream:
 /// - [`SyncError::Truncated`]: it ends before the last line's line feed,
 /// - [`SyncError::BadHeader`]: the first line is no answer's, of whatever format and number of
 ///   buckets, or its bucket is not below that number, or it has more than 8,388,608 bytes,
@@ -132,7 +134,7 @@ fn read_next<R: Source>(
     let Some(wanted) = next_wanted(head, content) else {
         return Ok(false);
     };
-    let number = number_behind(content)?;
+    let number = number_behind(alloc, content)?;
     match lines.next_line(source)? {
         Line::Text(text) => {
             push_line(alloc, wanted, content, number, text)?;
@@ -161,15 +163,16 @@ fn next_wanted(head: &Head, content: &AnswerBody) -> Option<Wanted>
 }
 
 // The number of the line after what was read. There is no memory for so many that it has more than
-// 64 bits.
-fn number_behind(content: &AnswerBody) -> Result<u64, AllocError>
+// 64 bits: there it asks for a growth that is always refused.
+fn number_behind(alloc: Global, content: &AnswerBody) -> Result<u64, AllocError>
     ensures { IfOk result (λ number. number ≡ next_entry_number 1 (answer_content content.now)) }
 {
     let count = content.distrusts.len() as u64 + content.receipts.len() as u64;
-    match count.checked_add(2) {
-        Some(number) => Ok(number),
-        None => Err(AllocError),
+    if count > u64::MAX - 2 {
+        let mut room: Vec<u8> = Vec::new(alloc);
+        room.try_reserve(usize::MAX)?;
     }
+    Ok(count + 2)
 }
 
 // Keeps what the line with this number says.

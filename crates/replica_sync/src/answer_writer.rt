@@ -1,8 +1,8 @@
 //! Answers, written.
-ghost use Rattle.std.specs.Prelude.{◌≡◌, ◌≢◌, IfErr, IfOk, flat_map, true, Err};
+ghost use Rattle.std.specs.Prelude.{◌≡◌, ◌≢◌, ◌||◌, IfErr, IfOk, flat_map, true, Err};
 ghost use Rattle.replica_sync.specs.Messages.{WritesText, receipt_text, record_text, reply_text};
 ghost use Rattle.replica_sync.specs.Messages.{told_of, told_text};
-ghost use Rattle.replica_sync.specs.Snapshots.{ended};
+ghost use Rattle.replica_sync.specs.Snapshots.{ended, is_io};
 ghost use Rattle.replica_core.specs.declared.error.SyncError.TheVariants.{Io, NoMemory};
 
 use crate::spelling::{GiveHeaderLine, push_give_header};
@@ -31,6 +31,7 @@ pub fn write_answer<W: Sink>(
     ensures written { WritesText (W.contents sink.old) (W.contents sink.new) result
         (reply_text answer.entry) }
     ensures io { result ≡ Err Io → W.has_failed sink.new ≡ true }
+    ensures fault { W.has_failed sink.new ≡ (is_io result || W.has_failed sink.old) }
     ensures refused { IfErr result (λ e. e ≢ Io → e ≡ NoMemory) }
 {
     let header = header_of(alloc, &answer)?;
@@ -65,6 +66,7 @@ fn write_records<W: Sink>(
     ensures written { WritesText (W.contents sink.old) (W.contents sink.new) result
         (flat_map record_text distrusts.entry) }
     ensures io { result ≡ Err Io → W.has_failed sink.new ≡ true }
+    ensures fault { W.has_failed sink.new ≡ (is_io result || W.has_failed sink.old) }
     ensures refused { IfErr result (λ e. e ≢ Io → e ≡ NoMemory) }
 {
     for (domain, key) in distrusts {
@@ -81,6 +83,7 @@ fn write_receipts<W: Sink>(
     ensures written { WritesText (W.contents sink.old) (W.contents sink.new) result
         (flat_map receipt_text receipts.entry) }
     ensures io { result ≡ Err Io → W.has_failed sink.new ≡ true }
+    ensures fault { W.has_failed sink.new ≡ (is_io result || W.has_failed sink.old) }
     ensures refused { IfErr result (λ e. e ≢ Io → e ≡ NoMemory) }
 {
     for receipt in receipts {
@@ -98,6 +101,7 @@ fn write_record<W: Sink>(
     ensures written { WritesText (W.contents sink.old) (W.contents sink.new) result
         (record_text (record { domain = domain.now; key = key.now })) }
     ensures io { result ≡ Err Io → W.has_failed sink.new ≡ true }
+    ensures fault { W.has_failed sink.new ≡ (is_io result || W.has_failed sink.old) }
     ensures refused { IfErr result (λ e. e ≢ Io → e ≡ NoMemory) }
 {
     let text = record_line(alloc, domain, key)?;
@@ -109,6 +113,7 @@ fn write_receipt<W: Sink>(alloc: Global, receipt: &Receipt, sink: &mut W) -> Res
     ensures written { WritesText (W.contents sink.old) (W.contents sink.new) result
         (receipt_text receipt.now) }
     ensures io { result ≡ Err Io → W.has_failed sink.new ≡ true }
+    ensures fault { W.has_failed sink.new ≡ (is_io result || W.has_failed sink.old) }
     ensures refused { IfErr result (λ e. e ≢ Io → e ≡ NoMemory) }
 {
     let text = receipt_line(alloc, receipt)?;

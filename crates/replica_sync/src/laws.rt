@@ -1,19 +1,26 @@
 //! What is so of every snapshot and of every stream of messages; the laws of worlds are handed on.
 //! A call that needs a law calls its function, which does nothing, and cites what it ensures.
-ghost use Rattle.std.specs.Prelude.{◌≡◌, ◌≢◌, List, Option, Some, ℕ};
+ghost use Rattle.std.specs.Prelude.{◌≡◌, ◌≢◌, ◌++◌, ◌<◌, [], IfErr, List, Option, Result, Some};
+ghost use Rattle.std.specs.Prelude.{true, ℕ};
 ghost use Rattle.std.specs.Io.KnownBytes.{Consumes};
-ghost use Rattle.fed_config.specs.Configuration.{Configuration, IsConfiguration};
-ghost use Rattle.receipt_core.specs.Acceptance.{Meaning};
+ghost use Rattle.fed_config.specs.Configuration.{Configuration, IsConfiguration, config_id_of};
+ghost use Rattle.receipt_core.specs.Acceptance.{Meaning, IsMeaning};
 ghost use Rattle.closure_core.specs.declared.error.TakeError.{TakeError};
-ghost use Rattle.replica_core.specs.Session.{Question, Reply};
+ghost use Rattle.replica_core.specs.Convergence.{AreEvents, Settles};
+ghost use Rattle.replica_core.specs.Session.{Question, Reply, question_of, reply_of, state_of};
+ghost use Rattle.replica_core.specs.State.{is_within_limits, joined, meaning_of_state};
+ghost use Rattle.replica_core.specs.World.{WorldRun, rules_in, world_after, held_by, followed_by};
+ghost use Rattle.replica_core.specs.declared.event.Event.{Event};
 ghost use Rattle.replica_core.specs.declared.error.SyncError.{SyncError};
 ghost use Rattle.replica_core.specs.declared.error.SyncError.TheVariants.{Io, NoMemory, Refused};
 ghost use Rattle.replica_sync.specs.Messages.{question_text, reply_text};
 ghost use Rattle.replica_sync.specs.FirstLines.{HasDigestOf};
 ghost use Rattle.replica_sync.specs.Questions.{IsAskable, RefusesQuestion, ServesAll, ServesUpTo};
 ghost use Rattle.replica_sync.specs.Answers.{IsAnswer, RefusesGive};
-ghost use Rattle.replica_sync.specs.Pulling.{PullsAll, PullsUpTo};
-ghost use Rattle.replica_sync.specs.Snapshots.{IsSnapshot, RefusesSnapshot};
+ghost use Rattle.replica_sync.specs.Pulling.{Pulls, PullsAll, PullsUpTo};
+ghost use Rattle.replica_sync.specs.Snapshots.{IsSnapshot, RefusesSnapshot, snapshot_text};
+ghost use Rattle.replica_sync.specs.declared.format.Format.TheVariants.{Second};
+ghost use Rattle.replica_sync.specs.declared.pulling.PullFault.{PullFault};
 
 pub use replica_core::laws::{agreement, effects, exchange, persistence, provenance, validity};
 
@@ -74,6 +81,7 @@ pub fn answers()
 /// - `served_once`: it is this many questions, and no other number of them.
 /// - `pulled`: a stream that begins with answers about all buckets has no fault in them, but that
 ///   what a line says is refused.
+/// - `taken`: nor is anything refused where a replica can hold all that they bring.
 /// - `pulled_once`: what is held after them is one.
 pub fn sessions()
     ensures served { (m : Meaning) (bytes : List ℕ) (old new before after : Option (List ℕ))
@@ -86,7 +94,60 @@ pub fn sessions()
         (held kept : Meaning) (e : SyncError) → e ≢ Io → e ≢ NoMemory
         → ((n : ℕ) (why : TakeError) → e ≢ Refused n why)
         → PullsAll m (Some bytes) old held new → PullsUpTo m (Some bytes) before kept after e → ⊥ }
+    ensures taken { (m : Meaning) (bytes : List ℕ) (old new before after : Option (List ℕ))
+        (held kept : Meaning) (e : SyncError) → IsConfiguration m.config → IsMeaning m
+        → IsMeaning held → e ≢ Io → e ≢ NoMemory
+        → PullsAll m (Some bytes) old held new → PullsUpTo m (Some bytes) before kept after e → ⊥ }
     ensures pulled_once { (m : Meaning) (bytes : List ℕ) (old new before after : Option (List ℕ))
         (held kept : Meaning) → PullsAll m (Some bytes) old held new
         → PullsAll m (Some bytes) before kept after → held ≡ kept }
 {}
+
+/// What one side writes the other takes: two replicas whose configurations have one digest never
+/// refuse each other's questions and answers. `asked` are the bytes that a pull wrote, and `told`
+/// those that were written to them.
+///
+/// - `asks`: what a replica asks about a bucket, a line can ask.
+/// - `answers`: what a replica answers to a question that a line can ask is an answer.
+/// - `served`: a session that serves what a pull wrote has no fault.
+/// - `pulled`: nor has a pull that reads what is written to its questions, but that what a line
+///   says is refused.
+/// - `taken`: nor is anything refused where the configuration is the same, and both together hold
+///   65,536 receipts and 4,096 records at most. So nothing but a device or memory ends it early.
+pub fn understanding()
+    ensures asks { (m : Meaning) (bucket : ℕ) → IsMeaning m → bucket < 256
+        → IsAskable (question_of m bucket) }
+    ensures answers { (m : Meaning) (q : Question) → IsMeaning m → IsAskable q
+        → IsAnswer (reply_of m q) }
+    ensures served { (m k held : Meaning) (stream : Option (List ℕ)) (asked : List ℕ)
+        (result : Result ℕ PullFault) (before after : Option (List ℕ)) (e : SyncError)
+        → IsMeaning m → IsMeaning held → config_id_of m.config ≡ config_id_of k.config
+        → IfErr result (λ fault. (fault.why ≢ Io) × (fault.why ≢ NoMemory))
+        → Pulls m stream (Some []) held (Some asked) result
+        → e ≢ Io → e ≢ NoMemory → ServesUpTo k (Some asked) before after e → ⊥ }
+    ensures pulled { (m k held : Meaning) (asked told rest : List ℕ) (count : ℕ) (e : SyncError)
+        → IsMeaning m → IsMeaning k → IsMeaning held
+        → config_id_of m.config ≡ config_id_of k.config
+        → ServesAll k (Some asked) (Some []) (Some told) count
+        → PullsUpTo m (Some (told ++ rest)) (Some []) held (Some asked) e
+        → e ≢ Io → e ≢ NoMemory → ((n : ℕ) (why : TakeError) → e ≢ Refused n why) → ⊥ }
+    ensures taken { (m k held : Meaning) (asked told rest : List ℕ) (count : ℕ) (e : SyncError)
+        → IsConfiguration m.config → IsMeaning m → IsMeaning k → IsMeaning held
+        → m.config ≡ k.config → is_within_limits (joined (state_of m) (state_of k)) ≡ true
+        → ServesAll k (Some asked) (Some []) (Some told) count
+        → PullsUpTo m (Some (told ++ rest)) (Some []) held (Some asked) e
+        → e ≢ Io → e ≢ NoMemory → ⊥ }
+{}
+
+/// Of replicas that each took, in quiet, the whole answers of all others about all buckets, the
+/// snapshots are the same, byte by byte.
+pub fn convergence()
+    ensures same_snapshots { (past : WorldRun) (since : List Event) (i j : ℕ)
+        → AreEvents past.events → i < past.replicas → j < past.replicas
+        → Settles (rules_in past) (world_after past) since
+        → snapshot_text Second (meaning_of_state past.config (held_by (followed_by past since) i))
+        ≡ snapshot_text Second
+        (meaning_of_state past.config (held_by (followed_by past since) j)) }
+{
+    agreement();
+}

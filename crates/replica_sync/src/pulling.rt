@@ -1,11 +1,13 @@
 //! Sessions in which a replica asks.
-ghost use Rattle.std.specs.Prelude.{◌≡◌, ◌+◌, ◌<◌, ◌≤◌, ◌^◌, ◌⊎◌, IfErr, IsErrOf, OnOk, true};
+ghost use Rattle.std.specs.Prelude.{◌≡◌, ◌+◌, ◌<◌, ◌≤◌, ◌^◌, ◌⊎◌, ◌||◌, IfErr, IsErrOf, OnOk};
+ghost use Rattle.std.specs.Prelude.{true, false};
 ghost use Rattle.std.specs.Io.KnownBytes.{Appends};
 ghost use Rattle.byte_lines.specs.Streams.{stream_of, left_of};
 ghost use Rattle.replica_core.specs.Session.{question_of};
 ghost use Rattle.replica_sync.specs.Messages.{question_text, WritesText};
+ghost use Rattle.replica_sync.specs.Snapshots.{is_io};
 ghost use Rattle.replica_sync.specs.Questions.{IsWritten};
-ghost use Rattle.replica_sync.specs.Pulling.{Pulls, PullsAll, PullsUpTo};
+ghost use Rattle.replica_sync.specs.Pulling.{Pulls, PullsAll, PullsUpTo, is_pull_io};
 ghost use Rattle.replica_sync.specs.Inside.Taking.{TakesReply, StopsReply};
 ghost use Rattle.replica_core.specs.declared.error.SyncError.TheVariants.{Io, NoMemory};
 
@@ -60,6 +62,9 @@ pub fn pull<C: Closure, R: Source, W: Sink>(
     ensures io { IfErr result
         (λ fault. fault.why ≡ Io
         → (R.has_failed source.new ≡ true) ⊎ (W.has_failed sink.new ≡ true)) }
+    ensures fault { is_pull_io result ≡ false
+        → (R.has_failed source.new ≡ R.has_failed source.old)
+        × (W.has_failed sink.new ≡ W.has_failed sink.old) }
 {
     let before = closure.receipt_count();
     let pulled = pull_all(alloc, closure, source, sink);
@@ -85,6 +90,9 @@ fn pull_all<C: Closure, R: Source, W: Sink>(
         (C.state closure.new).meaning (W.contents sink.new)) }
     ensures io { IsErrOf result Io
         → (R.has_failed source.new ≡ true) ⊎ (W.has_failed sink.new ≡ true) }
+    ensures fault { is_io result ≡ false
+        → (R.has_failed source.new ≡ R.has_failed source.old)
+        × (W.has_failed sink.new ≡ W.has_failed sink.old) }
 {
     let mut lines = LineBuf::new(alloc);
     let mut place = Place {
@@ -134,6 +142,9 @@ fn pull_bucket<C: Closure, R: Source, W: Sink>(
         ≤ place.old.read + left_of R.budget lines.old source.old) }
     ensures io { IsErrOf result Io
         → (R.has_failed source.new ≡ true) ⊎ (W.has_failed sink.new ≡ true) }
+    ensures fault { is_io result ≡ false
+        → (R.has_failed source.new ≡ R.has_failed source.old)
+        × (W.has_failed sink.new ≡ W.has_failed sink.old) }
 {
     ask(alloc, closure, bucket, sink)?;
     take_answer(alloc, closure, bucket, place, lines, source)
@@ -150,6 +161,7 @@ fn ask<C: Closure, W: Sink>(
         (question_text (question_of (C.state closure.now).meaning bucket)) }
     ensures refused { IfErr result (λ e. (e ≡ Io) ⊎ (e ≡ NoMemory)) }
     ensures io { IsErrOf result Io → W.has_failed sink.new ≡ true }
+    ensures fault { W.has_failed sink.new ≡ (is_io result || W.has_failed sink.old) }
 {
     let question = have(alloc, closure, bucket)?;
     write_have(alloc, &question, sink)

@@ -26,7 +26,8 @@ use std::alloc::Global;
 /// as it is written.
 ///
 /// # Errors
-/// The line is used up. Of these the first that holds:
+/// The line is used up; but where memory ran out it may still be next, and where the source failed
+/// nothing is known of what is next. Of these the first that holds:
 /// - [`SyncError::Truncated`]: the stream ends before the line's line feed,
 /// - [`SyncError::BadHeader`]: the line is no question's, of whatever format and number of buckets,
 ///   or its bucket is not below that number, or its ids do not rise strictly, or it has more than

@@ -1,8 +1,9 @@
 //! Questions, written.
-ghost use Rattle.std.specs.Prelude.{◌≡◌, ◌≢◌, IfOk, IfErr, OnOk, Err, true};
+ghost use Rattle.std.specs.Prelude.{◌≡◌, ◌≢◌, ◌||◌, IfOk, IfErr, OnOk, Err, true};
 ghost use Rattle.std.specs.Io.KnownBytes.{Appends};
 ghost use Rattle.byte_lines.specs.Device.{AppendsBeginning};
 ghost use Rattle.replica_sync.specs.Messages.{question_text};
+ghost use Rattle.replica_sync.specs.Snapshots.{is_io};
 ghost use Rattle.replica_core.specs.declared.error.SyncError.TheVariants.{Io, NoMemory};
 
 use crate::spelling::{HaveLine, push_have_line};
@@ -24,6 +25,7 @@ pub fn write_have<W: Sink>(alloc: Global, have: &Have, sink: &mut W) -> Result<(
         → (W.has_failed sink.new ≡ true)
         × AppendsBeginning (W.contents sink.old) (W.contents sink.new) (question_text have.now) }
     ensures memory { result ≡ Err NoMemory → sink.new ≡ sink.old }
+    ensures fault { W.has_failed sink.new ≡ (is_io result || W.has_failed sink.old) }
     ensures refused { IfErr result (λ e. e ≢ Io → e ≡ NoMemory) }
 {
     let text = render(alloc, have)?;

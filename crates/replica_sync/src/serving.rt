@@ -1,6 +1,7 @@
 //! Sessions that are served.
-ghost use Rattle.std.specs.Prelude.{◌≡◌, ◌<◌, ◌⊎◌, IfOk, IsErrOf, true};
+ghost use Rattle.std.specs.Prelude.{◌≡◌, ◌<◌, ◌⊎◌, IfOk, IsErrOf, true, false};
 ghost use Rattle.byte_lines.specs.Streams.{stream_of, left_of};
+ghost use Rattle.replica_sync.specs.Snapshots.{is_io};
 ghost use Rattle.replica_sync.specs.Questions.{Serves};
 ghost use Rattle.replica_sync.specs.Inside.Serving.{ServesNext};
 ghost use Rattle.replica_core.specs.declared.error.SyncError.TheVariants.{Io};
@@ -40,6 +41,9 @@ pub fn serve_one<C: Closure, R: Source, W: Sink>(
         (W.contents sink.old) (W.contents sink.new) result }
     ensures io { IsErrOf result Io
         → (R.has_failed source.new ≡ true) ⊎ (W.has_failed sink.new ≡ true) }
+    ensures fault { is_io result ≡ false
+        → (R.has_failed source.new ≡ R.has_failed source.old)
+        × (W.has_failed sink.new ≡ W.has_failed sink.old) }
 {
     let mut lines = LineBuf::new(alloc);
     let mut count = 0;
@@ -62,6 +66,9 @@ fn serve_next<C: Closure, R: Source, W: Sink>(
         (W.contents sink.old) (W.contents sink.new) result }
     ensures io { IsErrOf result Io
         → (R.has_failed source.new ≡ true) ⊎ (W.has_failed sink.new ≡ true) }
+    ensures fault { is_io result ≡ false
+        → (R.has_failed source.new ≡ R.has_failed source.old)
+        × (W.has_failed sink.new ≡ W.has_failed sink.old) }
     ensures falls { IfOk result
         (λ more. more ≡ true → left_of R.budget lines.new source.new
         < left_of R.budget lines.old source.old) }

@@ -1,7 +1,8 @@
 //! Answers, taken line by line.
-ghost use Rattle.std.specs.Prelude.{◌≡◌, ◌+◌, ◌<◌, ◌≤◌, ◌^◌, ◌⊎◌, true, [], OnOk, IfErr, IsErrOf};
-ghost use Rattle.std.specs.Prelude.{MatchResult, Some};
+ghost use Rattle.std.specs.Prelude.{◌≡◌, ◌+◌, ◌<◌, ◌≤◌, ◌^◌, ◌⊎◌, ◌||◌, true, [], OnOk, IfErr};
+ghost use Rattle.std.specs.Prelude.{IsErrOf, MatchResult, Some};
 ghost use Rattle.byte_lines.specs.Streams.{stream_of, left_of};
+ghost use Rattle.replica_sync.specs.Snapshots.{is_io};
 ghost use Rattle.replica_sync.specs.Inside.Taking.{TakesReply, StopsReply, TakesLines, StopsWithin};
 ghost use Rattle.replica_sync.specs.Inside.Taking.{IsNextOf, TakesNext, HasNotTaken, TakesHere};
 ghost use Rattle.replica_sync.specs.Inside.Taking.{HasRefusedHere};
@@ -43,6 +44,7 @@ pub(crate) fn take_answer<C: Closure, R: Source>(
         (place.new.read + left_of R.budget lines.new source.new
         ≤ place.old.read + left_of R.budget lines.old source.old) }
     ensures io { IsErrOf result Io → R.has_failed source.new ≡ true }
+    ensures fault { R.has_failed source.new ≡ (is_io result || R.has_failed source.old) }
 {
     let expected = Expected {
         config: closure.config(),
@@ -76,6 +78,7 @@ fn take_lines<C: Closure, R: Source>(
         (place.new.read + left_of R.budget lines.new source.new
         ≤ place.old.read + left_of R.budget lines.old source.old) }
     ensures io { IsErrOf result Io → R.has_failed source.new ≡ true }
+    ensures fault { R.has_failed source.new ≡ (is_io result || R.has_failed source.old) }
 {
     let mut due = told;
     'lines: while due.distrusts > 0 || due.count > 0 {
@@ -128,6 +131,7 @@ fn take_next<C: Closure, R: Source>(
     ensures falls { OnOk result
         (left_of R.budget lines.new source.new < left_of R.budget lines.old source.old) }
     ensures io { IsErrOf result Io → R.has_failed source.new ≡ true }
+    ensures fault { R.has_failed source.new ≡ (is_io result || R.has_failed source.old) }
 {
     match lines.next_line(source)? {
         Line::Text(text) => take_text(alloc, closure, wanted, place, text),

@@ -1,4 +1,4 @@
-use Rattle.std.proofs.Common.{ap, subst}
+use Rattle.std.proofs.Common.{◌∙◌, ap, subst}
 use Rattle.byte_lines.specs.Device.{AppendsBeginning}
 use Rattle.std.specs.List.{flat_map}
 use Rattle.replica_sync.specs.Messages.{receipt_text}
@@ -6,11 +6,13 @@ use Rattle.replica_sync.proofs.Written.{wrote-piece, wrote-begun, writes-err}
 use Rattle.replica_sync.proofs.answer_writer.write_receipts.Goals as goal
 
 pub loop-receipt-preserved : goal.loop-receipt-preserved
-loop-receipt-preserved g c =
-    wrote-piece (g.W.Sink.contents c.args.sink.now) (g.W.Sink.contents c.loop-receipt.sink)
-    (g.W.Sink.contents c.write_receipt.new.sink) _ (flat_map receipt_text c.loop-receipt.receipt-iterator) _
-    (flat_map receipt_text c.next.new.self)
-    c.loop-receipt.invariant (ap (flat_map receipt_text) c.in-Some.ensures.steps) c.in_ok-write_receipt.ensures.written
+loop-receipt-preserved g c = record {
+  written = wrote-piece (g.W.Sink.contents c.args.sink.now) (g.W.Sink.contents c.loop-receipt.sink)
+      (g.W.Sink.contents c.write_receipt.new.sink) _ (flat_map receipt_text c.loop-receipt.receipt-iterator) _
+      (flat_map receipt_text c.next.new.self)
+      c.loop-receipt.invariant.written (ap (flat_map receipt_text) c.in-Some.ensures.steps) c.in_ok-write_receipt.ensures.written;
+  fault = c.in_ok-write_receipt.ensures.fault ∙ c.loop-receipt.invariant.fault;
+}
 
 pub returns-in_err-write_receipt-clause-written : goal.returns-in_err-write_receipt-clause-written
 returns-in_err-write_receipt-clause-written g c =
@@ -21,4 +23,4 @@ returns-in_err-write_receipt-clause-written g c =
     (wrote-begun (g.W.Sink.contents c.args.sink.now) (g.W.Sink.contents c.loop-receipt.sink)
     (g.W.Sink.contents c.write_receipt.new.sink) _ (flat_map receipt_text c.loop-receipt.receipt-iterator) _
     (flat_map receipt_text c.next.new.self)
-    c.loop-receipt.invariant (ap (flat_map receipt_text) c.in-Some.ensures.steps) c.in_err-write_receipt.ensures.written))
+    c.loop-receipt.invariant.written (ap (flat_map receipt_text) c.in-Some.ensures.steps) c.in_err-write_receipt.ensures.written))

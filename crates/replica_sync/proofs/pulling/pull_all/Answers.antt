@@ -1,4 +1,4 @@
-use Rattle.std.proofs.Common.{arith}
+use Rattle.std.proofs.Common.{◌∙◌, refl, arith}
 use Rattle.replica_sync.proofs.SnapshotFacts.{refused_by}
 use Rattle.replica_sync.specs.Pulling.{PullsUpTo}
 use Rattle.replica_sync.proofs.PullingFacts.{asked_more, asked_stops}
@@ -23,4 +23,6 @@ buckets-preserved g c =
     record {
       asked = asked_more _ _ _ c.buckets.bucket _ _ _ _ _ _ _ _ c.buckets.invariant.asked c.in_ok-pull_bucket.ensures.ok c.in_ok-pull_bucket.ensures.asked;
       counted = omega (arith, spent, few);
+      source = (c.in_ok-pull_bucket.ensures.fault refl).0 ∙ c.buckets.invariant.source;
+      sink = (c.in_ok-pull_bucket.ensures.fault refl).1 ∙ c.buckets.invariant.sink;
     }

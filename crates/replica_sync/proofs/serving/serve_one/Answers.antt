@@ -1,4 +1,4 @@
-use Rattle.std.proofs.Common.{arith}
+use Rattle.std.proofs.Common.{◌∙◌, refl, arith}
 use Rattle.std.proofs.lemmas.Result.{err_from_is_err_and}
 use Rattle.byte_lines.specs.Streams.{stream_of}
 use Rattle.replica_sync.proofs.ServingFacts.{served-more, served-up-to}
@@ -25,4 +25,6 @@ questions-preserved g c =
           (g.W.Sink.contents c.args.sink.now) (g.W.Sink.contents c.questions.sink)
           (g.W.Sink.contents c.serve_next.new.sink) c.questions.count c.questions.invariant.served one;
       below = let before = c.questions.invariant.below in omega (arith, before, less);
+      source = (c.in_ok-serve_next.ensures.fault refl).0 ∙ c.questions.invariant.source;
+      sink = (c.in_ok-serve_next.ensures.fault refl).1 ∙ c.questions.invariant.sink;
     }

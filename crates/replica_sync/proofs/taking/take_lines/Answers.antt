@@ -1,4 +1,4 @@
-use Rattle.std.proofs.Common.{arith}
+use Rattle.std.proofs.Common.{◌∙◌, refl, arith}
 use Rattle.byte_lines.specs.Streams.{stream_of}
 use Rattle.replica_sync.proofs.SnapshotFacts.{refused_by}
 use Rattle.replica_sync.specs.Inside.Taking.{StopsWithin}
@@ -9,6 +9,7 @@ pub lines-init : goal.lines-init
 lines-init g c = record {
   so_far = so_far_none _ _ _ _ _ _ c.requires.empty;
   counted = omega arith;
+  fault = refl;
 }
 
 pub returns-in_err-take_next-clause-refused : goal.returns-in_err-take_next-clause-refused
@@ -30,4 +31,5 @@ lines-preserved g c =
       so_far = so_far_more c.next_of-wanted.result.0 _ _ _ _ _ _ _ _ _ _ _ _ _ _ _ _ _ c.lines.invariant.so_far
           c.next_of-wanted.ensures c.in_ok-take_next.ensures.ok one;
       counted = omega (arith, falls, one, before);
+      fault = c.in_ok-take_next.ensures.fault ∙ c.lines.invariant.fault;
     }

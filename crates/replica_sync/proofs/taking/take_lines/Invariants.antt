@@ -1,5 +1,5 @@
--- So much of the answer is taken, and each line took at least one byte.
-use Rattle.std.proofs.Common.{◌+◌, ◌≤◌}
+-- So much of the answer is taken, each line took at least one byte, and the source has not failed.
+use Rattle.std.proofs.Common.{◌≡◌, ◌+◌, ◌≤◌}
 use Rattle.byte_lines.specs.Streams.{stream_of, left_of}
 use Rattle.replica_sync.proofs.TakingFacts.{SoFar}
 use Rattle.replica_sync.proofs.taking.take_lines.Given as goal
@@ -10,6 +10,7 @@ invariant-lines g l = record {
       l.fn.told.count l.fn.told.distrusts l.fn.place.read
       l.due.count l.due.distrusts (g.C.Closure.state l.closure).meaning (stream_of g.R.Source.remaining l.lines l.source) l.place.last.items l.place.read;
   counted : l.place.read + left_of g.R.Source.budget l.lines l.source ≤ l.fn.place.read + left_of g.R.Source.budget l.fn.lines l.fn.source;
+  fault : g.R.Source.has_failed l.source ≡ g.R.Source.has_failed l.fn.source;
 }
 
 abbrev pub decreases-lines : goal.decreases-lines

@@ -1,0 +1,201 @@
+-- What a replica asks, a line can ask; and what it answers to such a question is an answer.
+use Rattle.std.proofs.Common.{◌≡◌, ℕ, ◌+◌, ◌*◌, ◌<◌, ◌≤◌, ◌^◌, Bool, true, false, cond, List, [], ◌∷◌, ◌++◌, codes, decimal, length, length-append, map, Some}
+use Rattle.std.proofs.Common.{refl, subst, arith}
+use Rattle.std.specs.Prelude.{filter}
+use Rattle.std.specs.List.{AllByRecursion, join_by}
+use Rattle.std.specs.List.Sorted.{IsStrictlySortedBy}
+use Rattle.std.specs.Cmp.{IsTotalOrder}
+use Rattle.std.specs.Cmp.Lexicographic.{on_texts}
+use Rattle.std.specs.declared.cmp.Ordering.{Ordering}
+use Rattle.std.specs.declared.cmp.Ordering.TheVariants.{Less, Equal, Greater}
+use Rattle.std.proofs.lemmas.List.{length-map}
+use Rattle.std.proofs.lemmas.List.Kept.{IsStrictlySortedBy-filter}
+use Rattle.std.proofs.lemmas.List.Sums.{count_by-le-length, length-filter}
+use Rattle.hex.specs.Hex.{encode_lower}
+use Rattle.sha2.specs.Sha256.{sha256}
+use Rattle.sha2.proofs.Facts256.{length-sha256}
+use Rattle.fed_config.specs.Configuration.{Configuration, config_id_of}
+use Rattle.receipt_core.specs.Order.{receipt_total, distrust_total}
+use Rattle.receipt_core.specs.Receipt.{Receipt, IsDigest, IsReceipt, line, receipt_cmp, receipt_id_of}
+use Rattle.receipt_core.specs.Rising.{placed, with_item, with_items}
+use Rattle.receipt_core.specs.Acceptance.{IsFitting, Meaning, IsMeaning}
+use Rattle.receipt_core.proofs.HexFacts.{length-encode_lower}
+use Rattle.receipt_core.proofs.LineFacts.{distrust_order, record_first}
+use Rattle.receipt_core.proofs.RisingFacts.{with_items-all, with_items-rising}
+use Rattle.replica_core.specs.State.{State, id_cmp, ids_held, is_of_bucket, is_named, receipts_lacking}
+use Rattle.replica_core.specs.Session.{Question, Reply, IsQuestion, question_of, reply_of, state_of}
+use Rattle.replica_core.proofs.Buckets.{digest-bytes}
+use Rattle.replica_core.proofs.RisingLists.{rising_nil}
+use Rattle.replica_sync.specs.Messages.{asked_of, asked_text, quoted}
+use Rattle.replica_sync.specs.Questions.{IsAskable}
+use Rattle.replica_sync.specs.Answers.{IsAnswer}
+use Rattle.replica_sync.proofs.GiveFacts.{short-number}
+use Rattle.replica_sync.proofs.HeldFacts.{lines_rise}
+use Rattle.replica_sync.proofs.IdListFacts.{later_text, length-quoted}
+
+-- ---- digests
+
+octets-of : (text : List ℕ) → AllByRecursion (λ b. b < 256) (sha256 text)
+unfolding sha256
+octets-of text = digest-bytes _ 8
+
+digest-of : (text : List ℕ) → IsDigest (sha256 text)
+digest-of text = record { size = length-sha256 text; octets = octets-of text }
+
+config-digest : (c : Configuration) → IsDigest (config_id_of c)
+unfolding config_id_of
+config-digest c = digest-of _
+
+id-digest : (r : Receipt) → IsDigest (receipt_id_of r)
+unfolding receipt_id_of
+id-digest r = digest-of (line r)
+
+all-ids : (rs : List Receipt) → AllByRecursion IsDigest (map receipt_id_of rs)
+all-ids [] = tt
+all-ids (r ∷ rs) = (id-digest r, all-ids rs)
+
+-- ---- how long a set is
+
+placed-few : {A : Type 0} (o : Ordering) (item head : A) (rest longer : List A) → length longer ≤ length rest + 1
+    → length (placed o item head rest longer) ≤ length (head ∷ rest) + 1
+placed-few Less item head rest longer h = omega arith
+placed-few Equal item head rest longer h = omega arith
+placed-few Greater item head rest longer h = omega (arith, h)
+
+one-longer : {A : Type 0} (cmp : A → A → Ordering) (item : A) (set : List A) → length (with_item cmp item set) ≤ length set + 1
+one-longer cmp item [] = omega arith
+one-longer cmp item (head ∷ rest) = placed-few (cmp item head) item head rest (with_item cmp item rest) (one-longer cmp item rest)
+
+-- a set with so many items more is longer by so many at most
+no-longer : {A : Type 0} (cmp : A → A → Ordering) (items set : List A) → length (with_items cmp items set) ≤ length items + length set
+no-longer cmp [] set = omega arith
+no-longer cmp (x ∷ items) set =
+    let later = no-longer cmp items (with_item cmp x set) in
+    let one = one-longer cmp x set in
+    omega (arith, later, one)
+
+kept-few : {A : Type 0} (p : A → Bool) (xs : List A) → length (filter p xs) ≤ length xs
+kept-few p xs = let kept = length-filter p xs in let few = count_by-le-length p xs in omega (arith, kept, few)
+
+few-ids : (m : Meaning) (bucket : ℕ) → IsMeaning m → length (ids_held (state_of m) bucket) ≤ 65536
+few-ids m bucket valid =
+    let kept = filter (is_of_bucket bucket) m.held in
+    let set = no-longer id_cmp (map receipt_id_of kept) [] in
+    let ids = length-map kept receipt_id_of in
+    let few = kept-few (is_of_bucket bucket) m.held in
+    let held = valid.few in
+    omega (arith, set, ids, few, held)
+
+-- ---- questions
+
+-- each id has 64 digits, two quotes, and a comma before it
+length-later : (ids : List (List ℕ)) → AllByRecursion IsDigest ids → length (later_text ids) ≡ 67 * length ids
+length-later [] h = refl
+length-later (id ∷ ids) h =
+    let one = length-quoted id h.0 in
+    let rest = length-later ids h.1 in
+    let both = length-append (codes "," ++ quoted id) (later_text ids) in
+    omega (arith, one, rest, both)
+
+length-ids : (ids : List (List ℕ)) → AllByRecursion IsDigest ids → length (join_by quoted (codes ",") ids) ≤ 67 * length ids
+length-ids [] h = omega arith
+length-ids (id ∷ ids) h =
+    let one = length-quoted id h.0 in
+    let rest = length-later ids h.1 in
+    let both = length-append (quoted id) (later_text ids) in
+    omega (arith, one, rest, both)
+
+asked-length : (b c f i k : List ℕ)
+    → length (codes "{\"bucket\":" ++
+    (b ++ (codes ",\"config\":\"" ++ (c ++ (codes "\",\"format\":" ++
+    (f ++ (codes ",\"have\":[" ++ (i ++ (codes "],\"of\":" ++ (k ++ codes "}"))))))))))
+    ≡ length b + length c + length f + length i + length k + 49
+asked-length b c f i k = simp length-append (omega arith)
+
+short-asked : (q : Question) → q.bucket < 256 → IsDigest q.config → AllByRecursion IsDigest q.ids → length q.ids ≤ 65536
+    → length (asked_text (asked_of q)) ≤ 8388608
+unfolding asked_text
+short-asked q below config ids few =
+    let whole = asked-length (decimal q.bucket) (encode_lower q.config) (decimal 2) (join_by quoted (codes ",") q.ids) (decimal 256) in
+    let bucket = short-number q.bucket (omega (arith, below)) in
+    let digest = length-encode_lower q.config config in
+    let format = short-number 2 (omega arith) in
+    let list = length-ids q.ids ids in
+    let buckets = short-number 256 (omega arith) in
+    omega (arith, whole, bucket, digest, format, list, buckets, few)
+
+id-total : IsTotalOrder id_cmp
+id-total = on_texts (λ (t : List ℕ). t)
+
+ids-digests : (state : State) (bucket : ℕ) → AllByRecursion IsDigest (ids_held state bucket)
+ids-digests state bucket =
+    with_items-all IsDigest id_cmp (map receipt_id_of (filter (is_of_bucket bucket) state.held)) []
+    (all-ids (filter (is_of_bucket bucket) state.held)) tt
+
+ids-rising : (state : State) (bucket : ℕ) → IsStrictlySortedBy id_cmp (ids_held state bucket)
+ids-rising state bucket =
+    with_items-rising id_cmp id-total (map receipt_id_of (filter (is_of_bucket bucket) state.held)) [] (rising_nil id_cmp)
+
+-- What a replica asks about a bucket, a line can ask.
+pub askable-question : (m : Meaning) (bucket : ℕ) → IsMeaning m → bucket < 256 → IsAskable (question_of m bucket)
+askable-question m bucket valid below = record {
+  asked = record {
+    bucket = below;
+    format = omega arith;
+    buckets = omega arith;
+    config = config-digest m.config;
+    ids = ids-digests (state_of m) bucket;
+    rising = ids-rising (state_of m) bucket;
+  };
+  short = short-asked (question_of m bucket) below (config-digest m.config) (ids-digests (state_of m) bucket) (few-ids m bucket valid);
+}
+
+-- ---- answers
+
+kept-all : {A : Type 0} (P : A → Type 0) (b : Bool) (x : A) (xs : List A) → P x → AllByRecursion P xs → AllByRecursion P (cond b (x ∷ xs) xs)
+kept-all P true x xs p h = (p, h)
+kept-all P false x xs p h = h
+
+filter-all : {A : Type 0} (P : A → Type 0) (p : A → Bool) (xs : List A) → AllByRecursion P xs → AllByRecursion P (filter p xs)
+filter-all P p [] h = tt
+filter-all P p (x ∷ xs) h = kept-all P (p x) x (filter p xs) h.0 (filter-all P p xs h.1)
+
+-- what a replica holds, with some of its receipts only
+kept-meaning : (m : Meaning) (p : Receipt → Bool) → IsMeaning m
+    → IsMeaning (record { config = m.config; held = filter p m.held; records = m.records })
+kept-meaning m p valid = record {
+  receipts = filter-all IsReceipt p m.held valid.receipts;
+  rising = IsStrictlySortedBy-filter receipt_cmp p m.held valid.rising;
+  fitting = filter-all (IsFitting m.config) p m.held valid.fitting;
+  few = let kept = kept-few p m.held in let few = valid.few in omega (arith, kept, few);
+  distrusts = valid.distrusts;
+  records_rising = valid.records_rising;
+  domains = valid.domains;
+  few_records = valid.few_records;
+}
+
+-- the meaning of which an answer gives all
+abbrev given : Meaning → Question → Meaning
+given m q = record { config = m.config; held = receipts_lacking (state_of m) q.bucket q.ids; records = m.records }
+
+given-meaning : (m : Meaning) (q : Question) → IsMeaning m → IsMeaning (given m q)
+given-meaning m q valid = kept-meaning m _ valid
+
+-- What a replica answers to a question that a line can ask is an answer.
+pub answer-given : (m : Meaning) (q : Question) → IsMeaning m → IsAskable q → IsAnswer (reply_of m q)
+answer-given m q valid is =
+    let all = given-meaning m q valid in
+    let few = all.few in
+    let few_records = all.few_records in
+    record {
+      told = record {
+        bucket = is.asked.bucket;
+        count = omega (arith, few);
+        records = omega (arith, few_records);
+        format = omega arith;
+        buckets = omega arith;
+        config = config-digest m.config;
+      };
+      valid = record { receipts = all.receipts; records = all.distrusts };
+      rising = lines_rise receipt_total distrust_total distrust_order record_first (given m q) all;
+    }

@@ -1,0 +1,326 @@
+-- What a pull writes is served without a fault, and what is written to it is read without one.
+use Rattle.std.proofs.Common.{◌≡◌, ◌≢◌, ℕ, ◌+◌, ◌<◌, ◌≤◌, ◌⊎◌, inl, inr, Bool, true, false, cond, ◌&&◌, nat_le, leb-true, List, [], ◌∷◌, ◌++◌, length, map, Option, Some, refl, ap, sym, ◌∙◌, subst, arith}
+use Rattle.std.proofs.Common.{append_assoc, length-append}
+use Rattle.std.specs.Prelude.{IfErr, Result, Ok, Err, filter}
+use Rattle.std.specs.List.{AllByRecursion, flat_map}
+use Rattle.std.specs.List.Sorted.{IsStrictlySortedBy}
+use Rattle.std.specs.Cmp.{IsTotalOrder}
+use Rattle.std.specs.declared.cmp.Ordering.{Ordering}
+use Rattle.std.proofs.lemmas.Bool.{and_parts}
+use Rattle.std.specs.Io.KnownBytes.{Appends, Consumes}
+use Rattle.std.proofs.lemmas.Grind.{flat_map-append}
+use Rattle.std.proofs.lemmas.List.{length-map}
+use Rattle.std.proofs.lemmas.List.Folds.{flat_map-map}
+use Rattle.fed_config.specs.Configuration.{Configuration, HasDomain, IsConfiguration, config_id_of}
+use Rattle.receipt_core.specs.Order.{receipt_total, distrust_total}
+use Rattle.receipt_core.specs.declared.distrust.Distrust.{Distrust}
+use Rattle.receipt_core.specs.Receipt.{Receipt, IsDistrust, IsReceipt, receipt_cmp, distrust_cmp}
+use Rattle.receipt_core.specs.Rising.{with_items}
+use Rattle.receipt_core.specs.Acceptance.{IsFitting, Meaning, IsMeaning}
+use Rattle.receipt_core.proofs.RisingFacts.{Has, IsExactOn, all_from_has, each_has, same_members, with_items-all, with_items-has, with_items-keeps, with_items-new, with_items-rising}
+use Rattle.closure_core.specs.declared.error.TakeError.{TakeError}
+use Rattle.replica_core.specs.State.{State, is_within_limits, joined, meaning_of_state}
+use Rattle.replica_core.specs.Session.{Question, Reply, question_of, reply_of, state_of}
+use Rattle.replica_core.specs.declared.error.SyncError.{SyncError}
+use Rattle.replica_core.specs.declared.error.SyncError.TheVariants.{BadHeader, ConfigDiffers, VersionDiffers, NotCanonical, NotRising, BadCount, Truncated}
+use Rattle.replica_core.specs.declared.error.SyncError.TheVariants.{Refused, Io, NoMemory}
+use Rattle.replica_sync.specs.declared.pulling.PullFault.{PullFault}
+use Rattle.replica_sync.specs.Messages.{question_text, reply_text}
+use Rattle.replica_sync.specs.Questions.{IsQuestionOf, IsWritten, ServesAll, ServesUpTo, replies_text}
+use Rattle.replica_sync.specs.Pulling.{AreReplies, PullsAll, PullsUpTo, Pulls, after_replies, line_count, question_in, questions_of}
+use Rattle.replica_sync.proofs.OwnMessageFacts.{answer-given, askable-question}
+use Rattle.replica_sync.proofs.PullingFacts.{longer_with_items}
+use Rattle.replica_sync.proofs.SessionFacts.{HoldsAnswers, IsSpelling, same-questions, unpulled, unserved}
+use Rattle.replica_sync.proofs.WelcomeFacts.{IsRisingState, exact-receipts, exact-records, meaning-within, rising-after, rising-joined, rising-meaning, within-after, within-joined}
+
+-- ---- the questions of a session
+
+-- They are questions of the configuration, one about each bucket from this one on.
+abbrev pub AskInTurn : Configuration → ℕ → List Question → Type 0
+AskInTurn config bucket [] = Unit {0}
+AskInTurn config bucket (q ∷ qs) = (q.bucket ≡ bucket) × (IsQuestionOf config q × AskInTurn config (bucket + 1) qs)
+
+own-question : (c : Configuration) (state : State) (bucket : ℕ) → IsMeaning (meaning_of_state c state) → bucket < 256
+    → IsQuestionOf c (question_in c state bucket)
+own-question c state bucket valid below = record { askable = askable-question (meaning_of_state c state) bucket valid below; own = refl }
+
+-- those that were answered, and what is asked after them
+in-turn : (c : Configuration) (bucket : ℕ) (state : State) (replies : List Reply) (later : List Question) → IsRisingState state
+    → IsMeaning (meaning_of_state c (after_replies state replies)) → bucket + length replies ≤ 256
+    → AskInTurn c (bucket + length replies) later → AskInTurn c bucket (questions_of c bucket state replies ++ later)
+in-turn c bucket state [] later rising valid few next =
+    let same : bucket + 0 ≡ bucket = omega arith in
+    subst (λ (b : ℕ). AskInTurn c b later) same next
+in-turn c bucket state (r ∷ replies) later rising valid few next =
+    let place : bucket + length (r ∷ replies) ≡ bucket + 1 + length replies = omega arith in (
+      refl,
+      (
+        own-question c state bucket (meaning-within c state (after_replies state (r ∷ replies)) (within-after state (r ∷ replies)) rising valid) (omega (arith, few)),
+        in-turn c (bucket + 1) (joined state r.content) replies later (rising-joined state r.content rising) valid
+            (omega (arith, few)) (subst (λ (b : ℕ). AskInTurn c b later) place next),
+      ),
+    )
+
+-- with another configuration of the same digest
+own-of : (c d : Configuration) (q : Question) → config_id_of c ≡ config_id_of d → IsQuestionOf c q → IsQuestionOf d q
+own-of c d q same is = record { askable = is.askable; own = is.own ∙ same }
+
+each-own : (c d : Configuration) (bucket : ℕ) (qs : List Question) → config_id_of c ≡ config_id_of d
+    → AskInTurn c bucket qs → AllByRecursion (IsQuestionOf d) qs
+each-own c d bucket [] same h = tt
+each-own c d bucket (q ∷ qs) same h = (own-of c d q same h.1.0, each-own c d (bucket + 1) qs same h.1.1)
+
+-- ---- what a pull wrote
+
+-- the questions that a pull asked which got so many answers
+abbrev all-asked : Meaning → List Reply → List Question
+all-asked m replies = questions_of m.config 0 (state_of m) replies
+
+-- the question that was not answered to its end
+abbrev last-asked : Meaning → List Reply → List Question
+last-asked m replies = question_in m.config (after_replies (state_of m) replies) (length replies) ∷ []
+
+-- What was written are these questions, one about each bucket.
+pub record HasAskedInTurn (m : Meaning) (asked : List ℕ) (questions : List Question) : Type 0 where
+  pub each : AskInTurn m.config 0 questions
+  pub text : asked ≡ flat_map question_text questions
+
+whole-asked : (m held : Meaning) (stream : Option (List ℕ)) (asked : List ℕ) → IsMeaning m → IsMeaning held
+    → (all : PullsAll m stream (Some []) held (Some asked)) → HasAskedInTurn m asked (all-asked m all.replies ++ [])
+whole-asked m held stream asked valid kept all =
+    let many = all.all in
+    record {
+      each = in-turn m.config 0 (state_of m) all.replies [] (rising-meaning m valid) (subst IsMeaning all.meaning kept) (omega (arith, many)) tt;
+      text = all.asked ∙ ap (flat_map question_text) (sym (append-none (all-asked m all.replies)));
+    }
+  where
+    append-none : (qs : List Question) → qs ++ [] ≡ qs
+    append-none [] = refl
+    append-none (q ∷ qs) = ap (λ (rest : List Question). q ∷ rest) (append-none qs)
+
+-- where neither a device nor memory failed, all that was due is written
+written-whole : (e : SyncError) (old new : Option (List ℕ)) (text : List ℕ) → e ≢ Io → e ≢ NoMemory → IsWritten e old new text → Appends old new text
+written-whole BadHeader old new text calm ample h = h
+written-whole ConfigDiffers old new text calm ample h = h
+written-whole VersionDiffers old new text calm ample h = h
+written-whole (NotCanonical n) old new text calm ample h = h
+written-whole (NotRising n) old new text calm ample h = h
+written-whole BadCount old new text calm ample h = h
+written-whole Truncated old new text calm ample h = h
+written-whole (Refused n why) old new text calm ample h = h
+written-whole Io old new text calm ample h = absurd (calm refl)
+written-whole NoMemory old new text calm ample h = absurd (ample refl)
+
+part-asked : (m held : Meaning) (stream : Option (List ℕ)) (asked : List ℕ) (e : SyncError) → IsMeaning m → IsMeaning held
+    → e ≢ Io → e ≢ NoMemory → (part : PullsUpTo m stream (Some []) held (Some asked) e)
+    → HasAskedInTurn m asked (all-asked m part.replies ++ last-asked m part.replies)
+part-asked m held stream asked e valid kept calm ample part =
+    let few = part.few in
+    let state = after_replies (state_of m) part.replies in
+    let here = meaning-within m.config state (joined state part.content) (within-joined state part.content)
+    (rising-after (state_of m) part.replies (rising-meaning m valid)) (subst IsMeaning part.meaning kept) in
+    let place : 0 + length part.replies ≡ length part.replies = omega arith in
+    record {
+      each = in-turn m.config 0 (state_of m) part.replies (last-asked m part.replies) (rising-meaning m valid) here (omega (arith, few))
+          (sym place, (own-question m.config state (length part.replies) here few, tt));
+      text = written-whole e (Some []) (Some asked) _ calm ample part.asked;
+    }
+
+-- ---- what is served
+
+-- the questions of a pull are served without a fault
+asked-served : (m k : Meaning) (asked : List ℕ) (questions : List Question) (before after : Option (List ℕ)) (e : SyncError)
+    → config_id_of m.config ≡ config_id_of k.config → HasAskedInTurn m asked questions
+    → e ≢ Io → e ≢ NoMemory → ServesUpTo k (Some asked) before after e → ⊥
+asked-served m k asked questions before after e same asks calm ample part =
+    unserved k.config asked questions part.questions part.left e (each-own m.config k.config 0 questions same asks.each)
+    part.asks.each asks.text part.asks.text calm ample part.cause
+
+-- A session that serves what a pull wrote has no fault.
+pub pull-served : (m k held : Meaning) (stream : Option (List ℕ)) (asked : List ℕ) (result : Result ℕ PullFault)
+    (before after : Option (List ℕ)) (e : SyncError) → IsMeaning m → IsMeaning held → config_id_of m.config ≡ config_id_of k.config
+    → IfErr result (λ fault. (fault.why ≢ Io) × (fault.why ≢ NoMemory)) → Pulls m stream (Some []) held (Some asked) result
+    → e ≢ Io → e ≢ NoMemory → ServesUpTo k (Some asked) before after e → ⊥
+pull-served m k held stream asked (Ok count) before after e valid kept same fine pulls calm ample part =
+    asked-served m k asked (all-asked m pulls.0.replies ++ []) before after e same
+    (whole-asked m held stream asked valid kept pulls.0) calm ample part
+pull-served m k held stream asked (Err fault) before after e valid kept same fine pulls calm ample part =
+    asked-served m k asked (all-asked m pulls.0.replies ++ last-asked m pulls.0.replies) before after e same
+    (part-asked m held stream asked fault.why valid kept fine.0 fine.1 pulls.0) calm ample part
+
+-- ---- what is answered
+
+abbrev pub all-replies : Meaning → List Question → List Reply
+all-replies k questions = map (reply_of k) questions
+
+-- what is answered to the questions of a session are the answers that it wants
+replies-in-turn : (c : Configuration) (k : Meaning) (bucket : ℕ) (qs : List Question) → IsMeaning k
+    → config_id_of k.config ≡ config_id_of c → AskInTurn c bucket qs → AreReplies c bucket (all-replies k qs)
+replies-in-turn c k bucket [] valid same h = tt
+replies-in-turn c k bucket (q ∷ qs) valid same h = (
+  record { own = same; about = h.0; answer = answer-given k q valid h.1.0.askable },
+  replies-in-turn c k (bucket + 1) qs valid same h.1.1,
+)
+
+-- What was answered to the questions that a pull wrote, are the texts of the answers to them.
+pub told-is : (m k : Meaning) (asked told : List ℕ) (count : ℕ) (questions : List Question)
+    → config_id_of m.config ≡ config_id_of k.config → HasAskedInTurn m asked questions
+    → ServesAll k (Some asked) (Some []) (Some told) count → told ≡ flat_map reply_text (all-replies k questions)
+told-is m k asked told count questions same asks all =
+    let one = same-questions k.config questions all.questions (each-own m.config k.config 0 questions same asks.each) all.each
+    (sym asks.text ∙ all.text) in
+    all.written ∙ ap (replies_text k) (sym one) ∙ sym (flat_map-map reply_text (reply_of k) questions)
+
+length-asked : (c : Configuration) (bucket : ℕ) (state : State) (rs : List Reply) → length (questions_of c bucket state rs) ≡ length rs
+length-asked c bucket state [] = refl
+length-asked c bucket state (r ∷ rs) = let later = length-asked c (bucket + 1) (joined state r.content) rs in omega (arith, later)
+
+answered-or-not : (m k held : Meaning) (asked told rest : List ℕ) (count : ℕ) (e : SyncError)
+    → IsMeaning m → IsMeaning k → IsMeaning held → config_id_of m.config ≡ config_id_of k.config
+    → ServesAll k (Some asked) (Some []) (Some told) count → (part : PullsUpTo m (Some (told ++ rest)) (Some []) held (Some asked) e)
+    → e ≢ Io → e ≢ NoMemory
+    → IsSpelling e ⊎ HoldsAnswers m.config (state_of m) (after_replies (state_of m) part.replies)
+    (all-replies k (all-asked m part.replies ++ last-asked m part.replies)) part.replies → ⊥
+answered-or-not m k held asked told rest count e valid other kept same all part calm ample fine =
+    let replies = part.replies in
+    let questions = all-asked m replies ++ last-asked m replies in
+    let asks = part-asked m held (Some (told ++ rest)) asked e valid kept calm ample part in
+    let text = told-is m k asked told count questions same asks all in
+    let many = length-map questions (reply_of k) in
+    let both = length-append (all-asked m replies) (last-asked m replies) in
+    let each = length-asked m.config 0 (state_of m) replies in
+    unpulled m.config (state_of m) (after_replies (state_of m) replies) (told ++ rest) (line_count replies + 1) part.content
+    (all-replies k questions) replies (Some rest) part.left e
+    (replies-in-turn m.config k 0 questions other (sym same) asks.each) part.session.each
+    (omega (arith, many, both, each))
+    (ap (λ (t : List ℕ). t ++ rest) text) part.session.text calm ample fine part.cause
+
+-- A pull that reads what is answered to its questions has no fault, but that what a line says is refused.
+pub answered-pulled : (m k held : Meaning) (asked told rest : List ℕ) (count : ℕ) (e : SyncError)
+    → IsMeaning m → IsMeaning k → IsMeaning held → config_id_of m.config ≡ config_id_of k.config
+    → ServesAll k (Some asked) (Some []) (Some told) count → PullsUpTo m (Some (told ++ rest)) (Some []) held (Some asked) e
+    → e ≢ Io → e ≢ NoMemory → ((n : ℕ) (why : TakeError) → e ≢ Refused n why) → ⊥
+answered-pulled m k held asked told rest count e valid other kept same all part calm ample spelt =
+    answered-or-not m k held asked told rest count e valid other kept same all part calm ample (inl spelt)
+
+-- ---- what two replicas hold together
+
+filter-kept : {A : Type 0} (b : Bool) (x : A) (xs ys : List A) (a : A) → (Has ys a → Has xs a) → Has (cond b (x ∷ ys) ys) a → Has (x ∷ xs) a
+filter-kept true x xs ys a later h = elim h [ inl e ↦ inl e | inr k ↦ inr (later k) ]
+filter-kept false x xs ys a later h = inr (later h)
+
+filter-has : {A : Type 0} (p : A → Bool) (xs : List A) (a : A) → Has (filter p xs) a → Has xs a
+filter-has p [] a h = h
+filter-has p (x ∷ xs) a h = filter-kept (p x) x xs (filter p xs) a (filter-has p xs a) h
+
+-- what is held after answers of the other was held by one of both
+receipt-of-either : (state : State) (k : Meaning) (qs : List Question) (r : Receipt)
+    → Has (after_replies state (all-replies k qs)).held r → Has state.held r ⊎ Has k.held r
+receipt-of-either state k [] r h = inl h
+receipt-of-either state k (q ∷ qs) r h =
+    elim (receipt-of-either (joined state (reply_of k q).content) k qs r h) [
+      | inl here ↦ elim (with_items-has receipt_cmp (reply_of k q).content.held state.held r here) [
+        | inl new ↦ inr (filter-has _ k.held r new)
+        | inr old ↦ inl old
+      ]
+      | inr there ↦ inr there
+    ]
+
+record-of-either : (state : State) (k : Meaning) (qs : List Question) (x : Distrust)
+    → Has (after_replies state (all-replies k qs)).records x → Has state.records x ⊎ Has k.records x
+record-of-either state k [] x h = inl h
+record-of-either state k (q ∷ qs) x h =
+    elim (record-of-either (joined state (reply_of k q).content) k qs x h) [
+      | inl here ↦ elim (with_items-has distrust_cmp k.records state.records x here) [ inl new ↦ inr new | inr old ↦ inl old ]
+      | inr there ↦ inr there
+    ]
+
+-- a rising list is no longer than one that has all of it
+no-longer-than : {A : Type 0} (P : A → Type 0) (cmp : A → A → Ordering) → IsTotalOrder cmp → IsExactOn P cmp → (xs ys : List A)
+    → IsStrictlySortedBy cmp xs → IsStrictlySortedBy cmp ys → AllByRecursion P xs → AllByRecursion P ys
+    → ((a : A) → Has xs a → Has ys a) → length xs ≤ length ys
+no-longer-than P cmp total exact xs ys p q allxs allys part =
+    let same : with_items cmp ys xs ≡ ys =
+    same_members cmp total (with_items cmp ys xs) ys (with_items-rising cmp total ys xs p) q
+    (λ a h. elim (with_items-has cmp ys xs a h) [ inl k ↦ k | inr k ↦ part a k ])
+    (λ a h. with_items-new P cmp exact ys xs allys allxs a h) in
+    let longer = longer_with_items cmp ys xs in
+    let equal = ap length same in
+    omega (arith, longer, equal)
+
+module _ (m k : Meaning) (valid : IsMeaning m) (other : IsMeaning k) (same : m.config ≡ k.config)
+    (room : is_within_limits (joined (state_of m) (state_of k)) ≡ true) (qs : List Question) where
+  abbrev then : State
+  then = after_replies (state_of m) (all-replies k qs)
+
+  abbrev both : State
+  both = joined (state_of m) (state_of k)
+
+  rising-then : IsRisingState then
+  rising-then = rising-after (state_of m) (all-replies k qs) (rising-meaning m valid)
+
+  rising-both : IsRisingState both
+  rising-both = rising-joined (state_of m) (state_of k) (rising-meaning m valid)
+
+  each-receipt : (P : Receipt → Type 0) → AllByRecursion P m.held → AllByRecursion P k.held → AllByRecursion P then.held
+  each-receipt P p q =
+      all_from_has P then.held
+      (λ r h. elim (receipt-of-either (state_of m) k qs r h) [ inl here ↦ each_has P m.held r p here | inr there ↦ each_has P k.held r q there ])
+
+  each-record : (P : Distrust → Type 0) → AllByRecursion P m.records → AllByRecursion P k.records → AllByRecursion P then.records
+  each-record P p q =
+      all_from_has P then.records
+      (λ x h. elim (record-of-either (state_of m) k qs x h) [ inl here ↦ each_has P m.records x p here | inr there ↦ each_has P k.records x q there ])
+
+  few-receipts : length then.held ≤ 65536
+  few-receipts =
+      let less = no-longer-than IsReceipt receipt_cmp receipt_total exact-receipts then.held both.held rising-then.receipts rising-both.receipts
+      (each-receipt IsReceipt valid.receipts other.receipts)
+      (with_items-all IsReceipt receipt_cmp k.held m.held other.receipts valid.receipts)
+      (λ r h. elim (receipt-of-either (state_of m) k qs r h) [
+        | inl here ↦ with_items-keeps receipt_cmp k.held m.held r here
+        | inr there ↦ with_items-new IsReceipt receipt_cmp exact-receipts k.held m.held other.receipts valid.receipts r there
+      ]) in
+      let room_here = leb-true (length both.held) 65536 (and_parts _ _ room).0 in
+      omega (arith, less, room_here)
+
+  few-records : length then.records ≤ 4096
+  few-records =
+      let less = no-longer-than IsDistrust distrust_cmp distrust_total exact-records then.records both.records rising-then.records rising-both.records
+      (each-record IsDistrust valid.distrusts other.distrusts)
+      (with_items-all IsDistrust distrust_cmp k.records m.records other.distrusts valid.distrusts)
+      (λ x h. elim (record-of-either (state_of m) k qs x h) [
+        | inl here ↦ with_items-keeps distrust_cmp k.records m.records x here
+        | inr there ↦ with_items-new IsDistrust distrust_cmp exact-records k.records m.records other.distrusts valid.distrusts x there
+      ]) in
+      let room_here = leb-true (length both.records) 4096 (and_parts _ _ room).1 in
+      omega (arith, less, room_here)
+
+  -- where both together are within the limits, so is what is held after answers of the other
+  meaning-then : IsMeaning (meaning_of_state m.config then)
+  meaning-then = record {
+    receipts = each-receipt IsReceipt valid.receipts other.receipts;
+    rising = rising-then.receipts;
+    fitting = each-receipt (IsFitting m.config) valid.fitting (subst (λ (c : Configuration). AllByRecursion (IsFitting c) k.held) (sym same) other.fitting);
+    few = few-receipts;
+    distrusts = each-record IsDistrust valid.distrusts other.distrusts;
+    records_rising = rising-then.records;
+    domains = each-record (λ x. HasDomain m.config x.domain) valid.domains
+        (subst (λ (c : Configuration). AllByRecursion (λ x. HasDomain c x.domain) k.records) (sym same) other.domains);
+    few_records = few-records;
+  }
+
+-- Where both together are within the limits, nothing of it is refused either.
+pub answered-taken : (m k held : Meaning) (asked told rest : List ℕ) (count : ℕ) (e : SyncError)
+    → IsConfiguration m.config → IsMeaning m → IsMeaning k → IsMeaning held → m.config ≡ k.config
+    → is_within_limits (joined (state_of m) (state_of k)) ≡ true
+    → ServesAll k (Some asked) (Some []) (Some told) count → PullsUpTo m (Some (told ++ rest)) (Some []) held (Some asked) e
+    → e ≢ Io → e ≢ NoMemory → ⊥
+answered-taken m k held asked told rest count e configured valid other kept same room all part calm ample =
+    answered-or-not m k held asked told rest count e valid other kept (ap config_id_of same) all part calm ample
+    (inr (record {
+      configured = configured;
+      rising = rising-meaning m valid;
+      valid = meaning-then m k valid other same room (all-asked m part.replies ++ last-asked m part.replies);
+      at = refl;
+    }))
