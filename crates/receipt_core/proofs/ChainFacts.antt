@@ -4,12 +4,11 @@ use Rattle.std.specs.Prelude.{Contains, Any}
 use Rattle.std.specs.List.{AllByRecursion}
 use Rattle.bundle_doc.specs.Bundle.{HasKeyId, doc_id_of}
 use Rattle.fed_config.specs.Configuration.{Configuration}
-use Rattle.fed_config.specs.declared.relationship.Relationship.{Relationship}
 use Rattle.fed_config.specs.declared.seed.Seed.{Seed}
 use Rattle.receipt_core.specs.declared.distrust.Distrust.{Distrust}
 use Rattle.receipt_core.specs.declared.triple.Triple.{Triple}
 use Rattle.receipt_core.specs.Receipt.{Receipt, Pair, pair_of, need_of, offers_of}
-use Rattle.receipt_core.specs.Acceptance.{IsFitting, Vouches, Leads, Meaning, IsMember, distrust_of, pair_of_seed}
+use Rattle.receipt_core.specs.Acceptance.{Vouches, Leads, Meaning, IsMember, distrust_of, pair_of_seed}
 use Rattle.receipt_core.specs.Chain.{HasVoucher, IsChain, IsFirst, LeadsOn, last_pair}
 use Rattle.receipt_core.proofs.VouchingFacts.{Vouches-by_offers}
 
@@ -25,37 +24,21 @@ contains_from_any {A} xs a h = (h.0, h.2, subst (λ (y : A). get_or xs h.0 y ≡
 pub any_moved : (xs ys : List Triple) (a b : Triple) (r : Bool) → xs ≡ ys → a ≡ b → (IsTrue r ↔ Any (λ t. t ≡ a) xs) → IsTrue r ↔ Any (λ t. t ≡ b) ys
 any_moved xs ys a b r e f h = subst (λ (zs : List Triple). IsTrue r ↔ Any (λ t. t ≡ b) zs) e (subst (λ (z : Triple). IsTrue r ↔ Any (λ t. t ≡ z) xs) f h)
 
--- a receipt fits where a relationship has its domain and its endpoint
-fits_any : (c : Configuration) (r : Receipt) → Any (λ x. (x.domain ≡ r.domain) × (x.endpoint ≡ r.endpoint)) c.relationships → IsFitting c r
-fits_any c r h = record { relationship = h.1; has = (h.0, h.2, h.3); domain = h.4.0; endpoint = h.4.1 }
-
--- the other way round
-any_fits : (c : Configuration) (r : Receipt) → IsFitting c r → Any (λ x. (x.domain ≡ r.domain) × (x.endpoint ≡ r.endpoint)) c.relationships
-any_fits c r h = (h.has.0, h.relationship, h.has.1, h.has.2, (h.domain, h.endpoint))
-
--- the search for such a relationship decides whether a receipt fits
-pub fitting_told : (c : Configuration) (rs : List Relationship) (r : Receipt) (b : Bool) → rs ≡ c.relationships
-    → (IsTrue b ↔ Any (λ x. (x.domain ≡ r.domain) × (x.endpoint ≡ r.endpoint)) rs) → IsTrue b ↔ IsFitting c r
-fitting_told c rs r b e h =
-    let told : IsTrue b ↔ Any (λ x. (x.domain ≡ r.domain) × (x.endpoint ≡ r.endpoint)) c.relationships =
-    subst (λ (zs : List Relationship). IsTrue b ↔ Any (λ x. (x.domain ≡ r.domain) × (x.endpoint ≡ r.endpoint)) zs) e h in
-    (λ t. fits_any c r (told.0 t), λ f. told.1 (any_fits c r f))
-
 -- where the key is not distrusted, the search for the need among the offers decides whether a
 -- document vouches
-pub next_told : (records : List Distrust) (p : Pair) (r : Receipt) (b : Bool) → (Any (λ x. x ≡ distrust_of r.endpoint.domain r) records → ⊥)
+pub next_told : (records : List Distrust) (p : Pair) (r : Receipt) (b : Bool) → (Contains records (distrust_of r.endpoint.domain r) → ⊥)
     → (IsTrue b ↔ Any (λ t. t ≡ need_of r) (offers_of p)) → IsTrue b ↔ Vouches records p r
 next_told records p r b trusted h = (
   λ t. (Vouches-by_offers records p r).1 (
     contains_from_any (offers_of p) (need_of r) (h.0 t),
-    λ k. trusted (any_from_contains records (distrust_of r.endpoint.domain r) k),
+    trusted,
   ),
   λ v. h.1 (any_from_contains (offers_of p) (need_of r) ((Vouches-by_offers records p r).0 v).0),
 )
 
 -- where the key is distrusted, no document vouches
-pub distrusted_told : (records : List Distrust) (p : Pair) (r : Receipt) → Any (λ x. x ≡ distrust_of r.endpoint.domain r) records → Vouches records p r → ⊥
-distrusted_told records p r h v = ((Vouches-by_offers records p r).0 v).1 (contains_from_any records (distrust_of r.endpoint.domain r) h)
+pub distrusted_told : (records : List Distrust) (p : Pair) (r : Receipt) → Contains records (distrust_of r.endpoint.domain r) → Vouches records p r → ⊥
+distrusted_told records p r h v = ((Vouches-by_offers records p r).0 v).1 h
 
 -- the configured document has what the receipt needs
 abbrev pub IsVoucher : Receipt → Seed → Type 0
@@ -64,7 +47,7 @@ IsVoucher r s = (s.domain ≡ r.endpoint.domain) × HasKeyId s.document.authorit
 -- where the key is not distrusted, the search among configured documents decides whether one
 -- vouches
 pub seeded_told : (c : Configuration) (seeds : List Seed) (records : List Distrust) (r : Receipt) (b : Bool)
-    → seeds ≡ c.seeds → (Any (λ x. x ≡ distrust_of r.endpoint.domain r) records → ⊥)
+    → seeds ≡ c.seeds → (Contains records (distrust_of r.endpoint.domain r) → ⊥)
     → (IsTrue b ↔ Any (IsVoucher r) seeds) → IsTrue b ↔ HasVoucher c records r
 seeded_told c seeds records r b e trusted h = (
   λ t.
@@ -76,7 +59,7 @@ seeded_told c seeds records r b e trusted h = (
           endpoint = found.4.0;
           voucher = found.4.2;
           key = found.4.1;
-          trusted = λ k. trusted (any_from_contains records (distrust_of r.endpoint.domain r) (subst (λ d. Contains records (distrust_of d r)) found.4.0 k));
+          trusted = λ k. trusted (subst (λ d. Contains records (distrust_of d r)) found.4.0 k);
         };
       },
   λ f. h.1 (subst (λ (zs : List Seed). Any (IsVoucher r) zs) (sym e)
@@ -85,7 +68,7 @@ seeded_told c seeds records r b e trusted h = (
 
 -- where the key is distrusted, no configured document vouches
 pub distrusted_seeded : (c : Configuration) (records : List Distrust) (r : Receipt)
-    → Any (λ x. x ≡ distrust_of r.endpoint.domain r) records → HasVoucher c records r → ⊥
+    → Contains records (distrust_of r.endpoint.domain r) → HasVoucher c records r → ⊥
 distrusted_seeded c records r h f = distrusted_told records (pair_of_seed f.seed) r h f.vouches
 
 -- a chain is its first receipt and what that leads on to

@@ -6,5 +6,6 @@ pub mod LineFacts
 pub mod RisingFacts
 pub mod VouchingFacts
 pub mod ReadFacts
+pub mod SearchFacts
 pub mod ChainFacts
 mod StandardFacts

@@ -1,11 +1,27 @@
--- Receipts and sets, said of the definitions: a slip in one of these does not check.
-use Rattle.std.proofs.Common.{◌≡◌, [], ◌∷◌, None, codes, refl}
+-- Receipts, records of distrust, chains and sets, said of the definitions: a slip in one of these does not check.
+use Rattle.std.proofs.Common.{◌≡◌, ℕ, ◌<◌, ◌++◌, List, [], ◌∷◌, length, get_or, None, codes, refl, sym, ap, ◌∙◌, arith, lit<, inl, inr}
+use Rattle.std.specs.Prelude.{Contains}
 use Rattle.std.specs.Ordering.{nat_cmp}
+use Rattle.json.specs.Print.{escape_byte}
+use Rattle.hex.specs.Hex.{encode_with}
+use Rattle.sha2.specs.Sha256.{sha256}
+use Rattle.sha2.proofs.Facts256.{length-sha256}
+use Rattle.spiffe_name.specs.SpiffeId.{Id}
+use Rattle.jwk_set.specs.Element.{key_id_of}
+use Rattle.jwk_set.specs.declared.authority.KeyId.{KeyId}
 use Rattle.jwk_set.specs.declared.authority.PublicKey.TheVariants.{Rsa}
-use Rattle.jwk_set.specs.declared.authority.Authority.TheVariants.{Jwt}
-use Rattle.bundle_doc.specs.Bundle.{Bundle}
-use Rattle.receipt_core.specs.Receipt.{Receipt, need_of, offers_of}
+use Rattle.jwk_set.specs.declared.authority.Authority.{Authority}
+use Rattle.jwk_set.specs.declared.authority.Authority.TheVariants.{X509, Jwt}
+use Rattle.bundle_doc.specs.Bundle.{Bundle, doc_id_of, canonical_text}
+use Rattle.fed_config.specs.Configuration.{Configuration}
+use Rattle.fed_config.specs.declared.relationship.Relationship.{Relationship}
+use Rattle.fed_config.specs.declared.seed.Seed.{Seed}
+use Rattle.receipt_core.specs.declared.distrust.Distrust.{Distrust}
+use Rattle.receipt_core.specs.Receipt.{Receipt, Pair, line, distrust_line, need_of, offers_of}
 use Rattle.receipt_core.specs.Rising.{with_item, with_items}
+use Rattle.receipt_core.specs.Acceptance.{IsFitting, Vouches, distrust_of}
+use Rattle.receipt_core.specs.Chain.{IsChain}
+use Rattle.receipt_core.proofs.RisingFacts.{Has-from_contains}
 
 -- ---- needs and offers
 
@@ -30,6 +46,175 @@ need_of_served = refl
 -- a JWT authority vouches for nothing
 pub offers_of_signing : offers_of (record { domain = codes "b.example"; document = signing }) ≡ []
 offers_of_signing = refl
+
+-- ---- lines
+
+-- each member under its name, names in the order of their bytes, digests as lower-case digits
+pub line_of_served : line (record served { document = record { authorities = []; rank = None; hint = None } })
+    ≡ codes "{\"doc\":{\"keys\":[]},\"domain\":\"b.example\",\"endpoint\":\"spiffe://a.example/bundle\",\"key\":\"02\",\"voucher\":\"01\"}"
+unfolding line escape_byte encode_with
+line_of_served = refl
+
+pub line_of_distrust : distrust_line (record { domain = codes "a.example"; key = record { 0 = 10 ∷ 255 ∷ [] } })
+    ≡ codes "{\"distrust\":\"0aff\",\"domain\":\"a.example\"}"
+unfolding distrust_line escape_byte encode_with
+line_of_distrust = refl
+
+-- ---- a domain a, which vouches for b, which vouches for c
+
+abbrev abc : Authority
+abc = X509 (Rsa (codes "AQ") (codes "Aw")) (codes "abc")
+
+abbrev abc_key : KeyId
+abc_key = record { 0 = sha256 (codes "abc") }
+
+abbrev vouching : Bundle
+vouching = record { authorities = Jwt (codes "k") (Rsa (codes "AQ") (codes "Aw")) ∷ abc ∷ []; rank = None; hint = None }
+
+-- a receipt of that document for a domain, from an endpoint of another one, which that document of the other proved
+abbrev noted : List ℕ → List ℕ → Receipt
+noted domain of = record {
+  domain = domain;
+  endpoint = record { text = codes "spiffe://x/bundle"; domain = of; path = codes "/bundle" };
+  document = vouching;
+  voucher = record { 0 = doc_id_of of vouching };
+  key = abc_key;
+}
+
+abbrev from_a : Receipt
+from_a = noted (codes "b") (codes "a")
+
+abbrev from_b : Receipt
+from_b = noted (codes "c") (codes "b")
+
+abbrev relationship : Receipt → Relationship
+relationship r = record { domain = r.domain; endpoint = r.endpoint; url = [] }
+
+abbrev seed : Seed
+seed = record { domain = codes "a"; document = vouching }
+
+abbrev config : Configuration
+config = record { relationships = relationship from_a ∷ relationship from_b ∷ []; seeds = seed ∷ [] }
+
+-- different letters
+below : (x y : ℕ) → x < y → (x ∷ []) ≡ (y ∷ []) → ⊥
+below x y less e = let same : x ≡ y = ap (λ xs. get_or xs 0 0) e in omega (arith, less, same)
+
+-- ---- fitting
+
+pub fits : IsFitting config from_b
+fits = record { relationship = relationship from_b; has = (1, lit< tt, refl); domain = refl; endpoint = refl }
+
+-- the relationship with the domain has another endpoint
+pub of_another_endpoint : IsFitting config (noted (codes "b") (codes "b")) → ⊥
+of_another_endpoint h = elim (Has-from_contains config.relationships h.relationship h.has) [
+  | inl first ↦ below 97 98 (lit< tt) (ap (λ (x : Relationship). x.endpoint.domain) first ∙ ap (λ (x : Id). x.domain) h.endpoint)
+  | inr later ↦ elim later [
+    | inl second ↦ below 98 99 (lit< tt) (sym (ap (λ (x : Relationship). x.domain) second ∙ h.domain))
+    | inr none ↦ absurd none
+  ]
+]
+
+-- a relationship is with the domain that is served, not with the endpoint's
+pub of_another_domain : IsFitting config (noted (codes "a") (codes "a")) → ⊥
+of_another_domain h = elim (Has-from_contains config.relationships h.relationship h.has) [
+  | inl first ↦ below 97 98 (lit< tt) (sym (ap (λ (x : Relationship). x.domain) first ∙ h.domain))
+  | inr later ↦ elim later [
+    | inl second ↦ below 97 99 (lit< tt) (sym (ap (λ (x : Relationship). x.domain) second ∙ h.domain))
+    | inr none ↦ absurd none
+  ]
+]
+
+-- ---- vouching
+
+-- a document id is taken of the domain's name, a line feed and the canonical text
+pub id_of_signing : doc_id_of (codes "a") signing
+    ≡ sha256 (codes "a\n{\"keys\":[{\"e\":\"Aw\",\"kid\":\"k\",\"kty\":\"RSA\",\"n\":\"AQ\",\"use\":\"jwt-svid\"}]}")
+unfolding escape_byte
+id_of_signing = refl
+
+abbrev vouching_for : List ℕ → Pair
+vouching_for domain = record { domain = domain; document = vouching }
+
+vouches_under : (records : List Distrust) (domain of : List ℕ) → (Contains records (distrust_of of (noted domain of)) → ⊥)
+    → Vouches records (vouching_for of) (noted domain of)
+vouches_under records domain of trusted = record { endpoint = refl; voucher = refl; key = (1, abc, lit< tt, refl, refl); trusted = trusted }
+
+none_has : (x : Distrust) → Contains [] x → ⊥
+none_has x h = Has-from_contains [] x h
+
+pub vouches : Vouches [] (vouching_for (codes "a")) from_a
+vouches = vouches_under [] (codes "b") (codes "a") (none_has _)
+
+-- a record of another domain counts for nothing
+pub distrusted_elsewhere : Vouches (distrust_of (codes "b") from_a ∷ []) (vouching_for (codes "a")) from_a
+distrusted_elsewhere = vouches_under (distrust_of (codes "b") from_a ∷ []) (codes "b") (codes "a")
+    (λ h. elim (Has-from_contains (distrust_of (codes "b") from_a ∷ []) (distrust_of (codes "a") from_a) h) [
+      | inl same ↦ below 97 98 (lit< tt) (sym (ap (λ (x : Distrust). x.domain) same))
+      | inr none ↦ absurd none
+    ])
+
+-- the key is distrusted in the domain of the endpoint
+pub distrusted : Vouches (distrust_of (codes "a") from_a ∷ []) (vouching_for (codes "a")) from_a → ⊥
+distrusted h = h.trusted (0, lit< tt, refl)
+
+-- the document stands under another domain
+pub of_the_served : Vouches [] (vouching_for (codes "b")) from_a → ⊥
+of_the_served h = below 97 98 (lit< tt) (sym h.endpoint)
+
+-- another document has the key, but is not the one that is named
+pub another_document : Vouches [] (vouching_for (codes "a")) (record from_a { voucher = record { 0 = [] } }) → ⊥
+another_document h = let size = length-sha256 (codes "a" ++ 10 ∷ [] ++ canonical_text vouching) in let e = ap length h.voucher in omega (arith, size, e)
+
+-- a JWT authority has no key id
+pub no_key : Vouches [] (record { domain = codes "a"; document = signing }) (record from_a { voucher = record { 0 = doc_id_of (codes "a") signing } }) → ⊥
+no_key h = elim (Has-from_contains signing.authorities h.key.1 (h.key.0, h.key.2, h.key.3)) [
+  | inl first ↦ (let none = ap key_id_of first in let some = h.key.4 in cc)
+  | inr none ↦ absurd none
+]
+
+-- ---- chains
+
+pub one_receipt : IsChain config [] (from_a ∷ [])
+one_receipt = record {
+  some = lit< tt;
+  seed = seed;
+  configured = (0, lit< tt, refl);
+  leads = (record { relationship = relationship from_a; has = (0, lit< tt, refl); domain = refl; endpoint = refl }, vouches, refl);
+}
+
+-- the document of a receipt vouches for the next
+pub two_receipts : IsChain config [] (from_a ∷ from_b ∷ [])
+two_receipts = record {
+  some = lit< tt;
+  seed = seed;
+  configured = (0, lit< tt, refl);
+  leads = (
+    record { relationship = relationship from_a; has = (0, lit< tt, refl); domain = refl; endpoint = refl },
+    vouches,
+    (fits, vouches_under [] (codes "c") (codes "b") (none_has _), refl),
+  );
+}
+
+pub no_receipt : IsChain config [] [] → ⊥
+no_receipt h = absurd (omega (arith, h.some))
+
+-- no configured document is of the endpoint's domain
+pub without_the_first : IsChain config [] (from_b ∷ []) → ⊥
+without_the_first h = elim (Has-from_contains config.seeds h.seed h.configured) [
+  | inl first ↦ below 97 98 (lit< tt) (ap (λ (x : Seed). x.domain) first ∙ h.leads.1.endpoint)
+  | inr none ↦ absurd none
+]
+
+pub without_a_seed : IsChain (record { relationships = config.relationships; seeds = [] }) [] (from_a ∷ []) → ⊥
+without_a_seed h = Has-from_contains [] h.seed h.configured
+
+pub without_a_relationship : IsChain (record { relationships = []; seeds = seed ∷ [] }) [] (from_a ∷ []) → ⊥
+without_a_relationship h = Has-from_contains [] h.leads.0.relationship h.leads.0.has
+
+-- a record stops the chain where its key is used
+pub distrusted_on_the_way : IsChain config (distrust_of (codes "b") from_b ∷ []) (from_a ∷ from_b ∷ []) → ⊥
+distrusted_on_the_way h = h.leads.2.1.trusted (0, lit< tt, refl)
 
 -- ---- rising lists
 

@@ -2,15 +2,16 @@
 ghost use Rattle.std.specs.Prelude.{◌≡◌, ◌↔◌, ◌∷◌, IsTrue, Any};
 ghost use Rattle.bundle_doc.specs.Bundle.{HasKeyId, doc_id_of};
 ghost use Rattle.receipt_core.specs.Receipt.{need_of, offers_of, pair_of};
-ghost use Rattle.receipt_core.specs.Acceptance.{IsFitting, Vouches, distrust_of};
+ghost use Rattle.receipt_core.specs.Acceptance.{IsFitting, Vouches};
 ghost use Rattle.receipt_core.specs.Chain.{HasVoucher, IsChain, IsFirst, LeadsOn};
 
 use crate::distrust::Distrust;
+use crate::given_records::{GivenRecords, is_same_domain};
 use crate::line_reader::is_same;
 use crate::receipt::Receipt;
 use crate::triple::Triple;
-use fed_config::{Config, Relationship, Seed};
-use spiffe_name::{SpiffeId, TrustDomain};
+use fed_config::{Config, Seed};
+use spiffe_name::SpiffeId;
 use std::cmp::Ordering;
 
 /// Whether the receipts are a chain under the configuration and the records of distrust: there is
@@ -19,17 +20,24 @@ use std::cmp::Ordering;
 /// the last document is accepted by every replica of this configuration that holds these receipts
 /// and no other records.
 ///
-/// It takes no memory.
+/// It takes no memory. A relationship is found by binary search, and so is a record of distrust
+/// where the records are in their order, as a replica lends them; in another order all are looked
+/// at for each receipt.
 pub fn check_chain(config: &Config, records: &[Distrust], receipts: &[Receipt]) -> bool
     ensures { IsTrue result ↔ IsChain config.now records.now receipts.now }
 {
     match receipts {
         [] => false,
-        [first, others @ ..] => starts_chain(config, records, first, others),
+        [first, others @ ..] => { starts_chain(config, &GivenRecords::new(records), first, others) }
     }
 }
 
-fn starts_chain(config: &Config, records: &[Distrust], first: &Receipt, others: &[Receipt]) -> bool
+fn starts_chain(
+    config: &Config,
+    records: &GivenRecords,
+    first: &Receipt,
+    others: &[Receipt],
+) -> bool
     ensures { IsTrue result ↔ IsChain config.now records.now (first.now ∷ others.now) }
 {
     if is_first(config, records, first) {
@@ -40,7 +48,7 @@ fn starts_chain(config: &Config, records: &[Distrust], first: &Receipt, others: 
 }
 
 // Whether each receipt fits and is vouched for by the one before it.
-fn leads_on(config: &Config, records: &[Distrust], first: &Receipt, others: &[Receipt]) -> bool
+fn leads_on(config: &Config, records: &GivenRecords, first: &Receipt, others: &[Receipt]) -> bool
     ensures { IsTrue result ↔ LeadsOn config.now records.now (pair_of first.now) others.now }
 {
     let mut previous = first;
@@ -55,7 +63,7 @@ fn leads_on(config: &Config, records: &[Distrust], first: &Receipt, others: &[Re
     true
 }
 
-fn is_first(config: &Config, records: &[Distrust], receipt: &Receipt) -> bool
+fn is_first(config: &Config, records: &GivenRecords, receipt: &Receipt) -> bool
     ensures { IsTrue result ↔ IsFirst config.now records.now receipt.now }
 {
     if fits(config, receipt) {
@@ -65,7 +73,7 @@ fn is_first(config: &Config, records: &[Distrust], receipt: &Receipt) -> bool
     }
 }
 
-fn is_next(config: &Config, records: &[Distrust], previous: &Receipt, receipt: &Receipt) -> bool
+fn is_next(config: &Config, records: &GivenRecords, previous: &Receipt, receipt: &Receipt) -> bool
     ensures { IsTrue result
         ↔ (IsFitting config.now receipt.now
         × Vouches records.now (pair_of previous.now) receipt.now) }
@@ -78,10 +86,10 @@ fn is_next(config: &Config, records: &[Distrust], previous: &Receipt, receipt: &
 }
 
 // Whether a configured document vouches for the receipt.
-fn is_seeded(config: &Config, records: &[Distrust], receipt: &Receipt) -> bool
+fn is_seeded(config: &Config, records: &GivenRecords, receipt: &Receipt) -> bool
     ensures { IsTrue result ↔ HasVoucher config.now records.now receipt.now }
 {
-    if is_distrusted(records, receipt) {
+    if records.has_key_of(receipt) {
         false
     } else {
         has_voucher(config.seeds(), receipt)
@@ -89,54 +97,26 @@ fn is_seeded(config: &Config, records: &[Distrust], receipt: &Receipt) -> bool
 }
 
 // Whether the document of the previous receipt vouches for the receipt.
-fn is_vouched_for(records: &[Distrust], previous: &Receipt, receipt: &Receipt) -> bool
+fn is_vouched_for(records: &GivenRecords, previous: &Receipt, receipt: &Receipt) -> bool
     ensures { IsTrue result ↔ Vouches records.now (pair_of previous.now) receipt.now }
 {
-    if is_distrusted(records, receipt) {
+    if records.has_key_of(receipt) {
         false
     } else {
         offers_need(previous, receipt)
     }
 }
 
-// Whether a relationship is with the receipt's domain and has its endpoint.
+// Whether the relationship with the receipt's domain has its endpoint.
 fn fits(config: &Config, receipt: &Receipt) -> bool
     ensures { IsTrue result ↔ IsFitting config.now receipt.now }
 {
-    has_relationship(config.relationships(), receipt)
-}
-
-fn has_relationship(relationships: &[Relationship], receipt: &Receipt) -> bool
-    ensures { IsTrue result
-        ↔ Any (λ x. (x.domain ≡ receipt.now.domain) × (x.endpoint ≡ receipt.now.endpoint))
-        relationships.now }
-{
-    relationships
-        .iter()
-        .any(|relationship| is_of(relationship, receipt))
-}
-
-fn is_of(relationship: &Relationship, receipt: &Receipt) -> bool
-    ensures { IsTrue result
-        ↔ ((relationship.now.domain ≡ receipt.now.domain)
-        × (relationship.now.endpoint ≡ receipt.now.endpoint)) }
-{
-    is_same_domain(&relationship.domain, receipt.domain())
-        && is_same_id(&relationship.endpoint, receipt.endpoint())
-}
-
-// Whether a record names the receipt's key in its endpoint's trust domain.
-fn is_distrusted(records: &[Distrust], receipt: &Receipt) -> bool
-    ensures { IsTrue result
-        ↔ Any (λ x. x ≡ distrust_of receipt.now.endpoint.domain receipt.now) records.now }
-{
-    records.iter().any(|distrust| is_about(distrust, receipt))
-}
-
-fn is_about(distrust: &Distrust, receipt: &Receipt) -> bool
-    ensures { IsTrue result ↔ (distrust.now ≡ distrust_of receipt.now.endpoint.domain receipt.now) }
-{
-    is_same_domain(&distrust.domain, receipt.endpoint().domain()) && distrust.key == receipt.key()
+    // That a domain has one relationship stands on this call.
+    let _ = config.domains();
+    match config.relationship(receipt.domain()) {
+        Some(relationship) => is_same_id(&relationship.endpoint, receipt.endpoint()),
+        None => false,
+    }
 }
 
 // Whether a seed has the key that the receipt names, and is the document that it names.
@@ -177,12 +157,6 @@ fn is_same_triple(one: &Triple, other: &Triple) -> bool
     ensures { IsTrue result ↔ (one.now ≡ other.now) }
 {
     one.cmp(other) == Ordering::Equal
-}
-
-fn is_same_domain(one: &TrustDomain, other: &TrustDomain) -> bool
-    ensures { IsTrue result ↔ (one.now ≡ other.now) }
-{
-    is_same(one.as_str().as_bytes(), other.as_str().as_bytes())
 }
 
 fn is_same_id(one: &SpiffeId, other: &SpiffeId) -> bool

@@ -8,6 +8,7 @@
 
 mod chain;
 mod distrust;
+mod given_records;
 pub mod laws;
 mod line;
 mod line_error;
