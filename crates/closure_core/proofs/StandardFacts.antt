@@ -1,8 +1,10 @@
 -- The definitions at small examples: each comes out by computation
-use Rattle.std.proofs.Common.{◌≡◌, [], ◌∷◌, None, Some, true, false, Less, Greater, refl}
+use Rattle.std.proofs.Common.{◌≡◌, ◌<◌, [], ◌∷◌, None, Some, true, false, Less, Greater, refl, arith}
 use Rattle.bundle_doc.specs.Bundle.{Bundle}
+use Rattle.fed_config.specs.Configuration.{Configuration}
+use Rattle.receipt_core.specs.Receipt.{Receipt}
 use Rattle.receipt_core.specs.Acceptance.{Meaning}
-use Rattle.closure_core.specs.Changes.{IsGain}
+use Rattle.closure_core.specs.Changes.{HeldAndRoom, IsGain, union_of, HasMergedInRoom}
 use Rattle.closure_core.specs.Inside.Nodes.{raised_documents}
 use Rattle.closure_core.specs.AcceptedList.{document_cmp, document_of}
 use Rattle.closure_core.proofs.ContainsFacts.{contains_none}
@@ -44,3 +46,14 @@ no_gain m = record {
   exactly = λ p. (λ has. absurd (contains_none p has), λ both. absurd (both.1 both.0));
   count = refl;
 }
+
+-- a union has what either holds, under the first's configuration
+union_with_none : (c d : Configuration) (r : Receipt)
+    → union_of (record { config = c; held = []; records = [] }) (record { config = d; held = r ∷ []; records = [] })
+    ≡ record { config = c; held = r ∷ []; records = [] }
+union_with_none c d r = refl
+
+-- a merge that brought nothing new has thrown no room away
+no_room_thrown_away : (old new : HeldAndRoom) (other : Meaning) → HasMergedInRoom old other new 0
+    → new.room.receipts < old.room.receipts → ⊥
+no_room_thrown_away old new other merged less = omega (arith, merged.receipts, less)

@@ -15,7 +15,7 @@ use Rattle.replica_core.proofs.Joins.{Laws, Keeps, joined-only}
 use Rattle.replica_core.proofs.Growing.{at-here, part-trans, part-event, part-run, sent-stays, replica-true}
 
 -- the question stands at its place
-asked-here : (rules : Rules) (w : World) (i b : ℕ) → i < rules.replicas → b ≤ 255
+pub asked-here : (rules : Rules) (w : World) (i b : ℕ) → i < rules.replicas → b ≤ 255
     → slice_get (happens rules w (Ask i b)).sent (length w.sent) ≡ Some (question i b (ids_held (w.now i) b))
 asked-here rules w i b l m =
     let e : (is_replica rules i && nat_le b 255) ≡ true = and_from (is_replica rules i) (nat_le b 255) (replica-true rules i l) (le-leb b 255 m) in

@@ -125,7 +125,7 @@ front-refl : (w : World) → (rest : List Message) × (w.sent ≡ w.sent ++ rest
 front-refl w = ([], sym (append-nil w.sent))
 
 -- A gain sends nothing.
-sent-gained : (b : Bool) (w : World) (k : ℕ) (state : State) → (gained b w k state).sent ≡ w.sent
+pub sent-gained : (b : Bool) (w : World) (k : ℕ) (state : State) → (gained b w k state).sent ≡ w.sent
 sent-gained true w k state = refl
 sent-gained false w k state = refl
 

@@ -12,6 +12,7 @@ pub mod Buckets
 mod Agreement
 mod Whole
 mod WorkedRuns
+mod Settling
 mod QuestionFacts
 mod IdFacts
 mod ReplyFacts

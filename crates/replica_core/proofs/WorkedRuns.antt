@@ -8,7 +8,7 @@ use Rattle.receipt_core.specs.Receipt.{Receipt, receipt_id_of, receipt_cmp, dist
 use Rattle.replica_core.specs.State.{State, no_state, bucket_of_id, id_cmp}
 use Rattle.replica_core.specs.World.{World, empty_world, Rules, question, answer, at_replica, happens, run_from, run}
 use Rattle.replica_core.specs.declared.event.Event.{Event}
-use Rattle.replica_core.specs.declared.event.Event.TheVariants.{Take, Revoke, Ask, Answer, Absorb, Restart}
+use Rattle.replica_core.specs.declared.event.Event.TheVariants.{Take, Revoke, Ask, Answer, Absorb, Join, Restart}
 
 -- three replicas to which all receipts fit and all domains are known
 abbrev three : Rules
@@ -230,3 +230,8 @@ late_answer a = Take 0 a ∷ Ask 1 1 ∷ Answer 0 0 ∷ Restart 0 ∷ Ask 1 1 �
 -- Replicas 0 and 1 do not agree then: no answer from before may come in between.
 late_answer-differs : (a : Receipt) → bucket_of_id a ≡ 1 → (run three (late_answer a)).now 1 ≢ (run three (late_answer a)).now 0
 late_answer-differs a p = differs ((run three (late_answer a)).now 1) ((run three (late_answer a)).now 0) a (simp p) (simp p)
+
+-- ---- one takes all that another holds
+
+joined_to-same : (a b : Receipt) (x : Distrust) → AreApart a b x → (run three (starts a b x ++ (Join 1 2 ∷ Join 0 1 ∷ []))).now 0 ≡ all_of a b x
+joined_to-same a b x h = simp (h.less, h.greater)

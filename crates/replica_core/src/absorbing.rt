@@ -34,16 +34,26 @@ pub fn absorb<C: Closure>(closure: &mut C, give: Give) -> Result<usize, SyncErro
     if closure.config().digest() != give.config {
         return Err(SyncError::ConfigDiffers);
     }
-    if !are_numbered(&give) {
-        return Err(SyncError::NoMemory);
-    }
+    let mut give = give;
+    try_number(&mut give)?;
     if let Some((number, why)) = first_refused(closure, &give) {
         return Err(SyncError::Refused(number, why));
     }
-    match make_room(closure, give.receipts()) {
-        Ok(()) => Ok(take_whole(closure, give)),
-        Err(_) => Err(SyncError::NoMemory),
+    make_room(closure, &mut give)?;
+    Ok(take_whole(closure, give))
+}
+
+// The lines are to have numbers of 64 bits: past that it asks for a growth that is always refused.
+fn try_number(give: &mut Give) -> Result<(), AllocError>
+    ensures same { give.new ≡ give.old }
+    ensures numbers { MatchResult result
+        (λ _. length (entries_of give.old.content) + 2 < 2 ^ 64)
+        (λ _. 2 ^ 64 ≤ length (entries_of give.old.content) + 2) }
+{
+    if !are_numbered(give) {
+        give.receipts.try_reserve(usize::MAX)?;
     }
+    Ok(())
 }
 
 // Whether the lines have numbers of 64 bits.
@@ -73,17 +83,19 @@ fn first_refused<C: Closure>(closure: &C, give: &Give) -> Option<(u64, TakeError
     }
 }
 
-// Makes room for all of the receipts and their offers.
-fn make_room<C: Closure>(closure: &mut C, receipts: &[Receipt]) -> Result<(), AllocError>
+// Makes room for all of the receipts and their offers. Where the offers have no number of 64 bits,
+// it asks for a growth that is always refused.
+fn make_room<C: Closure>(closure: &mut C, give: &mut Give) -> Result<(), AllocError>
+    ensures same { give.new ≡ give.old }
     ensures meaning { (C.state closure.new).meaning ≡ (C.state closure.old).meaning }
     ensures room { MatchResult result
-        (λ _. IsRoomier (room_for receipts.now) (C.state closure.new).room)
-        (λ _. IsRoomier (room_for receipts.now) (C.state closure.old).room → ⊥) }
+        (λ _. IsRoomier (room_for give.old.content.held) (C.state closure.new).room)
+        (λ _. IsRoomier (room_for give.old.content.held) (C.state closure.old).room → ⊥) }
 {
     let _room = closure.room();
-    match offers_of_all(receipts) {
-        Some(offers) => closure.try_reserve(receipts.len(), offers),
-        None => Err(AllocError),
+    match offers_of_all(give.receipts()) {
+        Some(offers) => closure.try_reserve(give.receipts.len(), offers),
+        None => give.receipts.try_reserve(usize::MAX),
     }
 }
 

@@ -274,7 +274,7 @@ pub record IsGood (whole content : State) (wanted : Wanted) (text : List ℕ) : 
   pub lines : content_lines whole ≡ content_lines content ++ text ∷ later
 
 -- This is a beginning of the answer, and that is what follows the answer in the stream.
-record IsPart (whole content : State) (count distrusts : ℕ) (rest after : List ℕ) : Type 0 where
+pub record IsPart (whole content : State) (count distrusts : ℕ) (rest after : List ℕ) : Type 0 where
   pub begun : IsBegun count distrusts content
   pub receipts : count ≡ length whole.held
   pub records : distrusts ≡ length whole.records
@@ -387,7 +387,7 @@ module _ (expected : Option Expected) (bytes : List ℕ) (r : Reply) (after : Li
   no-head-fault new NoMemory calm ample h = ample refl
 
   -- A good beginning of the stream is a beginning of the answer.
-  is-part : (count distrusts : ℕ) (content : State) (rest : List ℕ)
+  pub is-part : (count distrusts : ℕ) (content : State) (rest : List ℕ)
       → AnswerBegins expected (Some bytes) count distrusts content (Some rest)
       → IsPart r.content content count distrusts rest after
   is-part count distrusts content rest b =

@@ -29,4 +29,5 @@ mod WelcomeFacts
 mod SessionFacts
 mod OwnMessageFacts
 mod UnderstandingFacts
+mod WorldFacts
 mod StandardFacts

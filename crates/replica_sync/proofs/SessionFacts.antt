@@ -192,7 +192,7 @@ no-line-fault config state first whole content wanted text Io ample spelt good h
 no-line-fault config state first whole content wanted text NoMemory ample spelt good h = ample refl
 
 -- the texts of the answers, one after another
-abbrev told_texts : List Reply → List ℕ
+abbrev pub told_texts : List Reply → List ℕ
 told_texts replies = flat_map reply_text replies
 
 -- The answer with which a stream goes on has no fault of its spelling.
@@ -210,7 +210,7 @@ no-fault-of-reply config state bucket first content r left rest e is begins calm
     calm ample fault.begins fault.cause
 
 -- The text of a list of answers is that of the first and of the others.
-joined-texts : (r : Reply) (replies : List Reply) (rest : List ℕ) → told_texts (r ∷ replies) ++ rest ≡ reply_text r ++ (told_texts replies ++ rest)
+pub joined-texts : (r : Reply) (replies : List Reply) (rest : List ℕ) → told_texts (r ∷ replies) ++ rest ≡ reply_text r ++ (told_texts replies ++ rest)
 joined-texts r replies rest = append_assoc (reply_text r) (told_texts replies) rest
 
 -- In a stream of answers no fault of spelling comes before the last of them.
@@ -288,7 +288,7 @@ same-replies config start (r ∷ replies) (o ∷ others) rest left is valid many
     (λ i. same.reply i ∷ later i)
 
 -- Two lists of as many answers with which a stream begins are one, in the words of streams.
-both-replies : (config : Configuration) (bytes : List ℕ) (replies others : List Reply) (rest left : Option (List ℕ))
+pub both-replies : (config : Configuration) (bytes : List ℕ) (replies others : List Reply) (rest left : Option (List ℕ))
     → AreReplies config 0 replies → AreReplies config 0 others → length replies ≡ length others
     → Consumes (Some bytes) rest (told_texts replies) → Consumes (Some bytes) left (told_texts others) → replies ≡ others
 both-replies config bytes replies others None left is valid many whole other = absurd whole

@@ -40,7 +40,7 @@ abbrev pub AskInTurn : Configuration → ℕ → List Question → Type 0
 AskInTurn config bucket [] = Unit {0}
 AskInTurn config bucket (q ∷ qs) = (q.bucket ≡ bucket) × (IsQuestionOf config q × AskInTurn config (bucket + 1) qs)
 
-own-question : (c : Configuration) (state : State) (bucket : ℕ) → IsMeaning (meaning_of_state c state) → bucket < 256
+pub own-question : (c : Configuration) (state : State) (bucket : ℕ) → IsMeaning (meaning_of_state c state) → bucket < 256
     → IsQuestionOf c (question_in c state bucket)
 own-question c state bucket valid below = record { askable = askable-question (meaning_of_state c state) bucket valid below; own = refl }
 
@@ -73,11 +73,11 @@ each-own c d bucket (q ∷ qs) same h = (own-of c d q same h.1.0, each-own c d (
 -- ---- what a pull wrote
 
 -- the questions that a pull asked which got so many answers
-abbrev all-asked : Meaning → List Reply → List Question
+abbrev pub all-asked : Meaning → List Reply → List Question
 all-asked m replies = questions_of m.config 0 (state_of m) replies
 
 -- the question that was not answered to its end
-abbrev last-asked : Meaning → List Reply → List Question
+abbrev pub last-asked : Meaning → List Reply → List Question
 last-asked m replies = question_in m.config (after_replies (state_of m) replies) (length replies) ∷ []
 
 -- What was written are these questions, one about each bucket.
@@ -85,7 +85,7 @@ pub record HasAskedInTurn (m : Meaning) (asked : List ℕ) (questions : List Que
   pub each : AskInTurn m.config 0 questions
   pub text : asked ≡ flat_map question_text questions
 
-whole-asked : (m held : Meaning) (stream : Option (List ℕ)) (asked : List ℕ) → IsMeaning m → IsMeaning held
+pub whole-asked : (m held : Meaning) (stream : Option (List ℕ)) (asked : List ℕ) → IsMeaning m → IsMeaning held
     → (all : PullsAll m stream (Some []) held (Some asked)) → HasAskedInTurn m asked (all-asked m all.replies ++ [])
 whole-asked m held stream asked valid kept all =
     let many = all.all in
@@ -111,7 +111,7 @@ written-whole (Refused n why) old new text calm ample h = h
 written-whole Io old new text calm ample h = absurd (calm refl)
 written-whole NoMemory old new text calm ample h = absurd (ample refl)
 
-part-asked : (m held : Meaning) (stream : Option (List ℕ)) (asked : List ℕ) (e : SyncError) → IsMeaning m → IsMeaning held
+pub part-asked : (m held : Meaning) (stream : Option (List ℕ)) (asked : List ℕ) (e : SyncError) → IsMeaning m → IsMeaning held
     → e ≢ Io → e ≢ NoMemory → (part : PullsUpTo m stream (Some []) held (Some asked) e)
     → HasAskedInTurn m asked (all-asked m part.replies ++ last-asked m part.replies)
 part-asked m held stream asked e valid kept calm ample part =
@@ -154,7 +154,7 @@ abbrev pub all-replies : Meaning → List Question → List Reply
 all-replies k questions = map (reply_of k) questions
 
 -- what is answered to the questions of a session are the answers that it wants
-replies-in-turn : (c : Configuration) (k : Meaning) (bucket : ℕ) (qs : List Question) → IsMeaning k
+pub replies-in-turn : (c : Configuration) (k : Meaning) (bucket : ℕ) (qs : List Question) → IsMeaning k
     → config_id_of k.config ≡ config_id_of c → AskInTurn c bucket qs → AreReplies c bucket (all-replies k qs)
 replies-in-turn c k bucket [] valid same h = tt
 replies-in-turn c k bucket (q ∷ qs) valid same h = (
@@ -171,7 +171,7 @@ told-is m k asked told count questions same asks all =
     (sym asks.text ∙ all.text) in
     all.written ∙ ap (replies_text k) (sym one) ∙ sym (flat_map-map reply_text (reply_of k) questions)
 
-length-asked : (c : Configuration) (bucket : ℕ) (state : State) (rs : List Reply) → length (questions_of c bucket state rs) ≡ length rs
+pub length-asked : (c : Configuration) (bucket : ℕ) (state : State) (rs : List Reply) → length (questions_of c bucket state rs) ≡ length rs
 length-asked c bucket state [] = refl
 length-asked c bucket state (r ∷ rs) = let later = length-asked c (bucket + 1) (joined state r.content) rs in omega (arith, later)
 
@@ -281,7 +281,7 @@ module _ (m k : Meaning) (valid : IsMeaning m) (other : IsMeaning k) (same : m.c
         | inl here ↦ with_items-keeps receipt_cmp k.held m.held r here
         | inr there ↦ with_items-new IsReceipt receipt_cmp exact-receipts k.held m.held other.receipts valid.receipts r there
       ]) in
-      let room_here = leb-true (length both.held) 65536 (and_parts _ _ room).0 in
+      let room_here = leb-true (length both.held) 65536 (and_parts (nat_le (length both.held) 65536) (nat_le (length both.records) 4096) room).0 in
       omega (arith, less, room_here)
 
   few-records : length then.records ≤ 4096
@@ -293,7 +293,7 @@ module _ (m k : Meaning) (valid : IsMeaning m) (other : IsMeaning k) (same : m.c
         | inl here ↦ with_items-keeps distrust_cmp k.records m.records x here
         | inr there ↦ with_items-new IsDistrust distrust_cmp exact-records k.records m.records other.distrusts valid.distrusts x there
       ]) in
-      let room_here = leb-true (length both.records) 4096 (and_parts _ _ room).1 in
+      let room_here = leb-true (length both.records) 4096 (and_parts (nat_le (length both.held) 65536) (nat_le (length both.records) 4096) room).1 in
       omega (arith, less, room_here)
 
   -- where both together are within the limits, so is what is held after answers of the other

@@ -59,7 +59,7 @@ within-joined state gain = record {
   few_records = longer_with_items distrust_cmp gain.records state.records;
 }
 
-within-itself : (state : State) → IsWithin state state
+pub within-itself : (state : State) → IsWithin state state
 within-itself state = record { receipts = λ r h. h; records = λ x h. h; few = omega arith; few_records = omega arith }
 
 within-both : (a b c : State) → IsWithin a b → IsWithin b c → IsWithin a c

@@ -1,4 +1,4 @@
--- What a caller cites stands in the first eight; `Inside` has what the records of the code say, and
+-- What a caller cites stands in the first nine; `Inside` has what the records of the code say, and
 -- the steps of reading, writing and sessions.
 pub mod Entries
 pub mod Snapshots
@@ -8,4 +8,5 @@ pub mod FirstLines
 pub mod Questions
 pub mod Answers
 pub mod Pulling
+pub mod Events
 pub mod Inside

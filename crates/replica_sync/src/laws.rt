@@ -1,7 +1,7 @@
 //! What is so of every snapshot and of every stream of messages; the laws of worlds are handed on.
 //! A call that needs a law calls its function, which does nothing, and cites what it ensures.
 ghost use Rattle.std.specs.Prelude.{◌≡◌, ◌≢◌, ◌++◌, ◌<◌, [], IfErr, List, Option, Result, Some};
-ghost use Rattle.std.specs.Prelude.{true, ℕ};
+ghost use Rattle.std.specs.Prelude.{length, true, ℕ};
 ghost use Rattle.std.specs.Io.KnownBytes.{Consumes};
 ghost use Rattle.fed_config.specs.Configuration.{Configuration, IsConfiguration, config_id_of};
 ghost use Rattle.receipt_core.specs.Acceptance.{Meaning, IsMeaning};
@@ -9,7 +9,8 @@ ghost use Rattle.closure_core.specs.declared.error.TakeError.{TakeError};
 ghost use Rattle.replica_core.specs.Convergence.{AreEvents, Settles};
 ghost use Rattle.replica_core.specs.Session.{Question, Reply, question_of, reply_of, state_of};
 ghost use Rattle.replica_core.specs.State.{is_within_limits, joined, meaning_of_state};
-ghost use Rattle.replica_core.specs.World.{WorldRun, rules_in, world_after, held_by, followed_by};
+ghost use Rattle.replica_core.specs.World.{World, WorldRun, rules_of, rules_in, run_from};
+ghost use Rattle.replica_core.specs.World.{world_after, held_by, followed_by};
 ghost use Rattle.replica_core.specs.declared.event.Event.{Event};
 ghost use Rattle.replica_core.specs.declared.error.SyncError.{SyncError};
 ghost use Rattle.replica_core.specs.declared.error.SyncError.TheVariants.{Io, NoMemory, Refused};
@@ -17,6 +18,7 @@ ghost use Rattle.replica_sync.specs.Messages.{question_text, reply_text};
 ghost use Rattle.replica_sync.specs.FirstLines.{HasDigestOf};
 ghost use Rattle.replica_sync.specs.Questions.{IsAskable, RefusesQuestion, ServesAll, ServesUpTo};
 ghost use Rattle.replica_sync.specs.Answers.{IsAnswer, RefusesGive};
+ghost use Rattle.replica_sync.specs.Events.{EndsCut, whole_exchanges};
 ghost use Rattle.replica_sync.specs.Pulling.{Pulls, PullsAll, PullsUpTo};
 ghost use Rattle.replica_sync.specs.Snapshots.{IsSnapshot, RefusesSnapshot, snapshot_text};
 ghost use Rattle.replica_sync.specs.declared.format.Format.TheVariants.{Second};
@@ -151,3 +153,32 @@ pub fn convergence()
 {
     agreement();
 }
+
+/// A session is part of what happens in a world of replicas with one configuration: replica i
+/// pulls, and replica j serves it. `asked` are the bytes that the pull wrote, and `told` those that
+/// were written to them.
+///
+/// - `whole`: after a pull that was carried out i holds what it holds in the world where it asked j
+///   about each bucket and absorbed each answer.
+/// - `cut`: where the connection brought less, or what a line says was refused, i holds what it
+///   holds in the world where it absorbed the answers about the first buckets, and the first lines
+///   of the next one.
+pub fn world_of_sessions()
+    ensures whole { (m k held : Meaning) (n i j : ℕ) (w : World) (asked told rest : List ℕ)
+        (count : ℕ) → i < n → j < n → i ≢ j → w.now i ≡ state_of m → w.now j ≡ state_of k
+        → IsMeaning m → IsMeaning k → IsMeaning held
+        → config_id_of m.config ≡ config_id_of k.config
+        → ServesAll k (Some asked) (Some []) (Some told) count
+        → PullsAll m (Some (told ++ rest)) (Some []) held (Some asked)
+        → (run_from (rules_of m.config n) w (whole_exchanges i j 256 0 (length w.sent))).now i
+        ≡ state_of held }
+    ensures cut { (m k held : Meaning) (n i j : ℕ) (w : World) (asked told rest bytes lost : List ℕ)
+        (count : ℕ) (e : SyncError) → i < n → j < n → i ≢ j
+        → w.now i ≡ state_of m → w.now j ≡ state_of k
+        → IsMeaning m → IsMeaning k → IsMeaning held
+        → config_id_of m.config ≡ config_id_of k.config
+        → ServesAll k (Some asked) (Some []) (Some told) count
+        → bytes ++ lost ≡ told ++ rest
+        → PullsUpTo m (Some bytes) (Some []) held (Some asked) e → e ≢ Io → e ≢ NoMemory
+        → EndsCut (rules_of m.config n) w i j (state_of held) }
+{}

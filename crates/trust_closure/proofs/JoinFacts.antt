@@ -391,6 +391,7 @@ share_merged m other roomy less new share records n is size own e1 e2 e3 =
 
 -- ---- what all that are held offer
 
+-- an item that makes a list longer adds its own to the sum, before the head or after it
 placed_sum : {X : Type 0} (f : X → ℕ) (o : Ordering) (x h : X) (t longer : List X)
     → length (placed o x h t longer) ≡ length (h ∷ t) + 1
     → (length longer ≡ length t + 1 → sum_by f longer ≡ sum_by f t + f x)
@@ -407,6 +408,7 @@ with_item_sum : {X : Type 0} (f : X → ℕ) (cmp : X → X → Ordering) (x : X
 with_item_sum f cmp x [] e = omega (arith, sum_by-cons f x [])
 with_item_sum f cmp x (h ∷ t) e = placed_sum f (cmp x h) x h t (with_item cmp x t) e (with_item_sum f cmp x t)
 
+-- with these receipts a set is longer by at most as many
 with_items_longest : (items held : List Receipt) → length (with_items receipt_cmp items held) ≤ length held + length items
 with_items_longest [] held = omega arith
 with_items_longest (r ∷ items) held =

@@ -1,0 +1,278 @@
+-- A worked proof that replicas settle: of two, one takes a receipt, and then each has the other's whole answer about every bucket.
+use Rattle.std.proofs.Common.{◌≡◌, ◌≢◌, ℕ, zero, suc, ◌+◌, ◌*◌, ◌<◌, ◌≤◌, ◌⊎◌, inl, inr, Bool, true, false, ◌&&◌, nat_le, List, [], ◌∷◌, ◌++◌}
+use Rattle.std.proofs.Common.{length, length-append, append_assoc, append-nil, arith, refl, sym, ap, ap₂, ◌∙◌, subst, le-leb}
+use Rattle.std.specs.Prelude.{Contains, slice_get, Option, Some, None, ⊤}
+use Rattle.std.specs.List.{AllByRecursion}
+use Rattle.std.specs.List.Sorted.{IsStrictlySortedBy}
+use Rattle.std.specs.Cmp.{tied_itself}
+use Rattle.std.specs.declared.cmp.Ordering.TheVariants.{Less, Equal}
+use Rattle.std.proofs.lemmas.Bool.{cases_eq, and_from}
+use Rattle.std.proofs.lemmas.List.Sums.{fold-append}
+use Rattle.fed_config.specs.Configuration.{Configuration}
+use Rattle.receipt_core.specs.declared.distrust.Distrust.{Distrust}
+use Rattle.receipt_core.specs.Receipt.{Receipt, IsReceipt, receipt_cmp}
+use Rattle.receipt_core.specs.Order.{receipt_total}
+use Rattle.receipt_core.specs.Acceptance.{IsFitting}
+use Rattle.replica_core.specs.State.{State, joined, is_within_limits, ids_held, receipts_lacking}
+use Rattle.replica_core.specs.World.{Message, question, answer, World, empty_world, Rules, Effect, sends, gains, where_so, replies, takes_whole, apply, happens, run_from, is_replica}
+use Rattle.replica_core.specs.World.{WorldRun, rules_in, world_after, held_by, followed_by}
+use Rattle.replica_core.specs.Convergence.{Inquiry, IsInquiry, Exchange, Settles, IsQuiet, only_receipt, AreEvents}
+use Rattle.replica_core.specs.declared.event.Event.{Event}
+use Rattle.replica_core.specs.declared.event.Event.TheVariants.{Take, Ask, Answer, Absorb, Restart}
+use Rattle.replica_core.proofs.Members.{contains-here, contains-later, contains-none, each-from}
+use Rattle.replica_core.proofs.RisingLists.{all_append, all_front, rising_head}
+use Rattle.replica_core.proofs.Joins.{Keeps, keeps-joined}
+use Rattle.replica_core.proofs.WorldJoins.{joins}
+use Rattle.replica_core.proofs.Kept.{IsKept, kept-event}
+use Rattle.replica_core.proofs.Growing.{replica-true, sent-gained, part-run}
+use Rattle.replica_core.proofs.Tidy.{IsTidy, Throughout, throughout-event, tidy-kept, tidy-empty}
+use Rattle.replica_core.proofs.Exchanges.{asked-here}
+use Rattle.replica_core.proofs.Agreement.{quiet-admits_all}
+use Rattle.replica_core.proofs.Provenance.{empty-kept}
+use Rattle.replica_core.proofs.EffectFacts.{takes-held}
+use Rattle.replica_core.proofs.Whole.{agreed}
+
+-- ---- the events
+
+-- who asks whom about which bucket, where so many messages were sent before
+abbrev turn : (i j b place : ℕ) → List Event
+turn i j b place = Ask i b ∷ Answer j place ∷ Absorb i (place + 1) ∷ []
+
+abbrev round : ℕ → List Event
+round k = turn 0 1 k (4 * k) ++ turn 1 0 k (4 * k + 2)
+
+-- all about the first so many buckets
+rounds : ℕ → List Event
+rounds zero = []
+rounds (suc k) = rounds k ++ round k
+
+quiet-round : (k : ℕ) → AllByRecursion (IsQuiet 0) (round k)
+quiet-round k = (tt, (tt, (omega arith, (tt, (tt, (omega arith, tt))))))
+
+quiet-rounds : (k : ℕ) → AllByRecursion (IsQuiet 0) (rounds k)
+unfolding rounds
+quiet-rounds zero = tt
+quiet-rounds (suc k) = all_append (IsQuiet 0) (rounds k) (round k) (quiet-rounds k) (quiet-round k)
+
+-- each round stands among all
+round-among : (k b : ℕ) → b < k → (rest : List Event) × (rounds k ≡ rounds b ++ (round b ++ rest))
+unfolding rounds
+round-among zero b l = absurd (omega (arith, l))
+round-among (suc k) b l =
+    elim (cases_eq b k) [
+      | inl e ↦ ([], ap (λ n. rounds n ++ round n) (sym e) ∙ ap (λ (t : List Event). rounds b ++ t) (sym (append-nil (round b))))
+      | inr d ↦
+          let found = round-among k b (omega (arith, l, d)) in (
+            found.0 ++ round k,
+            ap (λ (t : List Event). t ++ round k) found.1
+                ∙ append_assoc (rounds b) (round b ++ found.0) (round k)
+                ∙ ap (λ (t : List Event). rounds b ++ t) (append_assoc (round b) found.0 (round k)),
+          )
+    ]
+
+-- ---- how many messages are sent
+
+where-sent : (b : Bool) (w : World) (effect : Effect) → (apply w effect).sent ≡ w.sent → (apply w (where_so b effect)).sent ≡ w.sent
+where-sent true w effect e = e
+where-sent false w effect e = refl
+
+gains-sent : (w : World) (i : ℕ) (gain : State) → (apply w (gains i gain)).sent ≡ w.sent
+gains-sent w i gain = sent-gained (is_within_limits (joined (w.now i) gain)) w i (joined (w.now i) gain)
+
+whole-sent : (w : World) (i : ℕ) (found : Option Message) → (apply w (takes_whole i found)).sent ≡ w.sent
+whole-sent w i None = refl
+whole-sent w i (Some (question asker bucket ids)) = refl
+whole-sent w i (Some (answer answerer place content)) = gains-sent w i content
+
+ask-sends : (rules : Rules) (w : World) (i b : ℕ) → i < rules.replicas → b ≤ 255 → length (happens rules w (Ask i b)).sent ≡ length w.sent + 1
+ask-sends rules w i b l m =
+    let q = question i b (ids_held (w.now i) b) in
+    ap (λ t. length (apply w (where_so t (sends q))).sent)
+    (and_from (is_replica rules i) (nat_le b 255) (replica-true rules i l) (le-leb b 255 m))
+    ∙ length-append w.sent (q ∷ [])
+
+answer-sends : (rules : Rules) (w : World) (i j b k : ℕ) (ids : List (List ℕ)) → j < rules.replicas → slice_get w.sent k ≡ Some (question i b ids)
+    → length (happens rules w (Answer j k)).sent ≡ length w.sent + 1
+answer-sends rules w i j b k ids l e =
+    ap (λ t. length (apply w (where_so t (replies (w.now j) j k (slice_get w.sent k)))).sent) (replica-true rules j l)
+    ∙ ap (λ f. length (apply w (replies (w.now j) j k f)).sent) e
+    ∙ length-append w.sent (answer j k (record { held = receipts_lacking (w.now j) b ids; records = (w.now j).records }) ∷ [])
+
+turn-sends : (rules : Rules) (w : World) (i j b place : ℕ) → i < rules.replicas → j < rules.replicas → b ≤ 255 → length w.sent ≡ place
+    → length (run_from rules w (turn i j b place)).sent ≡ place + 2
+turn-sends rules w i j b place l m n size =
+    let v = happens rules w (Ask i b) in
+    let u = happens rules v (Answer j place) in
+    let asked = ask-sends rules w i b l n in
+    let there : slice_get v.sent place ≡ Some (question i b (ids_held (w.now i) b)) =
+    subst (λ k. slice_get v.sent k ≡ Some (question i b (ids_held (w.now i) b))) size (asked-here rules w i b l n) in
+    let answered : length u.sent ≡ length v.sent + 1 = answer-sends rules v i j b place (ids_held (w.now i) b) m there in
+    let taken : length (happens rules u (Absorb i (place + 1))).sent ≡ length u.sent =
+    ap length (where-sent (is_replica rules i) u (takes_whole i (slice_get u.sent (place + 1))) (whole-sent u i (slice_get u.sent (place + 1)))) in
+    omega (arith, asked, answered, taken, size)
+
+round-sends : (rules : Rules) (w : World) (k : ℕ) → 2 ≤ rules.replicas → k ≤ 255 → length w.sent ≡ 4 * k → length (run_from rules w (round k)).sent ≡ 4 * k + 4
+round-sends rules w k two few size =
+    let first = turn-sends rules w 0 1 k (4 * k) (omega (arith, two)) (omega (arith, two)) few size in
+    let v = run_from rules w (turn 0 1 k (4 * k)) in
+    let second = turn-sends rules v 1 0 k (4 * k + 2) (omega (arith, two)) (omega (arith, two)) few first in
+    second ∙ omega arith
+
+rounds-sends : (rules : Rules) (w : World) (k : ℕ) → 2 ≤ rules.replicas → k ≤ 256 → length w.sent ≡ 0 → length (run_from rules w (rounds k)).sent ≡ 4 * k
+unfolding rounds
+rounds-sends rules w zero two few none = none
+rounds-sends rules w (suc k) two few none =
+    let before = rounds-sends rules w k two (omega (arith, few)) none in
+    ap (λ (v : World). length v.sent) (fold-append (happens rules) w (rounds k) (round k))
+    ∙ round-sends rules (run_from rules w (rounds k)) k two (omega (arith, few)) before
+    ∙ omega arith
+
+-- ---- what is held never goes beyond one receipt
+
+-- a rising list of one receipt, however often, has it once at most
+one-rising : (a : Receipt) (rs : List Receipt) → IsStrictlySortedBy receipt_cmp rs → ((r : Receipt) → Contains rs r → r ≡ a) → length rs ≤ 1
+one-rising a [] rising same = omega arith
+one-rising a (r ∷ []) rising same = omega arith
+one-rising a (r ∷ s ∷ rs) rising same =
+    let less : receipt_cmp r s ≡ Less = (rising_head receipt_cmp r (s ∷ rs) rising).0 in
+    let both : r ≡ s = same r (contains-here r (s ∷ rs)) ∙ sym (same s (contains-later r (s ∷ rs) s (contains-here s rs))) in
+    let tied : receipt_cmp r s ≡ Equal = ap (receipt_cmp r) (sym both) ∙ tied_itself receipt_total r in
+    absurd (cc)
+
+none-in : (xs : List Distrust) → ((x : Distrust) → Contains xs x → ⊥) → length xs ≡ 0
+none-in [] none = refl
+none-in (x ∷ xs) none = absurd (none x (contains-here x xs))
+
+-- all that is held, saved and sent is this receipt alone, in rising lists
+record IsOnly (a : Receipt) (w : World) : Type 0 where
+  kept : IsKept (λ r. r ≡ a) (λ x. ⊥) 0 ⊤ w
+  tidy : Throughout (λ i state. IsTidy state) w
+
+only-event : (rules : Rules) (a : Receipt) (w : World) (event : Event) → IsQuiet 0 event → IsOnly a w → IsOnly a (happens rules w event)
+only-event rules a w event q h = record {
+  kept = kept-event joins (λ r. r ≡ a) (λ x. ⊥) 0 ⊤ rules w event h.kept (quiet-admits_all rules (λ r. r ≡ a) (λ x. ⊥) 0 event q);
+  tidy = throughout-event rules (λ i state. IsTidy state) (tidy-kept joins rules) w event h.tidy;
+}
+
+only-run : (rules : Rules) (a : Receipt) (events : List Event) (w : World) → AllByRecursion (IsQuiet 0) events → IsOnly a w → IsOnly a (run_from rules w events)
+only-run rules a [] w q h = h
+only-run rules a (event ∷ events) w q h = only-run rules a events (happens rules w event) q.1 (only-event rules a w event q.0 h)
+
+-- so no gain is too much
+only-within : (a : Receipt) (w : World) (i : ℕ) (content : State) → IsOnly a w → Keeps (λ r. r ≡ a) (λ x. ⊥) content
+    → is_within_limits (joined (w.now i) content) ≡ true
+only-within a w i content h c =
+    let all = keeps-joined joins (λ r. r ≡ a) (λ x. ⊥) (w.now i) content (h.kept.now i) c in
+    let state = joined (w.now i) content in
+    let one = one-rising a state.held (joins.receipts.rising content.held (w.now i).held (h.tidy.now i).rising) all.receipts in
+    let none = none-in state.records all.records in
+    and_from (nat_le (length state.held) 65536) (nat_le (length state.records) 4096)
+    (le-leb (length state.held) 65536 (omega (arith, one))) (le-leb (length state.records) 4096 (omega (arith, none)))
+
+-- ---- the exchanges
+
+-- a turn is an exchange, whatever came before it and comes after it
+turn-exchanges : (rules : Rules) (a : Receipt) (w : World) (q : Inquiry) (events before after : List Event) (place : ℕ)
+    → IsInquiry rules.replicas q → IsOnly a w → AllByRecursion (IsQuiet 0) events
+    → events ≡ before ++ (turn q.asker q.answerer q.bucket place ++ after)
+    → length (run_from rules w before).sent ≡ place → Exchange rules w q events
+turn-exchanges rules a w q events before after place is h quiet order size =
+    let v = run_from rules w before in
+    let early = all_front (IsQuiet 0) before (turn q.asker q.answerer q.bucket place ++ after) (subst (AllByRecursion (IsQuiet 0)) order quiet) in
+    let asking = only-event rules a v (Ask q.asker q.bucket) tt (only-run rules a before w early h) in
+    let taking = only-event rules a (happens rules v (Ask q.asker q.bucket)) (Answer q.answerer place) tt asking in
+    let u = happens rules (happens rules v (Ask q.asker q.bucket)) (Answer q.answerer place) in
+    record {
+      course = record {
+        before = before;
+        asked = [];
+        answered = [];
+        after = after;
+        question_place = place;
+        answer_place = place + 1;
+        order = order;
+      };
+      asked_at = sym size;
+      answered_at = ap (λ k. k + 1) (sym size) ∙ sym (ask-sends rules v q.asker q.bucket is.asker is.bucket);
+      whole = λ content e. only-within a u q.asker content taking (taking.kept.sent (place + 1) (answer q.answerer place content) (omega arith) e);
+      no_restart = λ c. contains-none (Restart q.asker) c;
+      none_later = λ c. contains-none (Restart q.asker) c;
+    }
+
+-- the first turn of a round
+first-exchanges : (rules : Rules) (a : Receipt) (w : World) (q : Inquiry) (k : ℕ) → 2 ≤ rules.replicas → k ≡ 256 → IsInquiry rules.replicas q
+    → q.asker ≡ 0 → q.answerer ≡ 1 → IsOnly a w → length w.sent ≡ 0 → Exchange rules w q (rounds k)
+first-exchanges rules a w q k two all is zero-asks one-answers h none =
+    let b = q.bucket in
+    let small = is.bucket in
+    let found = round-among k b (omega (arith, all, small)) in
+    let after = turn 1 0 b (4 * b + 2) ++ found.0 in
+    turn-exchanges rules a w q (rounds k) (rounds b) after (4 * b) is h (quiet-rounds k)
+    (found.1 ∙ ap₂ (λ i j. rounds b ++ (turn i j b (4 * b) ++ after)) (sym zero-asks) (sym one-answers))
+    (rounds-sends rules w b two (omega (arith, small)) none)
+
+-- and the second one
+second-exchanges : (rules : Rules) (a : Receipt) (w : World) (q : Inquiry) (k : ℕ) → 2 ≤ rules.replicas → k ≡ 256 → IsInquiry rules.replicas q
+    → q.asker ≡ 1 → q.answerer ≡ 0 → IsOnly a w → length w.sent ≡ 0 → Exchange rules w q (rounds k)
+second-exchanges rules a w q k two all is one-asks zero-answers h none =
+    let b = q.bucket in
+    let small = is.bucket in
+    let found = round-among k b (omega (arith, all, small)) in
+    let first = turn 0 1 b (4 * b) in
+    turn-exchanges rules a w q (rounds k) (rounds b ++ first) found.0 (4 * b + 2) is h (quiet-rounds k)
+    (found.1 ∙ sym (append_assoc (rounds b) first (turn 1 0 b (4 * b + 2) ++ found.0))
+    ∙ ap₂ (λ i j. (rounds b ++ first) ++ (turn i j b (4 * b + 2) ++ found.0)) (sym one-asks) (sym zero-answers))
+    (ap (λ (v : World). length v.sent) (fold-append (happens rules) w (rounds b) first)
+    ∙ turn-sends rules (run_from rules w (rounds b)) 0 1 b (4 * b) (omega (arith, two)) (omega (arith, two)) small
+    (rounds-sends rules w b two (omega (arith, small)) none))
+
+-- ---- they settle
+
+-- two replicas, of which the first was given a receipt
+abbrev one_given : Configuration → Receipt → WorldRun
+one_given config a = record { config = config; replicas = 2; events = Take 0 a ∷ [] }
+
+only-given : (config : Configuration) (a : Receipt) → IsOnly a (world_after (one_given config a))
+only-given config a = record {
+  kept = kept-event joins (λ r. r ≡ a) (λ x. ⊥) 0 ⊤ (rules_in (one_given config a)) empty_world (Take 0 a) (empty-kept (λ r. r ≡ a) (λ x. ⊥) 0 ⊤) (λ i f. refl);
+  tidy = throughout-event (rules_in (one_given config a)) (λ i state. IsTidy state) (tidy-kept joins (rules_in (one_given config a))) empty_world (Take 0 a) tidy-empty;
+}
+
+none-sent : (config : Configuration) (a : Receipt) → length (world_after (one_given config a)).sent ≡ 0
+none-sent config a =
+    let rules = rules_in (one_given config a) in
+    ap length (where-sent (is_replica rules 0 && rules.fits a) empty_world (gains 0 (only_receipt a)) (gains-sent empty_world 0 (only_receipt a)))
+
+settles : (config : Configuration) (a : Receipt) (k : ℕ) → k ≡ 256 → Settles (rules_in (one_given config a)) (world_after (one_given config a)) (rounds k)
+settles config a k all =
+    let rules = rules_in (one_given config a) in
+    let w = world_after (one_given config a) in
+    let only = only-given config a in
+    let none = none-sent config a in
+    record {
+      quiet = λ event c. subst (λ place. IsQuiet place event) (sym none) (each-from (IsQuiet 0) (rounds k) (quiet-rounds k) event c);
+      one_id = λ i j r s c d e. (only.kept.now i).receipts r c ∙ sym ((only.kept.now j).receipts s d);
+      exchanges = λ q is apart.
+          let asker = is.asker in
+          let answerer = is.answerer in
+          elim (cases_eq q.asker 0) [
+            | inl z ↦ first-exchanges rules a w q k (omega arith) all is z
+                (elim (cases_eq q.answerer 1) [ inl o ↦ o | inr d ↦ absurd (apart (z ∙ omega (arith, answerer, d))) ]) only none
+            | inr p ↦ second-exchanges rules a w q k (omega arith) all is (omega (arith, asker, p))
+                (elim (cases_eq q.answerer 0) [ inl o ↦ o | inr d ↦ absurd (apart (omega (arith, asker, answerer, p, d))) ]) only none
+          ];
+    }
+
+-- So the second holds the receipt in the end.
+settled : (config : Configuration) (a : Receipt) → IsReceipt a → IsFitting config a → (k : ℕ) → k ≡ 256
+    → Contains (held_by (followed_by (one_given config a) (rounds k)) 1).held a
+settled config a form fits k all =
+    let past = one_given config a in
+    let rules = rules_in past in
+    let since = rounds k in
+    let taken : held_by past 0 ≡ only_receipt a = takes-held (record past { events = [] }) 0 a (omega arith) fits refl in
+    let here : Contains (held_by past 0).held a = subst (λ (s : State). Contains s.held a) (sym taken) (contains-here a []) in
+    let stays = (part-run joins rules 0 since (world_after past) (λ c. each-from (IsQuiet 0) since (quiet-rounds k) (Restart 0) c)).receipts a here in
+    let kept : Contains (held_by (followed_by past since) 0).held a =
+    subst (λ (w : World). Contains (w.now 0).held a) (sym (fold-append (happens rules) empty_world past.events since)) stays in
+    subst (λ (s : State). Contains s.held a) (agreed joins past since 0 1 (form, tt) (omega arith) (omega arith) (settles config a k all)) kept

@@ -1,0 +1,433 @@
+-- What a pull holds is what its replica holds in a world where the same was asked, answered and taken.
+use Rattle.std.proofs.Common.{◌≡◌, ◌≢◌, ◌∙◌, ℕ, zero, suc, ◌+◌, ◌-◌, ◌*◌, ◌<◌, ◌≤◌, ◌&&◌, Bool, true, false, cond, List, [], ◌∷◌, ◌++◌, length, map, take, inl, inr, refl, sym, ap, subst}
+use Rattle.std.proofs.Common.{arith, le-leb, eq-eqb, ne_eqb, append-nil, append_assoc, length-append, Option, None, Some, nat_le, ◌==◌}
+use Rattle.std.specs.Prelude.{slice_get}
+use Rattle.std.proofs.lemmas.Bool.{and_from, cases_lt}
+use Rattle.std.specs.List.{AllByRecursion}
+use Rattle.std.specs.Io.KnownBytes.{Consumes}
+use Rattle.std.proofs.lemmas.List.{length-map, take_all}
+use Rattle.std.proofs.lemmas.List.Sums.{fold-append}
+use Rattle.fed_config.specs.Configuration.{Configuration, config_id_of}
+use Rattle.receipt_core.specs.declared.distrust.Distrust.{Distrust}
+use Rattle.receipt_core.specs.Receipt.{Receipt, IsDistrust, IsReceipt, distrust_line, line}
+use Rattle.receipt_core.proofs.LineFacts.{one_line, one_record}
+use Rattle.receipt_core.specs.Acceptance.{Meaning, IsMeaning}
+use Rattle.replica_core.specs.State.{State, first_of, ids_held, is_within_limits, joined, meaning_of_state, no_state, receipts_lacking}
+use Rattle.replica_core.specs.Session.{Question, Reply, reply_of, state_of}
+use Rattle.replica_core.specs.World.{Message, Rules, World, answer, apply, at_replica, gained, happens, is_replica, question, replies, rules_of, run_from}
+use Rattle.replica_core.specs.World.{sends, takes_part, takes_whole, where_so, with_state}
+use Rattle.replica_core.specs.declared.event.Event.{Event}
+use Rattle.replica_core.specs.declared.event.Event.TheVariants.{Ask, Answer, Absorb, Part}
+use Rattle.replica_core.proofs.Members.{get-new}
+use Rattle.replica_core.specs.declared.error.SyncError.{SyncError}
+use Rattle.replica_core.specs.declared.error.SyncError.TheVariants.{Io, NoMemory}
+use Rattle.replica_sync.specs.Snapshots.{ended, text_of_lines}
+use Rattle.replica_sync.specs.Messages.{reply_text}
+use Rattle.replica_sync.specs.Answers.{AnswerBegins, content_lines}
+use Rattle.replica_sync.specs.Events.{EndsCut, cut_exchange, whole_exchange, whole_exchanges}
+use Rattle.replica_sync.specs.Pulling.{AreReplies, IsReply, PullsAll, PullsUpTo, RefusesAnswer, after_replies, line_count, question_in, questions_of}
+use Rattle.replica_sync.specs.Questions.{ServesAll}
+use Rattle.replica_sync.proofs.SessionFacts.{both-replies, joined-texts, told_texts}
+use Rattle.replica_sync.proofs.GiveFacts.{is-part, same-reply}
+use Rattle.replica_sync.proofs.OwnMessageFacts.{answer-given}
+use Rattle.replica_sync.proofs.UnderstandingFacts.{all-asked, all-replies, last-asked, length-asked, own-question, part-asked, replies-in-turn, told-is, whole-asked}
+use Rattle.replica_sync.proofs.WelcomeFacts.{IsWithin, meaning-within, rising-after, rising-meaning, within-after, within-itself, within-joined}
+
+-- ---- one event
+
+replica-true : (rules : Rules) (i : ℕ) → i < rules.replicas → is_replica rules i ≡ true
+replica-true rules i l = le-leb (i + 1) rules.replicas (omega (arith, l))
+
+at-here : (i : ℕ) (state : State) (states : ℕ → State) → at_replica i state states i ≡ state
+at-here i state states = ap (λ (b : Bool). cond b state (states i)) (eq-eqb i i refl)
+
+at-other : (i j : ℕ) (state : State) (states : ℕ → State) → j ≢ i → at_replica i state states j ≡ states j
+at-other i j state states apart = ap (λ (b : Bool). cond b state (states j)) (ne_eqb j i apart)
+
+-- the world with one message more
+abbrev with_message : World → Message → World
+with_message w message = record w { sent = w.sent ++ message ∷ [] }
+
+asked-is : (rules : Rules) (w : World) (i b : ℕ) → i < rules.replicas → b ≤ 255
+    → happens rules w (Ask i b) ≡ with_message w (question i b (ids_held (w.now i) b))
+asked-is rules w i b l m =
+    ap (λ (t : Bool). apply w (where_so t (sends (question i b (ids_held (w.now i) b)))))
+    (and_from (is_replica rules i) (nat_le b 255) (replica-true rules i l) (le-leb b 255 m))
+
+abbrev content_from : State → ℕ → List (List ℕ) → State
+content_from state b ids = record { held = receipts_lacking state b ids; records = state.records }
+
+answered-is : (rules : Rules) (w : World) (i j b k : ℕ) (ids : List (List ℕ)) → j < rules.replicas → slice_get w.sent k ≡ Some (question i b ids)
+    → happens rules w (Answer j k) ≡ with_message w (answer j k (content_from (w.now j) b ids))
+answered-is rules w i j b k ids l e =
+    ap (λ (t : Bool). apply w (where_so t (replies (w.now j) j k (slice_get w.sent k)))) (replica-true rules j l)
+    ∙ ap (λ (f : Option Message). apply w (replies (w.now j) j k f)) e
+
+absorbed-is : (rules : Rules) (w : World) (i j n k : ℕ) (content : State) → i < rules.replicas → slice_get w.sent n ≡ Some (answer j k content)
+    → is_within_limits (joined (w.now i) content) ≡ true
+    → happens rules w (Absorb i n) ≡ with_state w i (joined (w.now i) content)
+absorbed-is rules w i j n k content l e t =
+    ap (λ (b : Bool). apply w (where_so b (takes_whole i (slice_get w.sent n)))) (replica-true rules i l)
+    ∙ ap (λ (f : Option Message). apply w (takes_whole i f)) e
+    ∙ ap (λ (b : Bool). gained b w i (joined (w.now i) content)) t
+
+part-is : (rules : Rules) (w : World) (i j n k count : ℕ) (content : State) → i < rules.replicas → slice_get w.sent n ≡ Some (answer j k content)
+    → is_within_limits (joined (w.now i) (first_of count content)) ≡ true
+    → happens rules w (Part i n count) ≡ with_state w i (joined (w.now i) (first_of count content))
+part-is rules w i j n k count content l e t =
+    ap (λ (b : Bool). apply w (where_so b (takes_part i count (slice_get w.sent n)))) (replica-true rules i l)
+    ∙ ap (λ (f : Option Message). apply w (takes_part i count f)) e
+    ∙ ap (λ (b : Bool). gained b w i (joined (w.now i) (first_of count content))) t
+
+-- ---- one exchange
+
+module _ (rules : Rules) (i j : ℕ) (l : i < rules.replicas) (n : j < rules.replicas) (w : World) (bucket : ℕ) (low : bucket ≤ 255) where
+  abbrev the_question : Message
+  the_question = question i bucket (ids_held (w.now i) bucket)
+
+  abbrev the_content : State
+  the_content = content_from (w.now j) bucket (ids_held (w.now i) bucket)
+
+  abbrev asked_world : World
+  asked_world = with_message w the_question
+
+  abbrev answered_world : World
+  answered_world = with_message asked_world (answer j (length w.sent) the_content)
+
+  to-answered : run_from rules w (Ask i bucket ∷ Answer j (length w.sent) ∷ []) ≡ answered_world
+  to-answered =
+      ap (λ (v : World). happens rules v (Answer j (length w.sent))) (asked-is rules w i bucket l low)
+      ∙ answered-is rules asked_world i j bucket (length w.sent) (ids_held (w.now i) bucket) n (get-new w.sent the_question)
+
+  answer-there : slice_get answered_world.sent (length w.sent + 1) ≡ Some (answer j (length w.sent) the_content)
+  answer-there =
+      subst (λ (k : ℕ). slice_get answered_world.sent k ≡ Some (answer j (length w.sent) the_content))
+      (length-append w.sent (the_question ∷ []))
+      (get-new (w.sent ++ the_question ∷ []) (answer j (length w.sent) the_content))
+
+  pub whole-is : is_within_limits (joined (w.now i) the_content) ≡ true
+      → run_from rules w (whole_exchange i j bucket (length w.sent)) ≡ with_state answered_world i (joined (w.now i) the_content)
+  whole-is t =
+      ap (λ (v : World). happens rules v (Absorb i (length w.sent + 1))) to-answered
+      ∙ absorbed-is rules answered_world i j (length w.sent + 1) (length w.sent) the_content l answer-there t
+
+  pub cut-is : (count : ℕ) → is_within_limits (joined (w.now i) (first_of count the_content)) ≡ true
+      → run_from rules w (cut_exchange i j bucket (length w.sent) count) ≡ with_state answered_world i (joined (w.now i) (first_of count the_content))
+  cut-is count t =
+      ap (λ (v : World). happens rules v (Part i (length w.sent + 1) count)) to-answered
+      ∙ part-is rules answered_world i j (length w.sent + 1) (length w.sent) count the_content l answer-there t
+
+  many-sent : length answered_world.sent ≡ length w.sent + 2
+  many-sent =
+      let one = length-append w.sent (the_question ∷ []) in
+      let two = length-append (w.sent ++ the_question ∷ []) (answer j (length w.sent) the_content ∷ []) in
+      omega (arith, one, two)
+
+-- ---- a session
+
+-- Replica i holds this state, j holds what k means, and so many messages were sent.
+pub record IsAt (i j : ℕ) (k : Meaning) (w : World) (state : State) (sent : ℕ) : Type 0 where
+  pub here : w.now i ≡ state
+  pub there : w.now j ≡ state_of k
+  pub many : length w.sent ≡ sent
+
+-- each is what k answers to what is asked where those before it are held
+abbrev pub AnswersOf : Configuration → Meaning → ℕ → State → List Reply → Type 0
+AnswersOf c k bucket state [] = Unit {0}
+AnswersOf c k bucket state (r ∷ rs) = (r ≡ reply_of k (question_in c state bucket)) × AnswersOf c k (bucket + 1) (joined state r.content) rs
+
+-- no more than a replica holds
+pub record IsSmall (state : State) : Type 0 where
+  pub receipts : length state.held ≤ 65536
+  pub records : length state.records ≤ 4096
+
+small-within : (small large : State) → IsWithin small large → IsSmall large → is_within_limits small ≡ true
+small-within small large part is =
+    let less = part.few in
+    let few = is.receipts in
+    let less_records = part.few_records in
+    let few_records = is.records in
+    and_from _ _ (le-leb (length small.held) 65536 (omega (arith, less, few)))
+    (le-leb (length small.records) 4096 (omega (arith, less_records, few_records)))
+
+same-content : (i j : ℕ) (c : Configuration) (k : Meaning) (w : World) (state : State) (sent bucket : ℕ) (r : Reply) → IsAt i j k w state sent
+    → r ≡ reply_of k (question_in c state bucket) → content_from (w.now j) bucket (ids_held (w.now i) bucket) ≡ r.content
+same-content i j c k w state sent bucket r at is =
+    (λ t. content_from (at.there t) bucket (ids_held (at.here t) bucket)) ∙ sym (ap (λ (a : Reply). a.content) is)
+
+module _ (rules : Rules) (i j : ℕ) (l : i < rules.replicas) (n : j < rules.replicas) (apart : j ≢ i) (c : Configuration) (k : Meaning) where
+  one-exchange : (w : World) (state : State) (sent bucket : ℕ) (r : Reply) → IsAt i j k w state sent
+      → r ≡ reply_of k (question_in c state bucket) → bucket ≤ 255 → is_within_limits (joined state r.content) ≡ true
+      → IsAt i j k (run_from rules w (whole_exchange i j bucket sent)) (joined state r.content) (sent + 2)
+  one-exchange w state sent bucket r at is low room =
+      let content = same-content i j c k w state sent bucket r at is in
+      let taken : joined (w.now i) (the_content rules i j l n w bucket low) ≡ joined state r.content = (λ t. joined (at.here t) (content t)) in
+      let run = ap (λ (s : ℕ). run_from rules w (whole_exchange i j bucket s)) (sym at.many)
+      ∙ whole-is rules i j l n w bucket low (ap is_within_limits taken ∙ room) in
+      let two = many-sent rules i j l n w bucket low in
+      let many = at.many in
+      let sent_then = ap (λ (v : World). length v.sent) run in
+      record {
+        here = ap (λ (v : World). v.now i) run ∙ at-here i (joined (w.now i) (the_content rules i j l n w bucket low)) w.now ∙ taken;
+        there = ap (λ (v : World). v.now j) run
+            ∙ at-other i j (joined (w.now i) (the_content rules i j l n w bucket low)) w.now apart ∙ at.there;
+        many = sent_then ∙ omega (arith, two, many);
+      }
+
+  -- so many whole exchanges
+  run-all : (replies : List Reply) (w : World) (state : State) (sent bucket : ℕ) → IsAt i j k w state sent → AnswersOf c k bucket state replies
+      → bucket + length replies ≤ 256 → IsSmall (after_replies state replies)
+      → IsAt i j k (run_from rules w (whole_exchanges i j (length replies) bucket sent)) (after_replies state replies) (sent + 2 * length replies)
+  unfolding whole_exchanges
+  run-all [] w state sent bucket at is few small =
+      let many = at.many in
+      record { here = at.here; there = at.there; many = omega (arith, many) }
+  run-all (r ∷ replies) w state sent bucket at is few small =
+      let one = one-exchange w state sent bucket r at is.0 (omega (arith, few))
+      (small-within (joined state r.content) (after_replies state (r ∷ replies)) (within-after (joined state r.content) replies) small) in
+      let later = run-all replies (run_from rules w (whole_exchange i j bucket sent)) (joined state r.content) (sent + 2) (bucket + 1) one is.1
+      (omega (arith, few)) small in
+      let many = later.many in
+      record { here = later.here; there = later.there; many = many ∙ omega arith }
+
+-- ---- a whole pull
+
+-- the answers that a pull got are those to its questions
+answers-of : (c : Configuration) (k : Meaning) (bucket : ℕ) (state : State) (replies : List Reply) (later : List Question)
+    (others : List Reply) → replies ++ others ≡ all-replies k (questions_of c bucket state replies ++ later) → AnswersOf c k bucket state replies
+answers-of c k bucket state [] later others e = tt
+answers-of c k bucket state (r ∷ replies) later others e =
+    let head : r ≡ reply_of k (question_in c state bucket) = cc in
+    let tail : replies ++ others ≡ all-replies k (questions_of c (bucket + 1) (joined state r.content) replies ++ later) = cc in
+    (head, answers-of c k (bucket + 1) (joined state r.content) replies later others tail)
+
+-- What a pull holds is what its replica holds after whole exchanges about all buckets.
+pub pull-in-world : (m k held : Meaning) (n i j : ℕ) (w : World) (asked told rest : List ℕ) (count : ℕ) → i < n → j < n → i ≢ j
+    → w.now i ≡ state_of m → w.now j ≡ state_of k → IsMeaning m → IsMeaning k → IsMeaning held
+    → config_id_of m.config ≡ config_id_of k.config → ServesAll k (Some asked) (Some []) (Some told) count
+    → PullsAll m (Some (told ++ rest)) (Some []) held (Some asked)
+    → (run_from (rules_of m.config n) w (whole_exchanges i j 256 0 (length w.sent))).now i ≡ state_of held
+pull-in-world m k held n i j w asked told rest count l h apart here there valid other kept same all pulls =
+    let replies = pulls.replies in
+    let questions = all-asked m replies ++ [] in
+    let asks = whole-asked m held (Some (told ++ rest)) asked valid kept pulls in
+    let text = told-is m k asked told count questions same asks all in
+    let many = length-map questions (reply_of k) in
+    let both = length-append (all-asked m replies) [] in
+    let each = length-asked m.config 0 (state_of m) replies in
+    let equal : replies ≡ all-replies k questions =
+    both-replies m.config (told ++ rest) replies (all-replies k questions) pulls.left (Some rest) pulls.session.each
+    (replies-in-turn m.config k 0 questions other (sym same) asks.each) (omega (arith, many, both, each)) pulls.session.text
+    (ap (λ (t : List ℕ). t ++ rest) text) in
+    let all_of_it = pulls.all in
+    let final : IsMeaning (meaning_of_state m.config (after_replies (state_of m) replies)) = subst IsMeaning pulls.meaning kept in
+    let run = run-all (rules_of m.config n) i j l h (λ e. apart (sym e)) m.config k replies w (state_of m) (length w.sent) 0
+    (record { here = here; there = there; many = refl })
+    (answers-of m.config k 0 (state_of m) replies [] [] (append-nil replies ∙ equal)) (omega (arith, all_of_it))
+    (record { receipts = final.few; records = final.few_records }) in
+    subst (λ (b : ℕ). (run_from (rules_of m.config n) w (whole_exchanges i j b 0 (length w.sent))).now i ≡ after_replies (state_of m) replies)
+    all_of_it run.here ∙ ap state_of (sym pulls.meaning)
+
+-- ---- a pull that was cut
+
+-- The others are the first of the replies, and what is left begins with the later ones.
+record IsFront (replies others : List Reply) (rest left : List ℕ) : Type 0 where
+  pub later : List Reply
+  pub whole : replies ≡ others ++ later
+  pub behind : left ≡ told_texts later ++ rest
+
+-- what was taken whole are the first of the answers that were written
+first-replies : (c : Configuration) (start : ℕ) (replies others : List Reply) (rest left : List ℕ) → AreReplies c start replies
+    → AreReplies c start others → length others ≤ length replies → told_texts replies ++ rest ≡ told_texts others ++ left
+    → IsFront replies others rest left
+first-replies c start replies [] rest left is valid few e = record { later = replies; whole = refl; behind = sym e }
+first-replies c start [] (o ∷ others) rest left is valid few e = absurd (omega (arith, few))
+first-replies c start (r ∷ replies) (o ∷ others) rest left is valid few e =
+    let same = same-reply (told_texts (r ∷ replies) ++ rest) r o (told_texts replies ++ rest) (told_texts others ++ left)
+    is.0.answer valid.0.answer (joined-texts r replies rest) (e ∙ joined-texts o others left) in
+    let front = first-replies c (start + 1) replies others rest left is.1 valid.1 (omega (arith, few)) same.behind in
+    record { later = front.later; whole = (λ t. same.reply t ∷ front.whole t); behind = front.behind }
+
+-- behind so many answers one is left
+last-one : (k : Meaning) (qs : List Question) (q : Question) (others later : List Reply) → length others ≡ length qs
+    → all-replies k (qs ++ q ∷ []) ≡ others ++ later → later ≡ reply_of k q ∷ []
+last-one k [] q [] later n e = sym e
+last-one k [] q (o ∷ others) later n e = absurd (omega (arith, n))
+last-one k (x ∷ qs) q [] later n e = absurd (omega (arith, n))
+last-one k (x ∷ qs) q (o ∷ others) later n e =
+    let tail : all-replies k (qs ++ q ∷ []) ≡ others ++ later = cc in
+    last-one k qs q others later (omega (arith, n)) tail
+
+-- the first receipts
+front-receipts : (rs ss : List Receipt) (us vs : List (List ℕ)) → AllByRecursion IsReceipt rs → AllByRecursion IsReceipt ss
+    → map line rs ++ us ≡ map line ss ++ vs → length rs ≤ length ss → rs ≡ take (length rs) ss
+front-receipts [] ss us vs p q e few = refl
+front-receipts (r ∷ rs) [] us vs p q e few = absurd (omega (arith, few))
+front-receipts (r ∷ rs) (s ∷ ss) us vs p q e few =
+    let head : line r ≡ line s = cc in
+    let tail : map line rs ++ us ≡ map line ss ++ vs = cc in
+    let later = front-receipts rs ss us vs p.1 q.1 tail (omega (arith, few)) in
+    (λ t. one_line r s p.0 q.0 head t ∷ later t)
+
+-- The lists are the first of the others.
+record AreFirst (xs ys : List Distrust) (rs ss : List Receipt) : Type 0 where
+  pub records : xs ≡ take (length xs) ys
+  pub receipts : rs ≡ take (length rs) ss
+
+front-content : (xs ys : List Distrust) (rs ss : List Receipt) (us vs : List (List ℕ)) → AllByRecursion IsDistrust xs
+    → AllByRecursion IsDistrust ys → AllByRecursion IsReceipt rs → AllByRecursion IsReceipt ss
+    → map distrust_line xs ++ (map line rs ++ us) ≡ map distrust_line ys ++ (map line ss ++ vs)
+    → length xs ≤ length ys → (length xs < length ys → rs ≡ []) → length rs ≤ length ss → AreFirst xs ys rs ss
+front-content [] [] rs ss us vs p q h k e few none less = record { records = refl; receipts = front-receipts rs ss us vs h k e less }
+front-content [] (y ∷ ys) rs ss us vs p q h k e few none less =
+    let nothing = none (omega arith) in
+    record { records = refl; receipts = nothing ∙ ap (λ (ts : List Receipt). take (length ts) ss) (sym nothing) }
+front-content (x ∷ xs) [] rs ss us vs p q h k e few none less = absurd (omega (arith, few))
+front-content (x ∷ xs) (y ∷ ys) rs ss us vs p q h k e few none less =
+    let head : distrust_line x ≡ distrust_line y = cc in
+    let tail : map distrust_line xs ++ (map line rs ++ us) ≡ map distrust_line ys ++ (map line ss ++ vs) = cc in
+    let later = front-content xs ys rs ss us vs p.1 q.1 h k tail (omega (arith, few)) (λ m. none (omega (arith, m))) less in
+    record { records = (λ t. one_record x y p.0 q.0 head t ∷ later.records t); receipts = later.receipts }
+
+-- so many lines of the whole
+first-lines : (whole content : State) → length content.records ≤ length whole.records
+    → (length content.records < length whole.records → content.held ≡ [])
+    → AreFirst content.records whole.records content.held whole.held
+    → first_of (length content.records + length content.held) whole ≡ content
+first-lines whole content few none first =
+    elim (cases_lt (length content.records) (length whole.records)) [
+      | inl less ↦
+          let nothing = none less in
+          let no_held : length content.held ≡ 0 = ap length nothing in
+          let count : length content.records + length content.held ≡ length content.records = omega (arith, no_held) in
+          let none_left : length content.records + length content.held - length whole.records ≡ 0 = omega (arith, no_held, less) in
+          (λ t. record {
+            held = (ap (λ (n : ℕ). take n whole.held) none_left ∙ sym nothing) t;
+            records = (ap (λ (n : ℕ). take n whole.records) count ∙ sym first.records) t;
+          })
+      | inr all ↦
+          let equal : length content.records ≡ length whole.records = omega (arith, all, few) in
+          let rest : length content.records + length content.held - length whole.records ≡ length content.held = omega (arith, equal) in
+          (λ t. record {
+            held = (ap (λ (n : ℕ). take n whole.held) rest ∙ sym first.receipts) t;
+            records = (take_all (length content.records + length content.held) whole.records (omega (arith, equal))
+                ∙ sym (first.records ∙ take_all (length content.records) whole.records (omega (arith, equal)))) t;
+          })
+    ]
+
+no-lines : (whole : State) → first_of 0 whole ≡ no_state
+no-lines whole =
+    let none : 0 - length whole.records ≡ 0 = omega arith in
+    (λ t. record { held = ap (λ (n : ℕ). take n whole.held) none t; records = [] })
+
+-- The content is the first so many lines of the whole.
+record IsCut (whole content : State) : Type 0 where
+  pub lines : ℕ
+  pub is : first_of lines whole ≡ content
+
+-- of an answer that was not taken to its end the first lines were taken
+part-is-cut : (c : Configuration) (state : State) (bucket first : ℕ) (content : State) (left lost : List ℕ) (r : Reply) (rest : List ℕ)
+    (e : SyncError) → IsReply c bucket r → left ++ lost ≡ reply_text r ++ rest
+    → RefusesAnswer c state bucket first content (Some left) e → IsCut r.content content
+part-is-cut c state bucket first content left lost r rest e is begins (inl head) =
+    record { lines = 0; is = no-lines r.content ∙ sym head.none }
+part-is-cut c state bucket first content left lost r rest e is begins (inr fault) =
+    cut-behind fault.count fault.distrusts fault.further fault.begins
+  where
+    cut-behind : (count distrusts : ℕ) (further : Option (List ℕ))
+        → AnswerBegins (Some (record { config = c; bucket = bucket })) (Some left) count distrusts content further → IsCut r.content content
+    cut-behind count distrusts None b = absurd b.text
+    cut-behind count distrusts (Some further) b =
+        let more : AnswerBegins (Some (record { config = c; bucket = bucket })) (Some (left ++ lost)) count distrusts content (Some (further ++ lost)) =
+        record {
+          first = b.first;
+          heads = b.heads;
+          begun = b.begun;
+          text = ap (λ (t : List ℕ). t ++ lost) b.text ∙ append_assoc (ended b.first ++ text_of_lines (content_lines content)) further lost;
+        } in
+        let part = is-part (Some (record { config = c; bucket = bucket })) (left ++ lost) r rest is.answer is.about is.own begins
+        count distrusts content (further ++ lost) more in
+        let records = part.records in
+        let receipts = part.receipts in
+        let few = b.begun.records in
+        let few_receipts = b.begun.receipts in
+        let within : length content.records ≤ length r.content.records = omega (arith, records, few) in
+        let order : length content.records < length r.content.records → content.held ≡ [] = λ less. b.begun.order (omega (arith, records, less)) in
+        record {
+          lines = length content.records + length content.held;
+          is = first-lines r.content content within order
+              (front-content content.records r.content.records content.held r.content.held _ _ b.begun.valid.records is.answer.valid.records
+              b.begun.valid.receipts is.answer.valid.receipts
+              (sym (append_assoc (map distrust_line content.records) (map line content.held) _) ∙ part.lines
+              ∙ append_assoc (map distrust_line r.content.records) (map line r.content.held) _)
+              within order (omega (arith, receipts, few_receipts)));
+        }
+
+cut-exchange-is : (rules : Rules) (i j : ℕ) (l : i < rules.replicas) (n : j < rules.replicas) (c : Configuration) (k : Meaning)
+    (w : World) (state : State) (sent bucket : ℕ) (r : Reply) (content : State) → IsAt i j k w state sent
+    → r ≡ reply_of k (question_in c state bucket) → bucket ≤ 255 → is_within_limits (joined state content) ≡ true
+    → (cut : IsCut r.content content) → (run_from rules w (cut_exchange i j bucket sent cut.lines)).now i ≡ joined state content
+cut-exchange-is rules i j l n c k w state sent bucket r content at is low room cut =
+    let same = same-content i j c k w state sent bucket r at is in
+    let taken : joined (w.now i) (first_of cut.lines (the_content rules i j l n w bucket low)) ≡ joined state content =
+    (λ t. joined (at.here t) (first_of cut.lines (same t))) ∙ ap (joined state) cut.is in
+    let run = ap (λ (s : ℕ). run_from rules w (cut_exchange i j bucket s cut.lines)) (sym at.many)
+    ∙ cut-is rules i j l n w bucket low cut.lines (ap is_within_limits taken ∙ room) in
+    ap (λ (v : World). v.now i) run ∙ at-here i (joined (w.now i) (first_of cut.lines (the_content rules i j l n w bucket low))) w.now ∙ taken
+
+-- What a pull holds that was cut is what its replica holds after whole exchanges and one that was cut.
+pub cut-in-world : (m k held : Meaning) (n i j : ℕ) (w : World) (asked told rest bytes lost : List ℕ) (count : ℕ) (e : SyncError)
+    → i < n → j < n → i ≢ j → w.now i ≡ state_of m → w.now j ≡ state_of k → IsMeaning m → IsMeaning k → IsMeaning held
+    → config_id_of m.config ≡ config_id_of k.config → ServesAll k (Some asked) (Some []) (Some told) count
+    → bytes ++ lost ≡ told ++ rest → PullsUpTo m (Some bytes) (Some []) held (Some asked) e → e ≢ Io → e ≢ NoMemory
+    → EndsCut (rules_of m.config n) w i j (state_of held)
+cut-in-world m k held n i j w asked told rest bytes lost count e l h apart here there valid other kept same all begins part calm ample =
+    cut-at part.left part.session.text part.cause
+  where
+    cut-at : (left : Option (List ℕ)) → Consumes (Some bytes) left (told_texts part.replies)
+        → RefusesAnswer m.config (after_replies (state_of m) part.replies) (length part.replies) (line_count part.replies + 1) part.content left e
+        → EndsCut (rules_of m.config n) w i j (state_of held)
+    cut-at None text cause = absurd text
+    cut-at (Some left) text cause =
+        let state = after_replies (state_of m) part.replies in
+        let questions = all-asked m part.replies ++ last-asked m part.replies in
+        let asks = part-asked m held (Some bytes) asked e valid kept calm ample part in
+        let told_text = told-is m k asked told count questions same asks all in
+        let each = replies-in-turn m.config k 0 questions other (sym same) asks.each in
+        let many = length-map questions (reply_of k) in
+        let both = length-append (all-asked m part.replies) (last-asked m part.replies) in
+        let size = length-asked m.config 0 (state_of m) part.replies in
+        let front = first-replies m.config 0 (all-replies k questions) part.replies rest (left ++ lost) each part.session.each
+        (omega (arith, many, both, size))
+        (sym (ap (λ (t : List ℕ). t ++ rest) told_text) ∙ sym begins ∙ ap (λ (t : List ℕ). t ++ lost) text
+        ∙ append_assoc (told_texts part.replies) left lost) in
+        let last = question_in m.config state (length part.replies) in
+        let reply = reply_of k last in
+        let one = last-one k (all-asked m part.replies) last part.replies front.later (sym size) front.whole in
+        let final : IsMeaning (meaning_of_state m.config (joined state part.content)) = subst IsMeaning part.meaning kept in
+        let now : IsMeaning (meaning_of_state m.config state) =
+        meaning-within m.config state (joined state part.content) (within-joined state part.content)
+        (rising-after (state_of m) part.replies (rising-meaning m valid)) final in
+        let few = part.few in
+        let is : IsReply m.config (length part.replies) reply =
+        record { own = sym same; about = refl; answer = answer-given k last other (own-question m.config state (length part.replies) now few).askable } in
+        let behind : left ++ lost ≡ reply_text reply ++ rest =
+        front.behind ∙ ap (λ (ls : List Reply). told_texts ls ++ rest) one ∙ ap (λ (t : List ℕ). t ++ rest) (append-nil (reply_text reply)) in
+        let cut = part-is-cut m.config state (length part.replies) (line_count part.replies + 1) part.content left lost reply rest e is behind cause in
+        let room = small-within (joined state part.content) (joined state part.content) (within-itself (joined state part.content))
+        (record { receipts = final.few; records = final.few_records }) in
+        let run = run-all (rules_of m.config n) i j l h (λ s. apart (sym s)) m.config k part.replies w (state_of m) (length w.sent) 0
+        (record { here = here; there = there; many = refl })
+        (answers-of m.config k 0 (state_of m) part.replies (last-asked m part.replies) front.later (sym front.whole)) (omega (arith, few))
+        (record { receipts = now.few; records = now.few_records }) in
+        record {
+          buckets = length part.replies;
+          few = few;
+          lines = cut.lines;
+          holds = ap (λ (v : World). v.now i)
+              (fold-append (happens (rules_of m.config n)) w (whole_exchanges i j (length part.replies) 0 (length w.sent))
+              (cut_exchange i j (length part.replies) (length w.sent + 2 * length part.replies) cut.lines))
+              ∙ cut-exchange-is (rules_of m.config n) i j l h m.config k _ state (length w.sent + 2 * length part.replies)
+              (length part.replies) reply part.content run refl (omega (arith, few)) room cut
+              ∙ ap state_of (sym part.meaning);
+        }
