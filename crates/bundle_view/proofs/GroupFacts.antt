@@ -11,10 +11,10 @@ use Rattle.bundle_doc.specs.Bundle.{Bundle}
 use Rattle.fed_config.specs.Configuration.{AreDomains}
 use Rattle.receipt_core.specs.Acceptance.{Meaning, IsMember}
 use Rattle.closure_core.specs.AcceptedList.{document_cmp, document_of, IsAcceptedList}
-use Rattle.bundle_view.specs.Conflicts.{Clash, AreClashes, AreConflicts, OfDomain, AreAllConflicts, ReportedConflict, reported_conflict}
-use Rattle.bundle_view.specs.Inside.Groups.{IsGroup, IsGroupLength, AddsClashes, SoFar, AreFoundOf}
-use Rattle.bundle_view.proofs.ListFacts.{rising_left, rising_right}
-use Rattle.bundle_view.proofs.ClashFacts.{group_below, clashes_append, clashes_iff, single}
+use Rattle.bundle_view.specs.Conflicts.{ConflictGroup, AreConflictGroups, AreConflicts, OfDomain, AreAllConflicts, ReportedConflict, reported_conflict}
+use Rattle.bundle_view.specs.Inside.Groups.{IsGroup, IsGroupLength, AddsConflicts, SoFar, AreFoundOf}
+use Rattle.bundle_view.proofs.RisingListFacts.{rising_left, rising_right}
+use Rattle.bundle_view.proofs.ConflictFacts.{group_below, clashes_append, clashes_iff, single}
 
 -- the documents from a place on rise
 rising_parts : (documents : List Bundle) (start : ℕ) (rest : List Bundle) → IsStrictlySortedBy document_cmp documents
@@ -43,9 +43,9 @@ group_at documents start len rest rising e is = record {
 }
 
 -- the conflicts of a list are those of its first group and those of the others
-group_first : (rest : List Bundle) (len : ℕ) (cs ds : List Clash) → IsStrictlySortedBy document_cmp rest
-    → IsGroupLength rest len → AreClashes (Contains (take len rest)) cs
-    → AreClashes (Contains (drop len rest)) ds → AreClashes (Contains rest) (cs ++ ds)
+group_first : (rest : List Bundle) (len : ℕ) (cs ds : List ConflictGroup) → IsStrictlySortedBy document_cmp rest
+    → IsGroupLength rest len → AreConflictGroups (Contains (take len rest)) cs
+    → AreConflictGroups (Contains (drop len rest)) ds → AreConflictGroups (Contains rest) (cs ++ ds)
 group_first rest len cs ds rising is p q =
     clashes_append (Contains (take len rest)) (Contains (drop len rest)) (Contains rest)
     (λ d h. Contains-append_cases (take len rest) (drop len rest) d (subst (λ (z : List Bundle). Contains z d) (sym (take-append-drop len rest)) h))
@@ -56,7 +56,7 @@ group_first rest len cs ds rising is p q =
 -- the conflicts of one more group were added: the step of the loop in `add_conflicts`
 pub so_far_step : (domain : List ℕ) (documents : List Bundle) (start len : ℕ) (rest : List Bundle)
     (old new more : List ReportedConflict) → IsStrictlySortedBy document_cmp documents → rest ≡ drop start documents
-    → SoFar domain documents start old new → IsGroupLength rest len → AddsClashes domain (take len rest) new more
+    → SoFar domain documents start old new → IsGroupLength rest len → AddsConflicts domain (take len rest) new more
     → SoFar domain documents (start + len) old more
 so_far_step domain documents start len rest old new more rising e s is a =
     let rising_rest : IsStrictlySortedBy document_cmp rest = rising_parts documents start rest rising e in
@@ -69,29 +69,29 @@ so_far_step domain documents start len rest old new more rising e s is a =
           ∙ append_assoc old (map (reported_conflict domain) s.clashes) (map (reported_conflict domain) a.clashes)
           ∙ ap (λ z. old ++ z) (sym (map-append (reported_conflict domain) s.clashes a.clashes));
       all = λ others are.
-          let here : AreClashes (Contains rest) (a.clashes ++ others) =
+          let here : AreConflictGroups (Contains rest) (a.clashes ++ others) =
           group_first rest len a.clashes others rising_rest is a.are
-          (subst (λ (z : List Bundle). AreClashes (Contains z) others) (sym behind) are) in
-          subst (AreClashes (Contains documents)) (sym (append_assoc s.clashes a.clashes others))
-          (s.all (a.clashes ++ others) (subst (λ (z : List Bundle). AreClashes (Contains z) (a.clashes ++ others)) e here));
+          (subst (λ (z : List Bundle). AreConflictGroups (Contains z) others) (sym behind) are) in
+          subst (AreConflictGroups (Contains documents)) (sym (append_assoc s.clashes a.clashes others))
+          (s.all (a.clashes ++ others) (subst (λ (z : List Bundle). AreConflictGroups (Contains z) (a.clashes ++ others)) e here));
     }
 
 -- after the last group all conflicts were added
 pub so_far_end : (domain : List ℕ) (documents : List Bundle) (start : ℕ) (old new : List ReportedConflict)
-    → SoFar domain documents start old new → length documents ≤ start → AddsClashes domain documents old new
+    → SoFar domain documents start old new → length documents ≤ start → AddsConflicts domain documents old new
 so_far_end domain documents start old new s past =
     let size : length (drop start documents) ≡ length documents - start = length-drop start documents in
     record {
       clashes = s.clashes;
-      are = subst (AreClashes (Contains documents)) (append-nil s.clashes) (s.all [] (single (drop start documents) (omega arith)));
+      are = subst (AreConflictGroups (Contains documents)) (append-nil s.clashes) (s.all [] (single (drop start documents) (omega arith)));
       now = s.now;
     }
 
 -- ---- the conflicts of several domains
 
 -- the conflicts among a domain's accepted documents are the domain's
-pub conflicts_of : (m : Meaning) (domain : List ℕ) (documents : List Bundle) (cs : List Clash)
-    → IsAcceptedList m domain documents → AreClashes (Contains documents) cs → AreConflicts m domain cs
+pub conflicts_of : (m : Meaning) (domain : List ℕ) (documents : List Bundle) (cs : List ConflictGroup)
+    → IsAcceptedList m domain documents → AreConflictGroups (Contains documents) cs → AreConflicts m domain cs
 conflicts_of m domain documents cs list are = clashes_iff (Contains documents) (λ d. IsMember m (document_of domain d)) list.sound list.complete cs are
 
 -- the items up to a place and the one there are the items up to the next place
@@ -105,7 +105,7 @@ found_none m = record { parts = []; domains_are = refl; each = λ p h. absurd (o
 -- the conflicts of one more domain were found: the step of the loop in `conflicts`
 pub found_more : (m : Meaning) (domains : List (List ℕ)) (domain : List ℕ) (documents : List Bundle)
     (old new : List ReportedConflict) → AreFoundOf m domains old → IsAcceptedList m domain documents
-    → AddsClashes domain documents old new → AreFoundOf m (domains ++ domain ∷ []) new
+    → AddsConflicts domain documents old new → AreFoundOf m (domains ++ domain ∷ []) new
 found_more m domains domain documents old new f list a =
     let part : OfDomain = record { domain = domain; clashes = a.clashes } in
     record {

@@ -1,6 +1,6 @@
-pub mod ListFacts
+pub mod RisingListFacts
 pub mod CurrentFacts
-pub mod ClashFacts
+pub mod ConflictFacts
 pub mod GroupFacts
 pub mod ReportFacts
 pub mod StandardFacts
@@ -9,4 +9,4 @@ pub mod WaitingFacts
 pub mod TrailFacts
 pub mod ExplainFacts
 pub mod ObserveFacts
-pub mod ObservationLaws
+pub mod ObservationLawFacts

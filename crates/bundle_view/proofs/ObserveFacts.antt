@@ -25,7 +25,7 @@ use Rattle.closure_core.specs.declared.error.TakeError.TheVariants.{UnknownDomai
 use Rattle.closure_core.specs.declared.outcome.Taken.{Taken}
 use Rattle.closure_core.specs.declared.outcome.Taken.TheVariants.{New as TakenNew, Already as TakenAlready}
 use Rattle.closure_core.specs.Refusals.{Room, RefusesReceipt, IsOfWrongEndpoint}
-use Rattle.closure_core.specs.Changes.{HeldAndRoom, Took, IsUnchanged}
+use Rattle.closure_core.specs.Changes.{HeldAndRoom, TakesOk, IsUnchanged}
 use Rattle.closure_core.specs.AcceptedList.{document_of}
 use Rattle.closure_core.proofs.MemberFacts.{leads_more}
 use Rattle.bundle_view.specs.Current.{IsCurrent}
@@ -36,7 +36,7 @@ use Rattle.bundle_view.specs.Inside.Observing.{IsVoucher, HasKept, HasNotKept}
 use Rattle.bundle_view.specs.declared.observation.Verdict.{Verdict}
 use Rattle.bundle_view.specs.declared.observe_error.ObserveError.{ObserveError}
 use Rattle.bundle_view.specs.declared.observe_error.ObserveError.TheVariants.{NoRelationship, WrongEndpoint, Take}
-use Rattle.bundle_view.proofs.ListFacts.{contains_later, contains_cases, not_below_itself, only_one}
+use Rattle.bundle_view.proofs.RisingListFacts.{contains_later, contains_cases, not_below_itself, only_one}
 
 -- ---- a record that is another one is passed over
 
@@ -138,7 +138,7 @@ accepted_of m domain bytes verdict id document valid form is =
 
 -- after the receipt was taken it is held, and nothing else changed, whether it was held before or
 -- not
-meaning_of_took : (old new : HeldAndRoom) (r : Receipt) (taken : Taken) → IsMeaning old.meaning → Took old r new taken → new.meaning ≡ holding old.meaning r
+meaning_of_took : (old new : HeldAndRoom) (r : Receipt) (taken : Taken) → IsMeaning old.meaning → TakesOk old r new taken → new.meaning ≡ holding old.meaning r
 meaning_of_took old new r (TakenNew n) valid took = took.meaning
 meaning_of_took old new r TakenAlready valid took =
     ap (λ (s : HeldAndRoom). s.meaning) took.same

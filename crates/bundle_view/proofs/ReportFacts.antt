@@ -14,14 +14,14 @@ use Rattle.closure_core.specs.AcceptedList.{document_cmp, document_of, IsAccepte
 use Rattle.closure_core.specs.Order.{document_total}
 use Rattle.bundle_view.specs.Current.{IsCurrent}
 use Rattle.bundle_view.specs.Conflicts.{AreConflicts, ReportedConflict, reported_conflict}
-use Rattle.bundle_view.specs.Inside.Groups.{AddsClashes}
+use Rattle.bundle_view.specs.Inside.Groups.{AddsConflicts}
 use Rattle.bundle_view.specs.Inside.Sections.{HasReportHead, AddsSection, HasSections}
 use Rattle.bundle_view.specs.Report.{Section, IsSection, IsReport, report_text, head_text, section_text, current_line}
 use Rattle.bundle_view.specs.Report.{accepted_line, conflict_line, distrust_line, records_of, document_text}
 use Rattle.bundle_view.specs.Report.{sequence_text}
-use Rattle.bundle_view.proofs.ListFacts.{contains_first, contains_later, same_list, joined}
+use Rattle.bundle_view.proofs.RisingListFacts.{contains_first, contains_later, same_list, joined}
 use Rattle.bundle_view.proofs.CurrentFacts.{one_current}
-use Rattle.bundle_view.proofs.ClashFacts.{one_list, one_domains}
+use Rattle.bundle_view.proofs.ConflictFacts.{one_list, one_domains}
 use Rattle.bundle_view.proofs.GroupFacts.{conflicts_of}
 
 -- a domain has one list of accepted documents
@@ -136,7 +136,7 @@ section_made records s o x y z u v p q r a b =
 -- what `push_section` writes is the section of the domain
 pub section_added : (m : Meaning) (domain : List ℕ) (documents : List Bundle) (current : Option Bundle)
     (none found : List ReportedConflict) (o x y z u v : List ℕ)
-    → IsAcceptedList m domain documents → IsCurrent m domain current → none ≡ [] → AddsClashes domain documents none found
+    → IsAcceptedList m domain documents → IsCurrent m domain current → none ≡ [] → AddsConflicts domain documents none found
     → x ≡ o ++ (codes "domain " ++ (domain ++ codes "\n")) → y ≡ x ++ current_line domain current → z ≡ y ++ flat_map (accepted_line domain) documents
     → u ≡ z ++ flat_map conflict_line found → v ≡ u ++ flat_map distrust_line (records_of domain m.records) → AddsSection m domain o v
 section_added m domain documents current none found o x y z u v list is_current empty adds p q r a b =

@@ -23,7 +23,7 @@ use Rattle.receipt_core.proofs.LineFacts.{one_triple}
 use Rattle.closure_core.specs.Inside.Nodes.{is_raised}
 use Rattle.closure_core.specs.Inside.Flags.{raised_count}
 use Rattle.bundle_view.specs.Inside.Search.{Stride, HasStride, AreFollowed, AreMarked, AreVisited, IsAddedStep, AppendsSteps, FollowsOffers, IsEdgeDue}
-use Rattle.bundle_view.proofs.ListFacts.{contains_first, contains_none, contains_cases}
+use Rattle.bundle_view.proofs.RisingListFacts.{contains_first, contains_none, contains_cases}
 
 -- ---- places
 

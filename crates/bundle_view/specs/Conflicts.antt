@@ -13,7 +13,7 @@ use Rattle.bundle_view.specs.declared.conflict.ConflictKind.TheVariants.{Keys, H
 use Rattle.bundle_view.specs.declared.conflict.Conflict.{Conflict}
 
 -- documents with one sequence number
-pub record Clash : Type 0 where
+pub record ConflictGroup : Type 0 where
   pub sequence : ℕ
   pub kind : ConflictKind
   pub documents : List Bundle
@@ -37,24 +37,24 @@ IsOfKind documents HintOnly = Agree documents
 -- Of the documents with the property they are all those with the sequence number, each once, and
 -- two or more. They are in their order, which for documents of one rank is that of their canonical
 -- texts.
-pub record IsClash (P : Bundle → Type 0) (c : Clash) : Type 0 where
+pub record IsConflictGroup (P : Bundle → Type 0) (c : ConflictGroup) : Type 0 where
   pub rising : IsStrictlySortedBy document_cmp c.documents
   pub exactly : (d : Bundle) → Contains c.documents d ↔ (P d × (d.rank ≡ Some c.sequence))
   pub several : 2 ≤ length c.documents
   pub kind : IsOfKind c.documents c.kind
 
-abbrev pub clash_cmp : Clash → Clash → Ordering
-clash_cmp c d = nat_cmp c.sequence d.sequence
+abbrev pub group_cmp : ConflictGroup → ConflictGroup → Ordering
+group_cmp c d = nat_cmp c.sequence d.sequence
 
 -- all of them, rising by sequence number
-pub record AreClashes (P : Bundle → Type 0) (clashes : List Clash) : Type 0 where
-  pub rising : IsStrictlySortedBy clash_cmp clashes
-  pub sound : (c : Clash) → Contains clashes c → IsClash P c
-  pub complete : (c : Clash) → IsClash P c → Contains clashes c
+pub record AreConflictGroups (P : Bundle → Type 0) (clashes : List ConflictGroup) : Type 0 where
+  pub rising : IsStrictlySortedBy group_cmp clashes
+  pub sound : (c : ConflictGroup) → Contains clashes c → IsConflictGroup P c
+  pub complete : (c : ConflictGroup) → IsConflictGroup P c → Contains clashes c
 
 -- all conflicts of a domain: those of its accepted documents
-abbrev pub AreConflicts : Meaning → List ℕ → List Clash → Type 0
-AreConflicts m domain clashes = AreClashes (λ d. IsMember m (document_of domain d)) clashes
+abbrev pub AreConflicts : Meaning → List ℕ → List ConflictGroup → Type 0
+AreConflicts m domain clashes = AreConflictGroups (λ d. IsMember m (document_of domain d)) clashes
 
 -- ---- as they are told
 
@@ -68,7 +68,7 @@ pub record ReportedConflict : Type 0 where
 abbrev pub id_in : List ℕ → Bundle → DocId
 id_in domain d = record { 0 = doc_id_of domain d }
 
-abbrev pub reported_conflict : List ℕ → Clash → ReportedConflict
+abbrev pub reported_conflict : List ℕ → ConflictGroup → ReportedConflict
 reported_conflict domain
     c = record {
       domain = domain;
@@ -88,14 +88,14 @@ reported_by c = record {
 -- the conflicts of one domain
 pub record OfDomain : Type 0 where
   pub domain : List ℕ
-  pub clashes : List Clash
+  pub clashes : List ConflictGroup
 
-abbrev pub tell_all : List OfDomain → List ReportedConflict
-tell_all parts = flat_map (λ part. map (reported_conflict part.domain) part.clashes) parts
+abbrev pub report_all : List OfDomain → List ReportedConflict
+report_all parts = flat_map (λ part. map (reported_conflict part.domain) part.clashes) parts
 
 -- the conflicts of all domains of the configuration, rising by domain and then by sequence number
 pub record AreAllConflicts (m : Meaning) (conflicts : List ReportedConflict) : Type 0 where
   pub parts : List OfDomain
   pub domains : AreDomains m.config (map (λ part. part.domain) parts)
   pub each : (part : OfDomain) → Contains parts part → AreConflicts m part.domain part.clashes
-  pub are : conflicts ≡ tell_all parts
+  pub are : conflicts ≡ report_all parts

@@ -13,7 +13,8 @@ use Rattle.byte_lines.specs.Device.{AppendsBeginning}
 use Rattle.receipt_core.specs.declared.distrust.Distrust.{Distrust}
 use Rattle.closure_core.specs.AcceptedList.{IsAcceptedList, IsPendingCount}
 use Rattle.bundle_view.specs.Current.{IsCurrent}
-use Rattle.bundle_view.specs.Conflicts.{Clash, AreConflicts, ReportedConflict, reported_conflict}
+use Rattle.bundle_view.specs.Conflicts.{ConflictGroup, AreConflicts, ReportedConflict}
+use Rattle.bundle_view.specs.Conflicts.{reported_conflict}
 use Rattle.bundle_view.specs.declared.conflict.ConflictKind.{ConflictKind}
 use Rattle.bundle_view.specs.declared.conflict.ConflictKind.TheVariants.{Keys, HintOnly}
 use Rattle.bundle_view.specs.declared.error.ReportError.{ReportError}
@@ -60,7 +61,7 @@ pub record Section : Type 0 where
   pub domain : List ℕ
   pub current : Option Bundle
   pub accepted : List Bundle
-  pub conflicts : List Clash
+  pub conflicts : List ConflictGroup
 
 -- the records of distrust of a domain
 abbrev pub is_of : List ℕ → Distrust → Bool

@@ -4,7 +4,7 @@ ghost use Rattle.std.specs.Prelude.{OnOk, Contains};
 ghost use Rattle.std.specs.List.Sorted.{IsStrictlySortedBy};
 ghost use Rattle.closure_core.specs.AcceptedList.{document_cmp};
 ghost use Rattle.bundle_view.specs.Conflicts.{AreAllConflicts, IsOfKind, id_in, reported_by};
-ghost use Rattle.bundle_view.specs.Inside.Groups.{AddsClashes, IsGroup, IsGroupLength};
+ghost use Rattle.bundle_view.specs.Inside.Groups.{AddsConflicts, IsGroup, IsGroupLength};
 
 use crate::listed::{Listed, list_accepted};
 use bundle_doc::{DocId, Document};
@@ -65,7 +65,7 @@ pub(crate) fn add_conflicts(
     found: &mut Vec<Conflict>,
 ) -> Result<(), AllocError>
     requires { IsStrictlySortedBy document_cmp documents.now }
-    ensures { OnOk result (AddsClashes domain.now documents.now (map reported_by found.old.items)
+    ensures { OnOk result (AddsConflicts domain.now documents.now (map reported_by found.old.items)
         (map reported_by found.new.items)) }
 {
     let mut start = 0;
@@ -100,7 +100,7 @@ fn add_conflict(
     found: &mut Vec<Conflict>,
 ) -> Result<(), AllocError>
     requires { IsGroup group.now }
-    ensures { OnOk result (AddsClashes domain.now group.now (map reported_by found.old.items)
+    ensures { OnOk result (AddsConflicts domain.now group.now (map reported_by found.old.items)
         (map reported_by found.new.items)) }
 {
     let Some(sequence) = group[0].document().rank() else {

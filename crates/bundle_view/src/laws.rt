@@ -9,7 +9,7 @@ ghost use Rattle.bundle_doc.specs.Bundle.{Bundle};
 ghost use Rattle.receipt_core.specs.Acceptance.{Meaning, IsMember, pair_of_seed};
 ghost use Rattle.closure_core.specs.AcceptedList.{IsAcceptedList};
 ghost use Rattle.bundle_view.specs.Current.{IsCurrent, IsNoLower};
-ghost use Rattle.bundle_view.specs.Conflicts.{Clash, AreConflicts, ReportedConflict};
+ghost use Rattle.bundle_view.specs.Conflicts.{ConflictGroup, AreConflicts, ReportedConflict};
 ghost use Rattle.bundle_view.specs.Conflicts.{AreAllConflicts};
 ghost use Rattle.bundle_view.specs.Report.{IsReport};
 ghost use Rattle.closure_core.specs.declared.error.TakeError.TheVariants.{Full, NoMemory};

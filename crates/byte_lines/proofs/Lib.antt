@@ -1,4 +1,4 @@
-mod Pieces
+mod PieceFacts
 pub mod StreamFacts
 pub mod StepFacts
 pub mod CountFacts

@@ -17,6 +17,7 @@ use Rattle.closure_core.specs.Count.{IsCount}
 use Rattle.closure_core.specs.Refusals.{Room, IsRoomier, RefusesReceipt, RefusesDistrust}
 use Rattle.closure_core.specs.Refusals.{RefusesMerge, IsOfConfig, all_receipts, all_records}
 use Rattle.closure_core.specs.Refusals.{offers_count}
+use Rattle.receipt_core.specs.Limits.{receipt_limit, record_limit}
 
 -- what a closure holds, and how much more it has memory for
 pub record HeldAndRoom : Type 0 where
@@ -44,7 +45,7 @@ pub record HasTaken (old : HeldAndRoom) (r : Receipt) (new : HeldAndRoom)
     (accepted_now : ℕ) : Type 0 where
   pub fits : IsFitting old.meaning.config r
   pub unheld : Contains old.meaning.held r → ⊥
-  pub few : length old.meaning.held < 65536
+  pub few : length old.meaning.held < receipt_limit
   pub meaning : new.meaning ≡ record old.meaning { held = with_receipt r old.meaning.held }
   pub gain : IsGain old.meaning new.meaning accepted_now
   pub receipts : old.room.receipts ≤ new.room.receipts + 1
@@ -55,9 +56,9 @@ pub record HasReceiptAlready (old : HeldAndRoom) (r : Receipt) (new : HeldAndRoo
   pub held : Contains old.meaning.held r
   pub same : new ≡ old
 
-abbrev pub Took : HeldAndRoom → Receipt → HeldAndRoom → Taken → Type 0
-Took old r new (TakenNew accepted_now) = HasTaken old r new accepted_now
-Took old r new TakenAlready = HasReceiptAlready old r new
+abbrev pub TakesOk : HeldAndRoom → Receipt → HeldAndRoom → Taken → Type 0
+TakesOk old r new (TakenNew accepted_now) = HasTaken old r new accepted_now
+TakesOk old r new TakenAlready = HasReceiptAlready old r new
 
 -- The receipt comes back, and nothing is lost.
 pub record HasRefused (old : HeldAndRoom) (r : Receipt) (new : HeldAndRoom)
@@ -67,7 +68,7 @@ pub record HasRefused (old : HeldAndRoom) (r : Receipt) (new : HeldAndRoom)
   pub unchanged : IsUnchanged old new
 
 abbrev pub Takes : HeldAndRoom → Receipt → HeldAndRoom → Result Taken Refused → Type 0
-Takes old r new result = MatchResult result (Took old r new) (HasRefused old r new)
+Takes old r new result = MatchResult result (TakesOk old r new) (HasRefused old r new)
 
 -- ---- one record of distrust
 
@@ -75,7 +76,7 @@ Takes old r new result = MatchResult result (Took old r new) (HasRefused old r n
 pub record HasDistrusted (old : Meaning) (x : Distrust) (new : Meaning) (lost : ℕ) : Type 0 where
   pub domain : HasDomain old.config x.domain
   pub unheld : Contains old.records x → ⊥
-  pub few : length old.records < 4096
+  pub few : length old.records < record_limit
   pub meaning : new ≡ record old { records = with_distrust x old.records }
   pub loss : IsGain new old lost
 
@@ -111,8 +112,8 @@ union_of m other = record {
 -- Receipts and records are those of both, and n receipts were not held.
 pub record HasMerged (old other new : Meaning) (n : ℕ) : Type 0 where
   pub of_config : IsOfConfig old other
-  pub few : length (all_receipts old other) ≤ 65536
-  pub few_records : length (all_records old other) ≤ 4096
+  pub few : length (all_receipts old other) ≤ receipt_limit
+  pub few_records : length (all_records old other) ≤ record_limit
   pub meaning : new ≡ union_of old other
   pub count : length (all_receipts old other) ≡ length old.held + n
 

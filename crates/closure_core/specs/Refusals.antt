@@ -10,6 +10,7 @@ use Rattle.receipt_core.specs.Acceptance.{IsFitting, Meaning}
 use Rattle.closure_core.specs.declared.error.TakeError.{TakeError}
 use Rattle.closure_core.specs.declared.error.TakeError.TheVariants.{UnknownDomain, WrongEndpoint}
 use Rattle.closure_core.specs.declared.error.TakeError.TheVariants.{Full, NoMemory, ConfigDiffers}
+use Rattle.receipt_core.specs.Limits.{receipt_limit, record_limit}
 
 -- for how many receipts, and for how many offers of theirs, there is memory already
 pub record Room : Type 0 where
@@ -37,12 +38,12 @@ pub record IsOfWrongEndpoint (c : Configuration) (r : Receipt) : Type 0 where
   pub other : relationship.endpoint ≡ r.endpoint → ⊥
 
 -- The receipt does not fit, and this is why.
-abbrev pub Misfits : Configuration → Receipt → TakeError → Type 0
-Misfits c r UnknownDomain = IsOfUnknownDomain c r
-Misfits c r WrongEndpoint = IsOfWrongEndpoint c r
-Misfits c r Full = ⊥
-Misfits c r NoMemory = ⊥
-Misfits c r ConfigDiffers = ⊥
+abbrev pub RefusesFit : Configuration → Receipt → TakeError → Type 0
+RefusesFit c r UnknownDomain = IsOfUnknownDomain c r
+RefusesFit c r WrongEndpoint = IsOfWrongEndpoint c r
+RefusesFit c r Full = ⊥
+RefusesFit c r NoMemory = ⊥
+RefusesFit c r ConfigDiffers = ⊥
 
 -- ---- one receipt
 
@@ -54,13 +55,13 @@ IsBeyond room r = 0 < room.receipts → length (offers_of (pair_of r)) ≤ room.
 pub record IsOneTooMany (m : Meaning) (r : Receipt) : Type 0 where
   pub fits : IsFitting m.config r
   pub unheld : Contains m.held r → ⊥
-  pub full : 65536 ≤ length m.held
+  pub full : receipt_limit ≤ length m.held
 
 -- Nothing else stood in the way, and memory had to be asked for.
 pub record WantsMemory (m : Meaning) (room : Room) (r : Receipt) : Type 0 where
   pub fits : IsFitting m.config r
   pub unheld : Contains m.held r → ⊥
-  pub few : length m.held < 65536
+  pub few : length m.held < receipt_limit
   pub beyond : IsBeyond room r
 
 abbrev pub RefusesReceipt : Meaning → Room → Receipt → TakeError → Type 0
@@ -76,7 +77,7 @@ RefusesReceipt m room r ConfigDiffers = ⊥
 pub record IsOneRecordTooMany (m : Meaning) (x : Distrust) : Type 0 where
   pub domain : HasDomain m.config x.domain
   pub unheld : Contains m.records x → ⊥
-  pub full : 4096 ≤ length m.records
+  pub full : record_limit ≤ length m.records
 
 abbrev pub RefusesDistrust : Meaning → Distrust → TakeError → Type 0
 RefusesDistrust m x UnknownDomain = HasDomain m.config x.domain → ⊥
@@ -94,12 +95,12 @@ abbrev pub all_records : Meaning → Meaning → List Distrust
 all_records m other = with_items distrust_cmp other.records m.records
 
 -- Both have configurations of one digest.
-abbrev pub IsAlike : Meaning → Meaning → Type 0
-IsAlike m other = config_id_of m.config ≡ config_id_of other.config
+abbrev pub HasSameDigest : Meaning → Meaning → Type 0
+HasSameDigest m other = config_id_of m.config ≡ config_id_of other.config
 
 -- What the other holds is of this configuration.
 pub record IsOfConfig (m other : Meaning) : Type 0 where
-  pub alike : IsAlike m other
+  pub alike : HasSameDigest m other
   pub fitting : (r : Receipt) → Contains other.held r → IsFitting m.config r
   pub domains : (x : Distrust) → Contains other.records x → HasDomain m.config x.domain
 
@@ -114,21 +115,22 @@ HasWrongEndpoint m other = (r : Receipt) × Contains other.held r × IsOfWrongEn
 
 -- Both together are more than one holds.
 abbrev pub AreTooMany : Meaning → Meaning → Type 0
-AreTooMany m other = (65536 < length (all_receipts m other)) ⊎ (4096 < length (all_records m other))
+AreTooMany m other = (receipt_limit < length (all_receipts m other)) ⊎ (record_limit
+    < length (all_records m other))
 
 -- Nothing else stood in the way, and a receipt had to be copied.
 pub record WantsCopies (m other : Meaning) : Type 0 where
   pub of_config : IsOfConfig m other
-  pub few : length (all_receipts m other) ≤ 65536
-  pub few_records : length (all_records m other) ≤ 4096
+  pub few : length (all_receipts m other) ≤ receipt_limit
+  pub few_records : length (all_records m other) ≤ record_limit
   pub receipt : Receipt
   pub has : Contains other.held receipt
   pub unheld : Contains m.held receipt → ⊥
 
 abbrev pub RefusesMerge : Meaning → Meaning → TakeError → Type 0
-RefusesMerge m other UnknownDomain = IsAlike m other × HasUnknownDomain m other
-RefusesMerge m other WrongEndpoint = IsAlike m other × (HasUnknownDomain m other → ⊥)
+RefusesMerge m other UnknownDomain = HasSameDigest m other × HasUnknownDomain m other
+RefusesMerge m other WrongEndpoint = HasSameDigest m other × (HasUnknownDomain m other → ⊥)
     × HasWrongEndpoint m other
 RefusesMerge m other Full = IsOfConfig m other × AreTooMany m other
 RefusesMerge m other NoMemory = WantsCopies m other
-RefusesMerge m other ConfigDiffers = IsAlike m other → ⊥
+RefusesMerge m other ConfigDiffers = HasSameDigest m other → ⊥

@@ -2,7 +2,7 @@ mod WordsFacts
 mod TakenFacts
 mod ComplaintFacts
 mod RunFacts
-mod OrderedFacts
+mod ComplaintOrderFacts
 mod PollsFacts
 mod SessionsFacts
 mod DeviceFacts

@@ -14,7 +14,7 @@ use Rattle.poll_log.specs.Polling.{Standing, IsPollDue, IsNext, IsNextAfter, pol
 use Rattle.poll_log.specs.declared.error.PollError.{PollError}
 use Rattle.poll_log.specs.declared.error.PollError.TheVariants.{PastRange}
 use Rattle.bundle_view.proofs.GroupFacts.{taken_more}
-use Rattle.bundle_view.proofs.ListFacts.{contains_none, contains_cases}
+use Rattle.bundle_view.proofs.RisingListFacts.{contains_none, contains_cases}
 use Rattle.fedbundle.specs.Polls.{AddsNext, AddsPollLine, ArePollLines, IsPollLine, seconds_text}
 
 -- ---- what is refused for a domain of the log is past the range

@@ -14,7 +14,7 @@ use Rattle.byte_lines.specs.Device.{AppendsBeginning}
 use Rattle.byte_lines.specs.Lines.{Lines, lines_of, with_line, HasLine, HasNoLine, HasMore}
 use Rattle.receipt_core.specs.Receipt.{Receipt, with_receipt}
 use Rattle.byte_lines.proofs.StreamFacts.{lines_of-line, lines_of-rest}
-use Rattle.closure_core.specs.Changes.{HeldAndRoom, Took}
+use Rattle.closure_core.specs.Changes.{HeldAndRoom, TakesOk}
 use Rattle.closure_core.specs.declared.outcome.Taken.{Taken}
 use Rattle.closure_core.specs.declared.outcome.Taken.TheVariants.{New as TakenNew, Already as TakenAlready}
 use Rattle.fedbundle.specs.Stream.{AreTaken, OverfillStore, IsRefusedLine, Complaint, complaint_text}
@@ -131,7 +131,7 @@ taken_on c read text old new valid config taken few takes = by_case takes.taken 
     fits_then : IsFitting old.meaning.config r → AreTaken c (read ++ text ∷ []) (with_receipt r old.meaning.held)
     fits_then fits = taken_more c read text r old.meaning.held taken takes.is (subst (λ (d : Configuration). IsFitting d r) config fits)
 
-    by_case : (t : Taken) → Took old r new t → (new.meaning.config ≡ old.meaning.config)
+    by_case : (t : Taken) → TakesOk old r new t → (new.meaning.config ≡ old.meaning.config)
         × (new.meaning.records ≡ old.meaning.records) × AreTaken c (read ++ text ∷ []) new.meaning.held
         × (length new.meaning.held ≤ 65536)
         × ((why : LineFault) → IsRefusedLine c text why → ⊥)

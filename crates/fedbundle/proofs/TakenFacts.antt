@@ -18,7 +18,7 @@ use Rattle.receipt_core.specs.Sets.{AreSets}
 use Rattle.receipt_core.proofs.LineFacts.{one_line, one_receipt}
 use Rattle.receipt_core.proofs.ReadFacts.{length-line}
 use Rattle.receipt_core.proofs.RisingFacts.{Has, Has-from_contains, Contains-from_has, each_has, all_from_has, AreSets-from_total}
-use Rattle.bundle_view.proofs.ListFacts.{not_below_itself}
+use Rattle.bundle_view.proofs.RisingListFacts.{not_below_itself}
 use Rattle.fedbundle.specs.Stream.{IsTaken, AreTaken, IsRefusedLine}
 use Rattle.fedbundle.specs.declared.complaint.LineFault.{LineFault}
 use Rattle.fedbundle.specs.declared.complaint.LineFault.TheVariants.{NotCanonical, TooLong, UnknownDomain, WrongEndpoint, Cut}

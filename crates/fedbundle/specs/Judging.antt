@@ -8,7 +8,7 @@ use Rattle.byte_lines.specs.Device.{AppendsBeginning}
 use Rattle.receipt_core.specs.Line.{IsLine}
 use Rattle.byte_lines.specs.Lines.{Lines}
 use Rattle.receipt_core.specs.Receipt.{Receipt}
-use Rattle.closure_core.specs.Changes.{HeldAndRoom, Took}
+use Rattle.closure_core.specs.Changes.{HeldAndRoom, TakesOk}
 use Rattle.closure_core.specs.Refusals.{IsOneTooMany}
 use Rattle.closure_core.specs.declared.outcome.Taken.{Taken}
 use Rattle.fedbundle.specs.Stream.{AreTaken, OverfillStore, IsRefusedLine, Complaint, AreComplaints}
@@ -25,7 +25,7 @@ pub record TakesReceiptText (old : HeldAndRoom) (text : List ℕ) (new : HeldAnd
   pub receipt : Receipt
   pub is : IsLine text receipt
   pub taken : Taken
-  pub took : Took old receipt new taken
+  pub took : TakesOk old receipt new taken
 
 -- It is refused, and nothing is taken.
 pub record RefusesReceiptText (old : HeldAndRoom) (text : List ℕ) (new : HeldAndRoom)

@@ -7,7 +7,7 @@ use std::alloc::AllocError;
 use std::fmt::Display;
 
 /// Tells each cause of each crate.
-pub(crate) fn tell_all(answer: &mut String) -> Result<(), AllocError> {
+pub(crate) fn report_all(answer: &mut String) -> Result<(), AllocError> {
     names::tell_errors(answer)?;
     tell_each(
         &[

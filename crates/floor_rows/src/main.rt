@@ -50,7 +50,7 @@ fn call_with_bytes(
         "has_key" => documents::has_key(alloc, row.words, text, answer),
         "config" => configurations::read(alloc, text, answer),
         "relationship" => configurations::look_up(alloc, row.words, text, answer),
-        "errors" => errors::tell_all(answer),
+        "errors" => errors::report_all(answer),
         _ => match str::from_utf8(text) {
             Ok(text) => call_with_text(alloc, script, row, text, answer),
             Err(_) => answer.push_str("no UTF-8 text\n"),

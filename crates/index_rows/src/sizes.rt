@@ -29,9 +29,9 @@ impl Model for Sizes {
     ghost use Rattle.std.specs.Prelude.{◌≡◌, ℕ, true};
     ghost use Rattle.std.specs.List.{AllPairs};
     ghost use Rattle.std.proofs.Common.{ltb};
-    ghost use Rattle.sorted_order.specs.Stock.{Stock, in_order};
+    ghost use Rattle.sorted_order.specs.ArenaView.{ArenaView, in_order};
 
-    ghost Value = { Stock ℕ };
+    ghost Value = { ArenaView ℕ };
 
     ghost view = { λ sizes. sizes.arena };
 

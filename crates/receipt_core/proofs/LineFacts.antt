@@ -16,8 +16,8 @@ use Rattle.serde_json.specs.Written.{compact_text}
 use Rattle.spiffe_name.specs.Bytes.{is_domain_byte, is_segment_byte}
 use Rattle.spiffe_name.specs.TrustDomain.{IsDomainText}
 use Rattle.spiffe_name.specs.SpiffeId.{Id, IsId, IsSegment, path_of_segments, scheme}
-use Rattle.spiffe_name.proofs.Plain.{IsPlainText-domain, IsPlainText-id}
-use Rattle.spiffe_name.proofs.Ids.{one_value}
+use Rattle.spiffe_name.proofs.PlainFacts.{IsPlainText-domain, IsPlainText-id}
+use Rattle.spiffe_name.proofs.IdFacts.{one_value}
 use Rattle.jwk_set.proofs.EscapeFacts.{escape_itself}
 use Rattle.bundle_doc.specs.Bundle.{Bundle, IsBundle, document_tree, canonical_text, with_number, trees}
 use Rattle.bundle_doc.proofs.BundleFacts.{IsPlain-document_tree, one_text}

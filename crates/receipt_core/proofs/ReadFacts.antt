@@ -9,8 +9,8 @@ use Rattle.jwk_set.specs.Json.{IsJson, IsPlain}
 use Rattle.jwk_set.specs.Element.{HasText}
 use Rattle.jwk_set.proofs.PlainFacts.{IsJson-compact_text}
 use Rattle.spiffe_name.specs.SpiffeId.{Id, IsId}
-use Rattle.spiffe_name.proofs.Ids.{one_value}
-use Rattle.spiffe_name.proofs.Plain.{IsPlainText-domain, IsPlainText-id}
+use Rattle.spiffe_name.proofs.IdFacts.{one_value}
+use Rattle.spiffe_name.proofs.PlainFacts.{IsPlainText-domain, IsPlainText-id}
 use Rattle.bundle_doc.specs.Bundle.{Bundle, IsStoredDocument, Means, document_tree, canonical_text}
 use Rattle.bundle_doc.proofs.BundleFacts.{IsPlain-document_tree, Means-document_tree, one_meaning, depth-document_tree}
 use Rattle.receipt_core.specs.Receipt.{Receipt, IsReceipt, IsDigest, line, receipt_tree, IsDistrust, distrust_line, distrust_tree}

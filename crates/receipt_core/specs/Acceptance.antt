@@ -9,6 +9,7 @@ use Rattle.bundle_doc.specs.Bundle.{HasKeyId, doc_id_of}
 use Rattle.receipt_core.specs.declared.distrust.Distrust.{Distrust}
 use Rattle.receipt_core.specs.Receipt.{Receipt, IsReceipt, receipt_cmp, IsDistrust, distrust_cmp}
 use Rattle.receipt_core.specs.Receipt.{Pair, pair_of}
+use Rattle.receipt_core.specs.Limits.{receipt_limit, record_limit}
 
 -- The configuration has a relationship with the receipt's domain, and its endpoint is the
 -- receipt's.
@@ -48,11 +49,11 @@ pub record IsMeaning (m : Meaning) : Type 0 where
   pub receipts : AllByRecursion IsReceipt m.held
   pub rising : IsStrictlySortedBy receipt_cmp m.held
   pub fitting : AllByRecursion (IsFitting m.config) m.held
-  pub few : length m.held ≤ 65536
+  pub few : length m.held ≤ receipt_limit
   pub distrusts : AllByRecursion IsDistrust m.records
   pub records_rising : IsStrictlySortedBy distrust_cmp m.records
   pub domains : AllByRecursion (λ x. HasDomain m.config x.domain) m.records
-  pub few_records : length m.records ≤ 4096
+  pub few_records : length m.records ≤ record_limit
 
 abbrev pub pair_of_seed : Seed → Pair
 pair_of_seed s = record { domain = s.domain; document = s.document }

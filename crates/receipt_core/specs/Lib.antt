@@ -1,3 +1,4 @@
+pub mod Limits
 pub mod Receipt
 pub mod Order
 pub mod Parts

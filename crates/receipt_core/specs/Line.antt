@@ -11,6 +11,8 @@ use Rattle.receipt_core.specs.declared.distrust.Distrust.{Distrust}
 use Rattle.receipt_core.specs.declared.line_error.LineError.{LineError}
 use Rattle.receipt_core.specs.declared.line_error.LineError.TheVariants.{NotCanonical, TooLong}
 use Rattle.receipt_core.specs.declared.line_error.LineError.TheVariants.{NoMemory}
+use Rattle.byte_lines.specs.Limits.{line_limit}
+use Rattle.receipt_core.specs.Limits.{receipt_line_limit}
 
 -- the bytes are the receipt's line
 pub record IsLine (bytes : List ℕ) (r : Receipt) : Type 0 where
@@ -23,9 +25,9 @@ IsNoLine bytes = (r : Receipt) → IsLine bytes r → ⊥
 -- Why bytes are refused. Memory is wanted only for a line that is within the bound of receipts'
 -- lines.
 abbrev pub RefusesReceiptLine : List ℕ → LineError → Type 0
-RefusesReceiptLine bytes TooLong = 8388608 < length bytes
-RefusesReceiptLine bytes NotCanonical = (length bytes ≤ 8388608) × IsNoLine bytes
-RefusesReceiptLine bytes NoMemory = length bytes ≤ 1051063
+RefusesReceiptLine bytes TooLong = line_limit < length bytes
+RefusesReceiptLine bytes NotCanonical = (length bytes ≤ line_limit) × IsNoLine bytes
+RefusesReceiptLine bytes NoMemory = length bytes ≤ receipt_line_limit
 
 -- the bytes are the record's line
 pub record IsRecord (bytes : List ℕ) (x : Distrust) : Type 0 where
@@ -36,8 +38,8 @@ abbrev pub IsNoRecord : List ℕ → Type 0
 IsNoRecord bytes = (x : Distrust) → IsRecord bytes x → ⊥
 
 abbrev pub RefusesRecord : List ℕ → LineError → Type 0
-RefusesRecord bytes TooLong = 8388608 < length bytes
-RefusesRecord bytes NotCanonical = (length bytes ≤ 8388608) × IsNoRecord bytes
+RefusesRecord bytes TooLong = line_limit < length bytes
+RefusesRecord bytes NotCanonical = (length bytes ≤ line_limit) × IsNoRecord bytes
 RefusesRecord bytes NoMemory = length bytes ≤ 346
 
 -- ---- what a JSON value says

@@ -13,7 +13,7 @@ use Rattle.replica_core.specs.World.{WorldRun, rules_in, world_after, held_by}
 use Rattle.replica_core.specs.Convergence.{Gains, HasAnswer, only_receipt, only_record}
 use Rattle.replica_core.specs.declared.event.Event.{Event}
 use Rattle.replica_core.specs.declared.event.Event.TheVariants.{Take, Revoke, Absorb, Part, Join}
-use Rattle.replica_core.proofs.Growing.{at-here, replica-true}
+use Rattle.replica_core.proofs.EventFacts.{at-here, replica-true}
 use Rattle.replica_core.proofs.GatheringFacts.{fits-to, knows-to}
 
 -- an event with the effect of a gain brings it

@@ -8,9 +8,9 @@ use Rattle.std.specs.List.Sorted.{IsStrictlySortedBy}
 use Rattle.std.proofs.Common.{List, [], ap, inl, inr, subst, sym, ◌∙◌, ◌∷◌, ◌≡◌}
 use Rattle.receipt_core.specs.Receipt.{Receipt}
 use Rattle.fed_config.specs.declared.relationship.Relationship.{Relationship}
-use Rattle.replica_core.proofs.Members.{contains-cases, contains-none, each-from}
+use Rattle.replica_core.proofs.ContainsFacts.{contains-cases, contains-none, each-from}
 use Rattle.std.specs.Cmp.Lexicographic.{on_texts}
-use Rattle.replica_core.proofs.RisingLists.{rising_head, rising_tail}
+use Rattle.replica_core.proofs.RisingListFacts.{rising_head, rising_tail}
 use Rattle.std.specs.Cmp.{tied_itself}
 
 -- A rising list of relationships has only one with a domain.

@@ -21,7 +21,7 @@ use Rattle.receipt_core.specs.Receipt.{Receipt, receipt_cmp, distrust_cmp}
 use Rattle.receipt_core.specs.Rising.{with_item, with_items}
 use Rattle.receipt_core.specs.Acceptance.{IsFitting, Meaning, IsMeaning}
 use Rattle.receipt_core.proofs.RisingFacts.{turned}
-use Rattle.closure_core.specs.Changes.{HeldAndRoom as Closed, empty_of, Took, TakesDistrust, HasRefused, HasRefusedMerge}
+use Rattle.closure_core.specs.Changes.{HeldAndRoom as Closed, empty_of, TakesOk, TakesDistrust, HasRefused, HasRefusedMerge}
 use Rattle.closure_core.specs.Refusals.{RefusesReceipt, RefusesDistrust, RefusesMerge, AreTooMany}
 use Rattle.closure_core.specs.declared.error.TakeError.{TakeError}
 use Rattle.closure_core.specs.declared.error.TakeError.TheVariants.{UnknownDomain, WrongEndpoint, Full, NoMemory, ConfigDiffers}
@@ -34,8 +34,8 @@ use Rattle.replica_core.specs.State.{no_state, joined, is_within_limits, meaning
 use Rattle.replica_core.specs.Session.{state_of}
 use Rattle.replica_core.specs.World.{same_id, is_fitting, is_known}
 use Rattle.replica_core.specs.Inside.Playing.{grown, CanHold, CanHoldRecords}
-use Rattle.replica_core.proofs.Members.{contains-cases, contains-none, each-from}
-use Rattle.replica_core.proofs.RisingLists.{all_back, at_end, rising_head, rising_tail}
+use Rattle.replica_core.proofs.ContainsFacts.{contains-cases, contains-none, each-from}
+use Rattle.replica_core.proofs.RisingListFacts.{all_back, at_end, rising_head, rising_tail}
 use Rattle.replica_core.proofs.FitFacts.{fits_right}
 
 -- ---- what fits and what is known passes the tests of a world
@@ -146,7 +146,7 @@ fewer seen x later {n} few = let long : length (seen ++ x ∷ later) ≡ length 
 -- ---- one receipt
 
 -- A receipt that does not fit changes nothing.
-pub unfit-taken : (old new : Closed) (r s : Receipt) (taken : Taken) → s ≡ r → Took old s new taken
+pub unfit-taken : (old new : Closed) (r s : Receipt) (taken : Taken) → s ≡ r → TakesOk old s new taken
     → is_fitting old.meaning.config r ≡ false → new.meaning ≡ old.meaning
 unfit-taken old new r s (TakenNew n) e h f =
     absurd (let fits : is_fitting old.meaning.config r ≡ true = fits-to old.meaning.config r (subst (IsFitting old.meaning.config) e h.fits) in cc)
@@ -154,7 +154,7 @@ unfit-taken old new r s TakenAlready e h f = ap (λ (c : Closed). c.meaning) h.s
 
 -- The next receipt of a list that can be held comes last.
 pub next-taken : (old new : Closed) (r s : Receipt) (taken : Taken) (later : List Receipt) → s ≡ r
-    → Took old s new taken → CanHold old.meaning.config (old.meaning.held ++ r ∷ later)
+    → TakesOk old s new taken → CanHold old.meaning.config (old.meaning.held ++ r ∷ later)
     → new.meaning ≡ record old.meaning { held = old.meaning.held ++ r ∷ [] }
 next-taken old new r s (TakenNew n) later e h can =
     h.meaning ∙ ap (λ held. record old.meaning { held = held })

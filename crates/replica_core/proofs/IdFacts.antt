@@ -15,7 +15,7 @@ use Rattle.receipt_core.specs.Rising.{with_items}
 use Rattle.receipt_core.specs.Sets.{AreSets, Always}
 use Rattle.receipt_core.proofs.RisingFacts.{AreSets-from_total}
 use Rattle.replica_core.specs.State.{id_cmp}
-use Rattle.replica_core.proofs.Members.{contains-none, map-from, map-to}
+use Rattle.replica_core.proofs.ContainsFacts.{contains-none, map-from, map-to}
 use Rattle.replica_core.proofs.QuestionFacts.{bytes_of, bytes-rising, named_cmp}
 
 -- The step of the loop: one id more is gathered, and the others are still to come.

@@ -7,7 +7,7 @@ use Rattle.receipt_core.specs.Receipt.{Receipt, IsReceipt, receipt_cmp, distrust
 use Rattle.receipt_core.specs.Rising.{with_items}
 use Rattle.receipt_core.specs.Sets.{AreSets, Always}
 use Rattle.receipt_core.specs.Acceptance.{Meaning, IsMeaning}
-use Rattle.closure_core.specs.Changes.{HeldAndRoom as ClosureState, Takes, TakesDistrust, Took, Distrusts}
+use Rattle.closure_core.specs.Changes.{HeldAndRoom as ClosureState, Takes, TakesDistrust, TakesOk, Distrusts}
 use Rattle.closure_core.specs.Refusals.{offers_count, IsRoomier, RefusesDistrust, RefusesReceipt}
 use Rattle.closure_core.specs.declared.error.TakeError.{TakeError}
 use Rattle.closure_core.specs.declared.error.TakeError.TheVariants.{UnknownDomain, WrongEndpoint, Full, NoMemory as NoTakeMemory, ConfigDiffers as OtherConfig}
@@ -97,7 +97,7 @@ record IsTaken (now : ClosureState) (r : Receipt) (new : ClosureState) : Type 0 
 
 -- After a receipt was taken, or was held, it is held and has taken its own room at most.
 takes-held : (now new : ClosureState) (r : Receipt) (taken : Taken) → AreSets IsReceipt receipt_cmp
-    → IsMeaning now.meaning → Took now r new taken → IsTaken now r new
+    → IsMeaning now.meaning → TakesOk now r new taken → IsTaken now r new
 takes-held now new r (TakenNew count) sets is h = record { meaning = h.meaning; receipts = h.receipts; offers = h.offers }
 takes-held now new r TakenAlready sets is h =
     let stays : IsTaken now r now = record {

@@ -12,14 +12,14 @@ use Rattle.receipt_core.specs.declared.distrust.Distrust.{Distrust}
 use Rattle.receipt_core.specs.Receipt.{Receipt, receipt_cmp, distrust_cmp}
 use Rattle.receipt_core.specs.Rising.{with_item, with_items}
 use Rattle.receipt_core.specs.Acceptance.{IsFitting, Meaning}
-use Rattle.closure_core.specs.Refusals.{Misfits}
+use Rattle.closure_core.specs.Refusals.{RefusesFit}
 use Rattle.closure_core.specs.declared.error.TakeError.{TakeError}
 use Rattle.closure_core.specs.declared.error.TakeError.TheVariants.{UnknownDomain, WrongEndpoint, Full, NoMemory as NoTakeMemory, ConfigDiffers as OtherConfig}
 use Rattle.replica_core.specs.Absorbing.{RefusesEntry, with_entry, AreWelcome, IsFirstRefused, IsWelcome, of_receipts, of_records, with_entries}
 use Rattle.replica_core.specs.Inside.Places.{HasPlaces}
 use Rattle.replica_core.specs.declared.entry.Entry.{Entry}
 use Rattle.replica_core.specs.declared.entry.Entry.TheVariants.{Record, Receipt as AReceipt}
-use Rattle.replica_core.proofs.Members.{contains-here, contains-later}
+use Rattle.replica_core.proofs.ContainsFacts.{contains-here, contains-later}
 use Rattle.replica_core.proofs.FitFacts.{fits_right}
 
 -- ---- lists
@@ -183,7 +183,7 @@ receipt-refused m all i r why l e welcome cause named =
     }
 
 -- what misfits is refused for that cause, whatever is held
-pub misfit-refused : (m : Meaning) (r : Receipt) (why : TakeError) → Misfits m.config r why → (RefusesEntry m (AReceipt r) why) × (why ≢ NoTakeMemory)
+pub misfit-refused : (m : Meaning) (r : Receipt) (why : TakeError) → RefusesFit m.config r why → (RefusesEntry m (AReceipt r) why) × (why ≢ NoTakeMemory)
 misfit-refused m r UnknownDomain h = (h, λ e. absurd (cc))
 misfit-refused m r WrongEndpoint h = (h, λ e. absurd (cc))
 misfit-refused m r Full h = absurd h

@@ -1,17 +1,17 @@
-pub mod Members
-pub mod RisingLists
+pub mod ContainsFacts
+pub mod RisingListFacts
 pub mod FitFacts
-mod Joins
+mod JoinLawFacts
 mod WorldJoins
-mod Growing
-mod Kept
+mod EventFacts
+mod KeptFacts
 mod Provenance
-mod Tidy
-mod Exchanges
-pub mod Buckets
-mod Agreement
-mod Whole
-mod WorkedRuns
+mod StateFacts
+mod ExchangeFacts
+pub mod BucketFacts
+mod AgreementFacts
+mod WorldLawFacts
+mod WorkedRunFacts
 mod Settling
 mod QuestionFacts
 mod IdFacts

@@ -13,7 +13,7 @@ use Rattle.closure_core.specs.AcceptedList.{is_in_bucket, receipts_in}
 use Rattle.receipt_core.specs.Rising.{placed, with_item, with_items}
 use Rattle.receipt_core.specs.Sets.{AreSets, Always}
 use Rattle.replica_core.specs.Inside.Places.{HasPlaces, HasNoPlace, HasPlace}
-use Rattle.replica_core.proofs.Members.{contains-here, contains-later, contains-cases, contains-none, each-from, any-from, filter-from, filter-to}
+use Rattle.replica_core.proofs.ContainsFacts.{contains-here, contains-later, contains-cases, contains-none, each-from, any-from, filter-from, filter-to}
 
 -- ---- whether it is among items
 

@@ -20,9 +20,9 @@ use Rattle.replica_core.specs.declared.event.Event.{Event}
 use Rattle.replica_core.specs.declared.event.Event.TheVariants.{Take, Revoke, Answer, Absorb, Part, Join}
 use Rattle.replica_core.specs.declared.playing.Playing.{Playing}
 use Rattle.replica_core.specs.declared.message.Message.{Message as Sent}
-use Rattle.replica_core.proofs.Growing.{at-here, at-other, replica-true}
+use Rattle.replica_core.proofs.EventFacts.{at-here, at-other, replica-true}
 use Rattle.replica_core.proofs.SoundFacts.{one-rising, sound-at, can-take, knows-take, sound-reply}
-use Rattle.replica_core.proofs.Whole.{fits-from, knows-from}
+use Rattle.replica_core.proofs.WorldLawFacts.{fits-from, knows-from}
 
 -- ---- replicas
 

@@ -11,9 +11,9 @@ use Rattle.replica_core.specs.World.{WorldRun, rules_in, world_after, held_by, s
 use Rattle.replica_core.specs.Convergence.{WasTaken, WasRevoked, ComesFrom, only_receipt, only_record}
 use Rattle.replica_core.specs.declared.event.Event.{Event}
 use Rattle.replica_core.specs.declared.event.Event.TheVariants.{Take, Revoke, Ask, Answer, Absorb, Part, Join, Save, Restart}
-use Rattle.replica_core.proofs.Members.{contains-cases, contains-none}
-use Rattle.replica_core.proofs.Joins.{Laws}
-use Rattle.replica_core.proofs.Kept.{IsKept, kept-held, kept-where, kept-event}
+use Rattle.replica_core.proofs.ContainsFacts.{contains-cases, contains-none}
+use Rattle.replica_core.proofs.JoinLawFacts.{Laws}
+use Rattle.replica_core.proofs.KeptFacts.{IsKept, kept-held, kept-where, kept-event}
 use Rattle.std.proofs.Common.{inl, inr}
 
 -- nothing is held, saved or sent at first, so all of it has every property

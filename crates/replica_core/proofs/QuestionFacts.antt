@@ -16,7 +16,7 @@ use Rattle.std.proofs.lemmas.List.{get_or_default}
 use Rattle.std.proofs.lemmas.Cmp.{tied_itself}
 use Rattle.std.proofs.lemmas.Bool.{cases_lt}
 use Rattle.receipt_core.proofs.RisingFacts.{turned, with_items-rising}
-use Rattle.replica_core.proofs.Members.{map-from, map-to}
+use Rattle.replica_core.proofs.ContainsFacts.{map-from, map-to}
 use Rattle.std.specs.declared.cmp.Ordering.{Ordering}
 use Rattle.std.specs.Ordering.{nat_cmp}
 use Rattle.std.specs.Cmp.Lexicographic.{slice_cmp}

@@ -7,7 +7,7 @@ use Rattle.receipt_core.specs.Acceptance.{Meaning, IsMeaning}
 use Rattle.replica_core.specs.State.{is_named, is_of_bucket, receipts_lacking}
 use Rattle.replica_core.specs.Session.{state_of}
 use Rattle.replica_core.specs.Lacking.{not_named}
-use Rattle.replica_core.proofs.Members.{contains-none, contains-cases, any-from}
+use Rattle.replica_core.proofs.ContainsFacts.{contains-none, contains-cases, any-from}
 use Rattle.std.proofs.lemmas.Bool.{cases_Bool}
 use Rattle.std.proofs.lemmas.Slice.Eq.{bytes_eq-Decides}
 

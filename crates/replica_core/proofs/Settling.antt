@@ -14,23 +14,24 @@ use Rattle.receipt_core.specs.Receipt.{Receipt, IsReceipt, receipt_cmp}
 use Rattle.receipt_core.specs.Order.{receipt_total}
 use Rattle.receipt_core.specs.Acceptance.{IsFitting}
 use Rattle.replica_core.specs.State.{State, joined, is_within_limits, ids_held, receipts_lacking}
-use Rattle.replica_core.specs.World.{Message, question, answer, World, empty_world, Rules, Effect, sends, gains, where_so, replies, takes_whole, apply, happens, run_from, is_replica}
+use Rattle.replica_core.specs.World.{Message, question, answer, World, empty_world, Rules, Effect, sends, gains, where_so, replies, takes_whole, apply, happens}
+use Rattle.replica_core.specs.World.{run_from, is_replica}
 use Rattle.replica_core.specs.World.{WorldRun, rules_in, world_after, held_by, followed_by}
 use Rattle.replica_core.specs.Convergence.{Inquiry, IsInquiry, Exchange, Settles, IsQuiet, only_receipt, AreEvents}
 use Rattle.replica_core.specs.declared.event.Event.{Event}
 use Rattle.replica_core.specs.declared.event.Event.TheVariants.{Take, Ask, Answer, Absorb, Restart}
-use Rattle.replica_core.proofs.Members.{contains-here, contains-later, contains-none, each-from}
-use Rattle.replica_core.proofs.RisingLists.{all_append, all_front, rising_head}
-use Rattle.replica_core.proofs.Joins.{Keeps, keeps-joined}
+use Rattle.replica_core.proofs.ContainsFacts.{contains-here, contains-later, contains-none, each-from}
+use Rattle.replica_core.proofs.RisingListFacts.{all_append, all_front, rising_head}
+use Rattle.replica_core.proofs.JoinLawFacts.{Keeps, keeps-joined}
 use Rattle.replica_core.proofs.WorldJoins.{joins}
-use Rattle.replica_core.proofs.Kept.{IsKept, kept-event}
-use Rattle.replica_core.proofs.Growing.{replica-true, sent-gained, part-run}
-use Rattle.replica_core.proofs.Tidy.{IsTidy, Throughout, throughout-event, tidy-kept, tidy-empty}
-use Rattle.replica_core.proofs.Exchanges.{asked-here}
-use Rattle.replica_core.proofs.Agreement.{quiet-admits_all}
+use Rattle.replica_core.proofs.KeptFacts.{IsKept, kept-event}
+use Rattle.replica_core.proofs.EventFacts.{replica-true, sent-gained, part-run}
+use Rattle.replica_core.proofs.StateFacts.{IsTidy, Throughout, throughout-event, tidy-kept, tidy-empty}
+use Rattle.replica_core.proofs.ExchangeFacts.{asked-here}
+use Rattle.replica_core.proofs.AgreementFacts.{quiet-admits_all}
 use Rattle.replica_core.proofs.Provenance.{empty-kept}
 use Rattle.replica_core.proofs.EffectFacts.{takes-held}
-use Rattle.replica_core.proofs.Whole.{agreed}
+use Rattle.replica_core.proofs.WorldLawFacts.{agreed}
 
 -- ---- the events
 

@@ -15,8 +15,8 @@ use Rattle.replica_core.specs.State.{State, is_of_bucket, is_named, receipts_lac
 use Rattle.replica_core.specs.Session.{state_of}
 use Rattle.replica_core.specs.World.{Message, question, answer}
 use Rattle.replica_core.specs.Inside.Playing.{answered, CanHold, CanHoldRecords, IsSound}
-use Rattle.replica_core.proofs.Members.{each-from, each-to, filter-from}
-use Rattle.replica_core.proofs.RisingLists.{rising_head, rising_tail}
+use Rattle.replica_core.proofs.ContainsFacts.{each-from, each-to, filter-from}
+use Rattle.replica_core.proofs.RisingListFacts.{rising_head, rising_tail}
 
 -- ---- lists that rise
 

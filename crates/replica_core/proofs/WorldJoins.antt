@@ -5,7 +5,7 @@ use Rattle.receipt_core.specs.Sets.{Always}
 use Rattle.receipt_core.specs.Receipt.{IsDistrust}
 use Rattle.receipt_core.proofs.LineFacts.{one_receipt, one_distrust}
 use Rattle.receipt_core.proofs.RisingFacts.{AreSets-from_total}
-use Rattle.replica_core.proofs.Joins.{Laws, joins-of}
+use Rattle.replica_core.proofs.JoinLawFacts.{Laws, joins-of}
 
 pub joins : Laws
 joins = record {

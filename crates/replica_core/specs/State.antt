@@ -11,6 +11,7 @@ use Rattle.receipt_core.specs.declared.distrust.Distrust.{Distrust}
 use Rattle.receipt_core.specs.Receipt.{Receipt, receipt_id_of, receipt_cmp, distrust_cmp}
 use Rattle.receipt_core.specs.Rising.{with_items}
 use Rattle.receipt_core.specs.Acceptance.{Meaning}
+use Rattle.receipt_core.specs.Limits.{receipt_limit, record_limit}
 
 -- a set of receipts and a set of records of distrust, each kept as a rising list
 pub record State : Type 0 where
@@ -29,7 +30,8 @@ joined state gain = record {
 
 -- at most so many receipts and records are held
 abbrev pub is_within_limits : State → Bool
-is_within_limits state = nat_le (length state.held) 65536 && nat_le (length state.records) 4096
+is_within_limits state = nat_le (length state.held) receipt_limit && nat_le
+    (length state.records) record_limit
 
 -- the byte with which the receipt's id begins
 abbrev pub bucket_of_id : Receipt → ℕ

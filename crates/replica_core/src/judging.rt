@@ -3,7 +3,7 @@ ghost use Rattle.std.specs.Prelude.{◌≡◌, ◌+◌, ◌^◌, ◌<◌, List, 
 ghost use Rattle.receipt_core.specs.declared.distrust.Distrust.{Distrust};
 ghost use Rattle.receipt_core.specs.Receipt.{IsReceipt};
 ghost use Rattle.receipt_core.specs.Acceptance.{IsFitting};
-ghost use Rattle.closure_core.specs.Refusals.{Misfits};
+ghost use Rattle.closure_core.specs.Refusals.{RefusesFit};
 ghost use Rattle.replica_core.specs.Absorbing.{AreWelcome, IsFirstRefused, of_records, of_receipts};
 
 use crate::places::{place_for_receipt, place_for_record};
@@ -81,7 +81,7 @@ pub(crate) fn first_receipt<C: Closure>(
 // Whether the receipt's domain has a relationship, and that has the receipt's endpoint.
 fn fit(config: &Config, receipt: &Receipt) -> Result<(), TakeError>
     ensures fits { MatchResult result (λ _. IsFitting config.now receipt.now)
-        (Misfits config.now receipt.now) }
+        (RefusesFit config.now receipt.now) }
     ensures form { IsReceipt receipt.now }
 {
     let Some(relationship) = config.relationship(receipt.domain()) else {

@@ -4,6 +4,7 @@ ghost use Rattle.std.specs.List.{AllByRecursion};
 ghost use Rattle.receipt_core.specs.Receipt.{IsReceipt, receipt_cmp, distrust_cmp};
 ghost use Rattle.receipt_core.specs.Rising.{with_items};
 ghost use Rattle.replica_core.specs.Inside.Places.{HasNoPlace, HasPlace, HasPlaces};
+ghost use Rattle.receipt_core.specs.Limits.{receipt_limit, record_limit};
 
 use closure_core::Closure;
 use jwk_set::KeyId;
@@ -21,13 +22,14 @@ pub(crate) fn place_for_record<C: Closure>(
     distrust: &Distrust,
 ) -> Option<usize>
     requires left { 0 < left }
-    requires places { HasPlaces 4096
+    requires places { HasPlaces record_limit
         (length (with_items distrust_cmp before.now (C.state closure.now).meaning.records)) free
         left }
     ensures { MatchOption result
-        (HasNoPlace 4096 (with_items distrust_cmp before.now (C.state closure.now).meaning.records)
+        (HasNoPlace record_limit (with_items distrust_cmp before.now
+        (C.state closure.now).meaning.records)
         distrust.now)
-        (HasPlace distrust_cmp 4096
+        (HasPlace distrust_cmp record_limit
         (with_items distrust_cmp before.now (C.state closure.now).meaning.records) distrust.now
         left) }
 {
@@ -51,14 +53,15 @@ pub(crate) fn place_for_receipt<C: Closure>(
     receipt: &Receipt,
 ) -> Option<usize>
     requires left { 0 < left }
-    requires places { HasPlaces 65536
+    requires places { HasPlaces receipt_limit
         (length (with_items receipt_cmp before.now (C.state closure.now).meaning.held)) free left }
     requires form { IsReceipt receipt.now }
     requires forms { AllByRecursion IsReceipt before.now }
     ensures { MatchOption result
-        (HasNoPlace 65536 (with_items receipt_cmp before.now (C.state closure.now).meaning.held)
+        (HasNoPlace receipt_limit (with_items receipt_cmp before.now
+        (C.state closure.now).meaning.held)
         receipt.now)
-        (HasPlace receipt_cmp 65536
+        (HasPlace receipt_cmp receipt_limit
         (with_items receipt_cmp before.now (C.state closure.now).meaning.held) receipt.now left) }
 {
     receipt_core::laws::sets();

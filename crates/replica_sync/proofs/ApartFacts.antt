@@ -22,7 +22,7 @@ use Rattle.replica_sync.proofs.CountFacts.{IsThird, is_count, no_count, no_fault
 use Rattle.replica_sync.proofs.DigestFacts.{is_first_line, short_first, feedless_first}
 use Rattle.replica_sync.proofs.FeedFacts.{Feedless}
 use Rattle.replica_sync.proofs.HeaderFacts.{one_header}
-use Rattle.replica_core.proofs.RisingLists.{all_back}
+use Rattle.replica_core.proofs.RisingListFacts.{all_back}
 use Rattle.replica_sync.proofs.NextFacts.{no_fault_of_held}
 use Rattle.replica_sync.proofs.OneFacts.{feedless_behind, feedless_count, feedless_held, formats_apart, held_back, lines_back}
 use Rattle.replica_sync.proofs.WritingFacts.{lines_append}

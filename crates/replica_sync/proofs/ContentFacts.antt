@@ -21,7 +21,7 @@ use Rattle.replica_core.specs.Absorbing.{with_entry}
 use Rattle.replica_core.specs.declared.entry.Entry.{Entry}
 use Rattle.replica_core.specs.declared.entry.Entry.TheVariants.{Record, Receipt as AReceipt}
 use Rattle.replica_sync.proofs.HeldFacts.{text_cmp, AllBelow, below_last}
-use Rattle.replica_core.proofs.RisingLists.{rising_head, rising_tail}
+use Rattle.replica_core.proofs.RisingListFacts.{rising_head, rising_tail}
 use Rattle.replica_sync.proofs.SnapshotFacts.{consumes_both}
 use Rattle.replica_sync.specs.Messages.{record_text, receipt_text}
 use Rattle.replica_sync.specs.Answers.{content_lines}

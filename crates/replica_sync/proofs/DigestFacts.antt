@@ -13,7 +13,7 @@ use Rattle.fed_config.specs.Configuration.{Configuration, config_id_of}
 use Rattle.replica_sync.specs.Snapshots.{AreDigits, IsHeader, is_lower_hex_digit, digits_of, header_line, header_of, version_of}
 use Rattle.replica_sync.specs.declared.format.Format.{Format}
 use Rattle.replica_sync.specs.declared.format.Format.TheVariants.{First, Second}
-use Rattle.replica_core.proofs.Buckets.{digest-bytes}
+use Rattle.replica_core.proofs.BucketFacts.{digest-bytes}
 use Rattle.replica_sync.proofs.FeedFacts.{Feedless, feedless_both, feedless_decimal}
 
 -- ---- digits

@@ -20,7 +20,7 @@ use Rattle.replica_sync.specs.declared.entry_line.Wanted.{Wanted}
 use Rattle.replica_sync.specs.declared.entry_line.Wanted.TheVariants.{Records, Receipts, Either}
 use Rattle.replica_core.specs.declared.error.SyncError.{SyncError}
 use Rattle.replica_sync.proofs.HeldFacts.{AllBelow, below_last, text_cmp}
-use Rattle.replica_core.proofs.RisingLists.{rising_head, rising_tail}
+use Rattle.replica_core.proofs.RisingListFacts.{rising_head, rising_tail}
 use Rattle.replica_sync.proofs.SnapshotFacts.{consumes_both}
 use Rattle.replica_sync.specs.Messages.{receipt_text, record_text, reply_text, told_of, told_text}
 use Rattle.replica_sync.specs.FirstLines.{Expected, IsGiveHeader}

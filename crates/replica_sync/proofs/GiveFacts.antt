@@ -25,7 +25,7 @@ use Rattle.replica_core.specs.declared.error.SyncError.{SyncError}
 use Rattle.replica_core.specs.declared.error.SyncError.TheVariants.{BadHeader, ConfigDiffers, VersionDiffers, NotCanonical, NotRising, BadCount, Truncated}
 use Rattle.replica_core.specs.declared.error.SyncError.TheVariants.{Refused, Io, NoMemory}
 use Rattle.replica_sync.proofs.FeedFacts.{Feedless, feedless_line, feedless_record}
-use Rattle.replica_core.proofs.RisingLists.{all_back, rising_head, rising_tail}
+use Rattle.replica_core.proofs.RisingListFacts.{all_back, rising_head, rising_tail}
 use Rattle.replica_sync.proofs.HeldFacts.{text_cmp}
 use Rattle.replica_sync.proofs.OneFacts.{held_back, lines_back}
 use Rattle.replica_sync.specs.Messages.{GiveHeader, distrusts_part, reply_text, told_of, told_text}

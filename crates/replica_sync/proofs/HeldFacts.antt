@@ -23,7 +23,7 @@ use Rattle.replica_core.specs.declared.entry.Entry.{Entry}
 use Rattle.replica_core.specs.declared.entry.Entry.TheVariants.{Record, Receipt as AReceipt}
 use Rattle.replica_sync.specs.declared.format.Format.{Format}
 use Rattle.replica_sync.specs.declared.format.Format.TheVariants.{First, Second}
-use Rattle.replica_core.proofs.RisingLists.{all_back, all_front, at_end, rising_append, rising_cons, rising_head, rising_nil, rising_tail}
+use Rattle.replica_core.proofs.RisingListFacts.{all_back, all_front, at_end, rising_append, rising_cons, rising_head, rising_nil, rising_tail}
 
 -- the order of texts, byte by byte
 abbrev pub text_cmp : List ℕ → List ℕ → Ordering

@@ -8,7 +8,7 @@ mod DigestFacts
 mod CountFacts
 mod NextFacts
 mod ApartFacts
-mod Glue
+mod GlueFacts
 mod PieceFacts
 mod ScanFacts
 mod HaveLineFacts
@@ -21,7 +21,7 @@ mod ContentFacts
 mod GatherFacts
 mod AnswerFacts
 mod GiveFacts
-mod Written
+mod WrittenPieceFacts
 mod ServingFacts
 mod TakingFacts
 mod PullingFacts

@@ -24,7 +24,7 @@ use Rattle.replica_core.specs.declared.error.SyncError.TheVariants.{BadHeader, C
 use Rattle.replica_core.specs.declared.error.SyncError.TheVariants.{Refused, Io, NoMemory}
 use Rattle.replica_sync.specs.declared.format.Format.{Format}
 use Rattle.replica_sync.specs.declared.format.Format.TheVariants.{First, Second}
-use Rattle.replica_core.proofs.RisingLists.{all_back, rising_head, rising_tail}
+use Rattle.replica_core.proofs.RisingListFacts.{all_back, rising_head, rising_tail}
 use Rattle.replica_sync.proofs.HeldFacts.{lines_rise, text_cmp}
 use Rattle.replica_sync.proofs.OneFacts.{apart}
 use Rattle.replica_sync.proofs.CountFacts.{IsThird, no_count, third_line, third_record}

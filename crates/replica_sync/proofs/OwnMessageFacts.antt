@@ -24,8 +24,8 @@ use Rattle.receipt_core.proofs.LineFacts.{distrust_order, record_first}
 use Rattle.receipt_core.proofs.RisingFacts.{with_items-all, with_items-rising}
 use Rattle.replica_core.specs.State.{State, id_cmp, ids_held, is_of_bucket, is_named, receipts_lacking}
 use Rattle.replica_core.specs.Session.{Question, Reply, IsQuestion, question_of, reply_of, state_of}
-use Rattle.replica_core.proofs.Buckets.{digest-bytes}
-use Rattle.replica_core.proofs.RisingLists.{rising_nil}
+use Rattle.replica_core.proofs.BucketFacts.{digest-bytes}
+use Rattle.replica_core.proofs.RisingListFacts.{rising_nil}
 use Rattle.replica_sync.specs.Messages.{asked_of, asked_text, quoted}
 use Rattle.replica_sync.specs.Questions.{IsAskable}
 use Rattle.replica_sync.specs.Answers.{IsAnswer}

@@ -5,7 +5,7 @@ use Rattle.std.specs.List.{flat_map, join_by}
 use Rattle.hex.specs.Hex.{encode_lower}
 use Rattle.receipt_core.specs.declared.receipt_id.ReceiptId.{ReceiptId}
 use Rattle.replica_sync.specs.Messages.{quoted, Asked, asked_text, GiveHeader, distrusts_part, told_text}
-use Rattle.replica_sync.proofs.Glue.{glue}
+use Rattle.replica_sync.proofs.GlueFacts.{glue}
 
 -- an id as its bytes
 abbrev pub bytes_of : ReceiptId → List ℕ

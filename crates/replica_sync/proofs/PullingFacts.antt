@@ -25,7 +25,7 @@ use Rattle.replica_sync.specs.Messages.{question_text, reply_text}
 use Rattle.replica_sync.specs.Questions.{IsWritten}
 use Rattle.replica_sync.specs.Pulling.{AreReplies, IsReply, PullsAll, PullsUpTo, Session, after_replies, line_count, question_in, questions_of}
 use Rattle.replica_sync.specs.Inside.Taking.{StopsReply, TakesReply}
-use Rattle.replica_sync.proofs.Written.{begins-second}
+use Rattle.replica_sync.proofs.WrittenPieceFacts.{begins-second}
 
 -- ---- one answer more
 

@@ -18,7 +18,7 @@ use Rattle.replica_sync.specs.Questions.{Asks, IsQuestionOf, IsWritten, RefusesF
 use Rattle.replica_sync.specs.Inside.Asking.{HasAsked, IsNoneAsked, RefusesHaveLine, RefusesVersionedHave, asking_by}
 use Rattle.replica_sync.specs.Inside.Serving.{FailsReading, FailsWriting, Served, ServesOne}
 use Rattle.replica_sync.specs.declared.have_fields.VersionedHave.{VersionedHave}
-use Rattle.replica_sync.proofs.Written.{begins-second}
+use Rattle.replica_sync.proofs.WrittenPieceFacts.{begins-second}
 
 -- ---- one question
 

@@ -1,5 +1,6 @@
 -- What a pull writes is served without a fault, and what is written to it is read without one.
-use Rattle.std.proofs.Common.{◌≡◌, ◌≢◌, ℕ, ◌+◌, ◌<◌, ◌≤◌, ◌⊎◌, inl, inr, Bool, true, false, cond, ◌&&◌, nat_le, leb-true, List, [], ◌∷◌, ◌++◌, length, map, Option, Some, refl, ap, sym, ◌∙◌, subst, arith}
+use Rattle.std.proofs.Common.{◌≡◌, ◌≢◌, ℕ, ◌+◌, ◌<◌, ◌≤◌, ◌⊎◌, inl, inr, Bool, true, false, cond, ◌&&◌, nat_le, leb-true, List, [], ◌∷◌, ◌++◌, length, map}
+use Rattle.std.proofs.Common.{Option, Some, refl, ap, sym, ◌∙◌, subst, arith}
 use Rattle.std.proofs.Common.{append_assoc, length-append}
 use Rattle.std.specs.Prelude.{IfErr, Result, Ok, Err, filter}
 use Rattle.std.specs.List.{AllByRecursion, flat_map}
@@ -17,7 +18,8 @@ use Rattle.receipt_core.specs.declared.distrust.Distrust.{Distrust}
 use Rattle.receipt_core.specs.Receipt.{Receipt, IsDistrust, IsReceipt, receipt_cmp, distrust_cmp}
 use Rattle.receipt_core.specs.Rising.{with_items}
 use Rattle.receipt_core.specs.Acceptance.{IsFitting, Meaning, IsMeaning}
-use Rattle.receipt_core.proofs.RisingFacts.{Has, IsExactOn, all_from_has, each_has, same_members, with_items-all, with_items-has, with_items-keeps, with_items-new, with_items-rising}
+use Rattle.receipt_core.proofs.RisingFacts.{Has, IsExactOn, all_from_has, each_has, same_members, with_items-all, with_items-has, with_items-keeps}
+use Rattle.receipt_core.proofs.RisingFacts.{with_items-new, with_items-rising}
 use Rattle.closure_core.specs.declared.error.TakeError.{TakeError}
 use Rattle.replica_core.specs.State.{State, is_within_limits, joined, meaning_of_state}
 use Rattle.replica_core.specs.Session.{Question, Reply, question_of, reply_of, state_of}
@@ -31,7 +33,8 @@ use Rattle.replica_sync.specs.Pulling.{AreReplies, PullsAll, PullsUpTo, Pulls, a
 use Rattle.replica_sync.proofs.OwnMessageFacts.{answer-given, askable-question}
 use Rattle.replica_sync.proofs.PullingFacts.{longer_with_items}
 use Rattle.replica_sync.proofs.SessionFacts.{HoldsAnswers, IsSpelling, same-questions, unpulled, unserved}
-use Rattle.replica_sync.proofs.WelcomeFacts.{IsRisingState, exact-receipts, exact-records, meaning-within, rising-after, rising-joined, rising-meaning, within-after, within-joined}
+use Rattle.replica_sync.proofs.WelcomeFacts.{IsRisingState, exact-receipts, exact-records, meaning-within, rising-after, rising-joined, rising-meaning}
+use Rattle.replica_sync.proofs.WelcomeFacts.{within-after, within-joined}
 
 -- ---- the questions of a session
 

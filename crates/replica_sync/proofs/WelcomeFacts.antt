@@ -12,7 +12,8 @@ use Rattle.receipt_core.specs.Receipt.{Receipt, IsDistrust, IsReceipt, distrust_
 use Rattle.receipt_core.specs.Rising.{with_item, with_items}
 use Rattle.receipt_core.specs.Acceptance.{IsFitting, Meaning, IsMeaning}
 use Rattle.receipt_core.proofs.LineFacts.{one_distrust, one_line, one_receipt, one_record}
-use Rattle.receipt_core.proofs.RisingFacts.{Contains-from_has, Has, IsExactOn, all_from_has, each_has, with_item-length, with_items-all, with_items-keeps, with_items-new, with_items-rising}
+use Rattle.receipt_core.proofs.RisingFacts.{Contains-from_has, Has, IsExactOn, all_from_has, each_has, with_item-length, with_items-all, with_items-keeps}
+use Rattle.receipt_core.proofs.RisingFacts.{with_items-new, with_items-rising}
 use Rattle.closure_core.specs.declared.error.TakeError.{TakeError}
 use Rattle.closure_core.specs.declared.error.TakeError.TheVariants.{UnknownDomain, WrongEndpoint, Full, ConfigDiffers as OtherConfig, NoMemory as NoTakeMemory}
 use Rattle.replica_core.specs.State.{State, joined, meaning_of_state}

@@ -1,5 +1,6 @@
 -- What a pull holds is what its replica holds in a world where the same was asked, answered and taken.
-use Rattle.std.proofs.Common.{◌≡◌, ◌≢◌, ◌∙◌, ℕ, zero, suc, ◌+◌, ◌-◌, ◌*◌, ◌<◌, ◌≤◌, ◌&&◌, Bool, true, false, cond, List, [], ◌∷◌, ◌++◌, length, map, take, inl, inr, refl, sym, ap, subst}
+use Rattle.std.proofs.Common.{◌≡◌, ◌≢◌, ◌∙◌, ℕ, zero, suc, ◌+◌, ◌-◌, ◌*◌, ◌<◌, ◌≤◌, ◌&&◌, Bool, true, false, cond, List, [], ◌∷◌, ◌++◌, length, map, take, inl}
+use Rattle.std.proofs.Common.{inr, refl, sym, ap, subst}
 use Rattle.std.proofs.Common.{arith, le-leb, eq-eqb, ne_eqb, append-nil, append_assoc, length-append, Option, None, Some, nat_le, ◌==◌}
 use Rattle.std.specs.Prelude.{slice_get}
 use Rattle.std.proofs.lemmas.Bool.{and_from, cases_lt}
@@ -18,7 +19,7 @@ use Rattle.replica_core.specs.World.{Message, Rules, World, answer, apply, at_re
 use Rattle.replica_core.specs.World.{sends, takes_part, takes_whole, where_so, with_state}
 use Rattle.replica_core.specs.declared.event.Event.{Event}
 use Rattle.replica_core.specs.declared.event.Event.TheVariants.{Ask, Answer, Absorb, Part}
-use Rattle.replica_core.proofs.Members.{get-new}
+use Rattle.replica_core.proofs.ContainsFacts.{get-new}
 use Rattle.replica_core.specs.declared.error.SyncError.{SyncError}
 use Rattle.replica_core.specs.declared.error.SyncError.TheVariants.{Io, NoMemory}
 use Rattle.replica_sync.specs.Snapshots.{ended, text_of_lines}
@@ -30,7 +31,8 @@ use Rattle.replica_sync.specs.Questions.{ServesAll}
 use Rattle.replica_sync.proofs.SessionFacts.{both-replies, joined-texts, told_texts}
 use Rattle.replica_sync.proofs.GiveFacts.{is-part, same-reply}
 use Rattle.replica_sync.proofs.OwnMessageFacts.{answer-given}
-use Rattle.replica_sync.proofs.UnderstandingFacts.{all-asked, all-replies, last-asked, length-asked, own-question, part-asked, replies-in-turn, told-is, whole-asked}
+use Rattle.replica_sync.proofs.UnderstandingFacts.{all-asked, all-replies, last-asked, length-asked, own-question, part-asked, replies-in-turn, told-is}
+use Rattle.replica_sync.proofs.UnderstandingFacts.{whole-asked}
 use Rattle.replica_sync.proofs.WelcomeFacts.{IsWithin, meaning-within, rising-after, rising-meaning, within-after, within-itself, within-joined}
 
 -- ---- one event

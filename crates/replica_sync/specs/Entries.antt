@@ -18,6 +18,8 @@ use Rattle.replica_core.specs.declared.error.SyncError.TheVariants.{VersionDiffe
 use Rattle.replica_core.specs.declared.error.SyncError.TheVariants.{NotRising, BadCount, Truncated}
 use Rattle.replica_core.specs.declared.error.SyncError.TheVariants.{Refused, Io, NoMemory}
 use Rattle.replica_core.specs.Absorbing.{RefusesEntry}
+use Rattle.byte_lines.specs.Limits.{line_limit}
+use Rattle.receipt_core.specs.Limits.{receipt_line_limit}
 
 -- ---- what a line says
 
@@ -54,7 +56,7 @@ pub record IsNextEntry (wanted : Wanted) (last text : List ℕ) (entry : Entry) 
 
 -- The line is too long, or none that may stand there.
 abbrev pub IsNoLineOf : Wanted → List ℕ → Type 0
-IsNoLineOf wanted text = (8388608 < length text) ⊎ IsNoEntry wanted text
+IsNoLineOf wanted text = (line_limit < length text) ⊎ IsNoEntry wanted text
 
 -- It is one that may stand there, and not greater than the line before.
 pub record IsNotAbove (wanted : Wanted) (last text : List ℕ) : Type 0 where
@@ -80,7 +82,7 @@ RefusesEntryText wanted last number text BadCount = ⊥
 RefusesEntryText wanted last number text Truncated = ⊥
 RefusesEntryText wanted last number text (Refused n why) = ⊥
 RefusesEntryText wanted last number text Io = ⊥
-RefusesEntryText wanted last number text NoMemory = length text ≤ 1051063
+RefusesEntryText wanted last number text NoMemory = length text ≤ receipt_line_limit
 
 -- The faults of the line with this number, where the closure means m: the first of these that
 -- holds.
@@ -96,5 +98,5 @@ RefusesEntryLine wanted m last number text Truncated = ⊥
 RefusesEntryLine wanted m last number text (Refused n why) = (n ≡ number) × (why ≢ NoTakeMemory)
     × IsRefused wanted m last text why
 RefusesEntryLine wanted m last number text Io = ⊥
-RefusesEntryLine wanted m last number text NoMemory = (length text ≤ 1051063)
+RefusesEntryLine wanted m last number text NoMemory = (length text ≤ receipt_line_limit)
     ⊎ IsRefused wanted m last text NoTakeMemory

@@ -11,6 +11,7 @@ use Rattle.replica_core.specs.declared.error.SyncError.TheVariants.{BadHeader, C
 use Rattle.replica_core.specs.declared.error.SyncError.TheVariants.{VersionDiffers, NotCanonical}
 use Rattle.replica_core.specs.declared.error.SyncError.TheVariants.{NotRising, BadCount, Truncated}
 use Rattle.replica_core.specs.declared.error.SyncError.TheVariants.{Refused, Io, NoMemory}
+use Rattle.byte_lines.specs.Limits.{line_limit}
 
 -- the one format and the one number of buckets that are supported
 abbrev pub IsSupportedVersion : ℕ → ℕ → Type 0
@@ -140,4 +141,4 @@ pub record HasBadFirstLine (refuses : List ℕ → SyncError → Type 0) (old ne
     (e : SyncError) : Type 0 where
   pub text : List ℕ
   pub is : HasLine old new text
-  pub cause : ((e ≡ BadHeader) × (8388608 < length text)) ⊎ refuses text e
+  pub cause : ((e ≡ BadHeader) × (line_limit < length text)) ⊎ refuses text e

@@ -15,6 +15,7 @@ use Rattle.replica_core.specs.declared.error.SyncError.TheVariants.{BadHeader, C
 use Rattle.replica_core.specs.declared.error.SyncError.TheVariants.{VersionDiffers, NotCanonical}
 use Rattle.replica_core.specs.declared.error.SyncError.TheVariants.{NotRising, BadCount, Truncated}
 use Rattle.replica_core.specs.declared.error.SyncError.TheVariants.{Refused, Io, NoMemory}
+use Rattle.byte_lines.specs.Limits.{line_limit}
 
 -- Why no question is read, where one should begin. Nothing is known of the stream where the source
 -- fails.
@@ -37,7 +38,7 @@ RefusesQuestion config old new NoMemory = Unit {0}
 -- many for a line.
 pub record IsAskable (q : Question) : Type 0 where
   pub asked : IsAsked (asked_of q)
-  pub short : length (asked_text (asked_of q)) ≤ 8388608
+  pub short : length (asked_text (asked_of q)) ≤ line_limit
 
 -- ---- a session that is served
 

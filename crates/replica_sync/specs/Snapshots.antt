@@ -19,6 +19,7 @@ use Rattle.replica_core.specs.declared.error.SyncError.TheVariants.{BadHeader, C
 use Rattle.replica_core.specs.declared.error.SyncError.TheVariants.{VersionDiffers, NotCanonical}
 use Rattle.replica_core.specs.declared.error.SyncError.TheVariants.{NotRising, BadCount, Truncated}
 use Rattle.replica_core.specs.declared.error.SyncError.TheVariants.{Refused, Io, NoMemory}
+use Rattle.byte_lines.specs.Limits.{line_limit}
 
 -- ---- the text
 
@@ -147,7 +148,7 @@ pub record HasBadFirst (config : Configuration) (stream : Option (List ℕ))
   pub text : List ℕ
   pub after : Option (List ℕ)
   pub is : HasLine stream after text
-  pub cause : ((e ≡ BadHeader) × (8388608 < length text)) ⊎ RefusesHeader config text e
+  pub cause : ((e ≡ BadHeader) × (line_limit < length text)) ⊎ RefusesHeader config text e
 
 abbrev pub RefusesFirst : Configuration → Option (List ℕ) → SyncError → Type 0
 RefusesFirst config stream BadHeader = HasBadFirst config stream BadHeader
@@ -182,7 +183,7 @@ next_number m = length m.records + length m.held + 2
 pub record IsCountLine (text : List ℕ) : Type 0 where
   pub rest : List ℕ
   pub begins : text ≡ count_beginning ++ rest
-  pub few : length text ≤ 8388608
+  pub few : length text ≤ line_limit
 
 -- It tells other numbers, or tells them otherwise.
 pub record IsBadCount (format : Format) (m : Meaning) (text : List ℕ) : Type 0 where

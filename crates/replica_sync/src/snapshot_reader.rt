@@ -10,6 +10,7 @@ ghost use Rattle.replica_sync.specs.Snapshots.{next_number, wanted_of};
 ghost use Rattle.replica_sync.specs.Inside.Reading.{FailsBehind, HoldsAll, Judges, RefusesEnd};
 ghost use Rattle.replica_sync.specs.Inside.Reading.{StepsThroughSnapshot};
 ghost use Rattle.closure_core.specs.Changes.{empty_of};
+ghost use Rattle.byte_lines.specs.Limits.{line_limit};
 
 use crate::entry_line::{Wanted, take_line};
 use crate::format::Format;
@@ -135,7 +136,7 @@ fn judge<C: Closure>(
     requires last { last.old.items ≡ last_line (C.state closure.old).meaning }
     requires number { number ≡ next_number (C.state closure.old).meaning }
     requires told { IsTold format (C.state closure.old).meaning }
-    requires short { length text.now ≤ 8388608 }
+    requires short { length text.now ≤ line_limit }
     ensures judges { MatchResult result
         (Judges format (C.state closure.old).meaning text.now (C.state closure.new).meaning)
         (RefusesPlace format (C.state closure.old).meaning text.now) }

@@ -13,7 +13,7 @@ use Rattle.std.specs.List.{All, cons_option, filter, insert}
 use Rattle.std.specs.declared.cmp.Ordering.{Ordering}
 use Rattle.std.specs.declared.cmp.Ordering.TheVariants.{Equal}
 use Rattle.sorted_order.specs.Sought.{IsRising, IsGap, IsFound, IsFirstFound, IsMissing, is_equal}
-use Rattle.sorted_order.specs.Stock.{Stock, picked, in_order, Arranges, compared_if, compared_at, IsNumber, FindsNumber}
+use Rattle.sorted_order.specs.ArenaView.{ArenaView, picked, in_order, Arranges, compared_if, compared_at, IsNumber, FindsNumber}
 
 -- each number is that of an item
 abbrev pub AreNumbers : {T : Type 0} → List T → List ℕ → Type 0
@@ -224,15 +224,15 @@ Arranges-insert order count at h l = record {
 
 -- Where the arena's items rise for what is sought, their numbers do: so the search may go over
 -- these.
-pub by_rises : {T P : Type 0} (compared : P → T → Ordering) (p q : P) (items lent : List T) (order : List ℕ) (capacity : ℕ) (stock : Stock T)
+pub by_rises : {T P : Type 0} (compared : P → T → Ordering) (p q : P) (items lent : List T) (order : List ℕ) (capacity : ℕ) (stock : ArenaView T)
     → record { items = items; order = order; capacity = capacity } ≡ stock → q ≡ p → lent ≡ items → AreNumbers items order
     → IsRising (compared p) (in_order stock) → IsRising (λ n. compared_at (compared q) lent n) order
 by_rises {T} {P} compared p q items lent order capacity stock view same_probe same_items all rises =
-    let here : IsRising (compared p) (picked items order) = subst (λ (s : Stock T). IsRising (compared p) (in_order s)) (sym view) rises in
+    let here : IsRising (compared p) (picked items order) = subst (λ (s : ArenaView T). IsRising (compared p) (in_order s)) (sym view) rises in
     rw (same_probe, same_items) (rising_numbers (compared p) items order all here)
 
 -- A gap that the search finds among the numbers is one among the arena's items.
-pub by_gap : {T P : Type 0} (compared : P → T → Ordering) (p q : P) (items lent : List T) (order : List ℕ) (capacity : ℕ) (stock : Stock T) (place : ℕ)
+pub by_gap : {T P : Type 0} (compared : P → T → Ordering) (p q : P) (items lent : List T) (order : List ℕ) (capacity : ℕ) (stock : ArenaView T) (place : ℕ)
     → record { items = items; order = order; capacity = capacity } ≡ stock → q ≡ p → lent ≡ items → AreNumbers items order
     → IsGap (λ n. compared_at (compared q) lent n) order place → IsGap (compared p) (in_order stock) place
 by_gap {T} {P} compared p q items lent order capacity stock place view same_probe same_items all gap =
@@ -240,7 +240,7 @@ by_gap {T} {P} compared p q items lent order capacity stock place view same_prob
     subst (λ (xs : List T). IsGap (λ n. compared_at (compared q) xs n) order place) same_items gap in
     let here : IsGap (λ n. compared_at (compared p) items n) order place =
     subst (λ (r : P). IsGap (λ n. compared_at (compared r) items n) order place) same_probe mine in
-    subst (λ (s : Stock T). IsGap (compared p) (in_order s) place) view (gap_of_items (compared p) items order place all here)
+    subst (λ (s : ArenaView T). IsGap (compared p) (in_order s) place) view (gap_of_items (compared p) items order place all here)
 
 -- ---- what a search among the numbers found says of the items
 
@@ -300,7 +300,7 @@ number_of_item compared items order capacity number all first =
 
 -- What the search over numbers returns is what `find` of the arena promises.
 pub by_number : {T P : Type 0} (compared : P → T
-    → Ordering) (p q : P) (items lent : List T) (order : List ℕ) (capacity : ℕ) (stock : Stock T) (r : Result ℕ ℕ)
+    → Ordering) (p q : P) (items lent : List T) (order : List ℕ) (capacity : ℕ) (stock : ArenaView T) (r : Result ℕ ℕ)
     → record { items = items; order = order; capacity = capacity } ≡ stock → q ≡ p → lent ≡ items
     → AreNumbers items order
     → MatchResult r (IsFirstFound (λ n. compared_at (compared q) lent n) order) (IsMissing (λ n. compared_at (compared q) lent n) order)
@@ -310,13 +310,13 @@ by_number {T} {P} compared p q items lent order capacity stock (Ok number) view 
       same_probe,
       same_items,
     ) at first in
-    subst (λ (s : Stock T). IsNumber (compared p) s number) view (number_of_item (compared p) items order capacity number all here)
+    subst (λ (s : ArenaView T). IsNumber (compared p) s number) view (number_of_item (compared p) items order capacity number all here)
 by_number {T} {P} compared p q items lent order capacity stock (Err place) view same_probe same_items all missing =
     let here : IsMissing (λ n. compared_at (compared p) items n) order place = rw (
       same_probe,
       same_items,
     ) at missing in
-    subst (λ (s : Stock T). IsMissing (compared p) (in_order s) place) view (missing_of_items (compared p) items order place all here)
+    subst (λ (s : ArenaView T). IsMissing (compared p) (in_order s) place) view (missing_of_items (compared p) items order place all here)
 
 -- ---- what is left to lend
 
@@ -344,17 +344,17 @@ lend_next {T} items old new n x left view e all =
     ∙ picked_more items n new (slice_index_or items n x) (slice_get-get_or items n x (first_of items n new here))
 
 -- The items of the equal numbers are the equal items of the arena, as `matching` promises.
-pub by_filter : {T P : Type 0} (compared : P → T → Ordering) (p q : P) (items lent : List T) (order : List ℕ) (capacity : ℕ) (stock : Stock T)
+pub by_filter : {T P : Type 0} (compared : P → T → Ordering) (p q : P) (items lent : List T) (order : List ℕ) (capacity : ℕ) (stock : ArenaView T)
     → record { items = items; order = order; capacity = capacity } ≡ stock → q ≡ p → lent ≡ items → AreNumbers items order
     → picked items (filter (λ n. is_equal (compared_at (compared q) lent n)) order) ≡ filter (λ item. is_equal (compared p item)) (in_order stock)
 by_filter {T} {P} compared p q items lent order capacity stock view same_probe same_items all =
     rw (same_probe, same_items) (filter-picked (compared p) items order all
-    ∙ ap (λ (s : Stock T). filter (λ item. is_equal (compared p item)) (in_order s)) view)
+    ∙ ap (λ (s : ArenaView T). filter (λ item. is_equal (compared p item)) (in_order s)) view)
 
 -- The items in the caller's order are as many as all items.
-pub length-in_order : {T : Type 0} (stock : Stock T) → Arranges stock.order (length stock.items) → length (in_order stock) ≡ length stock.items
+pub length-in_order : {T : Type 0} (stock : ArenaView T) → Arranges stock.order (length stock.items) → length (in_order stock) ≡ length stock.items
 length-in_order stock h = length-picked stock.items stock.order h.within ∙ h.counted
 
 -- Arenas with the same items and order have the same items in order, whatever their capacity.
-pub same_in_order : {T : Type 0} (s t : Stock T) → s.items ≡ t.items → s.order ≡ t.order → in_order s ≡ in_order t
+pub same_in_order : {T : Type 0} (s t : ArenaView T) → s.items ≡ t.items → s.order ≡ t.order → in_order s ≡ in_order t
 same_in_order s t items order = ap (λ xs. picked xs s.order) items ∙ ap (λ ns. picked t.items ns) order

@@ -5,7 +5,7 @@ use Rattle.std.specs.List.{filter, sum}
 use Rattle.std.specs.Ordering.{nat_cmp}
 use Rattle.sorted_order.specs.Blocks.{AreFilled, AreSums, capacity_of, length_before, put}
 use Rattle.sorted_order.specs.Sought.{IsRising, IsFound, is_equal, past}
-use Rattle.sorted_order.specs.Stock.{in_order, Arranges}
+use Rattle.sorted_order.specs.ArenaView.{in_order, Arranges}
 
 -- Without blocks there is no room.
 capacity_of_none : capacity_of 0 0 ≡ 0

@@ -1,4 +1,4 @@
 pub mod Sequence
 pub mod Sought
 pub mod Blocks
-pub mod Stock
+pub mod ArenaView

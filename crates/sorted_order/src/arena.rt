@@ -3,7 +3,7 @@ ghost use Rattle.std.specs.Prelude.{◌≡◌, ℕ, ◌+◌, ◌<◌, ◌≤◌,
 ghost use Rattle.std.specs.Prelude.{slice_get, IsOk, OnOk, Some};
 ghost use Rattle.std.specs.List.{insert, filter};
 ghost use Rattle.sorted_order.specs.Sought.{IsRising, IsGap, is_equal};
-ghost use Rattle.sorted_order.specs.Stock.{in_order, Arranges, FindsNumber, compared_at};
+ghost use Rattle.sorted_order.specs.ArenaView.{in_order, Arranges, FindsNumber, compared_at};
 
 use crate::lent::Lent;
 use crate::numbers::Numbers;
@@ -22,9 +22,9 @@ pub struct Arena<T> {
 
 impl<T> Model for Arena<T> {
     ghost use Rattle.std.specs.Prelude.{length, min, vec_capacity};
-    ghost use Rattle.sorted_order.specs.Stock.{Stock, Arranges};
+    ghost use Rattle.sorted_order.specs.ArenaView.{ArenaView, Arranges};
 
-    ghost Value = { Stock T };
+    ghost Value = { ArenaView T };
 
     ghost view = { λ a. record {
       items = a.items.items;

@@ -4,7 +4,7 @@ ghost use Rattle.std.specs.declared.cmp.Ordering.{Ordering};
 ghost use Rattle.std.specs.List.{AllPairs, AllWithin, insert};
 ghost use Rattle.std.specs.Ordering.{ordering_index};
 ghost use Rattle.sorted_order.specs.Sought.{IsRising};
-ghost use Rattle.sorted_order.specs.Stock.{Stock, Arranges, in_order};
+ghost use Rattle.sorted_order.specs.ArenaView.{ArenaView, Arranges, in_order};
 
 /// A list in order rises under what is sought, where no item that stands before another is further
 /// on under it.
@@ -27,6 +27,6 @@ pub fn insertion_keeps_order<T>()
 
 /// As many items stand in order as there are.
 pub fn each_item_is_in_order<T>()
-    ensures { (stock : Stock T) → Arranges stock.order (length stock.items)
+    ensures { (stock : ArenaView T) → Arranges stock.order (length stock.items)
         → length (in_order stock) ≡ length stock.items }
 {}

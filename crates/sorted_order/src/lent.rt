@@ -2,7 +2,7 @@
 ghost use Rattle.std.specs.Prelude.{◌≡◌, ℕ, ◌<◌, length};
 ghost use Rattle.std.specs.List.{All};
 ghost use Rattle.std.specs.Iterator.{YieldsFirstRef, item_count};
-ghost use Rattle.sorted_order.specs.Stock.{picked};
+ghost use Rattle.sorted_order.specs.ArenaView.{picked};
 
 use crate::numbers::Numbers;
 use std::marker::Model;
@@ -17,7 +17,7 @@ pub struct Lent<'a, T> {
 impl<'a, T> Model for Lent<'a, T> {
     ghost use Rattle.std.specs.Prelude.{◌<◌, List, length};
     ghost use Rattle.std.specs.List.{All};
-    ghost use Rattle.sorted_order.specs.Stock.{picked};
+    ghost use Rattle.sorted_order.specs.ArenaView.{picked};
 
     ghost Value = { List T };
 

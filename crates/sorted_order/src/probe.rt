@@ -54,7 +54,7 @@ impl<'a, T, P: ItemProbe<T>> ByItem<'a, T, P> {
 
 impl<'a, T, P: ItemProbe<T>> Probe for ByItem<'a, T, P> {
     ghost use Rattle.std.specs.Prelude.{◌<◌, length};
-    ghost use Rattle.sorted_order.specs.Stock.{compared_at};
+    ghost use Rattle.sorted_order.specs.ArenaView.{compared_at};
 
     ghost compared = { λ by number. compared_at (P.compared by.probe.now) by.items.now number };
 

@@ -1,6 +1,6 @@
-pub mod Slashes
-pub mod Faults
-pub mod Paths
-pub mod Ids
-pub mod Plain
+pub mod SlashFacts
+pub mod FaultFacts
+pub mod PathFacts
+pub mod IdFacts
+pub mod PlainFacts
 mod StandardFacts

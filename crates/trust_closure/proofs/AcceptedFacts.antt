@@ -22,7 +22,7 @@ use Rattle.sorted_order.specs.Sought.{IsRising, is_equal}
 use Rattle.closure_core.proofs.ContainsFacts.{contains_first, contains_later, contains_cases}
 use Rattle.closure_core.specs.Inside.Flags.{TellsMembers}
 use Rattle.closure_core.specs.Inside.Nodes.{is_raised, raised_document, raised_documents, flags_of}
-use Rattle.trust_closure.specs.Pairs.{pair_cmp, no_pair, pair_at, Paired, AreRising, numbers_of, raised_of}
+use Rattle.trust_closure.specs.Inside.Pairs.{pair_cmp, no_documents, pair_at, DocumentTableView, AreRising, numbers_of, raised_of}
 use Rattle.closure_core.specs.AcceptedList.{document_cmp, document_of, IsAcceptedList}
 use Rattle.trust_closure.proofs.HeldFacts.{filter_gets, filter_test}
 
@@ -50,7 +50,7 @@ shows pairs flags n p raised at = ap (λ b. cond b (option_map (λ q. q.document
 shown-document : (pairs : List Pair) (flags : List Bool) (n : ℕ) (d : Bundle) → raised_document pairs flags n ≡ Some d → (pair_at pairs n).document ≡ d
 shown-document pairs flags n d e =
     let s = shown pairs flags n d e in
-    ap (λ (p : Pair). p.document) (get_or_from_slice_get pairs n s.0 no_pair s.2) ∙ s.3
+    ap (λ (p : Pair). p.document) (get_or_from_slice_get pairs n s.0 no_documents s.2) ∙ s.3
 
 -- What is in a list after an option was put in front is the option's item or was there.
 onto-cases : {Y : Type 0} (o : Option Y) (ys : List Y) (y : Y) → Contains (cons_option o ys) y → (o ≡ Some y) ⊎ Contains ys y
@@ -194,7 +194,7 @@ module _ (pairs : List Pair) (x : List ℕ) where
       sym (ap (λ o. ordering_then o (document_cmp one.document other.document)) tied) ∙ rise i j d l last
 
 -- the domain's documents whose flags are raised are its accepted ones
-pub accepted-list : (m : Meaning) (pairs : List Pair) (p : Paired) (x : List ℕ)
+pub accepted-list : (m : Meaning) (pairs : List Pair) (p : DocumentTableView) (x : List ℕ)
     → TellsMembers m pairs p.numbers (flags_of p.counts) → AreRising pairs p.numbers
     → IsAcceptedList m x (raised_of pairs p x)
 accepted-list m pairs p x t rise =
@@ -207,12 +207,12 @@ accepted-list m pairs p x t rise =
           let f = from-filter_map (raised_document pairs (flags_of p.counts))
           (numbers_of pairs p.numbers x) d c in
           let s = shown pairs (flags_of p.counts) f.0 d f.2 in
-          let at : pair_at pairs f.0 ≡ s.0 = get_or_from_slice_get pairs f.0 s.0 no_pair s.2 in
+          let at : pair_at pairs f.0 ≡ s.0 = get_or_from_slice_get pairs f.0 s.0 no_documents s.2 in
           let domain : s.0.domain ≡ x = sym (ap (λ (q : Pair). q.domain) at) ∙ domain-is pairs x f.0 (filter_test test p.numbers f.0 f.1) in
           subst (IsMember m) (same_pair s.0 x d domain s.3) (t.sound f.0 s.0 s.1 s.2);
       complete = λ d member.
           let f = t.all (document_of x d) member in
-          let at : (pair_at pairs f.0).domain ≡ x = ap (λ (q : Pair). q.domain) (get_or_from_slice_get pairs f.0 (document_of x d) no_pair f.2) in
+          let at : (pair_at pairs f.0).domain ≡ x = ap (λ (q : Pair). q.domain) (get_or_from_slice_get pairs f.0 (document_of x d) no_documents f.2) in
           let tied : is_equal (domain_cmp (pair_at pairs f.0).domain x) ≡ true = ap is_equal (ap (λ a. domain_cmp a x) at ∙ tied_itself nat_list_cmp_total x) in
           in-filter_map (raised_document pairs (flags_of p.counts)) (numbers_of pairs p.numbers x)
           f.0 d (filter_gets test p.numbers f.0 (t.listed f.0 f.1) tied)

@@ -13,7 +13,7 @@ use Rattle.fed_config.specs.declared.seed.Seed.{Seed}
 use Rattle.receipt_core.specs.declared.distrust.Distrust.{Distrust}
 use Rattle.receipt_core.specs.Receipt.{Receipt, IsReceipt, IsDistrust, IsDigest}
 use Rattle.receipt_core.specs.Acceptance.{IsFitting, IsMeaning}
-use Rattle.sorted_order.specs.Stock.{Stock, Arranges, in_order}
+use Rattle.sorted_order.specs.ArenaView.{ArenaView, Arranges, in_order}
 use Rattle.receipt_core.specs.Receipt.{receipt_cmp, with_distrust}
 use Rattle.receipt_core.specs.Rising.{with_item}
 use Rattle.receipt_core.specs.Acceptance.{Meaning}
@@ -21,11 +21,11 @@ use Rattle.receipt_core.proofs.RisingFacts.{with_item-all}
 use Rattle.std.specs.Bool.{IsTrue}
 use Rattle.std.specs.Prelude.{◌↔◌, Bool}
 use Rattle.closure_core.specs.Inside.Records.{distrust_by, distrusts_of, AreWithin}
-use Rattle.trust_closure.specs.Records.{record_cmp, InsertsRecord}
-use Rattle.trust_closure.specs.declared.shared.records.Addition.{Addition}
-use Rattle.trust_closure.specs.declared.shared.records.Addition.TheVariants.{Added, There, Full as NoPlace}
+use Rattle.trust_closure.specs.Inside.Records.{record_cmp, InsertsRecord}
+use Rattle.trust_closure.specs.declared.shared.records.Insertion.{Insertion}
+use Rattle.trust_closure.specs.declared.shared.records.Insertion.TheVariants.{Added, There, Full as NoPlace}
 use Rattle.closure_core.specs.declared.record.Record.{Record}
-use Rattle.trust_closure.specs.Held.{domains_of, bucket_cmp, IsHoard, AddsOrRefuses, addition_result}
+use Rattle.trust_closure.specs.Inside.Held.{domains_of, bucket_cmp, IsWellHeld, AddsOrRefuses, addition_result}
 use Rattle.closure_core.proofs.ContainsFacts.{contains_none, IsMapped, mapped, contains_map}
 use Rattle.closure_core.proofs.RisingFacts.{rising_same, with_items_has, with_items_gets, with_items_rising, with_item_rising, with_item_longer, each_has}
 use Rattle.trust_closure.proofs.RecordFacts.{distrusts_rising, distrusts_with, record_of, record_total}
@@ -178,8 +178,8 @@ all_distrusts c is (r ∷ rs) within keys =
     (record { domain = domain_text c is (get_or (domains_of c) r.domain []) (own_domain c r within.0); key = keys.0 }, all_distrusts c is rs within.1 keys.1)
 
 -- What is held is a meaning: its receipts and records are in order, fit and are within limits.
-pub hoard_meaning : (c : Configuration) (stock : Stock Receipt) (buckets : List ℕ) (records : List Record)
-    → IsHoard c stock buckets records
+pub hoard_meaning : (c : Configuration) (stock : ArenaView Receipt) (buckets : List ℕ) (records : List Record)
+    → IsWellHeld c stock buckets records
     → IsMeaning (record { config = c; held = in_order stock; records = distrusts_of (domains_of c) records })
 hoard_meaning c stock buckets records is =
     let size : length (in_order stock) ≡ length stock.items = length_in_order stock is.arranged in
@@ -218,7 +218,7 @@ arranges_none : Arranges [] 0
 arranges_none = record { counted = refl; within = λ k d h. absurd (omega arith); each = λ n h. absurd (omega arith) }
 
 -- A closure without receipts and records holds what is to be held.
-pub hoard_none : (c : Configuration) → IsConfiguration c → IsHoard c (record { items = []; order = []; capacity = 0 }) [] []
+pub hoard_none : (c : Configuration) → IsConfiguration c → IsWellHeld c (record { items = []; order = []; capacity = 0 }) [] []
 hoard_none c is = record {
   configuration = is;
   receipts = tt;
@@ -237,14 +237,14 @@ hoard_none c is = record {
 -- ---- one record more
 
 -- What is held with a list of records is held with an equal one.
-hoard_with : (c : Configuration) (stock : Stock Receipt) (buckets : List ℕ) (old new : List Record)
-    → IsHoard c stock buckets old → new ≡ old → IsHoard c stock buckets new
-hoard_with c stock buckets old new hoard e = subst (IsHoard c stock buckets) (sym e) hoard
+hoard_with : (c : Configuration) (stock : ArenaView Receipt) (buckets : List ℕ) (old new : List Record)
+    → IsWellHeld c stock buckets old → new ≡ old → IsWellHeld c stock buckets new
+hoard_with c stock buckets old new hoard e = subst (IsWellHeld c stock buckets) (sym e) hoard
 
 -- What is held stays so after a record was added, was there, or had no place.
-pub hoard_add : (c : Configuration) (stock : Stock Receipt) (buckets : List ℕ) (old new : List Record) (x : Record)
-    → IsHoard c stock buckets old → x.domain < length (domains_of c) → IsDigest x.key.0 → (a : Addition)
-    → InsertsRecord old x new a → IsHoard c stock buckets new
+pub hoard_add : (c : Configuration) (stock : ArenaView Receipt) (buckets : List ℕ) (old new : List Record) (x : Record)
+    → IsWellHeld c stock buckets old → x.domain < length (domains_of c) → IsDigest x.key.0 → (a : Insertion)
+    → InsertsRecord old x new a → IsWellHeld c stock buckets new
 hoard_add c stock buckets old new x hoard below key There h = hoard_with c stock buckets old new hoard h.1
 hoard_add c stock buckets old new x hoard below key NoPlace h = hoard_with c stock buckets old new hoard h.now
 hoard_add c stock buckets old new x hoard below key Added h =
@@ -280,7 +280,7 @@ lacks c old x below within unheld has = unheld (record_of (domains_of c) x old (
 
 -- What was done to the records by numbers is what is to be done to the records of distrust.
 pub told_adds : (c : Configuration) (held : List Receipt) (old new : List Record) (x : Record)
-    → x.domain < length (domains_of c) → AreWithin (length (domains_of c)) old → (a : Addition)
+    → x.domain < length (domains_of c) → AreWithin (length (domains_of c)) old → (a : Insertion)
     → InsertsRecord old x new a
     → AddsOrRefuses (meaning_with c held old) (distrust_by (domains_of c) x) (meaning_with c held new)
     (addition_result a)

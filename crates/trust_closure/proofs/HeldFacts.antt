@@ -24,12 +24,12 @@ use Rattle.receipt_core.specs.Acceptance.{IsFitting, Meaning}
 use Rattle.receipt_core.proofs.LineFacts.{one_receipt}
 use Rattle.receipt_core.proofs.OrderFacts.{both_equal, cmp_equal}
 use Rattle.sorted_order.specs.Sought.{IsMissing, IsGap, IsRising, is_equal}
-use Rattle.sorted_order.specs.Stock.{Stock, Arranges, in_order, picked, compared_at, IsNumber, FindsNumber}
+use Rattle.sorted_order.specs.ArenaView.{ArenaView, Arranges, in_order, picked, compared_at, IsNumber, FindsNumber}
 use Rattle.sorted_order.proofs.PickedFacts.{length-picked, picked-at, picked-insert, rising_numbers, gap_of_items, Arranges-insert, filter-picked}
 use Rattle.closure_core.proofs.RisingFacts.{with_item_at, with_item_rising, sought, sorted, rising_same, each_has, each_from}
 use Rattle.closure_core.proofs.MemberFacts.{all_more}
-use Rattle.closure_core.specs.Refusals.{Misfits}
-use Rattle.trust_closure.specs.Held.{IsHoard, bucket_of, bucket_cmp, Repels}
+use Rattle.closure_core.specs.Refusals.{RefusesFit}
+use Rattle.trust_closure.specs.Inside.Held.{IsWellHeld, bucket_of, bucket_cmp, RefusesNew}
 use Rattle.closure_core.specs.AcceptedList.{is_in_bucket, receipts_in}
 use Rattle.closure_core.specs.declared.error.TakeError.{TakeError}
 use Rattle.closure_core.specs.declared.error.TakeError.TheVariants.{UnknownDomain, WrongEndpoint, Full, NoMemory, ConfigDiffers}
@@ -56,13 +56,13 @@ picked_all P items all [] = tt
 picked_all P items all (n ∷ ns) = cons_all P (slice_get items n) (picked items ns) (get_all P items all n) (picked_all P items all ns)
 
 -- The items in order are as many as all items.
-pub length_in_order : (stock : Stock Receipt) → Arranges stock.order (length stock.items) → length (in_order stock) ≡ length stock.items
+pub length_in_order : (stock : ArenaView Receipt) → Arranges stock.order (length stock.items) → length (in_order stock) ≡ length stock.items
 length_in_order stock arranged = length-picked stock.items stock.order arranged.within ∙ arranged.counted
 
 -- ---- a search among them
 
 -- A receipt that the search finds is held.
-pub found_held : (stock : Stock Receipt) (r : Receipt) (number : ℕ) → AllByRecursion IsReceipt stock.items → IsReceipt r
+pub found_held : (stock : ArenaView Receipt) (r : Receipt) (number : ℕ) → AllByRecursion IsReceipt stock.items → IsReceipt r
     → IsNumber (λ s. receipt_cmp s r) stock number → Contains (in_order stock) r
 found_held stock r number all is found =
     let held : AllByRecursion IsReceipt (in_order stock) = picked_all IsReceipt stock.items all stock.order in
@@ -78,7 +78,7 @@ pub missing_inserts : (xs : List Receipt) (r : Receipt) (place : ℕ) → IsMiss
 missing_inserts xs r place missing = with_item_at receipt_total r xs place missing.within missing.before missing.after
 
 -- What a search returns says whether the receipt is held.
-pub finds_held : (stock : Stock Receipt) (r : Receipt) (found : Result ℕ ℕ) → AllByRecursion IsReceipt stock.items
+pub finds_held : (stock : ArenaView Receipt) (r : Receipt) (found : Result ℕ ℕ) → AllByRecursion IsReceipt stock.items
     → IsReceipt r → FindsNumber (λ s. receipt_cmp s r) stock found → IsTrue (is_ok found) ↔ Contains (in_order stock) r
 finds_held stock r (Ok number) all is found = (λ t. found_held stock r number all is found, λ has. refl)
 finds_held stock r (Err place) all is missing = (λ t. absurd (cc), λ has. absurd (missing_lacks (in_order stock) r place missing has))
@@ -156,12 +156,12 @@ bucket_inserts items buckets r spot arranged other gap =
 -- ---- one receipt more
 
 -- What is held stays in order, in both orders, after a receipt is taken.
-pub hoard_more : (c : Configuration) (stock new : Stock Receipt) (buckets newer : List ℕ) (records : List Record)
-    (r : Receipt) (place spot : ℕ) → IsHoard c stock buckets records → IsReceipt r → IsFitting c r
+pub hoard_more : (c : Configuration) (stock new : ArenaView Receipt) (buckets newer : List ℕ) (records : List Record)
+    (r : Receipt) (place spot : ℕ) → IsWellHeld c stock buckets records → IsReceipt r → IsFitting c r
     → length stock.items < 65536 → IsMissing (λ s. receipt_cmp s r) (in_order stock) place
     → IsGap (λ n. compared_at (λ x. bucket_cmp x r) stock.items n) buckets spot → new.items ≡ stock.items ++ r ∷ []
     → in_order new ≡ insert (in_order stock) place r → new.order ≡ insert stock.order place (length stock.items)
-    → newer ≡ insert buckets spot (length stock.items) → IsHoard c new newer records
+    → newer ≡ insert buckets spot (length stock.items) → IsWellHeld c new newer records
 hoard_more c stock new buckets newer records r place spot hoard is fits few missing gap items ordered order bucketed =
     let size : length new.items ≡ length stock.items + 1 = ap length items ∙ length-append stock.items (r ∷ []) in
     let counted : length (in_order stock) ≡ length stock.items = length_in_order stock hoard.arranged in
@@ -201,7 +201,7 @@ hoard_more c stock new buckets newer records r place spot hoard is fits few miss
 -- ---- why a receipt is refused
 
 -- Why a receipt does not fit is why it is refused.
-pub misfit_repels : (m : Meaning) (r : Receipt) (why : TakeError) → Misfits m.config r why → Repels m r why
+pub misfit_repels : (m : Meaning) (r : Receipt) (why : TakeError) → RefusesFit m.config r why → RefusesNew m r why
 misfit_repels m r UnknownDomain h = h
 misfit_repels m r WrongEndpoint h = h
 misfit_repels m r Full h = absurd h
@@ -302,7 +302,7 @@ moved items from to b y arranged has =
     (filter_test (is_in_bucket b) (picked items from) y has)
 
 -- The stretch of a bucket, in the order of buckets, is the list of the bucket's receipts by line.
-pub bucket_list : (stock : Stock Receipt) (buckets : List ℕ) (b : ℕ) → Arranges stock.order (length stock.items)
+pub bucket_list : (stock : ArenaView Receipt) (buckets : List ℕ) (b : ℕ) → Arranges stock.order (length stock.items)
     → Arranges buckets (length stock.items) → IsStrictlySortedBy receipt_cmp (in_order stock)
     → IsStrictlySortedBy bucket_cmp (picked stock.items buckets)
     → picked stock.items (filter (λ n. is_equal (compared_at (λ r. nat_cmp (bucket_of r) b) stock.items n)) buckets)

@@ -25,25 +25,25 @@ use Rattle.receipt_core.specs.Sets.{AreSets, Always}
 use Rattle.receipt_core.proofs.LineFacts.{one_receipt, one_distrust}
 use Rattle.receipt_core.proofs.RisingFacts.{AreSets-from_total}
 use Rattle.trust_closure.specs.declared.indexed.labels.label.Label.{Label}
-use Rattle.trust_closure.specs.Spots.{Spot, Mirrors, bare_spot}
-use Rattle.trust_closure.proofs.Arrows.{Contains-from_map}
+use Rattle.trust_closure.specs.Inside.NodeSpecs.{NodeSpec, Represents, bare_node}
+use Rattle.trust_closure.proofs.LabelledEdgeFacts.{Contains-from_map}
 use Rattle.closure_core.proofs.ContainsFacts.{contains_first, contains_cases, contains_none, contains_map}
 use Rattle.std.proofs.lemmas.List.{length-map, length-append}
 use Rattle.closure_core.specs.AcceptedList.{IsPendingCount}
 use Rattle.receipt_core.specs.Acceptance.{Meaning, IsMeaning, IsMember, IsReleased, IsFitting, pair_of_seed}
-use Rattle.trust_closure.specs.Labels.{Wired, IsOfKey, Closes, HasNode, IsRooted, IsRoomierIndex as IsRoomierWired}
-use Rattle.trust_closure.proofs.Edges.{slice_get-left, slice_get-map_cases, slice_get-Contains, Contains-slice_get, one_place, root-of_spot}
-use Rattle.trust_closure.proofs.Mirroring.{Mirrors-shut}
+use Rattle.trust_closure.specs.Inside.Labels.{LabelIndexView, IsOfKey, Closes, HasNode, IsRooted, IsRoomierIndex as IsRoomierWired}
+use Rattle.trust_closure.proofs.EdgeFacts.{slice_get-left, slice_get-map_cases, slice_get-Contains, Contains-slice_get, one_place, root-of_spot}
+use Rattle.trust_closure.proofs.RepresentFacts.{Represents-shut}
 use Rattle.closure_core.specs.Inside.Nodes.{pairs_of, is_raised, flags_of, count_at}
 use Rattle.closure_core.specs.Inside.Flags.{raised_count, TellsMembers}
-use Rattle.trust_closure.specs.NodeCounts.{AreCounts, AddsNodes}
-use Rattle.trust_closure.specs.Held.{Hoard, meaning_of, HasAdded}
-use Rattle.trust_closure.specs.NetOf.{spots_of, spot_of_seed, spot_of_receipt, IsShutBy, IsNetOf, IsWiringOf, triple_by}
-use Rattle.trust_closure.specs.Pairs.{Paired, IsPairing, HasRaised, no_pair}
+use Rattle.trust_closure.specs.Inside.NodeCounts.{AreCounts, AddsNodes}
+use Rattle.trust_closure.specs.Inside.Held.{HeldReceipts, meaning_of, HasAdded}
+use Rattle.trust_closure.specs.Inside.NetOf.{node_specs_of, seed_node, receipt_node, IsShutBy, IsNetOf, IsLabelIndexOf, triple_by}
+use Rattle.trust_closure.specs.Inside.Pairs.{DocumentTableView, IsDocumentTable, HasRaised, no_documents}
 use Rattle.trust_closure.specs.Work.{ClosesAtOnce, IsWorkOf, AreOld}
-use Rattle.trust_closure.specs.Indexed.{IsBuilt, IsIndexed, WasCounted, IsDistrusted, IsBefore, HasRoom}
-use Rattle.trust_closure.specs.Indexed.{IsIndexedClosure, Reserves, IsIndexOf, Indexed, indexed_of, IsSeeded}
-use Rattle.trust_closure.specs.declared.indexed.changes.Spare.{Spare}
+use Rattle.trust_closure.specs.Inside.Indexed.{IsBuilt, IsIndexed, WasCounted, IsDistrusted, IsBefore, HasRoom}
+use Rattle.trust_closure.specs.Inside.Indexed.{IsIndexedClosure, Reserves, IsIndexOf, Indexed, indexed_of, IsSeeded}
+use Rattle.trust_closure.specs.declared.indexed.changes.FreeRoom.{FreeRoom}
 use Rattle.closure_core.specs.Changes.{IsGain}
 use Rattle.std.proofs.Common.{eqb}
 use Rattle.std.proofs.lemmas.Bool.{eq-eqb, eqb-true, not-true, not_from_false, false_from_ne_true}
@@ -58,12 +58,12 @@ use Rattle.closure_core.proofs.FlagFacts.{IsFirstOf, gain-from_flags, passing, p
 use Rattle.closure_core.proofs.FlagFacts.{different-map}
 use Rattle.trust_closure.proofs.ConfigFacts.{one_domains}
 use Rattle.closure_core.proofs.MemberFacts.{member_more}
-use Rattle.trust_closure.proofs.Wirings.{domain-one_number, wiring-node, wiring-root, node-number}
+use Rattle.trust_closure.proofs.LabelIndexFacts.{domain-one_number, label_index-node, label_index-root, node-number}
 use Rattle.closure_core.proofs.RisingFacts.{each_has}
-use Rattle.trust_closure.proofs.Bridge.{IsAccepted, IsReachedAt, accepted-from_reached, reached-from_member, reached-from_released, spot-of_seed_node}
+use Rattle.trust_closure.proofs.ReachedFacts.{IsAccepted, IsReachedAt, accepted-from_reached, reached-from_member, reached-from_released, spot-of_seed_node}
 use Rattle.trust_closure.proofs.PairFacts.{pairing-once}
 
-module _ (h : Hoard) (p : Paired) (w : Wired) (b : IsBuilt h p w) where
+module _ (h : HeldReceipts) (p : DocumentTableView) (w : LabelIndexView) (b : IsBuilt h p w) where
   -- Each receipt fits, since what is held is a meaning.
   fits : (r : Receipt) → Contains h.arrived r → IsFitting h.config r
   fits r c = each_has (IsFitting h.config) h.held r b.valid.fitting ((b.same r).1 c)
@@ -122,7 +122,7 @@ module _ (h : Hoard) (p : Paired) (w : Wired) (b : IsBuilt h p w) where
   tells are = tells-flags (flags-counted p.firsts w.marked p.counts marked-within are)
 
 -- A pair's flag is raised exactly where its document is accepted.
-pub raised-member : (h : Hoard) (p : Paired) (w : Wired) → IsIndexed h p w → (q : Pair)
+pub raised-member : (h : HeldReceipts) (p : DocumentTableView) (w : LabelIndexView) → IsIndexed h p w → (q : Pair)
     → HasRaised (pairs_of h.config.seeds h.arrived) p q ↔ IsMember (meaning_of h) q
 raised-member h p w i q =
     let t = tells h p w i.built i.counts in (
@@ -139,15 +139,15 @@ pairs-push seeds arrived r = ap (λ ps. map pair_of_seed seeds ++ ps) (map_push 
 
 -- One more receipt has its spot last.
 pub spots-push : (seeds : List Seed) (arrived : List Receipt) (r : Receipt)
-    → spots_of seeds (arrived ++ r ∷ []) ≡ spots_of seeds arrived ++ spot_of_receipt r ∷ []
-spots-push seeds arrived r = ap (λ ss. map spot_of_seed seeds ++ ss) (map_push spot_of_receipt arrived r)
-    ∙ sym (append_assoc (map spot_of_seed seeds) (map spot_of_receipt arrived) (spot_of_receipt r ∷ []))
+    → node_specs_of seeds (arrived ++ r ∷ []) ≡ node_specs_of seeds arrived ++ receipt_node r ∷ []
+spots-push seeds arrived r = ap (λ ss. map seed_node seeds ++ ss) (map_push receipt_node arrived r)
+    ∙ sym (append_assoc (map seed_node seeds) (map receipt_node arrived) (receipt_node r ∷ []))
 
 -- Other counts, as many, leave each pair its number.
-pub pairing-counts : (pairs : List Pair) (p q : Paired) → IsPairing pairs p → q.numbers ≡ p.numbers
-    → q.firsts ≡ p.firsts → length q.counts ≡ length p.counts → IsPairing pairs q
+pub pairing-counts : (pairs : List Pair) (p q : DocumentTableView) → IsDocumentTable pairs p → q.numbers ≡ p.numbers
+    → q.firsts ≡ p.firsts → length q.counts ≡ length p.counts → IsDocumentTable pairs q
 pairing-counts pairs p q h numbers firsts counts =
-    let one : IsPairing pairs (record {
+    let one : IsDocumentTable pairs (record {
       numbers = p.numbers;
       firsts = p.firsts;
       counts = q.counts;
@@ -165,13 +165,13 @@ pairing-counts pairs p q h numbers firsts counts =
           h.first;
     }
     in
-    subst (λ ns. IsPairing pairs (record {
+    subst (λ ns. IsDocumentTable pairs (record {
       numbers = ns;
       firsts = q.firsts;
       counts = q.counts;
       capacity = q.capacity;
     })) (sym numbers)
-    (subst (λ fs. IsPairing pairs (record {
+    (subst (λ fs. IsDocumentTable pairs (record {
       numbers = p.numbers;
       firsts = fs;
       counts = q.counts;
@@ -192,11 +192,11 @@ always-all [] = tt
 always-all (x ∷ xs) = (tt, always-all xs)
 
 -- the hoard with the receipt, which came last
-abbrev pub with_arrival : Hoard → Receipt → Hoard
+abbrev pub with_arrival : HeldReceipts → Receipt → HeldReceipts
 with_arrival h r = record h { arrived = h.arrived ++ r ∷ []; held = with_receipt r h.held }
 
 -- With one more receipt, what is held is still what has arrived.
-pub same-more : (h : Hoard) (r : Receipt) → IsMeaning (meaning_of h) → IsReceipt r
+pub same-more : (h : HeldReceipts) (r : Receipt) → IsMeaning (meaning_of h) → IsReceipt r
     → ((s : Receipt) → Contains h.held s ↔ Contains h.arrived s) → (s : Receipt)
     → Contains (with_receipt r h.held) s ↔ Contains (h.arrived ++ r ∷ []) s
 same-more h r valid form same s =
@@ -209,11 +209,11 @@ same-more h r valid form same s =
     )
 
 -- The index is built of what is held, after one more receipt.
-pub built-more : (h new : Hoard) (p q : Paired) (w v : Wired) (r : Receipt) → IsBuilt h p w → IsReceipt r
+pub built-more : (h new : HeldReceipts) (p q : DocumentTableView) (w v : LabelIndexView) (r : Receipt) → IsBuilt h p w → IsReceipt r
     → (Contains h.held r → ⊥) → new ≡ with_arrival h r → IsMeaning (meaning_of new)
-    → ((domains : List (List ℕ)) (spots : List (Spot Triple)) → AreDomains h.config domains
-    → IsWiringOf domains h.records spots w → IsWiringOf domains h.records (spots ++ spot_of_receipt r ∷ []) v)
-    → ListsReached v.net v.marked → IsPairing (pairs_of h.config.seeds h.arrived ++ pair_of r ∷ []) q → IsBuilt new q v
+    → ((domains : List (List ℕ)) (spots : List (NodeSpec Triple)) → AreDomains h.config domains
+    → IsLabelIndexOf domains h.records spots w → IsLabelIndexOf domains h.records (spots ++ receipt_node r ∷ []) v)
+    → ListsReached v.net v.marked → IsDocumentTable (pairs_of h.config.seeds h.arrived ++ pair_of r ∷ []) q → IsBuilt new q v
 built-more h new p q w v r b form unheld is valid wired reached pairing =
     let valid' : IsMeaning (meaning_of (with_arrival h r)) = subst (λ x. IsMeaning (meaning_of x)) is valid in
     subst (λ x. IsBuilt x q v) (sym is) (record {
@@ -224,14 +224,14 @@ built-more h new p q w v r b form unheld is valid wired reached pairing =
           ((b.same (get_or h.arrived k d)).1 (Contains-get_or h.arrived k d l))));
       domains = b.domains;
       are_domains = b.are_domains;
-      wired = subst (λ ss. IsWiringOf b.domains h.records ss v) (sym (spots-push h.config.seeds h.arrived r))
-          (wired b.domains (spots_of h.config.seeds h.arrived) b.are_domains b.wired);
+      wired = subst (λ ss. IsLabelIndexOf b.domains h.records ss v) (sym (spots-push h.config.seeds h.arrived r))
+          (wired b.domains (node_specs_of h.config.seeds h.arrived) b.are_domains b.wired);
       reached = reached;
-      pairing = subst (λ ps. IsPairing ps q) (sym (pairs-push h.config.seeds h.arrived r)) pairing;
+      pairing = subst (λ ps. IsDocumentTable ps q) (sym (pairs-push h.config.seeds h.arrived r)) pairing;
     })
 
 -- Other counts, as many, leave it built.
-pub built-counts : (h : Hoard) (p q : Paired) (w : Wired) → IsBuilt h p w → q.numbers ≡ p.numbers
+pub built-counts : (h : HeldReceipts) (p q : DocumentTableView) (w : LabelIndexView) → IsBuilt h p w → q.numbers ≡ p.numbers
     → q.firsts ≡ p.firsts → length q.counts ≡ length p.counts → IsBuilt h q w
 built-counts h p q w b numbers firsts counts = record {
   valid = b.valid;
@@ -249,15 +249,15 @@ pub count-push : (flags : List Bool) → raised_count (flags ++ false ∷ []) �
 count-push flags = sum_by_push (λ b. cond b 1 0) flags false ∙ (let e : sum_by (λ b. cond b 1 0) flags + 0 ≡ sum_by (λ b. cond b 1 0) flags = omega arith in e)
 
 -- The rise of the number of raised flags, with one more receipt, is what is gained.
-pub gain-more : (h new : Hoard) (p q : Paired) (w v : Wired) (r : Receipt) (nodes : List ℕ) (n : ℕ) → IsIndexed h p w
+pub gain-more : (h new : HeldReceipts) (p q : DocumentTableView) (w v : LabelIndexView) (r : Receipt) (nodes : List ℕ) (n : ℕ) → IsIndexed h p w
     → IsIndexed new q v → new ≡ with_arrival h r
     → AddsNodes q.firsts nodes (p.counts ++ 0 ∷ []) q.counts
     → raised_count (flags_of q.counts) ≡ raised_count (flags_of (p.counts ++ 0 ∷ [])) + n
     → IsGain (meaning_of h) (meaning_of new) n
 gain-more h new p q w v r nodes n i j is adds count =
     let prefix : pairs_of new.config.seeds new.arrived ≡ pairs_of h.config.seeds h.arrived ++ pair_of r ∷ [] =
-    ap (λ (x : Hoard). pairs_of x.config.seeds x.arrived) is ∙ pairs-push h.config.seeds h.arrived r in
-    gain-from_flags no_pair (meaning_of h) (meaning_of new) (pairs_of h.config.seeds h.arrived)
+    ap (λ (x : HeldReceipts). pairs_of x.config.seeds x.arrived) is ∙ pairs-push h.config.seeds h.arrived r in
+    gain-from_flags no_documents (meaning_of h) (meaning_of new) (pairs_of h.config.seeds h.arrived)
     (pairs_of new.config.seeds new.arrived) p.numbers q.numbers (flags_of p.counts)
     (flags_of q.counts)
     (tells h p w i.built i.counts) (tells new q v j.built j.counts)
@@ -275,13 +275,13 @@ Shuts domains old new IsMeant = (label : Label) → label.domain < length domain
     → IsShutBy new (triple_by domains label) ↔
     (IsShutBy old (triple_by domains label) ⊎ IsMeant label)
 
--- The wiring after a close mirrors the same spots under more records.
-wiring-closed : (domains : List (List ℕ)) (records more : List Distrust) (IsMeant : Label → Type 0)
-    (spots : List (Spot Triple)) (old new : Wired) (turns : ℕ)
-    → IsWiringOf domains records spots old → Shuts domains records more IsMeant
-    → Closes old IsMeant new turns → IsWiringOf domains more spots new
-wiring-closed domains records more IsMeant spots old new turns h shuts c =
-    let mirrors = Mirrors-shut spots (map (triple_by domains) old.labels) (IsShutBy records) old.net
+-- The label index after a close mirrors the same spots under more records.
+label_index-closed : (domains : List (List ℕ)) (records more : List Distrust) (IsMeant : Label → Type 0)
+    (spots : List (NodeSpec Triple)) (old new : LabelIndexView) (turns : ℕ)
+    → IsLabelIndexOf domains records spots old → Shuts domains records more IsMeant
+    → Closes old IsMeant new turns → IsLabelIndexOf domains more spots new
+label_index-closed domains records more IsMeant spots old new turns h shuts c =
+    let mirrors = Represents-shut spots (map (triple_by domains) old.labels) (IsShutBy records) old.net
     h.mirrors (IsShutBy more) c.net.flags c.net.sizes (λ i t e.
     let f = slice_get-map_cases (triple_by domains) old.labels i t e in
     let l : f.0.domain < length domains =
@@ -302,9 +302,9 @@ wiring-closed domains records more IsMeant spots old new turns h shuts c =
     in
     record {
       within = All-same (λ (a : Label). a.domain < length domains) new.labels old.labels c.labels h.within;
-      mirrors = subst (λ ls. Mirrors spots (map (triple_by domains) ls) (IsShutBy more) new.net)
+      mirrors = subst (λ ls. Represents spots (map (triple_by domains) ls) (IsShutBy more) new.net)
           (sym c.labels)
-          (subst (Mirrors spots (map (triple_by domains) old.labels) (IsShutBy more))
+          (subst (Represents spots (map (triple_by domains) old.labels) (IsShutBy more))
           (sym c.net.net_is) mirrors);
     }
 
@@ -347,7 +347,7 @@ shuts-more domains more records IsMeant means label l =
     )
 
 -- the labels of distrusted keys are those that the records close
-pub distrusted-shut : (h : Hoard) (domains : List (List ℕ)) → AreDomains h.config domains
+pub distrusted-shut : (h : HeldReceipts) (domains : List (List ℕ)) → AreDomains h.config domains
     → (label : Label) → label.domain < length domains
     → IsDistrusted h label ↔ IsShutBy h.records (triple_by domains label)
 distrusted-shut h domains are =
@@ -375,7 +375,7 @@ shuts-all domains old new more IsMeant is means label l =
     )
 
 -- the hoard with these records besides
-abbrev pub with_mistrust : Hoard → List Distrust → ℕ → Hoard
+abbrev pub with_mistrust : HeldReceipts → List Distrust → ℕ → HeldReceipts
 with_mistrust h more capacity = record {
   config = h.config;
   arrived = h.arrived;
@@ -385,16 +385,16 @@ with_mistrust h more capacity = record {
 }
 
 -- A hoard that has more records is that one.
-pub hoard-before : (old new : Hoard) (more : List Distrust) → IsBefore old more new
+pub hoard-before : (old new : HeldReceipts) (more : List Distrust) → IsBefore old more new
     → new ≡ with_mistrust old more new.capacity
 hoard-before old new more b =
-    ap (λ c. let h : Hoard = record { config = c; arrived = new.arrived; held = new.held; records = new.records; capacity = new.capacity } in h) b.config
-    ∙ ap (λ a. let h : Hoard = record { config = old.config; arrived = a; held = new.held; records = new.records; capacity = new.capacity } in h) b.arrived
-    ∙ ap (λ a. let h : Hoard = record { config = old.config; arrived = old.arrived; held = a; records = new.records; capacity = new.capacity } in h) b.held
-    ∙ ap (λ a. let h : Hoard = record { config = old.config; arrived = old.arrived; held = old.held; records = a; capacity = new.capacity } in h) b.records
+    ap (λ c. let h : HeldReceipts = record { config = c; arrived = new.arrived; held = new.held; records = new.records; capacity = new.capacity } in h) b.config
+    ∙ ap (λ a. let h : HeldReceipts = record { config = old.config; arrived = a; held = new.held; records = new.records; capacity = new.capacity } in h) b.arrived
+    ∙ ap (λ a. let h : HeldReceipts = record { config = old.config; arrived = old.arrived; held = a; records = new.records; capacity = new.capacity } in h) b.held
+    ∙ ap (λ a. let h : HeldReceipts = record { config = old.config; arrived = old.arrived; held = old.held; records = a; capacity = new.capacity } in h) b.records
 
 -- The index is built of what is held, after a close for more records of distrust.
-pub built-closed : (old new : Hoard) (more : List Distrust) (p q : Paired) (w v : Wired)
+pub built-closed : (old new : HeldReceipts) (more : List Distrust) (p q : DocumentTableView) (w v : LabelIndexView)
     (IsMeant : Label → Type 0) (turns : ℕ) → IsBuilt old p w → IsBefore old more new
     → IsMeaning (meaning_of new)
     → ((domains : List (List ℕ)) → AreDomains old.config domains
@@ -413,8 +413,8 @@ built-closed old new more p q w v IsMeant turns b before valid shuts closes reac
       once = b.once;
       domains = b.domains;
       are_domains = b.are_domains;
-      wired = wiring-closed b.domains old.records (with_items distrust_cmp more old.records) IsMeant
-          (spots_of old.config.seeds old.arrived) w v turns b.wired (shuts b.domains b.are_domains)
+      wired = label_index-closed b.domains old.records (with_items distrust_cmp more old.records) IsMeant
+          (node_specs_of old.config.seeds old.arrived) w v turns b.wired (shuts b.domains b.are_domains)
           closes;
       reached = reached;
       pairing = pairing-counts (pairs_of old.config.seeds old.arrived) p q b.pairing numbers firsts
@@ -422,7 +422,7 @@ built-closed old new more p q w v IsMeant turns b before valid shuts closes reac
     })
 
 -- the counts are those of before a close
-pub was-counted : (h : Hoard) (p : Paired) (w v : Wired) (i : Index) (IsMeant : Label → Type 0)
+pub was-counted : (h : HeldReceipts) (p : DocumentTableView) (w v : LabelIndexView) (i : Index) (IsMeant : Label → Type 0)
     (turns : ℕ) → IsIndexed h p w → Closes w IsMeant v turns → i.marked ≡ v.marked → i.last ≡ v.last
     → WasCounted p i
 was-counted h p w v i IsMeant turns is c marked last = record {
@@ -438,7 +438,7 @@ was-counted h p w v i IsMeant turns is c marked last = record {
 }
 
 -- A close of the labels that records shut closes them at once, in the caller's words.
-pub closes-at_once : (old new : Hoard) (p : Paired) (w v : Wired) (was after : Spare)
+pub closes-at_once : (old new : HeldReceipts) (p : DocumentTableView) (w v : LabelIndexView) (was after : FreeRoom)
     (before turns : ℕ) (records : List Distrust) (IsMeant : Label → Type 0) → IsBuilt old p w
     → Closes w IsMeant v turns
     → ((domains : List (List ℕ)) → AreDomains old.config domains → (label : Label)
@@ -467,25 +467,25 @@ closes-at_once old new p w v was after before turns records IsMeant b c means = 
 }
 
 -- what is accepted with more records was accepted without them
-pub kept-closed : (old new : Hoard) (xs : List Distrust) (p q : Paired) (w v : Wired)
+pub kept-closed : (old new : HeldReceipts) (xs : List Distrust) (p q : DocumentTableView) (w v : LabelIndexView)
     → IsIndexed old p w → IsIndexed new q v → IsBefore old xs new → q.numbers ≡ p.numbers → (k : ℕ)
     → is_raised (flags_of q.counts) k ≡ true → is_raised (flags_of p.counts) k ≡ true
 kept-closed old new xs p q w v i j before numbers k e =
     let is = hoard-before old new xs before in
-    let same : pairs_of new.config.seeds new.arrived ≡ pairs_of old.config.seeds old.arrived = ap (λ (h : Hoard). pairs_of h.config.seeds h.arrived) is in
+    let same : pairs_of new.config.seeds new.arrived ≡ pairs_of old.config.seeds old.arrived = ap (λ (h : HeldReceipts). pairs_of h.config.seeds h.arrived) is in
     let fewer = tells new q v j.built j.counts in
     let more = tells old p w i.built i.counts in
     let l : k < length (pairs_of new.config.seeds new.arrived) = omega (arith, within, fewer.size) in
-    let at = slice_get-get_or (pairs_of new.config.seeds new.arrived) k no_pair l in
-    let m = fewer.sound k (get_or (pairs_of new.config.seeds new.arrived) k no_pair) e at in
+    let at = slice_get-get_or (pairs_of new.config.seeds new.arrived) k no_documents l in
+    let m = fewer.sound k (get_or (pairs_of new.config.seeds new.arrived) k no_documents) e at in
     let less = member_more (meaning_of new) (meaning_of old) before.config (λ r c. subst (λ rs. Contains rs r) before.held c)
     (λ y c. subst (λ ys. Contains ys y) (sym before.records)
     ((distrust-sets.all_members xs old.records y (always-all xs) (always-all old.records)).1
     (inr c)))
-    (get_or (pairs_of new.config.seeds new.arrived) k no_pair) m
+    (get_or (pairs_of new.config.seeds new.arrived) k no_documents) m
     in
-    let f = more.all (get_or (pairs_of new.config.seeds new.arrived) k no_pair) less in
-    let here = more.once k f.0 (get_or (pairs_of new.config.seeds new.arrived) k no_pair)
+    let f = more.all (get_or (pairs_of new.config.seeds new.arrived) k no_documents) less in
+    let here = more.once k f.0 (get_or (pairs_of new.config.seeds new.arrived) k no_documents)
     (subst (λ ns. Contains ns k) numbers (fewer.listed k e)) (more.listed f.0 f.1)
     (ap (λ ps. slice_get ps k) (sym same) ∙ at) f.2 in
     ap (λ a. is_raised (flags_of p.counts) a) here ∙ f.1
@@ -498,15 +498,15 @@ kept-closed old new xs p q w v i j before numbers k e =
     ]
 
 -- The fall of the number of raised flags, with more records of distrust, is what is lost.
-pub loss-closed : (old new : Hoard) (xs : List Distrust) (p q : Paired) (w v : Wired) (n : ℕ)
+pub loss-closed : (old new : HeldReceipts) (xs : List Distrust) (p q : DocumentTableView) (w v : LabelIndexView) (n : ℕ)
     → IsIndexed old p w → IsIndexed new q v → IsBefore old xs new
     → length q.counts ≡ length p.counts → q.numbers ≡ p.numbers
     → raised_count (flags_of p.counts) ≡ raised_count (flags_of q.counts) + n
     → IsGain (meaning_of new) (meaning_of old) n
 loss-closed old new xs p q w v n i j before size numbers count =
     let same : pairs_of new.config.seeds new.arrived ≡ pairs_of old.config.seeds old.arrived = ap
-    (λ (h : Hoard). pairs_of h.config.seeds h.arrived) (hoard-before old new xs before) in
-    gain-from_flags no_pair (meaning_of new) (meaning_of old)
+    (λ (h : HeldReceipts). pairs_of h.config.seeds h.arrived) (hoard-before old new xs before) in
+    gain-from_flags no_documents (meaning_of new) (meaning_of old)
     (pairs_of new.config.seeds new.arrived) (pairs_of old.config.seeds old.arrived) q.numbers
     p.numbers (flags_of q.counts) (flags_of p.counts)
     (tells new q v j.built j.counts) (tells old p w i.built i.counts)
@@ -515,16 +515,16 @@ loss-closed old new xs p q w v n i j before size numbers count =
     n count (omega (arith, size, length-flags p.counts, length-flags q.counts))
 
 -- Hoards with the same meaning, arrivals and capacity are the same.
-pub hoard-same : (old new : Hoard) → meaning_of new ≡ meaning_of old → new.arrived ≡ old.arrived → new.capacity ≡ old.capacity → new ≡ old
+pub hoard-same : (old new : HeldReceipts) → meaning_of new ≡ meaning_of old → new.arrived ≡ old.arrived → new.capacity ≡ old.capacity → new ≡ old
 hoard-same old new meaning arrived capacity =
-    ap (λ (m : Meaning). let h : Hoard =
+    ap (λ (m : Meaning). let h : HeldReceipts =
     record { config = m.config; arrived = new.arrived; held = m.held; records = m.records; capacity = new.capacity }
     in h) meaning
-    ∙ ap (λ a. let h : Hoard = record { config = old.config; arrived = a; held = old.held; records = old.records; capacity = new.capacity } in h) arrived
-    ∙ ap (λ n. let h : Hoard = record { config = old.config; arrived = old.arrived; held = old.held; records = old.records; capacity = n } in h) capacity
+    ∙ ap (λ a. let h : HeldReceipts = record { config = old.config; arrived = a; held = old.held; records = old.records; capacity = new.capacity } in h) arrived
+    ∙ ap (λ n. let h : HeldReceipts = record { config = old.config; arrived = old.arrived; held = old.held; records = old.records; capacity = n } in h) capacity
 
 -- A record that was added is the one that the new hoard has besides.
-pub before-added : (old new : Hoard) (x : Distrust) → HasAdded (meaning_of old) x (meaning_of new)
+pub before-added : (old new : HeldReceipts) (x : Distrust) → HasAdded (meaning_of old) x (meaning_of new)
     → new.arrived ≡ old.arrived → IsBefore old (x ∷ []) new
 before-added old new x a arrived = record {
   config = ap (λ (m : Meaning). m.config) a.meaning;
@@ -535,9 +535,9 @@ before-added old new x a arrived = record {
 
 -- ---- more room
 
--- A wiring is as roomy as itself.
-same-wiring : (w : Wired) → IsRoomierWired w w
-same-wiring w = record {
+-- A label index is as roomy as itself.
+same-label_index : (w : LabelIndexView) → IsRoomierWired w w
+same-label_index w = record {
   labels = refl;
   net = refl;
   marked = refl;
@@ -547,12 +547,12 @@ same-wiring w = record {
 }
 
 -- More room leaves the index as it is.
-indexed-roomier : (h new : Hoard) (p q : Paired) (w v : Wired) → IsIndexed h p w
+indexed-roomier : (h new : HeldReceipts) (p q : DocumentTableView) (w v : LabelIndexView) → IsIndexed h p w
     → new ≡ record h { capacity = new.capacity } → q.numbers ≡ p.numbers → q.firsts ≡ p.firsts
     → q.counts ≡ p.counts → IsRoomierWired w v → IsIndexed new q v
 indexed-roomier h new p q w v i is numbers firsts counts r =
     let b = i.built in
-    let other : Hoard = record h { capacity = new.capacity } in
+    let other : HeldReceipts = record h { capacity = new.capacity } in
     subst (λ x. IsIndexed x q v) (sym is) (record {
       built = record {
         valid = b.valid;
@@ -562,8 +562,8 @@ indexed-roomier h new p q w v i is numbers firsts counts r =
         are_domains = b.are_domains;
         wired = record {
           within = All-same (λ (a : Label). a.domain < length b.domains) v.labels w.labels r.labels b.wired.within;
-          mirrors = subst (λ ls. Mirrors (spots_of h.config.seeds h.arrived) (map (triple_by b.domains) ls) (IsShutBy h.records) v.net) (sym r.labels)
-              (subst (Mirrors (spots_of h.config.seeds h.arrived) (map (triple_by b.domains) w.labels) (IsShutBy h.records)) (sym r.net) b.wired.mirrors);
+          mirrors = subst (λ ls. Represents (node_specs_of h.config.seeds h.arrived) (map (triple_by b.domains) ls) (IsShutBy h.records) v.net) (sym r.labels)
+              (subst (Represents (node_specs_of h.config.seeds h.arrived) (map (triple_by b.domains) w.labels) (IsShutBy h.records)) (sym r.net) b.wired.mirrors);
         };
         reached = subst (λ ns. ListsReached v.net ns) (sym r.marked) (subst (λ net. ListsReached net w.marked) (sym r.net) b.reached);
         pairing = pairing-counts (pairs_of h.config.seeds h.arrived) p q b.pairing numbers firsts
@@ -575,11 +575,11 @@ indexed-roomier h new p q w v i is numbers firsts counts r =
     })
 
 -- The room that was promised is still there after more was reserved.
-pub room-kept : (h new : Hoard) (p q : Paired) (w v : Wired) (spare : Spare) → HasRoom h p w spare
+pub room-kept : (h new : HeldReceipts) (p q : DocumentTableView) (w v : LabelIndexView) (spare : FreeRoom) → HasRoom h p w spare
     → new ≡ record h { capacity = new.capacity } → h.capacity ≤ new.capacity → q.firsts ≡ p.firsts
     → p.capacity ≤ q.capacity → IsRoomierWired w v → HasRoom new q v spare
 room-kept h new p q w v spare r is held firsts pairs wired = record {
-  held = omega (arith, r.held, held, ap (λ (x : Hoard). length x.arrived) is);
+  held = omega (arith, r.held, held, ap (λ (x : HeldReceipts). length x.arrived) is);
   pairs = omega (arith, r.pairs, pairs, ap length firsts);
   nodes = omega (arith, r.nodes, wired.nodes);
   edges = omega (arith, r.edges, wired.edges);
@@ -587,14 +587,14 @@ room-kept h new p q w v spare r is held firsts pairs wired = record {
 }
 
 -- What reserving did, where the new room is known.
-pub reserves-from : (h new : Hoard) (p q : Paired) (w v : Wired) (spare more : Spare)
+pub reserves-from : (h new : HeldReceipts) (p q : DocumentTableView) (w v : LabelIndexView) (spare more : FreeRoom)
     → IsIndexedClosure h p w spare → new ≡ record h { capacity = new.capacity } → q.numbers ≡ p.numbers
     → q.firsts ≡ p.firsts → q.counts ≡ p.counts → IsRoomierWired w v → HasRoom new q v more
     → spare.receipts ≤ more.receipts → spare.offers ≤ more.offers
     → Reserves h new p q w v spare more
 reserves-from h new p q w v spare more k is numbers firsts counts r room receipts offers = record {
   meaning = ap meaning_of is;
-  arrived = ap (λ (x : Hoard). x.arrived) is;
+  arrived = ap (λ (x : HeldReceipts). x.arrived) is;
   net = r.net;
   marked = r.marked;
   kept = record {
@@ -605,7 +605,7 @@ reserves-from h new p q w v spare more k is numbers firsts counts r room receipt
 }
 
 -- A refusal leaves the room that was there.
-pub reserves-kept : (h new : Hoard) (p q : Paired) (w v : Wired) (spare : Spare)
+pub reserves-kept : (h new : HeldReceipts) (p q : DocumentTableView) (w v : LabelIndexView) (spare : FreeRoom)
     → IsIndexedClosure h p w spare → new ≡ record h { capacity = new.capacity } → h.capacity ≤ new.capacity
     → q.numbers ≡ p.numbers → q.firsts ≡ p.firsts → q.counts ≡ p.counts → p.capacity ≤ q.capacity
     → IsRoomierWired w v → Reserves h new p q w v spare spare
@@ -614,17 +614,17 @@ reserves-kept h new p q w v spare k is held numbers firsts counts pairs r =
     (room-kept h new p q w v spare k.room is held firsts pairs r) (omega arith) (omega arith)
 
 -- A refusal after what is held and the documents got room leaves all else as it was.
-pub reserves-pairs : (h new : Hoard) (p q : Paired) (w : Wired) (spare : Spare) → IsIndexedClosure h p w spare
+pub reserves-pairs : (h new : HeldReceipts) (p q : DocumentTableView) (w : LabelIndexView) (spare : FreeRoom) → IsIndexedClosure h p w spare
     → new ≡ record h { capacity = new.capacity } → h.capacity ≤ new.capacity → q.numbers ≡ p.numbers
     → q.firsts ≡ p.firsts → q.counts ≡ p.counts → p.capacity ≤ q.capacity
     → Reserves h new p q w w spare spare
 reserves-pairs h new p q w spare k is held numbers firsts counts pairs = reserves-kept h new p q w w
-    spare k is held numbers firsts counts pairs (same-wiring w)
+    spare k is held numbers firsts counts pairs (same-label_index w)
 
 -- ---- what the index is
 
 -- configured documents' nodes are marked, and those of receipts that are released
-pub index-parts : (h : Hoard) (p : Paired) (w : Wired) → IsBuilt h p w
+pub index-parts : (h : HeldReceipts) (p : DocumentTableView) (w : LabelIndexView) → IsBuilt h p w
     → ((n : ℕ) → n < length h.config.seeds → Contains w.marked n)
     × ((place : ℕ) (r : Receipt) → slice_get h.arrived place ≡ Some r
     → Contains w.marked (length h.config.seeds + place) ↔ IsReleased (meaning_of h) r)
@@ -634,8 +634,8 @@ index-parts h p w b =
       (λ n l.
           let s = get_or_seed h.config.seeds n l in
           b.reached.all n
-          (root (root-of_spot (spots_of h.config.seeds h.arrived) labels (IsShutBy h.records) w.net b.wired.mirrors
-          n (spot_of_seed s.0) (spot-of_seed_node h.config.seeds h.arrived n s.0 s.1)))),
+          (root (root-of_spot (node_specs_of h.config.seeds h.arrived) labels (IsShutBy h.records) w.net b.wired.mirrors
+          n (seed_node s.0) (spot-of_seed_node h.config.seeds h.arrived n s.0 s.1)))),
       (λ place r at. (
         λ c.
             let a = node-accepted h p w b (length h.config.seeds + place) (b.reached.reached (length h.config.seeds + place) c) in
@@ -652,19 +652,19 @@ index-parts h p w b =
     get_or_seed (s ∷ seeds) (suc n) l = get_or_seed seeds n (omega (arith, l))
 
 -- What is built is an index in the caller's words.
-pub index-of_built : (h : Hoard) (p : Paired) (w : Wired) (spare : Spare) (turns : ℕ)
+pub index-of_built : (h : HeldReceipts) (p : DocumentTableView) (w : LabelIndexView) (spare : FreeRoom) (turns : ℕ)
     → IsBuilt h p w → length h.arrived ≡ length h.held → IsIndexOf (indexed_of h w spare turns)
 index-of_built h p w spare turns b once =
     let parts = index-parts h p w b in
     record { labels = map (triple_by b.domains) w.labels; net = b.wired.mirrors; held = b.same; once = once; seeds = parts.0; receipts = parts.1 }
 
 -- All that a closure keeps is an index in the caller's words.
-pub index-of_kept : (h : Hoard) (p : Paired) (w : Wired) (spare : Spare) (turns : ℕ)
+pub index-of_kept : (h : HeldReceipts) (p : DocumentTableView) (w : LabelIndexView) (spare : FreeRoom) (turns : ℕ)
     → IsIndexedClosure h p w spare → length h.arrived ≡ length h.held → IsIndexOf (indexed_of h w spare turns)
 index-of_kept h p w spare turns k once = index-of_built h p w spare turns k.indexed.built once
 
 -- A close of all labels of distrusted keys is the work of the records that are held besides.
-pub work-of : (old new : Hoard) (more : List Distrust) (p q : Paired) (w v : Wired) (spare : Spare)
+pub work-of : (old new : HeldReceipts) (more : List Distrust) (p q : DocumentTableView) (w v : LabelIndexView) (spare : FreeRoom)
     (before turns : ℕ) → IsBefore old more new → IsBuilt old p w → IsBuilt new q v
     → length new.arrived ≡ length new.held → Closes w (IsDistrusted new) v turns
     → IsWorkOf (indexed_of old w spare before) more turns
@@ -726,41 +726,41 @@ same-work old new meaning arrived net marked records count is =
 
 -- ---- configured documents
 
--- More room leaves the wiring as it is.
-wiring-same : (domains : List (List ℕ)) (records : List Distrust) (spots : List (Spot Triple)) (w v : Wired)
-    → IsWiringOf domains records spots w → IsRoomierWired w v → IsWiringOf domains records spots v
-wiring-same domains records spots w v h r = record {
+-- More room leaves the label index as it is.
+label_index-same : (domains : List (List ℕ)) (records : List Distrust) (spots : List (NodeSpec Triple)) (w v : LabelIndexView)
+    → IsLabelIndexOf domains records spots w → IsRoomierWired w v → IsLabelIndexOf domains records spots v
+label_index-same domains records spots w v h r = record {
   within = All-same (λ (a : Label). a.domain < length domains) v.labels w.labels r.labels h.within;
-  mirrors = subst (λ ls. Mirrors spots (map (triple_by domains) ls) (IsShutBy records) v.net) (sym r.labels)
-      (subst (Mirrors spots (map (triple_by domains) w.labels) (IsShutBy records)) (sym r.net) h.mirrors);
+  mirrors = subst (λ ls. Represents spots (map (triple_by domains) ls) (IsShutBy records) v.net) (sym r.labels)
+      (subst (Represents spots (map (triple_by domains) w.labels) (IsShutBy records)) (sym r.net) h.mirrors);
 }
 
--- The wiring mirrors one more configured document after its node, its root and its offers are
+-- The label index mirrors one more configured document after its node, its root and its offers are
 -- added.
-pub wired-seed : (h : Hoard) (seeds : List Seed) (s : Seed) (w a b c d : Wired) (node : ℕ) (triples : List Triple)
-    → ((domains : List (List ℕ)) → AreDomains h.config domains → IsWiringOf domains h.records (map spot_of_seed seeds) w)
+pub wired-seed : (h : HeldReceipts) (seeds : List Seed) (s : Seed) (w a b c d : LabelIndexView) (node : ℕ) (triples : List Triple)
+    → ((domains : List (List ℕ)) → AreDomains h.config domains → IsLabelIndexOf domains h.records (map seed_node seeds) w)
     → IsRoomierWired w a → HasNode a b node → IsRooted b node c → triples ≡ offers_of (pair_of_seed s)
-    → ((domains : List (List ℕ)) (spots : List (Spot Triple)) (spot : Spot Triple) → AreDomains h.config domains
-    → node ≡ length spots → IsWiringOf domains h.records (spots ++ spot ∷ []) c
-    → IsWiringOf domains h.records (spots ++ record spot { offers = spot.offers ++ triples } ∷ []) d)
-    → (domains : List (List ℕ)) → AreDomains h.config domains → IsWiringOf domains h.records (map spot_of_seed (seeds ++ s ∷ [])) d
+    → ((domains : List (List ℕ)) (spots : List (NodeSpec Triple)) (spot : NodeSpec Triple) → AreDomains h.config domains
+    → node ≡ length spots → IsLabelIndexOf domains h.records (spots ++ spot ∷ []) c
+    → IsLabelIndexOf domains h.records (spots ++ record spot { offers = spot.offers ++ triples } ∷ []) d)
+    → (domains : List (List ℕ)) → AreDomains h.config domains → IsLabelIndexOf domains h.records (map seed_node (seeds ++ s ∷ [])) d
 wired-seed h seeds s w a b c d node triples wired room has rooted is offers domains are =
-    let spots = map spot_of_seed seeds in
-    let before = wiring-same domains h.records spots w a (wired domains are) room in
+    let spots = map seed_node seeds in
+    let before = label_index-same domains h.records spots w a (wired domains are) room in
     let at : node ≡ length spots = has.number ∙ node-number domains h.records spots a before in
-    let first = wiring-node domains are.rising h.records spots a b node before has in
-    let second = wiring-root domains are.rising h.records spots b c bare_spot node at first rooted in
+    let first = label_index-node domains are.rising h.records spots a b node before has in
+    let second = label_index-root domains are.rising h.records spots b c bare_node node at first rooted in
     let third = offers domains spots (record { rooted = true; offers = []; awaits = None }) are at second in
-    subst (λ ss. IsWiringOf domains h.records ss d) (sym (map_push spot_of_seed seeds s))
-    (subst (λ (ts : List Triple). IsWiringOf domains h.records (spots ++ record { rooted = true; offers = ts; awaits = None } ∷ []) d) is third)
+    subst (λ ss. IsLabelIndexOf domains h.records ss d) (sym (map_push seed_node seeds s))
+    (subst (λ (ts : List Triple). IsLabelIndexOf domains h.records (spots ++ record { rooted = true; offers = ts; awaits = None } ∷ []) d) is third)
 
 -- The index is right for one more configured document.
-pub seeded-more : (h : Hoard) (seeds : List Seed) (s : Seed) (p a q : Paired) (w d : Wired) (first : ℕ) → h.arrived ≡ [] → IsSeeded h seeds p w
-    → IsPairing (pairs_of seeds h.arrived ++ pair_of_seed s ∷ []) q → a.counts ≡ p.counts
+pub seeded-more : (h : HeldReceipts) (seeds : List Seed) (s : Seed) (p a q : DocumentTableView) (w d : LabelIndexView) (first : ℕ) → h.arrived ≡ [] → IsSeeded h seeds p w
+    → IsDocumentTable (pairs_of seeds h.arrived ++ pair_of_seed s ∷ []) q → a.counts ≡ p.counts
     → a.firsts ≡ p.firsts → q.counts ≡ a.counts ++ 0 ∷ [] → q.firsts ≡ a.firsts ++ first ∷ []
     → length a.firsts + 1 ≤ a.capacity → q.capacity ≡ a.capacity
     → ((domains : List (List ℕ)) → AreDomains h.config domains
-    → IsWiringOf domains h.records (map spot_of_seed (seeds ++ s ∷ [])) d) → ListsReached d.net d.marked
+    → IsLabelIndexOf domains h.records (map seed_node (seeds ++ s ∷ [])) d) → ListsReached d.net d.marked
     → IsSeeded h (seeds ++ s ∷ []) q d
 seeded-more h seeds s p a q w d first none g pairing f1 f2 counts firsts room capacity wired
     reached =
@@ -772,7 +772,7 @@ seeded-more h seeds s p a q w d first none g pairing f1 f2 counts firsts room ca
     ∙ ap (λ rs. map pair_of_seed (seeds ++ s ∷ []) ++ map pair_of rs) (sym none)
     in
     record {
-      pairing = subst (λ ps. IsPairing ps q) pairs pairing;
+      pairing = subst (λ ps. IsDocumentTable ps q) pairs pairing;
       lowered = λ n. ap (λ ks. count_at ks n) (counts ∙ ap (λ ks. ks ++ 0 ∷ []) f1)
           ∙ count_at-push p.counts n ∙ g.lowered n;
       room = omega (arith, ap length firsts, length_push a.firsts first, room, capacity);
@@ -786,14 +786,14 @@ pub seeds-domains : (c : Configuration) → All (λ (s : Seed). HasDomain c s.do
 seeds-domains c k d l = inr (inr (get_or c.seeds k d, Contains-get_or c.seeds k d l, refl))
 
 -- With all configured documents the index is built of what is held: nothing else.
-pub built-seeded : (h : Hoard) (domains : List (List ℕ)) (p : Paired) (w : Wired) (seeds : List Seed)
+pub built-seeded : (h : HeldReceipts) (domains : List (List ℕ)) (p : DocumentTableView) (w : LabelIndexView) (seeds : List Seed)
     → IsMeaning (meaning_of h) → h.held ≡ [] → h.arrived ≡ [] → AreDomains h.config domains → seeds ≡ h.config.seeds
     → IsSeeded h seeds p w → IsBuilt h p w
 built-seeded h domains p w seeds valid held arrived are is g =
     let both : h.held ≡ h.arrived = held ∙ sym arrived in
-    let spots : map spot_of_seed seeds ≡ spots_of h.config.seeds h.arrived =
-    ap (map spot_of_seed) is ∙ sym (append-nil (map spot_of_seed h.config.seeds))
-    ∙ ap (λ rs. map spot_of_seed h.config.seeds ++ map spot_of_receipt rs) (sym arrived)
+    let spots : map seed_node seeds ≡ node_specs_of h.config.seeds h.arrived =
+    ap (map seed_node) is ∙ sym (append-nil (map seed_node h.config.seeds))
+    ∙ ap (λ rs. map seed_node h.config.seeds ++ map receipt_node rs) (sym arrived)
     in
     record {
       valid = valid;
@@ -801,14 +801,14 @@ built-seeded h domains p w seeds valid held arrived are is g =
       once = subst (λ rs. AllPairs ◌≢◌ rs) (sym arrived) (λ i j d l b. absurd (omega (arith, b)));
       domains = domains;
       are_domains = are;
-      wired = subst (λ ss. IsWiringOf domains h.records ss w) spots (g.wired domains are);
+      wired = subst (λ ss. IsLabelIndexOf domains h.records ss w) spots (g.wired domains are);
       reached = g.reached;
-      pairing = subst (λ ss. IsPairing (pairs_of ss h.arrived) p) is g.pairing;
+      pairing = subst (λ ss. IsDocumentTable (pairs_of ss h.arrived) p) is g.pairing;
     }
 
 -- After the counts of its marked nodes are raised, an index of the configured documents is all that
 -- a closure keeps, with no room yet.
-pub kept-seeded : (h : Hoard) (p q : Paired) (w : Wired) (nodes : List ℕ) (seeds : List Seed) → IsBuilt h p w
+pub kept-seeded : (h : HeldReceipts) (p q : DocumentTableView) (w : LabelIndexView) (nodes : List ℕ) (seeds : List Seed) → IsBuilt h p w
     → IsSeeded h seeds p w → h.arrived ≡ [] → length seeds ≤ 4096
     → q.numbers ≡ p.numbers → q.firsts ≡ p.firsts → q.capacity ≡ p.capacity → nodes ≡ w.marked
     → AddsNodes p.firsts nodes p.counts q.counts
@@ -832,7 +832,7 @@ kept-seeded h p q w nodes seeds b g none few numbers firsts capacity is adds =
     }
 
 -- The number of nodes fits 32 bits.
-pub pairs-few : (h : Hoard) (p : Paired) → IsPairing (pairs_of h.config.seeds h.arrived) p
+pub pairs-few : (h : HeldReceipts) (p : DocumentTableView) → IsDocumentTable (pairs_of h.config.seeds h.arrived) p
     → length h.config.seeds ≤ 4096 → length h.arrived ≤ 65536 → length p.firsts < 2 ^ 32
 pairs-few h p pairing seeds arrived =
     omega (
@@ -890,7 +890,7 @@ length-unmarked marked count once within =
     omega (arith, length-only_wide among (λ k. true) (λ k e. refl) count, length-passing_all count, less, more)
 
 -- The number of nodes that are not marked is that of pending receipts.
-pub pending-count : (h : Hoard) (p : Paired) (w : Wired) (none : Receipt) (n : ℕ) → IsBuilt h p w
+pub pending-count : (h : HeldReceipts) (p : DocumentTableView) (w : LabelIndexView) (none : Receipt) (n : ℕ) → IsBuilt h p w
     → n + length w.marked ≡ length h.config.seeds + length h.arrived → IsPendingCount (meaning_of h) n
 pending-count h p w none n b total =
     let seeds = length h.config.seeds in
@@ -955,7 +955,7 @@ pending-count h p w none n b total =
         )
 
 -- There are no more marked nodes than nodes, so the difference does not underflow.
-pub marked-few : (h : Hoard) (p : Paired) (w : Wired) → IsBuilt h p w → length w.marked ≤ length h.config.seeds + length h.arrived
+pub marked-few : (h : HeldReceipts) (p : DocumentTableView) (w : LabelIndexView) → IsBuilt h p w → length w.marked ≤ length h.config.seeds + length h.arrived
 marked-few h p w b = omega (arith, length-unmarked w.marked (length h.config.seeds + length h.arrived) b.reached.once within)
   where
     within : All (λ k. k < length h.config.seeds + length h.arrived) w.marked

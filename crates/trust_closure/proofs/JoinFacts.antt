@@ -17,14 +17,14 @@ use Rattle.receipt_core.specs.Order.{receipt_total}
 use Rattle.receipt_core.specs.Receipt.{Receipt, receipt_cmp, distrust_cmp, pair_of, offers_of}
 use Rattle.receipt_core.specs.Rising.{placed, with_item, with_items}
 use Rattle.receipt_core.specs.Acceptance.{IsFitting, Meaning, IsMeaning}
-use Rattle.closure_core.specs.Changes.{HeldAndRoom, Takes, HasMerged, HasMergedInRoom, Took}
-use Rattle.trust_closure.specs.Held.{AddsRecord, AddsOrRefuses}
-use Rattle.trust_closure.specs.declared.shared.records.Addition.{Addition}
-use Rattle.trust_closure.specs.declared.shared.records.Addition.TheVariants.{Added, There, Full as NoPlace}
+use Rattle.closure_core.specs.Changes.{HeldAndRoom, Takes, HasMerged, HasMergedInRoom, TakesOk}
+use Rattle.trust_closure.specs.Inside.Held.{AddsRecord, AddsOrRefuses}
+use Rattle.trust_closure.specs.declared.shared.records.Insertion.{Insertion}
+use Rattle.trust_closure.specs.declared.shared.records.Insertion.TheVariants.{Added, There, Full as NoPlace}
 use Rattle.closure_core.specs.Refusals.{offers_count, Room, IsRoomier, IsOfWrongEndpoint, RefusesReceipt, RefusesDistrust, RefusesMerge, WantsCopies}
 use Rattle.closure_core.specs.Refusals.{all_records, all_receipts}
-use Rattle.trust_closure.specs.Merge.{IsShare, AreKnown, FitWithinRoom, HasSpentOn}
-use Rattle.trust_closure.specs.declared.shared.copies.Share.{Share}
+use Rattle.trust_closure.specs.Inside.Merge.{IsMergePlan, AreKnown, FitWithinRoom, HasSpentOn}
+use Rattle.trust_closure.specs.declared.shared.copies.MergePlan.{MergePlan}
 use Rattle.closure_core.specs.declared.error.TakeError.{TakeError}
 use Rattle.closure_core.specs.declared.error.TakeError.TheVariants.{UnknownDomain, WrongEndpoint, Full, NoMemory, ConfigDiffers}
 use Rattle.closure_core.specs.declared.outcome.Refused.{Refused}
@@ -126,7 +126,7 @@ offers_first r later = sum_by-cons (λ s. length (offers_of (pair_of s))) r late
 
 -- A receipt that was taken, or was held, leaves the later ones to be joined.
 took : (start now new : HeldAndRoom) (all later : List Receipt) (r : Receipt) → IsMeaning now.meaning
-    → IsJoining start now all (r ∷ later) → (taken : Taken) → Took now r new taken → IsJoining start new all later
+    → IsJoining start now all (r ∷ later) → (taken : Taken) → TakesOk now r new taken → IsJoining start new all later
 took start now new all later r is joining (TakenNew accepted) h =
     let few = joining.welcome.few in
     let receipts = joining.welcome.room.receipts in
@@ -239,7 +239,7 @@ IsDistrusting-start start all known = record
 
 -- A record that was added, or was held, leaves the later ones to be added.
 distrusted : (start now new : Meaning) (all later : List Distrust) (x : Distrust) → IsMeaning now
-    → IsDistrusting start now all (x ∷ later) → (done : Addition) → AddsRecord now x new done
+    → IsDistrusting start now all (x ∷ later) → (done : Insertion) → AddsRecord now x new done
     → IsDistrusting start new all later
 distrusted start now new all later x is joining Added h = record {
   config = ap (λ (m : Meaning). m.config) h.meaning ∙ joining.config;
@@ -283,7 +283,7 @@ never_distrusts start now all later x joining ConfigDiffers h = h
 
 -- Whatever the call returned, the later ones are left to be added.
 distrusts_next : (start now new : Meaning) (all later : List Distrust) (x : Distrust)
-    → IsMeaning now → IsDistrusting start now all (x ∷ later) → (result : Result Addition TakeError)
+    → IsMeaning now → IsDistrusting start now all (x ∷ later) → (result : Result Insertion TakeError)
     → AddsOrRefuses now x new result → IsDistrusting start new all later
 distrusts_next start now new all later x is joining (Ok done) h = distrusted start now new all later
     x is joining done h
@@ -292,7 +292,7 @@ distrusts_next start now new all later x is joining (Err why) h = absurd
 
 -- The step of the loop over records.
 pub IsDistrusting-next : (start now new : Meaning) (all rest later : List Distrust) (x : Distrust)
-    (result : Result Addition TakeError) → IsMeaning now → IsDistrusting start now all rest
+    (result : Result Insertion TakeError) → IsMeaning now → IsDistrusting start now all rest
     → rest ≡ x ∷ later → AddsOrRefuses now x new result → IsDistrusting start new all later
 IsDistrusting-next start now new all rest later x result is joining e h =
     distrusts_next start now new all later x is (subst (IsDistrusting start now all) e joining)
@@ -325,7 +325,7 @@ stays_as : (start now new : Meaning) → new ≡ now → HasGrown start now → 
 stays_as start now new same grown = subst (HasGrown start) (sym same) grown
 
 -- Each record makes them more or changes nothing, so a close is needed only where they are more.
-pub grown_next : (start now new : Meaning) (x : Distrust) (result : Result Addition TakeError)
+pub grown_next : (start now new : Meaning) (x : Distrust) (result : Result Insertion TakeError)
     → AddsOrRefuses now x new result → HasGrown start now → HasGrown start new
 grown_next start now new x (Ok Added) h grown =
     let longer = record_sets.longer x now.records tt (always now.records) h.unheld in
@@ -338,15 +338,15 @@ grown_next start now new x (Err why) h grown = stays_as start now new h.1 grown
 -- ---- all in turn
 
 -- The records of what may be merged are known.
-pub share_known : (m now other : Meaning) (share : Share) (records : List Distrust) → IsShare m other share → now ≡ m
+pub share_known : (m now other : Meaning) (share : MergePlan) (records : List Distrust) → IsMergePlan m other share → now ≡ m
     → records ≡ other.records → AreKnown now records
 share_known m now other share records is same e =
     subst (λ (k : Meaning). AreKnown k records) (sym same)
     (subst (AreKnown m) (sym e) (record { domains = is.mergeable.of_config.domains; few = is.mergeable.few_records }))
 
 -- The copied receipts are welcome once there is room for them.
-pub share_welcome : (m other : Meaning) (roomy now : HeldAndRoom) (share : Share) (records : List Distrust)
-    → IsShare m other share → roomy.meaning ≡ m
+pub share_welcome : (m other : Meaning) (roomy now : HeldAndRoom) (share : MergePlan) (records : List Distrust)
+    → IsMergePlan m other share → roomy.meaning ≡ m
     → now.meaning ≡ record roomy.meaning { records = with_items distrust_cmp records roomy.meaning.records }
     → now.room ≡ roomy.room
     → IsRoomier (record { receipts = length share.copies.items; offers = share.offers }) roomy.room
@@ -371,8 +371,8 @@ share_welcome m other roomy now share records is same e room roomier =
     }
 
 -- After the records and the receipts all is held that the merge promises.
-pub share_merged : (m other roomy less new : Meaning) (share : Share) (records : List Distrust) (n : ℕ)
-    → IsShare m other share → n ≡ length share.copies.items → records ≡ other.records → roomy ≡ m
+pub share_merged : (m other roomy less new : Meaning) (share : MergePlan) (records : List Distrust) (n : ℕ)
+    → IsMergePlan m other share → n ≡ length share.copies.items → records ≡ other.records → roomy ≡ m
     → less ≡ record roomy { records = with_items distrust_cmp records roomy.records }
     → new ≡ record less { held = with_items receipt_cmp share.copies.items less.held } → HasMerged m other new n
 share_merged m other roomy less new share records n is size own e1 e2 e3 =
@@ -429,8 +429,8 @@ joined_offers (r ∷ items) held e =
     )
 
 -- of the room that there was before, no more has gone than that of the copies
-pub share_spent : (old roomy less new : HeldAndRoom) (other : Meaning) (share : Share) (n : ℕ)
-    → IsShare old.meaning other share → n ≡ length share.copies.items → HasMerged old.meaning other new.meaning n
+pub share_spent : (old roomy less new : HeldAndRoom) (other : Meaning) (share : MergePlan) (n : ℕ)
+    → IsMergePlan old.meaning other share → n ≡ length share.copies.items → HasMerged old.meaning other new.meaning n
     → IsRoomier old.room roomy.room → less.room ≡ roomy.room → HasSpentOn less.room share.copies.items new.room
     → HasMergedInRoom old other new n
 share_spent old roomy less new other share n is size merged roomier same spent =
@@ -453,8 +453,8 @@ no_ok (Ok v) e ok = absurd (cc)
 no_ok (Err v) e ok = absurd (cc)
 
 -- Where there was no room for the copies, a receipt had to be copied.
-wants : (m other : Meaning) (share : Share) (room : Room) (xs : List Receipt) → xs ≡ share.copies.items
-    → IsShare m other share → (IsRoomier (record { receipts = length share.copies.items; offers = share.offers }) room
+wants : (m other : Meaning) (share : MergePlan) (room : Room) (xs : List Receipt) → xs ≡ share.copies.items
+    → IsMergePlan m other share → (IsRoomier (record { receipts = length share.copies.items; offers = share.offers }) room
     → ⊥) → WantsCopies m other
 wants m other share room [] e is beyond =
     let offers = is.offers in
@@ -473,8 +473,8 @@ wants m other share room (r ∷ rest) e is beyond =
     }
 
 -- Where memory for the copies was refused, the merge is refused for lack of memory.
-pub share_wants : {T E : Type 0} (m other : Meaning) (share : Share) (room : Room) (n : ℕ) (r : Result T E)
-    → IsShare m other share → n ≡ length share.copies.items → is_err r ≡ true
+pub share_wants : {T E : Type 0} (m other : Meaning) (share : MergePlan) (room : Room) (n : ℕ) (r : Result T E)
+    → IsMergePlan m other share → n ≡ length share.copies.items → is_err r ≡ true
     → (IsRoomier (record { receipts = n; offers = share.offers }) room → IsOk r) → WantsCopies m other
 share_wants m other share room n r is size err within =
     wants m other share room share.copies.items refl is
@@ -491,5 +491,5 @@ pub refuses_same : (m n other same : Meaning) (why : TakeError) → m ≡ n → 
 refuses_same m n other same why e f h = subst (λ (k : Meaning). RefusesMerge k same why) e (subst (λ (k : Meaning). RefusesMerge m k why) f h)
 
 -- A share of a merge, for equal meanings.
-pub share_same : (m n other same : Meaning) (share : Share) → m ≡ n → other ≡ same → IsShare m other share → IsShare n same share
-share_same m n other same share e f h = subst (λ (k : Meaning). IsShare k same share) e (subst (λ (k : Meaning). IsShare m k share) f h)
+pub share_same : (m n other same : Meaning) (share : MergePlan) → m ≡ n → other ≡ same → IsMergePlan m other share → IsMergePlan n same share
+share_same m n other same share e f h = subst (λ (k : Meaning). IsMergePlan k same share) e (subst (λ (k : Meaning). IsMergePlan m k share) f h)

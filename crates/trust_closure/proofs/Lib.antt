@@ -8,18 +8,18 @@ mod NodeCountFacts
 mod PairFacts
 mod AcceptedFacts
 -- The labels of the index
-mod Arrows
-mod Mirroring
-mod Edges
-mod InOrder
-mod Closing
+mod LabelledEdgeFacts
+mod RepresentFacts
+mod EdgeFacts
+mod LabelOrderFacts
+mod ClosedLabelFacts
 -- The closure over an index
-mod Vouching
-mod Bridge
-mod Wirings
+mod VouchingFacts
+mod ReachedFacts
+mod LabelIndexFacts
 mod IndexFacts
 mod RecountFacts
 -- The closure by rounds
 mod PlainFacts
-mod Carrying
+mod PlainChangeFacts
 mod SownFacts

@@ -21,8 +21,8 @@ use Rattle.receipt_core.specs.Acceptance.{Meaning, IsMeaning, IsFitting}
 use Rattle.closure_core.specs.contracts.error.TakeError.{the_type}
 use denote.Enum.Bare.{sameb}
 use lib.Pointwise.{pointwise}
-use Rattle.closure_core.specs.Refusals.{Misfits, IsAlike, IsOfUnknownDomain, IsOfWrongEndpoint, RefusesMerge, all_receipts, all_records}
-use Rattle.trust_closure.specs.Merge.{AreCopies, HasNew, MisfitsOne}
+use Rattle.closure_core.specs.Refusals.{RefusesFit, HasSameDigest, IsOfUnknownDomain, IsOfWrongEndpoint, RefusesMerge, all_receipts, all_records}
+use Rattle.trust_closure.specs.Inside.Merge.{AreCopies, HasNew, RefusesFitOfOne}
 use Rattle.closure_core.specs.declared.error.TakeError.{TakeError}
 use Rattle.closure_core.specs.declared.error.TakeError.TheVariants.{UnknownDomain, WrongEndpoint, Full, NoMemory, ConfigDiffers}
 use Rattle.trust_closure.proofs.ConfigFacts.{place_has}
@@ -252,7 +252,7 @@ fitting_next P W true all rest later x passed e holds = IsPassed-next P all rest
 fitting_next P W false all rest later x wrong e holds = wrong
 
 -- A receipt that does not fit, and not for its domain, has a wrong endpoint.
-pub wrong_of : (c : Configuration) (r : Receipt) (why : TakeError) → Misfits c r why → false ≡ sameb the_type why UnknownDomain → IsOfWrongEndpoint c r
+pub wrong_of : (c : Configuration) (r : Receipt) (why : TakeError) → RefusesFit c r why → false ≡ sameb the_type why UnknownDomain → IsOfWrongEndpoint c r
 wrong_of c r UnknownDomain h other = absurd (cc)
 wrong_of c r WrongEndpoint h other = h
 wrong_of c r Full h other = absurd h
@@ -271,7 +271,7 @@ wrong_known c r wrong unknown = unknown wrong.relationship wrong.has wrong.domai
 
 -- A record of an unknown domain refuses the merge.
 pub refuses_record : (m other : Meaning) (c : Configuration) (xs : List Distrust) → c ≡ m.config → xs ≡ other.records
-    → IsAlike m other → ((x : Distrust) × Contains xs x × (HasDomain c x.domain → ⊥))
+    → HasSameDigest m other → ((x : Distrust) × Contains xs x × (HasDomain c x.domain → ⊥))
     → RefusesMerge m other UnknownDomain
 refuses_record m other c xs own its alike found = (
   alike,
@@ -296,9 +296,9 @@ fits_receipts m other c rs own its all r has =
     subst (λ (k : Configuration). IsFitting k r) own (all r (subst (λ (ys : List Receipt). Contains ys r) (sym its) has))
 
 -- A receipt that does not fit refuses the merge, for the cause that comes first.
-refuses_at : (m other : Meaning) → IsAlike m other
+refuses_at : (m other : Meaning) → HasSameDigest m other
     → ((x : Distrust) → Contains other.records x → HasDomain m.config x.domain) → (why : TakeError)
-    → MisfitsOne m.config other.held why → RefusesMerge m other why
+    → RefusesFitOfOne m.config other.held why → RefusesMerge m other why
 refuses_at m other alike known UnknownDomain h = (alike, inl h)
 refuses_at m other alike known WrongEndpoint h =
     (alike, λ unknown. elim unknown [ inl r ↦ h.0 r.0 r.1 r.2 | inr x ↦ x.2 (known x.0 x.1) ], h.1)
@@ -308,12 +308,12 @@ refuses_at m other alike known ConfigDiffers h = absurd h
 
 -- A receipt that does not fit, among those that were read, refuses the merge.
 pub refuses_receipt : (m other : Meaning) (c : Configuration) (rs : List Receipt) → c ≡ m.config → rs ≡ other.held
-    → IsAlike m other → ((x : Distrust) → Contains other.records x → HasDomain m.config x.domain) → (why : TakeError)
-    → MisfitsOne c rs why → RefusesMerge m other why
+    → HasSameDigest m other → ((x : Distrust) → Contains other.records x → HasDomain m.config x.domain) → (why : TakeError)
+    → RefusesFitOfOne c rs why → RefusesMerge m other why
 refuses_receipt m other c rs own its alike known why h =
     refuses_at m other alike known why
-    (subst (λ (k : Configuration). MisfitsOne k other.held why) own
-    (subst (λ (ys : List Receipt). MisfitsOne c ys why) its h))
+    (subst (λ (k : Configuration). RefusesFitOfOne k other.held why) own
+    (subst (λ (ys : List Receipt). RefusesFitOfOne c ys why) its h))
 
 -- A negation that is false has a true inside.
 turned_not : (b : Bool) → false ≡ not b → true ≡ b
@@ -322,6 +322,6 @@ turned_not false e = absurd (cc)
 
 -- Digests that the comparison finds equal are equal.
 pub alike_of : (m other : Meaning) (c d : Configuration) (a b : List ℕ) → c ≡ m.config → d ≡ other.config
-    → a ≡ config_id_of c → b ≡ config_id_of d → false ≡ not (pointwise nat_eq a b) → IsAlike m other
+    → a ≡ config_id_of c → b ≡ config_id_of d → false ≡ not (pointwise nat_eq a b) → HasSameDigest m other
 alike_of m other c d a b own its first second same =
     sym (ap config_id_of own) ∙ sym first ∙ same_text a b (turned_not (pointwise nat_eq a b) same) ∙ second ∙ ap config_id_of its

@@ -11,7 +11,7 @@ use Rattle.std.proofs.lemmas.List.Sums.{count_by-le-length, count_by_more_yes, c
 use Rattle.std.proofs.lemmas.Option.{slice_get-get_or, get_or_from_slice_get}
 use Rattle.closure_core.specs.Inside.Nodes.{is_raised, flags_of, count_at}
 use Rattle.closure_core.specs.Inside.Flags.{raised_count}
-use Rattle.trust_closure.specs.NodeCounts.{first_of_node, nodes_with, AreCounts, AddsNodes}
+use Rattle.trust_closure.specs.Inside.NodeCounts.{first_of_node, nodes_with, AreCounts, AddsNodes}
 use Rattle.closure_core.proofs.ContainsFacts.{contains_first, contains_later, contains_none, contains_cases}
 use Rattle.closure_core.proofs.FlagFacts.{IsFirstOf, Raises}
 use Rattle.closure_core.proofs.NodeFacts.{is_counted, length-flags, flag-counted, positive-counted, raised-positive, positive-raised}

@@ -23,11 +23,11 @@ use Rattle.bundle_doc.proofs.BundleFacts.{one_text}
 use Rattle.receipt_core.specs.Receipt.{Pair}
 use Rattle.sorted_order.specs.Sought.{IsRising, IsFound, IsMissing}
 use Rattle.fed_config.specs.Configuration.{domain_cmp}
-use Rattle.trust_closure.proofs.Mirroring.{slice_get-push_cases}
+use Rattle.trust_closure.proofs.RepresentFacts.{slice_get-push_cases}
 use Rattle.closure_core.specs.Order.{document_total}
 use Rattle.closure_core.specs.AcceptedList.{document_cmp}
 use Rattle.closure_core.specs.Inside.Nodes.{is_raised, flags_of}
-use Rattle.trust_closure.specs.Pairs.{pair_cmp, no_pair, pair_at, Paired, AreRising, IsPairing, PutsFirst, HasRaised}
+use Rattle.trust_closure.specs.Inside.Pairs.{pair_cmp, no_documents, pair_at, DocumentTableView, AreRising, IsDocumentTable, PutsFirst, HasRaised}
 
 -- The order of pairs is total.
 pub pair-total : IsTotalOrder pair_cmp
@@ -143,14 +143,14 @@ module _ (R : ℕ → ℕ → Type 0) (numbers : List ℕ) (place x : ℕ) (with
 
 -- What is read within the list stands there.
 pair-from_at : (pairs : List Pair) (n : ℕ) (q : Pair) → n < length pairs → pair_at pairs n ≡ q → slice_get pairs n ≡ Some q
-pair-from_at pairs n q l e = slice_get-get_or pairs n no_pair l ∙ ap (λ (p : Pair). Some p) e
+pair-from_at pairs n q l e = slice_get-get_or pairs n no_documents l ∙ ap (λ (p : Pair). Some p) e
 
-module _ (pairs : List Pair) (p : Paired) (h : IsPairing pairs p) where
+module _ (pairs : List Pair) (p : DocumentTableView) (h : IsDocumentTable pairs p) where
   -- Two numbers in order with one pair are one number.
   pub pairing-once : (a b : ℕ) (q : Pair) → Contains p.numbers a → Contains p.numbers b → slice_get pairs a ≡ Some q → slice_get pairs b ≡ Some q → a ≡ b
   pairing-once a b q ca cb ea eb =
-      let fa : pair_at pairs a ≡ q = get_or_from_slice_get pairs a q no_pair ea in
-      let fb : pair_at pairs b ≡ q = get_or_from_slice_get pairs b q no_pair eb in
+      let fa : pair_at pairs a ≡ q = get_or_from_slice_get pairs a q no_documents ea in
+      let fb : pair_at pairs b ≡ q = get_or_from_slice_get pairs b q no_documents eb in
       let na : get_or p.numbers ca.0 0 ≡ a = get_or_default p.numbers ca.0 0 a ca.1 ∙ ca.2 in
       let nb : get_or p.numbers cb.0 0 ≡ b = get_or_default p.numbers cb.0 0 b cb.1 ∙ cb.2 in
       let tied : pair_cmp q q ≡ Equal = tied_itself pair-total q in
@@ -179,7 +179,7 @@ module _ (pairs : List Pair) (p : Paired) (h : IsPairing pairs p) where
   pub pair-at_equal : (n : ℕ) (q : Pair) → Contains p.numbers n → IsBundle q.document → pair_cmp (pair_at pairs n) q ≡ Equal → slice_get pairs n ≡ Some q
   pair-at_equal n q c f e =
       let l : n < length pairs = All-contains (λ k. k < length pairs) p.numbers n h.within c in
-      let form : IsBundle (pair_at pairs n).document = h.forms n no_pair l in
+      let form : IsBundle (pair_at pairs n).document = h.forms n no_documents l in
       pair-from_at pairs n q l (pair-exact (pair_at pairs n) q form f e)
 
   -- The flag of the number that the search finds says whether the pair is raised.
@@ -200,7 +200,7 @@ module _ (pairs : List Pair) (p : Paired) (h : IsPairing pairs p) where
   raised-missing place q m r =
       let tied : pair_cmp (pair_at pairs (get_or p.numbers r.has.0 r.number)) q ≡ Equal =
       subst (λ n. pair_cmp (pair_at pairs n) q ≡ Equal) (sym r.has.2)
-      (subst (λ x. pair_cmp x q ≡ Equal) (sym (get_or_from_slice_get pairs r.number q no_pair r.at))
+      (subst (λ x. pair_cmp x q ≡ Equal) (sym (get_or_from_slice_get pairs r.number q no_documents r.at))
       (tied_itself pair-total q))
       in
       elim (cases_lt r.has.0 place) [
@@ -229,21 +229,21 @@ Contains-insert_old xs i x y c =
 module _ (pairs : List Pair) (q : Pair) where
   -- An old number keeps its pair, with a default.
   at-left : (n : ℕ) → n < length pairs → pair_at (pairs ++ q ∷ []) n ≡ pair_at pairs n
-  at-left n l = get_or_append_left pairs (q ∷ []) no_pair n l
+  at-left n l = get_or_append_left pairs (q ∷ []) no_documents n l
 
   -- An old number keeps its pair.
   get-left : (n : ℕ) → n < length pairs → slice_get (pairs ++ q ∷ []) n ≡ slice_get pairs n
   get-left n l =
-      slice_get-get_or (pairs ++ q ∷ []) n no_pair (omega (arith, l, length_push pairs q))
-      ∙ ap (λ (p : Pair). Some p) (at-left n l) ∙ sym (slice_get-get_or pairs n no_pair l)
+      slice_get-get_or (pairs ++ q ∷ []) n no_documents (omega (arith, l, length_push pairs q))
+      ∙ ap (λ (p : Pair). Some p) (at-left n l) ∙ sym (slice_get-get_or pairs n no_documents l)
 
   -- The new number has the new pair, with a default.
   at-last : (n : ℕ) → n ≡ length pairs → pair_at (pairs ++ q ∷ []) n ≡ q
-  at-last n e = get_or_push pairs q no_pair n (sym e)
+  at-last n e = get_or_push pairs q no_documents n (sym e)
 
   -- The new number has the new pair.
   get-last : (n : ℕ) → n ≡ length pairs → slice_get (pairs ++ q ∷ []) n ≡ Some q
-  get-last n e = slice_get-get_or (pairs ++ q ∷ []) n no_pair (omega (arith, e, length_push pairs q)) ∙ ap (λ (p : Pair). Some p) (at-last n e)
+  get-last n e = slice_get-get_or (pairs ++ q ∷ []) n no_documents (omega (arith, e, length_push pairs q)) ∙ ap (λ (p : Pair). Some p) (at-last n e)
 
   -- Old pairs stand to one another as they did.
   rises-still : (i j : ℕ) → i < length pairs → j < length pairs → pair_cmp (pair_at pairs i) (pair_at pairs j) ≡ Less
@@ -260,7 +260,7 @@ module _ (pairs : List Pair) (q : Pair) where
     pub has : Contains new first
     pub at : slice_get (pairs ++ q ∷ []) first ≡ Some q
 
-  module _ (p : Paired) (h : IsPairing pairs p) (form : IsBundle q.document) where
+  module _ (p : DocumentTableView) (h : IsDocumentTable pairs p) (form : IsBundle q.document) where
     -- The old numbers are numbers of the longer list.
     more-within : All (λ n. n < length (pairs ++ q ∷ [])) p.numbers
     more-within = All-weaker (λ n. n < length pairs) (λ n. n < length (pairs ++ q ∷ [])) (λ n l. omega (arith, l, length_push pairs q)) p.numbers h.within
@@ -316,10 +316,10 @@ module _ (pairs : List Pair) (q : Pair) where
         ]
 
 -- After one more node each pair still has its first number.
-pub pairing-more : (pairs : List Pair) (old new : Paired) (q : Pair) (number first : ℕ)
-    → IsPairing pairs old → IsBundle q.document → number ≡ length old.firsts
+pub pairing-more : (pairs : List Pair) (old new : DocumentTableView) (q : Pair) (number first : ℕ)
+    → IsDocumentTable pairs old → IsBundle q.document → number ≡ length old.firsts
     → PutsFirst pairs q number old.numbers new.numbers first → new.firsts ≡ old.firsts ++ first ∷ []
-    → new.counts ≡ old.counts ++ 0 ∷ [] → IsPairing (pairs ++ q ∷ []) new
+    → new.counts ≡ old.counts ++ 0 ∷ [] → IsDocumentTable (pairs ++ q ∷ []) new
 pairing-more pairs old new q number first h form e puts firsts counts =
     let m = has-more pairs q old h form number first new.numbers (e ∙ h.sizes) puts in
     record {

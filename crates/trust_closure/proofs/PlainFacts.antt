@@ -10,21 +10,21 @@ use Rattle.receipt_core.specs.declared.distrust.Distrust.{Distrust}
 use Rattle.receipt_core.specs.declared.triple.Triple.{Triple}
 use Rattle.receipt_core.specs.Receipt.{Receipt, Pair, pair_of, offers_of, need_of}
 use Rattle.receipt_core.specs.Acceptance.{Meaning, IsMeaning, IsMember, IsFitting, IsReleased, Vouches, pair_of_seed}
-use Rattle.trust_closure.proofs.Edges.{slice_get-append_cases, slice_get-map_cases, slice_get-Contains, Contains-slice_get}
+use Rattle.trust_closure.proofs.EdgeFacts.{slice_get-append_cases, slice_get-map_cases, slice_get-Contains, Contains-slice_get}
 use Rattle.closure_core.specs.Inside.Nodes.{pairs_of, is_raised, flags_of}
 use Rattle.closure_core.specs.Inside.Flags.{TellsMembers}
-use Rattle.trust_closure.specs.Held.{Hoard, meaning_of}
-use Rattle.trust_closure.specs.Pairs.{Paired, HasRaised}
-use Rattle.trust_closure.specs.Plain.{AreSeedOffers, IsOfferedBelow, IsOffered, IsVouched, AreSound, AreQuietBelow}
-use Rattle.trust_closure.specs.Plain.{AreReleased, IsAcceptedNode, IsFirstAccepted, HasPlainFlags}
-use Rattle.trust_closure.proofs.Bridge.{pair-of_seed_node, pair-of_receipt_node}
+use Rattle.trust_closure.specs.Inside.Held.{HeldReceipts, meaning_of}
+use Rattle.trust_closure.specs.Inside.Pairs.{DocumentTableView, HasRaised}
+use Rattle.trust_closure.specs.Inside.Plain.{AreSeedOffers, IsOfferedBelow, IsOffered, IsVouched, AreSound, AreQuietBelow}
+use Rattle.trust_closure.specs.Inside.Plain.{AreReleased, IsAcceptedNode, IsFirstAccepted, HasPlainFlags}
+use Rattle.trust_closure.proofs.ReachedFacts.{pair-of_seed_node, pair-of_receipt_node}
 use Rattle.closure_core.proofs.ContainsFacts.{contains_first, contains_later, contains_none, contains_cases}
 use Rattle.closure_core.proofs.FlagFacts.{Raises}
 use Rattle.closure_core.proofs.NodeFacts.{length-flags}
 use Rattle.closure_core.proofs.MemberFacts.{member_least, member_seed, member_released, member_grounds}
 use Rattle.trust_closure.proofs.PairFacts.{pairing-once}
 use Rattle.closure_core.proofs.RisingFacts.{each_has}
-use Rattle.trust_closure.proofs.Vouching.{vouches-from_offer, offer-from_vouches, open-from_vouches}
+use Rattle.trust_closure.proofs.VouchingFacts.{vouches-from_offer, offer-from_vouches, open-from_vouches}
 
 -- ---- an item is among others
 
@@ -211,7 +211,7 @@ module _ (seeds : ℕ) (released : List Bool) (firsts : List ℕ) (k : ℕ) wher
       only : (n : ℕ) → Contains (k ∷ []) n → n ≡ k
       only n c = elim (contains_cases k [] n c) [ inl e ↦ sym e | inr none ↦ absurd (contains_none n none) ]
 
-module _ (h : Hoard) (p : Paired) (seed_offers : List Triple) (released : List Bool) (i : HasPlainFlags h p seed_offers released) where
+module _ (h : HeldReceipts) (p : DocumentTableView) (seed_offers : List Triple) (released : List Bool) (i : HasPlainFlags h p seed_offers released) where
   -- The document of an accepted node is accepted.
   had-member : (node : ℕ) (q : Pair) → IsAcceptedNode (length h.config.seeds) released node
       → slice_get (pairs_of h.config.seeds h.arrived) node ≡ Some q → IsMember (meaning_of h) q

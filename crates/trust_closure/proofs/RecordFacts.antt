@@ -19,7 +19,7 @@ use Rattle.receipt_core.specs.Order.{distrust_total}
 use Rattle.receipt_core.specs.Rising.{placed, with_item}
 use Rattle.receipt_core.proofs.OrderFacts.{both_equal, equal_bytes, cmp_less, cmp_greater, cmp_equal}
 use Rattle.receipt_core.specs.Receipt.{key_cmp, distrust_cmp}
-use Rattle.trust_closure.specs.Records.{record_cmp, AreRecords}
+use Rattle.trust_closure.specs.Inside.Records.{record_cmp, AreRecords}
 use Rattle.closure_core.specs.Inside.Records.{distrust_by, distrusts_of, AreWithin}
 use Rattle.closure_core.specs.declared.record.Record.{Record}
 use Rattle.closure_core.proofs.ContainsFacts.{IsMapped, mapped}

@@ -10,15 +10,15 @@ use Rattle.fed_config.specs.declared.seed.Seed.{Seed}
 use Rattle.receipt_core.specs.declared.triple.Triple.{Triple}
 use Rattle.receipt_core.specs.Receipt.{Receipt, pair_of, offers_of}
 use Rattle.receipt_core.specs.Acceptance.{IsMeaning, pair_of_seed}
-use Rattle.trust_closure.proofs.Arrows.{Contains-from_map}
+use Rattle.trust_closure.proofs.LabelledEdgeFacts.{Contains-from_map}
 use Rattle.closure_core.proofs.ContainsFacts.{contains_none, contains_map}
-use Rattle.trust_closure.proofs.Edges.{slice_get-Contains, Contains-slice_get, one_place}
+use Rattle.trust_closure.proofs.EdgeFacts.{slice_get-Contains, Contains-slice_get, one_place}
 use Rattle.closure_core.specs.Inside.Nodes.{pairs_of, is_raised, count_at}
 use Rattle.closure_core.specs.Inside.Flags.{raised_count}
-use Rattle.trust_closure.specs.Held.{Hoard, meaning_of}
+use Rattle.trust_closure.specs.Inside.Held.{HeldReceipts, meaning_of}
 use Rattle.closure_core.specs.AcceptedList.{IsPendingCount}
-use Rattle.trust_closure.specs.Pairs.{Paired, IsPairing}
-use Rattle.trust_closure.specs.Plain.{AreSeedOffers, IsSet, HasPlainFlags, IsSown, AreReleased}
+use Rattle.trust_closure.specs.Inside.Pairs.{DocumentTableView, IsDocumentTable}
+use Rattle.trust_closure.specs.Inside.Plain.{AreSeedOffers, IsSet, HasPlainFlags, IsSown, AreReleased}
 use Rattle.trust_closure.proofs.NodeCountFacts.{count_at-push}
 use Rattle.closure_core.proofs.FlagFacts.{passing, passing-to, passing-from, passing-differ, only_wide, length-only_wide, count-passing, different-map}
 
@@ -39,9 +39,9 @@ offers-more seeds s offers more are is t = (
 )
 
 -- What is sown is right for one more configured document.
-pub sown-more : (h : Hoard) (seeds : List Seed) (s : Seed) (p a q : Paired) (offers more all : List Triple) (first : ℕ)
+pub sown-more : (h : HeldReceipts) (seeds : List Seed) (s : Seed) (p a q : DocumentTableView) (offers more all : List Triple) (first : ℕ)
     → h.arrived ≡ [] → IsSown h seeds p offers
-    → IsPairing (pairs_of seeds h.arrived ++ pair_of_seed s ∷ []) q → a.counts ≡ p.counts
+    → IsDocumentTable (pairs_of seeds h.arrived ++ pair_of_seed s ∷ []) q → a.counts ≡ p.counts
     → a.firsts ≡ p.firsts → q.counts ≡ a.counts ++ 0 ∷ [] → q.firsts ≡ a.firsts ++ first ∷ []
     → length a.firsts + 1 ≤ a.capacity → q.capacity ≡ a.capacity
     → more ≡ offers_of (pair_of_seed s) → all ≡ offers ++ more → IsSown h (seeds ++ s ∷ []) q all
@@ -55,7 +55,7 @@ sown-more h seeds s p a q offers more all first none g pairing f1 f2 counts firs
     ∙ ap (λ rs. map pair_of_seed (seeds ++ s ∷ []) ++ map pair_of rs) (sym none)
     in
     record {
-      pairing = subst (λ ps. IsPairing ps q) pairs pairing;
+      pairing = subst (λ ps. IsDocumentTable ps q) pairs pairing;
       lowered = λ n. ap (λ ks. count_at ks n) (counts ∙ ap (λ ks. ks ++ 0 ∷ []) f1)
           ∙ count_at-push p.counts n ∙ g.lowered n;
       room = omega (arith, ap length firsts, length_push a.firsts first, room, capacity);
@@ -64,19 +64,19 @@ sown-more h seeds s p a q offers more all first none g pairing f1 f2 counts firs
     }
 
 -- With all configured documents what is kept besides the flags is right.
-pub sown-set : (h : Hoard) (p : Paired) (offers : List Triple) (seeds : List Seed) → seeds ≡ h.config.seeds
+pub sown-set : (h : HeldReceipts) (p : DocumentTableView) (offers : List Triple) (seeds : List Seed) → seeds ≡ h.config.seeds
     → IsMeaning (meaning_of h) → h.held ≡ [] → h.arrived ≡ [] → IsSown h seeds p offers → IsSet h p offers []
 sown-set h p offers seeds are valid held arrived g = record {
   valid = valid;
   once = λ i j d l b. absurd (omega (arith, b, ap length arrived));
   same = λ r. (λ c. absurd (contains_none r (subst (λ rs. Contains rs r) held c)), λ c. absurd (contains_none r (subst (λ rs. Contains rs r) arrived c)));
   offers = subst (λ ss. AreSeedOffers ss offers) are g.offers;
-  pairing = subst (λ ss. IsPairing (pairs_of ss h.arrived) p) are g.pairing;
+  pairing = subst (λ ss. IsDocumentTable (pairs_of ss h.arrived) p) are g.pairing;
   size = sym (ap length arrived);
 }
 
 -- Without receipts no flag has to be raised.
-pub none-released : (h : Hoard) (released : List Bool) → h.arrived ≡ [] → AreReleased (meaning_of h) h.arrived released
+pub none-released : (h : HeldReceipts) (released : List Bool) → h.arrived ≡ [] → AreReleased (meaning_of h) h.arrived released
 none-released h released arrived place r at = absurd (omega (arith, slice_get_within h.arrived place r at, ap length arrived))
 
 -- ---- pending receipts
@@ -87,7 +87,7 @@ length-passing_every zero = refl
 length-passing_every (suc n) = ap suc (length-passing_every n)
 
 -- The number of receipts whose flags are not raised is that of pending receipts.
-pub pending-plain : (h : Hoard) (p : Paired) (offers : List Triple) (released : List Bool) (none : Receipt) (n : ℕ)
+pub pending-plain : (h : HeldReceipts) (p : DocumentTableView) (offers : List Triple) (released : List Bool) (none : Receipt) (n : ℕ)
     → HasPlainFlags h p offers released → n + raised_count released ≡ length released → IsPendingCount (meaning_of h) n
 pending-plain h p offers released none n i total =
     let count = length h.arrived in

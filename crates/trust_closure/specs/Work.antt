@@ -8,8 +8,8 @@ use Rattle.wait_index.specs.Net.{visits_of, ClosesIn, HasReachOf, edges_at}
 use Rattle.receipt_core.specs.Acceptance.{Meaning}
 use Rattle.receipt_core.specs.Receipt.{distrust_cmp}
 use Rattle.receipt_core.specs.Rising.{with_items}
-use Rattle.trust_closure.specs.Indexed.{Indexed, IsIndexOf}
-use Rattle.trust_closure.specs.NetOf.{IsNetOf, IsShutBy}
+use Rattle.trust_closure.specs.Inside.Indexed.{Indexed, IsIndexOf}
+use Rattle.trust_closure.specs.Inside.NetOf.{IsNetOf, IsShutBy}
 use Rattle.closure_core.specs.declared.error.TakeError.{TakeError}
 use Rattle.closure_core.specs.declared.outcome.Distrusted.{Distrusted}
 use Rattle.closure_core.specs.declared.outcome.Distrusted.TheVariants.{New, Already}

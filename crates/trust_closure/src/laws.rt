@@ -1,7 +1,7 @@
 //! What holds of every closure, which `closure_core` shows, and of every index of one.
 ghost use Rattle.std.specs.Prelude.{ℕ, ◌+◌, ◌*◌, ◌≤◌, List, length};
 ghost use Rattle.receipt_core.specs.declared.distrust.Distrust.{Distrust};
-ghost use Rattle.trust_closure.specs.Indexed.{Indexed};
+ghost use Rattle.trust_closure.specs.Inside.Indexed.{Indexed};
 ghost use Rattle.trust_closure.specs.Work.{ClosesAtOnce, IsWorkOf};
 
 pub use closure_core::laws::{larger_and_smaller, least, one_list, one_number};

@@ -7,8 +7,8 @@ use Rattle.wait_index.specs.Edge.{IsEdge}
 use Rattle.wait_index.specs.Net.{Net, is_root, is_closed, IsReached, root, step, IsOpen, IsClosedUnder, IsTakenBack}
 use Rattle.wait_index.specs.Net.{itself, beyond, AreTakenBack, ClosesIn, HasReachOf, IsFallen, TellsFallen, has_wait}
 use Rattle.wait_index.specs.Net.{visits_of, edges_taken_back, edges_at, with_closed, with_all_closed}
-use Rattle.wait_index.proofs.Least.{reached-least, contains-cons}
-use Rattle.wait_index.proofs.Closing.{taken-near, ClosesIn-one}
+use Rattle.wait_index.proofs.NetLawFacts.{reached-least, contains-cons}
+use Rattle.wait_index.proofs.CloseFacts.{taken-near, ClosesIn-one}
 
 -- the net that the heading describes
 abbrev pub net : Net

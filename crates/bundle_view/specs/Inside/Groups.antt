@@ -4,7 +4,8 @@ use Rattle.std.specs.List.Sorted.{IsStrictlySortedBy}
 use Rattle.bundle_doc.specs.Bundle.{Bundle}
 use Rattle.closure_core.specs.AcceptedList.{document_cmp}
 use Rattle.receipt_core.specs.Acceptance.{Meaning}
-use Rattle.bundle_view.specs.Conflicts.{Clash, AreClashes, AreConflicts, OfDomain, tell_all}
+use Rattle.bundle_view.specs.Conflicts.{ConflictGroup, AreConflictGroups, AreConflicts, OfDomain}
+use Rattle.bundle_view.specs.Conflicts.{report_all}
 use Rattle.bundle_view.specs.Conflicts.{ReportedConflict, reported_conflict}
 
 -- documents of one rank, in their order
@@ -23,20 +24,21 @@ pub record IsGroupLength (documents : List Bundle) (len : ℕ) : Type 0 where
       → Contains (take 1 (drop len documents)) e → d.rank ≡ e.rank → ⊥
 
 -- all conflicts among these documents were added
-pub record AddsClashes (domain : List ℕ) (documents : List Bundle)
+pub record AddsConflicts (domain : List ℕ) (documents : List Bundle)
     (old new : List ReportedConflict) : Type 0 where
-  pub clashes : List Clash
-  pub are : AreClashes (Contains documents) clashes
+  pub clashes : List ConflictGroup
+  pub are : AreConflictGroups (Contains documents) clashes
   pub now : new ≡ old ++ map (reported_conflict domain) clashes
 
 -- The conflicts of the first groups were added; with those of the other documents they are all.
 pub record SoFar (domain : List ℕ) (documents : List Bundle) (start : ℕ)
     (old new : List ReportedConflict) : Type 0 where
   pub within : start ≤ length documents
-  pub clashes : List Clash
+  pub clashes : List ConflictGroup
   pub now : new ≡ old ++ map (reported_conflict domain) clashes
-  pub all : (others : List Clash) → AreClashes (Contains (drop start documents)) others
-      → AreClashes (Contains documents) (clashes ++ others)
+  pub all : (others : List ConflictGroup)
+      → AreConflictGroups (Contains (drop start documents)) others
+      → AreConflictGroups (Contains documents) (clashes ++ others)
 
 -- All conflicts of these domains were found.
 pub record AreFoundOf (m : Meaning) (domains : List (List ℕ))
@@ -44,4 +46,4 @@ pub record AreFoundOf (m : Meaning) (domains : List (List ℕ))
   pub parts : List OfDomain
   pub domains_are : map (λ part. part.domain) parts ≡ domains
   pub each : (part : OfDomain) → Contains parts part → AreConflicts m part.domain part.clashes
-  pub now : found ≡ tell_all parts
+  pub now : found ≡ report_all parts

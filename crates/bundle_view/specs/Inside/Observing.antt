@@ -10,7 +10,7 @@ use Rattle.closure_core.specs.declared.error.TakeError.{TakeError}
 use Rattle.closure_core.specs.declared.error.TakeError.TheVariants.{NoMemory}
 use Rattle.closure_core.specs.declared.outcome.Taken.{Taken}
 use Rattle.closure_core.specs.Refusals.{RefusesReceipt}
-use Rattle.closure_core.specs.Changes.{HeldAndRoom, Took, IsUnchanged}
+use Rattle.closure_core.specs.Changes.{HeldAndRoom, TakesOk, IsUnchanged}
 use Rattle.bundle_view.specs.Conflicts.{id_in}
 use Rattle.bundle_view.specs.Observe.{IsAuthentic}
 use Rattle.bundle_view.specs.declared.observation.Verdict.{Verdict}
@@ -32,7 +32,7 @@ pub record HasKept (old : HeldAndRoom) (r : Receipt) (new : HeldAndRoom)
     (copy : Receipt) : Type 0 where
   pub same : copy ≡ r
   pub taken : Taken
-  pub took : Took old r new taken
+  pub took : TakesOk old r new taken
 
 -- It was not, or there was no memory to copy it.
 pub record HasNotKept (old : HeldAndRoom) (r : Receipt) (new : HeldAndRoom)

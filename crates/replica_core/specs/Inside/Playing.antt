@@ -13,6 +13,7 @@ use Rattle.replica_core.specs.declared.message.StoredReply.{StoredReply}
 use Rattle.replica_core.specs.declared.message.Message.{Message as Sent}
 use Rattle.replica_core.specs.declared.message.Message.TheVariants.{Question, Answer}
 use Rattle.replica_core.specs.declared.playing.Playing.{Playing}
+use Rattle.receipt_core.specs.Limits.{receipt_limit, record_limit}
 
 -- all this is gained, or nothing where that would be too much
 abbrev pub grown : State → State → State
@@ -42,13 +43,13 @@ asked (Some (answer answerer place content)) = None
 pub record CanHold (config : Configuration) (receipts : List Receipt) : Type 0 where
   pub fitting : AllByRecursion (IsFitting config) receipts
   pub rising : IsStrictlySortedBy receipt_cmp receipts
-  pub few : length receipts ≤ 65536
+  pub few : length receipts ≤ receipt_limit
 
 -- the same of records of distrust
 pub record CanHoldRecords (config : Configuration) (records : List Distrust) : Type 0 where
   pub domains : AllByRecursion (λ x. HasDomain config x.domain) records
   pub rising : IsStrictlySortedBy distrust_cmp records
-  pub few : length records ≤ 4096
+  pub few : length records ≤ record_limit
 
 -- what is answered can be held
 abbrev pub IsSound : Configuration → Message → Type 0

@@ -17,6 +17,7 @@ use Rattle.replica_sync.specs.FirstLines.{RefusesAsked}
 use Rattle.replica_sync.specs.Questions.{IsQuestionOf}
 use Rattle.replica_sync.specs.declared.have_fields.VersionedHave.{VersionedHave}
 use Rattle.replica_sync.specs.declared.have_fields.HaveFields.{HaveFields}
+use Rattle.byte_lines.specs.Limits.{line_limit}
 
 abbrev pub asking_by : VersionedHave → Asked
 asking_by a = record {
@@ -54,7 +55,7 @@ pub record HasAsked (old new : Option (List ℕ)) (a : VersionedHave) : Type 0 w
   pub text : List ℕ
   pub is : HasLine old new text
   pub line : IsAskedLine text (asking_by a)
-  pub short : length text ≤ 8388608
+  pub short : length text ≤ line_limit
 
 -- there is one, or the stream has come to its end
 abbrev pub FindsAsked : Option (List ℕ) → Option (List ℕ) → Option VersionedHave → Type 0

@@ -11,6 +11,8 @@ use Rattle.receipt_core.specs.declared.line_error.LineError.{LineError}
 use Rattle.receipt_core.specs.declared.line_error.LineError.TheVariants.{NotCanonical as NoLine}
 use Rattle.receipt_core.specs.declared.line_error.LineError.TheVariants.{TooLong}
 use Rattle.receipt_core.specs.declared.line_error.LineError.TheVariants.{NoMemory as NoReadMemory}
+use Rattle.byte_lines.specs.Limits.{line_limit}
+use Rattle.receipt_core.specs.Limits.{receipt_line_limit}
 
 -- It is held, and so many receipts are that were not.
 pub record TakesEntry (old : Meaning) (entry : Entry) (new : Meaning) (count : ℕ) : Type 0 where
@@ -25,9 +27,9 @@ pub record HasRefusedEntry (old : Meaning) (entry : Entry) (new : Meaning)
 
 -- Memory is wanted only within the bound of receipts' lines.
 abbrev pub RefusesSpelling : Wanted → List ℕ → LineError → Type 0
-RefusesSpelling wanted text TooLong = 8388608 < length text
+RefusesSpelling wanted text TooLong = line_limit < length text
 RefusesSpelling wanted text NoLine = IsNoEntry wanted text
-RefusesSpelling wanted text NoReadMemory = length text ≤ 1051063
+RefusesSpelling wanted text NoReadMemory = length text ≤ receipt_line_limit
 
 -- The text is the next line, and what it says is held.
 pub record TakesEntryText (wanted : Wanted) (old : Meaning) (last text : List ℕ) (new : Meaning)

@@ -4,12 +4,13 @@ ghost use Rattle.std.specs.Prelude.{OnOk};
 ghost use Rattle.receipt_core.specs.Receipt.{pair_of, offers_of, with_receipt};
 ghost use Rattle.closure_core.specs.Changes.{Takes};
 ghost use Rattle.closure_core.specs.Refusals.{IsRoomier};
-ghost use Rattle.trust_closure.specs.Held.{meaning_of};
-ghost use Rattle.trust_closure.specs.Indexed.{IsIndexedClosure, Reserves, ArrivesLast, room_of};
-ghost use Rattle.trust_closure.specs.Indexed.{closure_state};
+ghost use Rattle.trust_closure.specs.Inside.Held.{meaning_of};
+ghost use Rattle.trust_closure.specs.Inside.Indexed.{IsIndexedClosure, Reserves, ArrivesLast};
+ghost use Rattle.trust_closure.specs.Inside.Indexed.{room_of};
+ghost use Rattle.trust_closure.specs.Inside.Indexed.{closure_state};
 
 use crate::indexed::grow::add;
-use crate::indexed::labels::Wiring;
+use crate::indexed::labels::LabelIndex;
 use crate::shared::held::{Held, Standing};
 use crate::shared::pairs::Pairs;
 use closure_core::{Refused, TakeError, Taken};
@@ -18,7 +19,7 @@ use std::alloc::AllocError;
 
 /// For how many receipts more, and for how many offers of theirs, there is room.
 #[derive(Clone, Copy, Debug, PartialEq, Eq, Drop)]
-pub(crate) struct Spare {
+pub(crate) struct FreeRoom {
     pub(crate) receipts: usize,
     pub(crate) offers: usize,
 }
@@ -27,16 +28,17 @@ pub(crate) struct Spare {
 pub(crate) fn take_into(
     held: &mut Held,
     pairs: &mut Pairs,
-    wiring: &mut Wiring,
-    spare: &mut Spare,
+    label_index: &mut LabelIndex,
+    spare: &mut FreeRoom,
     receipt: Receipt,
 ) -> Result<Taken, Refused>
-    requires { IsIndexedClosure held.old pairs.old wiring.old spare.old }
-    ensures kept { IsIndexedClosure held.new pairs.new wiring.new spare.new }
+    requires { IsIndexedClosure held.old pairs.old label_index.old spare.old }
+    ensures kept { IsIndexedClosure held.new pairs.new label_index.new spare.new }
     ensures takes { Takes (closure_state held.old spare.old) receipt
         (closure_state held.new spare.new) result }
     ensures arrived { ArrivesLast held.old.arrived receipt held.new.arrived result }
-    ensures marked { take (length wiring.old.marked) wiring.new.marked ≡ wiring.old.marked }
+    ensures marked { take (length label_index.old.marked) label_index.new.marked
+        ≡ label_index.old.marked }
 {
     let place = match held.standing(&receipt) {
         Ok(Standing::Present) => return Ok(Taken::Already),
@@ -44,9 +46,9 @@ pub(crate) fn take_into(
         Err(why) => return Err(Refused { why, receipt }),
     };
     let offers = receipt.offers().len();
-    match reserve(held, pairs, wiring, spare, 1, offers) {
+    match reserve(held, pairs, label_index, spare, 1, offers) {
         Ok(()) => {
-            let accepted_now = add(held, pairs, wiring, place, receipt);
+            let accepted_now = add(held, pairs, label_index, place, receipt);
             spare.receipts -= 1;
             spare.offers -= offers;
             Ok(Taken::New { accepted_now })
@@ -62,14 +64,14 @@ pub(crate) fn take_into(
 pub(crate) fn reserve(
     held: &mut Held,
     pairs: &mut Pairs,
-    wiring: &mut Wiring,
-    spare: &mut Spare,
+    label_index: &mut LabelIndex,
+    spare: &mut FreeRoom,
     receipts: usize,
     offers: usize,
 ) -> Result<(), AllocError>
-    requires { IsIndexedClosure held.old pairs.old wiring.old spare.old }
-    ensures reserves { Reserves held.old held.new pairs.old pairs.new wiring.old wiring.new
-        spare.old spare.new }
+    requires { IsIndexedClosure held.old pairs.old label_index.old spare.old }
+    ensures reserves { Reserves held.old held.new pairs.old pairs.new label_index.old
+        label_index.new spare.old spare.new }
     ensures ok { OnOk result
         (IsRoomier (record { receipts = receipts; offers = offers }) (room_of spare.new)) }
     ensures within { IsRoomier (record { receipts = receipts; offers = offers }) (room_of spare.old)
@@ -83,7 +85,7 @@ pub(crate) fn reserve(
     // Past 2^32 nodes the first growth is refused, and past 64 bits of edges the last.
     pairs.try_reserve(receipts)?;
     held.try_reserve(receipts)?;
-    wiring.try_reserve(receipts, receipts.saturating_add(offers))?;
+    label_index.try_reserve(receipts, receipts.saturating_add(offers))?;
     spare.receipts = receipts;
     spare.offers = offers;
     Ok(())

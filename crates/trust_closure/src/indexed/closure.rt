@@ -4,9 +4,9 @@ ghost use Rattle.closure_core.specs.Changes.{empty_of, Takes, TakesDistrust, Mer
 ghost use Rattle.closure_core.specs.Refusals.{IsRoomier};
 ghost use Rattle.trust_closure.specs.Work.{Works, MergesOnce};
 
-use crate::indexed::changes::{Spare, reserve, take_into};
+use crate::indexed::changes::{FreeRoom, reserve, take_into};
 use crate::indexed::grow::{lose, lose_all};
-use crate::indexed::labels::Wiring;
+use crate::indexed::labels::LabelIndex;
 use crate::indexed::seeds::add_seeds;
 use crate::shared::held::Held;
 use crate::shared::merge::{Mergeable, merge_into};
@@ -29,25 +29,25 @@ use wait_index::Reach;
 pub struct IndexedClosure {
     held: Held,
     pairs: Pairs,
-    wiring: Wiring,
-    spare: Spare,
+    label_index: LabelIndex,
+    spare: FreeRoom,
 
     /// How many edges the last close looked at.
     turns: usize,
 }
 
 impl Model for IndexedClosure {
-    ghost use Rattle.trust_closure.specs.Indexed.{Indexed, IsIndexedClosure, indexed_of};
+    ghost use Rattle.trust_closure.specs.Inside.Indexed.{Indexed, IsIndexedClosure, indexed_of};
 
     ghost Value = { Indexed };
 
-    ghost view = { λ c. indexed_of c.held c.wiring c.spare c.turns };
+    ghost view = { λ c. indexed_of c.held c.label_index c.spare c.turns };
 
-    ghost invariant = { λ c. IsIndexedClosure c.held c.pairs c.wiring c.spare };
+    ghost invariant = { λ c. IsIndexedClosure c.held c.pairs c.label_index c.spare };
 }
 
 impl IndexedClosure {
-    ghost use Rattle.trust_closure.specs.Indexed.{IsIndexOf, GrowsAtItsEnd};
+    ghost use Rattle.trust_closure.specs.Inside.Indexed.{IsIndexOf, GrowsAtItsEnd};
 
     /// A closure of the configuration that holds no receipt and no record of distrust. It makes
     /// room for all records.
@@ -60,15 +60,21 @@ impl IndexedClosure {
     {
         let held = Held::new(alloc, config)?;
         let mut pairs = Pairs::new(alloc);
-        let mut wiring = Wiring::new(alloc);
+        let mut label_index = LabelIndex::new(alloc);
         let _domains = held.config().domains();
-        add_seeds(alloc, &held, &mut pairs, &mut wiring, held.config().seeds())?;
-        pairs.raise(wiring.reach().marked());
+        add_seeds(
+            alloc,
+            &held,
+            &mut pairs,
+            &mut label_index,
+            held.config().seeds(),
+        )?;
+        pairs.raise(label_index.reach().marked());
         Ok(IndexedClosure {
             held,
             pairs,
-            wiring,
-            spare: Spare {
+            label_index,
+            spare: FreeRoom {
                 receipts: 0,
                 offers: 0,
             },
@@ -87,7 +93,7 @@ impl IndexedClosure {
         take_into(
             &mut self.held,
             &mut self.pairs,
-            &mut self.wiring,
+            &mut self.label_index,
             &mut self.spare,
             receipt,
         )
@@ -119,7 +125,7 @@ impl IndexedClosure {
         lose(
             &mut self.held,
             &mut self.pairs,
-            &mut self.wiring,
+            &mut self.label_index,
             &mut self.turns,
             domain,
             key,
@@ -142,7 +148,7 @@ impl IndexedClosure {
         reserve(
             &mut self.held,
             &mut self.pairs,
-            &mut self.wiring,
+            &mut self.label_index,
             &mut self.spare,
             receipts,
             offers,
@@ -165,7 +171,7 @@ impl IndexedClosure {
         ensures is { IsIndexOf self.now }
     {
         let _config = self.held.config();
-        self.wiring.reach()
+        self.label_index.reach()
     }
 }
 
@@ -224,7 +230,7 @@ impl Closure for IndexedClosure {
         let config = self.held.config();
         let _domains = config.domains();
         let nodes = config.seeds().len() + self.held.arrived().len();
-        nodes - self.wiring.reach().marked().len()
+        nodes - self.label_index.reach().marked().len()
     }
 
     fn try_reserve(&mut self, receipts: usize, offers: usize) -> Result<(), NoMemory> {
@@ -257,7 +263,7 @@ impl Mergeable for IndexedClosure {
         lose_all(
             &mut self.held,
             &mut self.pairs,
-            &mut self.wiring,
+            &mut self.label_index,
             &mut self.turns,
             records,
         );

@@ -5,19 +5,20 @@ ghost use Rattle.receipt_core.specs.declared.distrust.Distrust.{Distrust};
 ghost use Rattle.receipt_core.specs.Receipt.{distrust_cmp, pair_of, offers_of, with_receipt};
 ghost use Rattle.receipt_core.specs.Rising.{with_items};
 ghost use Rattle.closure_core.specs.Changes.{IsGain, TakesDistrust};
-ghost use Rattle.trust_closure.specs.Held.{Hoard, meaning_of, IsAbsent};
-ghost use Rattle.trust_closure.specs.Indexed.{IsBuilt, IsIndexed, IsBefore, WasIndexed, indexed_of};
-ghost use Rattle.trust_closure.specs.Merge.{AreKnown};
+ghost use Rattle.trust_closure.specs.Inside.Held.{HeldReceipts, meaning_of, IsAbsent};
+ghost use Rattle.trust_closure.specs.Inside.Indexed.{IsBuilt, IsIndexed, IsBefore, WasIndexed};
+ghost use Rattle.trust_closure.specs.Inside.Indexed.{indexed_of};
+ghost use Rattle.trust_closure.specs.Inside.Merge.{AreKnown};
 ghost use Rattle.trust_closure.specs.Work.{ClosesAtOnce, Works, IsWorkOf, WorksOnce};
-ghost use Rattle.trust_closure.specs.declared.indexed.changes.Spare.{Spare};
+ghost use Rattle.trust_closure.specs.declared.indexed.changes.FreeRoom.{FreeRoom};
 
-use crate::indexed::labels::Wiring;
+use crate::indexed::labels::LabelIndex;
 use crate::indexed::recount::recount;
 use crate::indexed::wire::{add_receipt, domain_number};
 use crate::shared::held::Held;
 use crate::shared::merge::hold_all;
 use crate::shared::pairs::Pairs;
-use crate::shared::records::Addition;
+use crate::shared::records::Insertion;
 use closure_core::{Distrusted, Distrusts, TakeError};
 use jwk_set::KeyId;
 use receipt_core::Receipt;
@@ -29,53 +30,54 @@ use spiffe_name::TrustDomain;
 pub(crate) fn add(
     held: &mut Held,
     pairs: &mut Pairs,
-    wiring: &mut Wiring,
+    label_index: &mut LabelIndex,
     place: usize,
     receipt: Receipt,
 ) -> usize
-    requires indexed { IsIndexed held.old pairs.old wiring.old }
+    requires indexed { IsIndexed held.old pairs.old label_index.old }
     requires absent { IsAbsent (meaning_of held.old) receipt place }
     requires held_room { length held.old.arrived < held.old.capacity }
     requires pairs_room { length pairs.old.firsts < pairs.old.capacity }
     requires few { length pairs.old.firsts < 2 ^ 32 }
-    requires nodes { 0 < wiring.old.nodes }
-    requires edges { length (offers_of (pair_of receipt)) < wiring.old.edges }
-    ensures indexed { IsIndexed held.new pairs.new wiring.new }
+    requires nodes { 0 < label_index.old.nodes }
+    requires edges { length (offers_of (pair_of receipt)) < label_index.old.edges }
+    ensures indexed { IsIndexed held.new pairs.new label_index.new }
     ensures held { held.new
         ≡ record held.old {
           arrived = held.old.arrived ++ receipt ∷ [];
           held = with_receipt receipt held.old.held;
         } }
     ensures gain { IsGain (meaning_of held.old) (meaning_of held.new) result }
-    ensures front { take (length wiring.old.marked) wiring.new.marked ≡ wiring.old.marked }
+    ensures front { take (length label_index.old.marked) label_index.new.marked
+        ≡ label_index.old.marked }
     ensures firsts { length pairs.new.firsts ≡ length pairs.old.firsts + 1 }
     ensures pairs_room { pairs.new.capacity ≡ pairs.old.capacity }
-    ensures nodes { wiring.old.nodes ≡ wiring.new.nodes + 1 }
-    ensures edges { wiring.old.edges
-        ≤ wiring.new.edges + (length (offers_of (pair_of receipt)) + 1) }
+    ensures nodes { label_index.old.nodes ≡ label_index.new.nodes + 1 }
+    ensures edges { label_index.old.edges
+        ≤ label_index.new.edges + (length (offers_of (pair_of receipt)) + 1) }
 {
-    let count = wiring.reach().marked().len();
-    place_receipt(held, pairs, wiring, place, receipt);
+    let count = label_index.reach().marked().len();
+    place_receipt(held, pairs, label_index, place, receipt);
     let _few = held.config();
-    pairs.raise(&wiring.reach().marked()[count..])
+    pairs.raise(&label_index.reach().marked()[count..])
 }
 
 /// Holds a receipt that is absent, at its place, and adds its node.
 fn place_receipt(
     held: &mut Held,
     pairs: &mut Pairs,
-    wiring: &mut Wiring,
+    label_index: &mut LabelIndex,
     place: usize,
     receipt: Receipt,
 )
-    requires built { IsBuilt held.old pairs.old wiring.old }
+    requires built { IsBuilt held.old pairs.old label_index.old }
     requires absent { IsAbsent (meaning_of held.old) receipt place }
     requires held_room { length held.old.arrived < held.old.capacity }
     requires pairs_room { length pairs.old.firsts < pairs.old.capacity }
     requires few { length pairs.old.firsts < 2 ^ 32 }
-    requires nodes { 0 < wiring.old.nodes }
-    requires edges { length (offers_of (pair_of receipt)) < wiring.old.edges }
-    ensures built { IsBuilt held.new pairs.new wiring.new }
+    requires nodes { 0 < label_index.old.nodes }
+    requires edges { length (offers_of (pair_of receipt)) < label_index.old.edges }
+    ensures built { IsBuilt held.new pairs.new label_index.new }
     ensures held { held.new
         ≡ record held.old {
           arrived = held.old.arrived ++ receipt ∷ [];
@@ -83,15 +85,16 @@ fn place_receipt(
         } }
     ensures firsts { (first : ℕ) × (pairs.new.firsts ≡ pairs.old.firsts ++ first ∷ []) }
     ensures counts { pairs.new.counts ≡ pairs.old.counts ++ 0 ∷ [] }
-    ensures front { take (length wiring.old.marked) wiring.new.marked ≡ wiring.old.marked }
+    ensures front { take (length label_index.old.marked) label_index.new.marked
+        ≡ label_index.old.marked }
     ensures pairs_room { pairs.new.capacity ≡ pairs.old.capacity }
-    ensures nodes { wiring.old.nodes ≡ wiring.new.nodes + 1 }
-    ensures edges { wiring.old.edges
-        ≤ wiring.new.edges + (length (offers_of (pair_of receipt)) + 1) }
+    ensures nodes { label_index.old.nodes ≡ label_index.new.nodes + 1 }
+    ensures edges { label_index.old.edges
+        ≤ label_index.new.edges + (length (offers_of (pair_of receipt)) + 1) }
 {
     let seeds = held.config().seeds();
     pairs.add(seeds, held.arrived(), receipt.domain(), receipt.document());
-    add_receipt(wiring, held, &receipt);
+    add_receipt(label_index, held, &receipt);
     held.insert(place, receipt);
     let _valid = held.config();
 }
@@ -114,33 +117,33 @@ struct Fall {
 pub(crate) fn lose(
     held: &mut Held,
     pairs: &mut Pairs,
-    wiring: &mut Wiring,
+    label_index: &mut LabelIndex,
     turns: &mut usize,
     domain: &TrustDomain,
     key: KeyId,
 ) -> Result<Distrusted, TakeError>
-    requires indexed { IsIndexed held.old pairs.old wiring.old }
-    ensures indexed { IsIndexed held.new pairs.new wiring.new }
+    requires indexed { IsIndexed held.old pairs.old label_index.old }
+    ensures indexed { IsIndexed held.new pairs.new label_index.new }
     ensures meaning { TakesDistrust (meaning_of held.old)
         (record { domain = domain.now; key = key }) (meaning_of held.new) result }
-    ensures work { (spare : Spare) → Works (indexed_of held.old wiring.old spare turns.old)
+    ensures work { (spare : FreeRoom) → Works (indexed_of held.old label_index.old spare turns.old)
         (record { domain = domain.now; key = key })
-        (indexed_of held.new wiring.new spare turns.new) result }
+        (indexed_of held.new label_index.new spare turns.new) result }
     ensures arrived { held.new.arrived ≡ held.old.arrived }
     ensures capacity { held.new.capacity ≡ held.old.capacity }
     ensures firsts { pairs.new.firsts ≡ pairs.old.firsts }
     ensures pairs_room { pairs.new.capacity ≡ pairs.old.capacity }
-    ensures nodes { wiring.new.nodes ≡ wiring.old.nodes }
-    ensures edges { wiring.new.edges ≡ wiring.old.edges }
+    ensures nodes { label_index.new.nodes ≡ label_index.old.nodes }
+    ensures edges { label_index.new.edges ≡ label_index.old.edges }
 {
     match held.add_record(domain, key)? {
-        Addition::Added => {
-            let fall = close(held, pairs, wiring, domain, key);
+        Insertion::Added => {
+            let fall = close(held, pairs, label_index, domain, key);
             *turns = fall.turns;
             Ok(Distrusted::New { lost: fall.lost })
         }
-        Addition::There => Ok(Distrusted::Already),
-        Addition::Full => Err(TakeError::Full),
+        Insertion::There => Ok(Distrusted::Already),
+        Insertion::Full => Err(TakeError::Full),
     }
 }
 
@@ -148,32 +151,32 @@ pub(crate) fn lose(
 fn close(
     held: &Held,
     pairs: &mut Pairs,
-    wiring: &mut Wiring,
+    label_index: &mut LabelIndex,
     domain: &TrustDomain,
     key: KeyId,
 ) -> Fall
     requires domain { HasDomain held.now.config domain.now }
     requires before { WasIndexed held.now (record { domain = domain.now; key = key } ∷ []) pairs.old
-        wiring.old }
-    ensures indexed { IsIndexed held.now pairs.new wiring.new }
-    ensures loss { (old : Hoard)
+        label_index.old }
+    ensures indexed { IsIndexed held.now pairs.new label_index.new }
+    ensures loss { (old : HeldReceipts)
         → IsBefore old (record { domain = domain.now; key = key } ∷ []) held.now
-        → IsIndexed old pairs.old wiring.old
+        → IsIndexed old pairs.old label_index.old
         → IsGain (meaning_of held.now) (meaning_of old) result.lost }
-    ensures work { (old : Hoard) (spare : Spare) (turns : ℕ)
+    ensures work { (old : HeldReceipts) (spare : FreeRoom) (turns : ℕ)
         → IsBefore old (record { domain = domain.now; key = key } ∷ []) held.now
-        → IsIndexed old pairs.old wiring.old
-        → ClosesAtOnce (indexed_of old wiring.old spare turns)
+        → IsIndexed old pairs.old label_index.old
+        → ClosesAtOnce (indexed_of old label_index.old spare turns)
         (record { domain = domain.now; key = key } ∷ [])
-        (indexed_of held.now wiring.new spare result.turns) }
+        (indexed_of held.now label_index.new spare result.turns) }
     ensures firsts { pairs.new.firsts ≡ pairs.old.firsts }
     ensures pairs_room { pairs.new.capacity ≡ pairs.old.capacity }
-    ensures nodes { wiring.new.nodes ≡ wiring.old.nodes }
-    ensures edges { wiring.new.edges ≡ wiring.old.edges }
+    ensures nodes { label_index.new.nodes ≡ label_index.old.nodes }
+    ensures edges { label_index.new.edges ≡ label_index.old.edges }
 {
     let number = domain_number(held.config(), domain);
-    let turns = wiring.close_key(number, key);
-    let lost = recount(pairs, wiring.reach());
+    let turns = label_index.close_key(number, key);
+    let lost = recount(pairs, label_index.reach());
     Fall { lost, turns }
 }
 
@@ -182,44 +185,45 @@ fn close(
 pub(crate) fn lose_all(
     held: &mut Held,
     pairs: &mut Pairs,
-    wiring: &mut Wiring,
+    label_index: &mut LabelIndex,
     turns: &mut usize,
     records: Distrusts<'_>,
 )
-    requires indexed { IsIndexed held.old pairs.old wiring.old }
+    requires indexed { IsIndexed held.old pairs.old label_index.old }
     requires known { AreKnown (meaning_of held.old) records }
-    ensures indexed { IsIndexed held.new pairs.new wiring.new }
+    ensures indexed { IsIndexed held.new pairs.new label_index.new }
     ensures meaning { meaning_of held.new ≡ record (meaning_of held.old)
         { records = with_items distrust_cmp records.entry (meaning_of held.old).records } }
-    ensures work { (spare : Spare) → WorksOnce (indexed_of held.old wiring.old spare turns.old)
-        records.entry (indexed_of held.new wiring.new spare turns.new) }
+    ensures work { (spare : FreeRoom) → WorksOnce
+        (indexed_of held.old label_index.old spare turns.old)
+        records.entry (indexed_of held.new label_index.new spare turns.new) }
     ensures arrived { held.new.arrived ≡ held.old.arrived }
     ensures capacity { held.new.capacity ≡ held.old.capacity }
     ensures firsts { pairs.new.firsts ≡ pairs.old.firsts }
     ensures pairs_room { pairs.new.capacity ≡ pairs.old.capacity }
-    ensures nodes { wiring.new.nodes ≡ wiring.old.nodes }
-    ensures edges { wiring.new.edges ≡ wiring.old.edges }
+    ensures nodes { label_index.new.nodes ≡ label_index.old.nodes }
+    ensures edges { label_index.new.edges ≡ label_index.old.edges }
 {
     if hold_all(held, records) {
-        *turns = close_all(held, pairs, wiring);
+        *turns = close_all(held, pairs, label_index);
     }
 }
 
 /// Closes the labels of all keys that are distrusted, and returns how many edges that looked at.
-fn close_all(held: &Held, pairs: &mut Pairs, wiring: &mut Wiring) -> usize
-    requires before { (more : List Distrust) × WasIndexed held.now more pairs.old wiring.old }
-    ensures indexed { IsIndexed held.now pairs.new wiring.new }
-    ensures work { (old : Hoard) (more : List Distrust) (spare : Spare) (turns : ℕ)
+fn close_all(held: &Held, pairs: &mut Pairs, label_index: &mut LabelIndex) -> usize
+    requires before { (more : List Distrust) × WasIndexed held.now more pairs.old label_index.old }
+    ensures indexed { IsIndexed held.now pairs.new label_index.new }
+    ensures work { (old : HeldReceipts) (more : List Distrust) (spare : FreeRoom) (turns : ℕ)
         → IsBefore old more held.now
-        → IsIndexed old pairs.old wiring.old
-        → IsWorkOf (indexed_of old wiring.old spare turns) more result }
+        → IsIndexed old pairs.old label_index.old
+        → IsWorkOf (indexed_of old label_index.old spare turns) more result }
     ensures firsts { pairs.new.firsts ≡ pairs.old.firsts }
     ensures pairs_room { pairs.new.capacity ≡ pairs.old.capacity }
-    ensures nodes { wiring.new.nodes ≡ wiring.old.nodes }
-    ensures edges { wiring.new.edges ≡ wiring.old.edges }
+    ensures nodes { label_index.new.nodes ≡ label_index.old.nodes }
+    ensures edges { label_index.new.edges ≡ label_index.old.edges }
 {
     let _valid = held.config();
-    let turns = wiring.close_where(held);
-    recount(pairs, wiring.reach());
+    let turns = label_index.close_where(held);
+    recount(pairs, label_index.reach());
     turns
 }

@@ -1,7 +1,7 @@
 //! A net of nodes and labels whose labels stand for keys of documents: which nodes are reached
 //! where each node offers such keys and awaits at most one.
 mod label;
-mod wiring;
+mod label_index;
 
 pub(crate) use label::{Label, LabelTest};
-pub(crate) use wiring::Wiring;
+pub(crate) use label_index::LabelIndex;

@@ -2,9 +2,9 @@
 ghost use Rattle.std.specs.Prelude.{◌≡◌, ◌+◌, ◌^◌, ◌<◌, ◌≤◌, drop, length};
 ghost use Rattle.std.specs.List.{All};
 ghost use Rattle.closure_core.specs.Inside.Flags.{raised_count};
-ghost use Rattle.trust_closure.specs.Indexed.{WasCounted};
+ghost use Rattle.trust_closure.specs.Inside.Indexed.{WasCounted};
 ghost use Rattle.closure_core.specs.Inside.Nodes.{flags_of};
-ghost use Rattle.trust_closure.specs.NodeCounts.{AreCounts};
+ghost use Rattle.trust_closure.specs.Inside.NodeCounts.{AreCounts};
 
 use crate::shared::pairs::Pairs;
 use wait_index::{NodeNo, Reach};

@@ -2,9 +2,10 @@
 ghost use Rattle.std.specs.Prelude.{◌≡◌, ◌<◌, ◌≤◌, ◌∷◌, ◌++◌, [], length, OnOk};
 ghost use Rattle.std.specs.List.{All};
 ghost use Rattle.fed_config.specs.Configuration.{HasDomain};
-ghost use Rattle.trust_closure.specs.Indexed.{IsSeeded};
+ghost use Rattle.trust_closure.specs.Inside.Indexed.{IsSeeded};
+ghost use Rattle.fed_config.specs.Limits.{seed_limit};
 
-use crate::indexed::labels::Wiring;
+use crate::indexed::labels::LabelIndex;
 use crate::indexed::wire::offer_triples;
 use crate::shared::held::Held;
 use crate::shared::pairs::Pairs;
@@ -17,17 +18,17 @@ pub(crate) fn add_seeds(
     alloc: Global,
     held: &Held,
     pairs: &mut Pairs,
-    wiring: &mut Wiring,
+    label_index: &mut LabelIndex,
     seeds: &[Seed],
 ) -> Result<(), AllocError>
     requires domains { All (λ s. HasDomain held.now.config s.domain) seeds.now }
-    requires few { length seeds.now ≤ 4096 }
+    requires few { length seeds.now ≤ seed_limit }
     requires arrived { held.now.arrived ≡ [] }
-    requires seeded { IsSeeded held.now [] pairs.old wiring.old }
-    ensures { OnOk result (IsSeeded held.now seeds.now pairs.new wiring.new) }
+    requires seeded { IsSeeded held.now [] pairs.old label_index.old }
+    ensures { OnOk result (IsSeeded held.now seeds.now pairs.new label_index.new) }
 {
     for (place, seed) in seeds.iter().enumerate() {
-        add_seed(alloc, held, pairs, wiring, &seeds[..place], seed)?;
+        add_seed(alloc, held, pairs, label_index, &seeds[..place], seed)?;
     }
     Ok(())
 }
@@ -37,22 +38,23 @@ fn add_seed(
     alloc: Global,
     held: &Held,
     pairs: &mut Pairs,
-    wiring: &mut Wiring,
+    label_index: &mut LabelIndex,
     earlier: &[Seed],
     seed: &Seed,
 ) -> Result<(), AllocError>
-    requires seeded { IsSeeded held.now earlier.now pairs.old wiring.old }
-    requires few { length earlier.now < 4096 }
+    requires seeded { IsSeeded held.now earlier.now pairs.old label_index.old }
+    requires few { length earlier.now < seed_limit }
     requires arrived { held.now.arrived ≡ [] }
     requires domain { HasDomain held.now.config seed.now.domain }
-    ensures { OnOk result (IsSeeded held.now (earlier.now ++ seed.now ∷ []) pairs.new wiring.new) }
+    ensures { OnOk result (IsSeeded held.now (earlier.now
+        ++ seed.now ∷ []) pairs.new label_index.new) }
 {
     let offers = offers_of(alloc, &seed.domain, &seed.document)?;
     pairs.try_reserve(1)?;
-    wiring.try_reserve(1, offers.len())?;
+    label_index.try_reserve(1, offers.len())?;
     pairs.add(earlier, held.arrived(), &seed.domain, &seed.document);
-    let node = wiring.add_node();
-    wiring.mark(node);
-    offer_triples(wiring, held, node, offers.as_slice());
+    let node = label_index.add_node();
+    label_index.mark(node);
+    offer_triples(label_index, held, node, offers.as_slice());
     Ok(())
 }

@@ -3,23 +3,24 @@ ghost use Rattle.std.specs.Prelude.{◌≡◌, ℕ, ◌+◌, ◌^◌, ◌<◌, �
 ghost use Rattle.std.specs.Prelude.{length, vec_capacity, Contains, IsOk, OnOk};
 ghost use Rattle.receipt_core.specs.Receipt.{Receipt, distrust_cmp, with_receipt};
 ghost use Rattle.receipt_core.specs.Rising.{with_items};
-ghost use Rattle.trust_closure.specs.Merge.{AreKnown};
+ghost use Rattle.trust_closure.specs.Inside.Merge.{AreKnown};
 ghost use Rattle.closure_core.specs.Inside.Flags.{raised_count};
 ghost use Rattle.closure_core.specs.Changes.{IsGain, Takes, TakesDistrust};
-ghost use Rattle.trust_closure.specs.Held.{Hoard, meaning_of, IsAbsent};
-ghost use Rattle.trust_closure.specs.Indexed.{IsBefore};
+ghost use Rattle.trust_closure.specs.Inside.Held.{HeldReceipts, meaning_of, IsAbsent};
+ghost use Rattle.trust_closure.specs.Inside.Indexed.{IsBefore};
 ghost use Rattle.closure_core.specs.Inside.Nodes.{is_raised};
 ghost use Rattle.receipt_core.specs.declared.distrust.Distrust.{Distrust};
-ghost use Rattle.trust_closure.specs.Plain.{AreSeedOffers, IsSet, HasPlainFlags, WasSettled};
-ghost use Rattle.trust_closure.specs.Plain.{AreSound, AreReleased, HasSpare, IsPlainClosure};
-ghost use Rattle.trust_closure.specs.Plain.{plain_state, IsRoomierPaired};
+ghost use Rattle.trust_closure.specs.Inside.Plain.{AreSeedOffers, IsSet, HasPlainFlags, WasSettled};
+ghost use Rattle.trust_closure.specs.Inside.Plain.{AreSound, AreReleased, HasFreeRoom};
+ghost use Rattle.trust_closure.specs.Inside.Plain.{IsPlainClosure};
+ghost use Rattle.trust_closure.specs.Inside.Plain.{plain_state, IsRoomierTable};
 
 use crate::plain::flags::lower_all;
 use crate::plain::rounds::{count_accepted, spread};
 use crate::shared::held::{Held, Standing};
 use crate::shared::merge::hold_all;
 use crate::shared::pairs::Pairs;
-use crate::shared::records::Addition;
+use crate::shared::records::Insertion;
 use closure_core::{Distrusted, Distrusts, Refused, TakeError, Taken};
 use jwk_set::KeyId;
 use receipt_core::{Receipt, Triple};
@@ -177,11 +178,11 @@ pub(crate) fn lose(
     ensures released_capacity { vec_capacity released.new ≡ vec_capacity released.old }
 {
     match held.add_record(domain, key)? {
-        Addition::Added => Ok(Distrusted::New {
+        Insertion::Added => Ok(Distrusted::New {
             lost: fall(held, pairs, seed_offers, released),
         }),
-        Addition::There => Ok(Distrusted::Already),
-        Addition::Full => Err(TakeError::Full),
+        Insertion::There => Ok(Distrusted::Already),
+        Insertion::Full => Err(TakeError::Full),
     }
 }
 
@@ -215,7 +216,7 @@ pub(crate) fn lose_all(
 fn fall(held: &Held, pairs: &mut Pairs, seed_offers: &[Triple], released: &mut Vec<bool>) -> usize
     requires before { WasSettled held.now pairs.old seed_offers.now released.old.items }
     ensures settled { HasPlainFlags held.now pairs.new seed_offers.now released.new.items }
-    ensures loss { (old : Hoard) (more : List Distrust) → IsBefore old more held.now
+    ensures loss { (old : HeldReceipts) (more : List Distrust) → IsBefore old more held.now
         → HasPlainFlags old pairs.old seed_offers.now released.old.items
         → IsGain (meaning_of held.now) (meaning_of old) result }
     ensures firsts { pairs.new.firsts ≡ pairs.old.firsts }
@@ -260,14 +261,14 @@ fn grow(
     spare: &mut usize,
     receipts: usize,
 ) -> Result<(), AllocError>
-    requires spare { HasSpare held.old pairs.old (length released.old.items)
+    requires spare { HasFreeRoom held.old pairs.old (length released.old.items)
         (vec_capacity released.old) spare.old }
     requires counts { length pairs.old.counts ≡ length pairs.old.firsts }
     requires numbers { length pairs.old.numbers ≤ length pairs.old.firsts }
-    ensures spare { HasSpare held.new pairs.new (length released.new.items)
+    ensures spare { HasFreeRoom held.new pairs.new (length released.new.items)
         (vec_capacity released.new) spare.new }
     ensures held { held.new ≡ record held.old { capacity = held.new.capacity } }
-    ensures pairs { IsRoomierPaired pairs.old pairs.new }
+    ensures pairs { IsRoomierTable pairs.old pairs.new }
     ensures released { released.new.items ≡ released.old.items }
     ensures roomier { spare.old ≤ spare.new }
     ensures ok { OnOk result (receipts ≤ spare.new) }

@@ -30,7 +30,7 @@ pub struct PlainClosure {
 impl Model for PlainClosure {
     ghost use Rattle.std.specs.Prelude.{vec_capacity};
     ghost use Rattle.closure_core.specs.Changes.{HeldAndRoom};
-    ghost use Rattle.trust_closure.specs.Plain.{IsPlainClosure, plain_state};
+    ghost use Rattle.trust_closure.specs.Inside.Plain.{IsPlainClosure, plain_state};
 
     ghost Value = { HeldAndRoom };
 

@@ -6,10 +6,12 @@ ghost use Rattle.receipt_core.specs.Receipt.{Receipt, need_of};
 ghost use Rattle.receipt_core.specs.Acceptance.{IsMeaning};
 ghost use Rattle.closure_core.specs.Inside.Nodes.{is_raised, flags_of, count_at};
 ghost use Rattle.closure_core.specs.Inside.Flags.{raised_count};
-ghost use Rattle.trust_closure.specs.Held.{meaning_of};
-ghost use Rattle.trust_closure.specs.Plain.{AreSeedOffers, IsOffered, IsOfferedBelow, IsVouched};
-ghost use Rattle.trust_closure.specs.Plain.{AreSound, AreQuietBelow, AreReleased, IsAcceptedNode};
-ghost use Rattle.trust_closure.specs.Plain.{IsFirstAccepted};
+ghost use Rattle.trust_closure.specs.Inside.Held.{meaning_of};
+ghost use Rattle.trust_closure.specs.Inside.Plain.{AreSeedOffers, IsOffered, IsOfferedBelow};
+ghost use Rattle.trust_closure.specs.Inside.Plain.{IsVouched};
+ghost use Rattle.trust_closure.specs.Inside.Plain.{AreSound, AreQuietBelow, AreReleased};
+ghost use Rattle.trust_closure.specs.Inside.Plain.{IsAcceptedNode};
+ghost use Rattle.trust_closure.specs.Inside.Plain.{IsFirstAccepted};
 
 use crate::shared::held::Held;
 use crate::shared::pairs::Pairs;

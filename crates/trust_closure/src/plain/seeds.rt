@@ -1,6 +1,7 @@
 //! The documents of a configuration in a plain closure.
 ghost use Rattle.std.specs.Prelude.{◌≡◌, ◌<◌, ◌≤◌, ◌∷◌, ◌++◌, [], length, OnOk};
-ghost use Rattle.trust_closure.specs.Plain.{IsSown};
+ghost use Rattle.trust_closure.specs.Inside.Plain.{IsSown};
+ghost use Rattle.fed_config.specs.Limits.{seed_limit};
 
 use crate::shared::held::Held;
 use crate::shared::pairs::Pairs;
@@ -16,7 +17,7 @@ pub(crate) fn sow_all(
     seed_offers: &mut Vec<Triple>,
     seeds: &[Seed],
 ) -> Result<(), AllocError>
-    requires few { length seeds.now ≤ 4096 }
+    requires few { length seeds.now ≤ seed_limit }
     requires arrived { held.now.arrived ≡ [] }
     requires sown { IsSown held.now [] pairs.old seed_offers.old.items }
     ensures { OnOk result (IsSown held.now seeds.now pairs.new seed_offers.new.items) }
@@ -36,7 +37,7 @@ fn sow(
     seed: &Seed,
 ) -> Result<(), AllocError>
     requires sown { IsSown held.now earlier.now pairs.old seed_offers.old.items }
-    requires few { length earlier.now < 4096 }
+    requires few { length earlier.now < seed_limit }
     requires arrived { held.now.arrived ≡ [] }
     ensures { OnOk result (IsSown held.now (earlier.now ++ seed.now ∷ []) pairs.new
         seed_offers.new.items) }

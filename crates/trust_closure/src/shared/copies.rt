@@ -5,10 +5,11 @@ ghost use Rattle.fed_config.specs.Configuration.{HasDomain};
 ghost use Rattle.receipt_core.specs.declared.distrust.Distrust.{Distrust};
 ghost use Rattle.receipt_core.specs.Receipt.{Receipt};
 ghost use Rattle.receipt_core.specs.Acceptance.{IsFitting};
-ghost use Rattle.trust_closure.specs.Held.{meaning_of};
+ghost use Rattle.trust_closure.specs.Inside.Held.{meaning_of};
 ghost use Rattle.closure_core.specs.Refusals.{RefusesMerge, all_receipts, all_records};
 ghost use Rattle.closure_core.specs.Refusals.{offers_count};
-ghost use Rattle.trust_closure.specs.Merge.{IsMergeable, HasNew, AreCopies, IsShare, MisfitsOne};
+ghost use Rattle.trust_closure.specs.Inside.Merge.{IsMergeable, HasNew, AreCopies, IsMergePlan};
+ghost use Rattle.trust_closure.specs.Inside.Merge.{RefusesFitOfOne};
 
 use crate::shared::held::{Held, fit};
 use closure_core::{Distrusts, NoMemory, Receipts, TakeError};
@@ -18,7 +19,7 @@ use receipt_core::Receipt;
 /// What is to be taken in: copies of the receipts that are not held, and how many offers they have
 /// together.
 #[derive(Drop)]
-pub(crate) struct Share {
+pub(crate) struct MergePlan {
     pub(crate) copies: Vec<Receipt>,
     pub(crate) offers: usize,
 }
@@ -28,8 +29,8 @@ pub(crate) struct Share {
 /// # Errors
 /// As [`crate::Closure::merge`] says. No receipt is copied before all causes but lack of memory
 /// are ruled out.
-pub(crate) fn share_of(held: &Held, other: &Held) -> Result<Share, TakeError>
-    ensures { MatchResult result (IsShare (meaning_of held.now) (meaning_of other.now))
+pub(crate) fn plan_merge(held: &Held, other: &Held) -> Result<MergePlan, TakeError>
+    ensures { MatchResult result (IsMergePlan (meaning_of held.now) (meaning_of other.now))
         (RefusesMerge (meaning_of held.now) (meaning_of other.now)) }
 {
     judge(held, other)?;
@@ -79,7 +80,7 @@ fn knows_all(config: &Config, records: Distrusts<'_>) -> bool
 fn fit_all(config: &Config, receipts: Receipts<'_>) -> Result<(), TakeError>
     ensures { MatchResult result
         (λ _. (r : Receipt) → Contains receipts.entry r → IsFitting config.now r)
-        (MisfitsOne config.now receipts.entry) }
+        (RefusesFitOfOne config.now receipts.entry) }
 {
     let mut all_fit = true;
     for receipt in receipts {
@@ -129,18 +130,18 @@ fn new_records(held: &Held, other: &Held) -> usize
     count
 }
 
-fn copy_share(held: &Held, other: &Held) -> Result<Share, NoMemory>
+fn copy_share(held: &Held, other: &Held) -> Result<MergePlan, NoMemory>
     requires { IsMergeable (meaning_of held.now) (meaning_of other.now) }
-    ensures { MatchResult result (IsShare (meaning_of held.now) (meaning_of other.now))
+    ensures { MatchResult result (IsMergePlan (meaning_of held.now) (meaning_of other.now))
         (λ _. HasNew (meaning_of held.now) (meaning_of other.now)) }
 {
     let mut copies = copies_of_new(held, other)?;
     match offers_of_all(&copies) {
-        Some(offers) => Ok(Share { copies, offers }),
+        Some(offers) => Ok(MergePlan { copies, offers }),
         None => {
             // There is no room for so many: it asks for a growth that is always refused.
             copies.try_reserve(usize::MAX)?;
-            Ok(Share { copies, offers: 0 })
+            Ok(MergePlan { copies, offers: 0 })
         }
     }
 }

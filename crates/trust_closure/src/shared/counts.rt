@@ -2,7 +2,7 @@
 ghost use Rattle.std.specs.Prelude.{◌≡◌, ℕ, ◌+◌, ◌-◌, ◌^◌, ◌<◌, ◌≤◌, All, length, slice_set};
 ghost use Rattle.closure_core.specs.Inside.Flags.{raised_count};
 ghost use Rattle.closure_core.specs.Inside.Nodes.{flags_of, count_at};
-ghost use Rattle.trust_closure.specs.NodeCounts.{nodes_with, AddsNodes};
+ghost use Rattle.trust_closure.specs.Inside.NodeCounts.{nodes_with, AddsNodes};
 
 use wait_index::NodeNo;
 

@@ -4,14 +4,16 @@ ghost use Rattle.std.specs.Prelude.{IsTrue, IsOk, OnOk, IfOk, MatchResult};
 ghost use Rattle.fed_config.specs.Configuration.{IsConfiguration};
 ghost use Rattle.receipt_core.specs.Receipt.{IsReceipt, with_receipt};
 ghost use Rattle.receipt_core.specs.Acceptance.{IsFitting, IsMeaning};
-ghost use Rattle.closure_core.specs.Refusals.{Misfits};
-ghost use Rattle.trust_closure.specs.Held.{Hoard, meaning_of, IsAbsent, Stands, Repels};
-ghost use Rattle.trust_closure.specs.Held.{AddsOrRefuses, addition_result};
+ghost use Rattle.closure_core.specs.Refusals.{RefusesFit};
+ghost use Rattle.trust_closure.specs.Inside.Held.{HeldReceipts, meaning_of, IsAbsent, Stands};
+ghost use Rattle.trust_closure.specs.Inside.Held.{RefusesNew};
+ghost use Rattle.trust_closure.specs.Inside.Held.{AddsOrRefuses, addition_result};
 ghost use Rattle.closure_core.specs.AcceptedList.{receipts_in};
+ghost use Rattle.receipt_core.specs.Limits.{receipt_limit, record_limit};
 
 use crate::indexed::labels::{Label, LabelTest};
-use crate::shared::probes::{InBucket, OfReceipt, SpotInBuckets};
-use crate::shared::records::{Addition, Records};
+use crate::shared::probes::{InBucket, OfReceipt, PlaceInBuckets};
+use crate::shared::records::{Insertion, Records};
 use closure_core::{Distrusts, NoMemory, Receipts, Record, TakeError, record_of};
 use fed_config::Config;
 use jwk_set::KeyId;
@@ -44,11 +46,11 @@ pub(crate) struct Held {
 
 impl Model for Held {
     ghost use Rattle.std.specs.Prelude.{min};
-    ghost use Rattle.sorted_order.specs.Stock.{in_order};
+    ghost use Rattle.sorted_order.specs.ArenaView.{in_order};
     ghost use Rattle.closure_core.specs.Inside.Records.{distrusts_of};
-    ghost use Rattle.trust_closure.specs.Held.{Hoard, IsHoard, domains_of};
+    ghost use Rattle.trust_closure.specs.Inside.Held.{HeldReceipts, IsWellHeld, domains_of};
 
-    ghost Value = { Hoard };
+    ghost Value = { HeldReceipts };
 
     ghost view = { λ h. record {
       config = h.config;
@@ -58,7 +60,7 @@ impl Model for Held {
       capacity = min h.receipts.capacity h.buckets.capacity;
     } };
 
-    ghost invariant = { λ h. IsHoard h.config h.receipts h.buckets.items h.records };
+    ghost invariant = { λ h. IsWellHeld h.config h.receipts h.buckets.items h.records };
 }
 
 impl Held {
@@ -90,7 +92,7 @@ impl Held {
     /// Whether the receipt fits, and is held.
     pub(crate) fn standing(&self, receipt: &Receipt) -> Result<Standing, TakeError>
         ensures { MatchResult result (Stands (meaning_of self.now) receipt.now)
-            (Repels (meaning_of self.now) receipt.now) }
+            (RefusesNew (meaning_of self.now) receipt.now) }
     {
         if let Err(why) = fit(&self.config, receipt) {
             return Err(why);
@@ -131,7 +133,7 @@ impl Held {
     {
         let spot = self
             .buckets
-            .before(&SpotInBuckets::new(self.receipts.items(), &receipt));
+            .before(&PlaceInBuckets::new(self.receipts.items(), &receipt));
         let number = self.receipts.insert(place, receipt);
         self.buckets.insert(spot, number);
     }
@@ -141,7 +143,7 @@ impl Held {
         &mut self,
         domain: &TrustDomain,
         key: KeyId,
-    ) -> Result<Addition, TakeError>
+    ) -> Result<Insertion, TakeError>
         ensures meaning { AddsOrRefuses (meaning_of self.old)
             (record { domain = domain.now; key = key }) (meaning_of self.new) result }
         ensures arrived { self.new.arrived ≡ self.old.arrived }
@@ -190,7 +192,7 @@ impl Held {
 
     /// How many more receipts there may be.
     pub(crate) fn receipts_left(&self) -> usize
-        ensures { length self.now.held + result ≡ 65536 }
+        ensures { length self.now.held + result ≡ receipt_limit }
     {
         let _valid = self.config();
         MOST_RECEIPTS - self.receipts.len()
@@ -198,7 +200,7 @@ impl Held {
 
     /// How many more records of distrust there may be.
     pub(crate) fn records_left(&self) -> usize
-        ensures { length self.now.records + result ≡ 4096 }
+        ensures { length self.now.records + result ≡ record_limit }
     {
         self.records.left()
     }
@@ -221,7 +223,7 @@ impl Held {
 
 /// Meant are the labels of keys that are distrusted.
 impl LabelTest for Held {
-    ghost use Rattle.trust_closure.specs.Indexed.{IsDistrusted};
+    ghost use Rattle.trust_closure.specs.Inside.Indexed.{IsDistrusted};
 
     ghost IsMeant = { IsDistrusted };
 
@@ -237,7 +239,7 @@ impl LabelTest for Held {
 /// Whether the configuration has a relationship with the receipt's domain, and its endpoint.
 pub(crate) fn fit(config: &Config, receipt: &Receipt) -> Result<(), TakeError>
     ensures fits { MatchResult result (λ _. IsFitting config.now receipt.now)
-        (Misfits config.now receipt.now) }
+        (RefusesFit config.now receipt.now) }
     ensures form { IsReceipt receipt.now }
 {
     let Some(relationship) = config.relationship(receipt.domain()) else {
@@ -250,12 +252,12 @@ pub(crate) fn fit(config: &Config, receipt: &Receipt) -> Result<(), TakeError>
     }
 }
 
-fn answer_of(addition: Addition) -> Result<Addition, TakeError>
+fn answer_of(addition: Insertion) -> Result<Insertion, TakeError>
     ensures { result ≡ addition_result addition }
 {
     match addition {
-        Addition::Full => Err(TakeError::Full),
-        Addition::Added => Ok(Addition::Added),
-        Addition::There => Ok(Addition::There),
+        Insertion::Full => Err(TakeError::Full),
+        Insertion::Added => Ok(Insertion::Added),
+        Insertion::There => Ok(Insertion::There),
     }
 }

@@ -4,20 +4,20 @@ ghost use Rattle.receipt_core.specs.declared.distrust.Distrust.{Distrust};
 ghost use Rattle.receipt_core.specs.Receipt.{receipt_cmp, distrust_cmp};
 ghost use Rattle.receipt_core.specs.Rising.{with_items};
 ghost use Rattle.closure_core.specs.Changes.{Merges};
-ghost use Rattle.trust_closure.specs.Held.{meaning_of};
-ghost use Rattle.trust_closure.specs.Merge.{FitWithinRoom, HasSpentOn, AreKnown};
+ghost use Rattle.trust_closure.specs.Inside.Held.{meaning_of};
+ghost use Rattle.trust_closure.specs.Inside.Merge.{FitWithinRoom, HasSpentOn, AreKnown};
 ghost use Rattle.trust_closure.specs.Work.{AreOld};
 
-use crate::shared::copies::share_of;
+use crate::shared::copies::plan_merge;
 use crate::shared::held::Held;
 use closure_core::{Distrusts, NoMemory, Refused, TakeError, Taken};
 use receipt_core::Receipt;
 
 /// What a merge asks of a closure.
 pub(crate) trait Mergeable {
-    ghost use Rattle.trust_closure.specs.Held.{meaning_of};
+    ghost use Rattle.trust_closure.specs.Inside.Held.{meaning_of};
     ghost use Rattle.closure_core.specs.Refusals.{IsRoomier};
-    ghost use Rattle.trust_closure.specs.Merge.{AreKnown};
+    ghost use Rattle.trust_closure.specs.Inside.Merge.{AreKnown};
     ghost use Rattle.closure_core.specs.Changes.{HeldAndRoom, Takes};
     ghost use Rattle.trust_closure.specs.Work.{AreOld};
 
@@ -74,7 +74,7 @@ pub(crate) fn merge_into<C: Mergeable>(closure: &mut C, other: &C) -> Result<usi
         ⊎ C.IsWork closure.old (C.state other.now).meaning.records (C.turns closure.new))
         (λ why. C.turns closure.new ≡ C.turns closure.old) }
 {
-    let share = share_of(closure.held(), other.held())?;
+    let share = plan_merge(closure.held(), other.held())?;
     let count = share.copies.len();
     if closure.make_room(count, share.offers).is_err() {
         return Err(TakeError::NoMemory);

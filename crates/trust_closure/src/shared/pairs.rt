@@ -3,9 +3,10 @@ ghost use Rattle.std.specs.Prelude.{◌≡◌, ℕ, ◌+◌, ◌^◌, ◌<◌, �
 ghost use Rattle.std.specs.Prelude.{OnOk};
 ghost use Rattle.std.specs.List.{All};
 ghost use Rattle.closure_core.specs.Inside.Nodes.{pairs_of, is_raised, flags_of, count_at};
-ghost use Rattle.trust_closure.specs.NodeCounts.{nodes_with, AddsNodes};
+ghost use Rattle.trust_closure.specs.Inside.NodeCounts.{nodes_with, AddsNodes};
 ghost use Rattle.closure_core.specs.Inside.Flags.{raised_count};
-ghost use Rattle.trust_closure.specs.Pairs.{IsPairing, AreRising, PutsFirst, HasRaised, raised_of};
+ghost use Rattle.trust_closure.specs.Inside.Pairs.{IsDocumentTable, AreRising, PutsFirst};
+ghost use Rattle.trust_closure.specs.Inside.Pairs.{HasRaised, raised_of};
 ghost use Rattle.closure_core.specs.AcceptedList.{document_cmp, document_of};
 
 use crate::shared::counts::{clear, lower_all, raise_all};
@@ -33,9 +34,9 @@ pub(crate) struct Pairs {
 
 impl Model for Pairs {
     ghost use Rattle.std.specs.Prelude.{min, vec_capacity};
-    ghost use Rattle.trust_closure.specs.Pairs.{Paired};
+    ghost use Rattle.trust_closure.specs.Inside.Pairs.{DocumentTableView};
 
-    ghost Value = { Paired };
+    ghost Value = { DocumentTableView };
 
     ghost view = { λ p. record {
       numbers = p.order.items;
@@ -57,7 +58,7 @@ pub(crate) struct SoughtPair<'a> {
 impl<'a> Probe for SoughtPair<'a> {
     ghost use Rattle.std.specs.Prelude.{◌<◌, length};
     ghost use Rattle.closure_core.specs.Inside.Nodes.{pairs_of};
-    ghost use Rattle.trust_closure.specs.Pairs.{pair_cmp, pair_at};
+    ghost use Rattle.trust_closure.specs.Inside.Pairs.{pair_cmp, pair_at};
     ghost use Rattle.closure_core.specs.AcceptedList.{document_of};
 
     ghost compared = { λ s number. pair_cmp (pair_at (pairs_of s.seeds.now s.receipts.now) number)
@@ -88,7 +89,7 @@ impl<'a> Probe for SoughtDomain<'a> {
     ghost use Rattle.std.specs.Prelude.{◌<◌, length};
     ghost use Rattle.fed_config.specs.Configuration.{domain_cmp};
     ghost use Rattle.closure_core.specs.Inside.Nodes.{pairs_of};
-    ghost use Rattle.trust_closure.specs.Pairs.{pair_at};
+    ghost use Rattle.trust_closure.specs.Inside.Pairs.{pair_at};
 
     ghost compared = { λ s number. domain_cmp
         (pair_at (pairs_of s.seeds.now s.receipts.now) number).domain s.domain.now };
@@ -159,10 +160,10 @@ impl Pairs {
         domain: &TrustDomain,
         document: &Document,
     )
-        requires pairing { IsPairing (pairs_of seeds.now receipts.now) self.old }
+        requires pairing { IsDocumentTable (pairs_of seeds.now receipts.now) self.old }
         requires room { length self.old.firsts < self.old.capacity }
         requires few { length self.old.firsts < 2 ^ 32 }
-        ensures pairing { IsPairing
+        ensures pairing { IsDocumentTable
             (pairs_of seeds.now receipts.now ++ document_of domain.now document.now ∷ []) self.new }
         ensures counts { self.new.counts ≡ self.old.counts ++ 0 ∷ [] }
         ensures firsts { (first : ℕ) × (self.new.firsts ≡ self.old.firsts ++ first ∷ []) }
@@ -234,7 +235,7 @@ impl Pairs {
         domain: &TrustDomain,
         document: &Document,
     ) -> bool
-        requires { IsPairing (pairs_of seeds.now receipts.now) self.now }
+        requires { IsDocumentTable (pairs_of seeds.now receipts.now) self.now }
         ensures { IsTrue result
             ↔ HasRaised (pairs_of seeds.now receipts.now) self.now
             (document_of domain.now document.now) }
@@ -259,7 +260,7 @@ impl Pairs {
         receipts: &'a [Receipt],
         domain: &TrustDomain,
     ) -> Accepted<'a>
-        requires { IsPairing (pairs_of seeds.now receipts.now) self.now }
+        requires { IsDocumentTable (pairs_of seeds.now receipts.now) self.now }
         ensures { result ≡ raised_of (pairs_of seeds.now receipts.now) self.now domain.now }
     {
         let sought = SoughtDomain {

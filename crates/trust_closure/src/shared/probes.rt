@@ -13,7 +13,7 @@ pub(crate) struct OfReceipt<'a> {
 
 /// The place of a receipt among numbers of receipts in the order of buckets.
 #[derive(Drop)]
-pub(crate) struct SpotInBuckets<'a> {
+pub(crate) struct PlaceInBuckets<'a> {
     receipts: &'a [Receipt],
     receipt: &'a Receipt,
 }
@@ -33,12 +33,12 @@ impl<'a> OfReceipt<'a> {
     }
 }
 
-impl<'a> SpotInBuckets<'a> {
+impl<'a> PlaceInBuckets<'a> {
     pub(crate) fn new(receipts: &'a [Receipt], receipt: &'a Receipt) -> Self
         ensures receipts { result.receipts.now ≡ receipts.now }
         ensures receipt { result.receipt.now ≡ receipt.now }
     {
-        SpotInBuckets { receipts, receipt }
+        PlaceInBuckets { receipts, receipt }
     }
 }
 
@@ -61,10 +61,10 @@ impl<'a> ItemProbe<Receipt> for OfReceipt<'a> {
     }
 }
 
-impl<'a> Probe for SpotInBuckets<'a> {
+impl<'a> Probe for PlaceInBuckets<'a> {
     ghost use Rattle.std.specs.Prelude.{◌<◌, length};
-    ghost use Rattle.sorted_order.specs.Stock.{compared_at};
-    ghost use Rattle.trust_closure.specs.Held.{bucket_cmp};
+    ghost use Rattle.sorted_order.specs.ArenaView.{compared_at};
+    ghost use Rattle.trust_closure.specs.Inside.Held.{bucket_cmp};
 
     ghost compared = { λ sought number. compared_at (λ r. bucket_cmp r sought.receipt.now)
         sought.receipts.now number };
@@ -83,8 +83,8 @@ impl<'a> Probe for SpotInBuckets<'a> {
 impl<'a> Probe for InBucket<'a> {
     ghost use Rattle.std.specs.Prelude.{◌<◌, length};
     ghost use Rattle.std.specs.Ordering.{nat_cmp};
-    ghost use Rattle.sorted_order.specs.Stock.{compared_at};
-    ghost use Rattle.trust_closure.specs.Held.{bucket_of};
+    ghost use Rattle.sorted_order.specs.ArenaView.{compared_at};
+    ghost use Rattle.trust_closure.specs.Inside.Held.{bucket_of};
 
     ghost compared = { λ sought number. compared_at (λ r. nat_cmp (bucket_of r) sought.bucket)
         sought.receipts.now number };

@@ -1,7 +1,8 @@
 //! The records of distrust that a closure keeps.
 ghost use Rattle.std.specs.Prelude.{◌≡◌, ◌+◌, ◌≤◌, ◌↔◌, [], length, Contains, IfOk, IsTrue};
 ghost use Rattle.std.specs.List.Sorted.{IsStrictlySortedBy};
-ghost use Rattle.trust_closure.specs.Records.{InsertsRecord, record_cmp};
+ghost use Rattle.trust_closure.specs.Inside.Records.{InsertsRecord, record_cmp};
+ghost use Rattle.receipt_core.specs.Limits.{record_limit};
 
 use closure_core::Record;
 use std::alloc::{AllocError, Global};
@@ -12,7 +13,7 @@ const MOST_RECORDS: usize = 4_096;
 
 /// What came of a record of distrust.
 #[derive(Drop)]
-pub(crate) enum Addition {
+pub(crate) enum Insertion {
     /// It was not held, and is held now.
     Added,
     /// It was held.
@@ -30,7 +31,7 @@ pub(crate) struct Records {
 impl Model for Records {
     ghost use Rattle.std.specs.Prelude.{List, vec_capacity};
     ghost use Rattle.closure_core.specs.declared.record.Record.{Record};
-    ghost use Rattle.trust_closure.specs.Records.{AreRecords};
+    ghost use Rattle.trust_closure.specs.Inside.Records.{AreRecords};
 
     ghost Value = { List Record };
 
@@ -51,7 +52,7 @@ impl Records {
     pub(crate) fn as_slice(&self) -> &[Record]
         ensures records { result.now ≡ self.now }
         ensures rising { IsStrictlySortedBy record_cmp self.now }
-        ensures few { length self.now ≤ 4096 }
+        ensures few { length self.now ≤ record_limit }
     {
         self.items.as_slice()
     }
@@ -64,7 +65,7 @@ impl Records {
 
     /// How many more there may be.
     pub(crate) fn left(&self) -> usize
-        ensures { length self.now + result ≡ 4096 }
+        ensures { length self.now + result ≡ record_limit }
     {
         MOST_RECORDS - self.items.len()
     }
@@ -74,16 +75,16 @@ impl Records {
     }
 
     /// Takes no memory.
-    pub(crate) fn add(&mut self, entry: Record) -> Addition
+    pub(crate) fn add(&mut self, entry: Record) -> Insertion
         ensures { InsertsRecord self.old entry self.new result }
     {
         match self.items.binary_search(&entry) {
-            Ok(_) => Addition::There,
-            Err(_) if self.items.len() >= MOST_RECORDS => Addition::Full,
+            Ok(_) => Insertion::There,
+            Err(_) if self.items.len() >= MOST_RECORDS => Insertion::Full,
             Err(place) => {
                 // There is room, so it is never refused.
                 let _ = self.items.insert(place, entry);
-                Addition::Added
+                Insertion::Added
             }
         }
     }

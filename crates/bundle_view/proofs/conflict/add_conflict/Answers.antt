@@ -1,8 +1,8 @@
 use Rattle.std.proofs.Common.{◌∙◌, ◌++◌, [], ◌∷◌, map, append-nil, ap, sym}
 use Rattle.std.proofs.lemmas.List.{map-append}
 use Rattle.bundle_doc.specs.Bundle.{Bundle}
-use Rattle.bundle_view.specs.Conflicts.{Clash, reported_by}
-use Rattle.bundle_view.proofs.ClashFacts.{absent_rank, single, one_clash}
+use Rattle.bundle_view.specs.Conflicts.{ConflictGroup, reported_by}
+use Rattle.bundle_view.proofs.ConflictFacts.{absent_rank, single, one_clash}
 use Rattle.bundle_view.proofs.conflict.add_conflict.Goals as goal
 
 pub returns-in_default : goal.returns-in_default
@@ -24,7 +24,7 @@ returns-then-group-lt2 c = record {
 
 pub returns : goal.returns
 returns c =
-    let it : Clash = record { sequence = c.in-Some.sequence; kind = c.kind_of.result; documents = c.args.group.now } in
+    let it : ConflictGroup = record { sequence = c.in-Some.sequence; kind = c.kind_of.result; documents = c.args.group.now } in
     record {
       clashes = it ∷ [];
       are = one_clash c.args.group.now c.in-Some.sequence c.kind_of.result c.requires.rising

@@ -1,4 +1,4 @@
-use Rattle.bundle_view.proofs.ObservationLaws.{one_receipt, one_cause, refused_or_observed}
+use Rattle.bundle_view.proofs.ObservationLawFacts.{one_receipt, one_cause, refused_or_observed}
 use Rattle.bundle_view.proofs.laws.one_observation.Goals as goal
 
 pub returns-clause-receipt : goal.returns-clause-receipt

@@ -1,5 +1,5 @@
 use Rattle.bundle_view.proofs.CurrentFacts.{one_current}
-use Rattle.bundle_view.proofs.ClashFacts.{one_told}
+use Rattle.bundle_view.proofs.ConflictFacts.{one_told}
 use Rattle.bundle_view.proofs.ReportFacts.{one_report}
 use Rattle.bundle_view.proofs.laws.one_view.Goals as goal
 

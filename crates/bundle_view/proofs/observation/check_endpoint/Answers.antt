@@ -1,6 +1,6 @@
 use Rattle.std.proofs.Common.{◌≡◌, ◌∙◌, sym}
 use Rattle.std.specs.Cmp.Lexicographic.{same_text}
-use Rattle.spiffe_name.proofs.Ids.{one_value}
+use Rattle.spiffe_name.proofs.IdFacts.{one_value}
 use Rattle.bundle_view.proofs.observation.check_endpoint.Goals as goal
 
 pub returns-then-eq : goal.returns-then-eq

@@ -1,7 +1,7 @@
 use Rattle.std.proofs.Common.{List, ◌∙◌, ◌++◌, ap, subst, map, flat_map, option_copied}
 use Rattle.bundle_doc.specs.Bundle.{Bundle}
 use Rattle.bundle_view.specs.Conflicts.{reported_by}
-use Rattle.bundle_view.specs.Inside.Groups.{AddsClashes}
+use Rattle.bundle_view.specs.Inside.Groups.{AddsConflicts}
 use Rattle.bundle_view.specs.Report.{accepted_line, conflict_line}
 use Rattle.bundle_view.proofs.ReportFacts.{section_added}
 use Rattle.bundle_view.proofs.report.push_section.Goals as goal
@@ -11,7 +11,7 @@ returns g c =
     section_added (g.C.Closure.state c.args.closure.now).meaning c.args.domain.now c.in_ok-documents.documents.items (option_copied c.current.result)
     (map reported_by c.new-conflicts.result.items) (map reported_by c.add_conflicts.new.found.items) _ _ _ _ _ _
     c.in_ok-documents.ensures c.current.ensures (ap (map reported_by) c.new-conflicts.ensures.items)
-    (subst (λ (documents : List Bundle). AddsClashes c.args.domain.now documents
+    (subst (λ (documents : List Bundle). AddsConflicts c.args.domain.now documents
     (map reported_by c.new-conflicts.result.items) (map reported_by c.add_conflicts.new.found.items))
     c.as_slice.ensures.value c.in_ok-add_conflicts.ensures)
     c.in_ok-push_domain.ensures c.in_ok-push_current.ensures

@@ -1,5 +1,5 @@
 use Rattle.std.proofs.KnownBytes.{Appends-nil, Appends-trans}
-use Rattle.byte_lines.proofs.Pieces.{AppendsBeginning-first, AppendsBeginning-second}
+use Rattle.byte_lines.proofs.PieceFacts.{AppendsBeginning-first, AppendsBeginning-second}
 use Rattle.byte_lines.proofs.laws.pieces.Goals as goal
 
 pub returns : goal.returns

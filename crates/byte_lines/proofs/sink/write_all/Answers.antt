@@ -1,5 +1,5 @@
 use Rattle.std.proofs.Common.{rules}
-use Rattle.byte_lines.proofs.Pieces.{Appends-piece}
+use Rattle.byte_lines.proofs.PieceFacts.{Appends-piece}
 use Rattle.byte_lines.proofs.sink.write_all.Goals as goal
 
 pub pieces-preserved : goal.pieces-preserved

@@ -2,7 +2,7 @@ use Rattle.std.proofs.Common.{rules, ◌≤◌, length, arith, sym, subst, List,
 use Rattle.std.proofs.lemmas.Result.{err_from_is_err_and}
 use Rattle.std.specs.Io.KnownBytes.{Consumes}
 use Rattle.std.proofs.KnownBytes.{Consumes-trans}
-use Rattle.byte_lines.proofs.Pieces.{TakesUpTo-end, failed_or_kept}
+use Rattle.byte_lines.proofs.PieceFacts.{TakesUpTo-end, failed_or_kept}
 use Rattle.byte_lines.proofs.source.read_up_to.Goals as goal
 
 pub returns-then-branch-eq0-clause-bytes : goal.returns-then-branch-eq0-clause-bytes

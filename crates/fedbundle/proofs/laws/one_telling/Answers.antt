@@ -1,4 +1,4 @@
-use Rattle.fedbundle.proofs.OrderedFacts.{one_telling, first_telling}
+use Rattle.fedbundle.proofs.ComplaintOrderFacts.{one_telling, first_telling}
 use Rattle.fedbundle.proofs.laws.one_telling.Goals as goal
 
 pub returns-clause-all : goal.returns-clause-all

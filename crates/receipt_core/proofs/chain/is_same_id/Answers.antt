@@ -1,5 +1,5 @@
 use Rattle.std.proofs.Common.{◌∙◌, sym, ap}
-use Rattle.spiffe_name.proofs.Ids.{one_value}
+use Rattle.spiffe_name.proofs.IdFacts.{one_value}
 use Rattle.receipt_core.proofs.chain.is_same_id.Goals as goal
 
 pub returns : goal.returns

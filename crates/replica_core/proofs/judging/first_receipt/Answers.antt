@@ -5,7 +5,7 @@ use Rattle.fed_config.specs.Configuration.{Configuration, IsConfiguration}
 use Rattle.receipt_core.specs.Receipt.{Receipt, IsReceipt, receipt_cmp}
 use Rattle.receipt_core.specs.Rising.{with_items}
 use Rattle.receipt_core.specs.Acceptance.{IsFitting, Meaning}
-use Rattle.closure_core.specs.Refusals.{Misfits}
+use Rattle.closure_core.specs.Refusals.{RefusesFit}
 use Rattle.closure_core.specs.declared.error.TakeError.TheVariants.{Full}
 use Rattle.replica_core.specs.Absorbing.{AreWelcome, of_receipts}
 use Rattle.replica_core.specs.Inside.Places.{HasPlace}
@@ -18,7 +18,7 @@ returns-in-Err g c = λ records.
     let rs = c.args.receipts.now in
     let r = c.receipt-item.result in
     let same = c.loop-receipt.invariant.place in
-    let misfits = subst (λ (k : Configuration). Misfits k r c.in-Err.why) c.config-config.ensures.config c.in-Err.ensures.fits in
+    let misfits = subst (λ (k : Configuration). RefusesFit k r c.in-Err.why) c.config-config.ensures.config c.in-Err.ensures.fits in
     let refused = misfit-refused (record m { held = with_items receipt_cmp (take c.loop-receipt.place rs) m.held }) r c.in-Err.why misfits in
     receipt-refused m rs c.loop-receipt.place r c.in-Err.why (omega (arith, same, c.loop-receipt-test.true))
     (subst (λ i. get_or rs i r ≡ r) (sym same) (sym c.receipt-item.is))

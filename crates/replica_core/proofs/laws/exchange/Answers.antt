@@ -1,5 +1,5 @@
 use Rattle.replica_core.proofs.WorldJoins.{joins}
-use Rattle.replica_core.proofs.Whole.{exchanged}
+use Rattle.replica_core.proofs.WorldLawFacts.{exchanged}
 use Rattle.replica_core.proofs.laws.exchange.Goals as goal
 
 pub returns : goal.returns

@@ -1,5 +1,5 @@
 use Rattle.replica_core.proofs.WorldJoins.{joins}
-use Rattle.replica_core.proofs.Whole.{grows, restarts-saved, saved-last, never-saved}
+use Rattle.replica_core.proofs.WorldLawFacts.{grows, restarts-saved, saved-last, never-saved}
 use Rattle.replica_core.proofs.laws.persistence.Goals as goal
 
 pub returns-clause-grows : goal.returns-clause-grows

@@ -1,7 +1,7 @@
 use Rattle.replica_core.specs.State.{meaning_of_state}
 use Rattle.replica_core.specs.World.{held_by}
 use Rattle.replica_core.proofs.WorldJoins.{joins}
-use Rattle.replica_core.proofs.Whole.{means, members-closed, members-least}
+use Rattle.replica_core.proofs.WorldLawFacts.{means, members-closed, members-least}
 use Rattle.replica_core.proofs.laws.validity.Goals as goal
 
 pub returns-clause-means : goal.returns-clause-means

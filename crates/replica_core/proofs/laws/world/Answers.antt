@@ -6,9 +6,10 @@ use Rattle.receipt_core.proofs.LineFacts.{one_receipt, one_distrust}
 use Rattle.receipt_core.proofs.RisingFacts.{AreSets-from_total}
 use Rattle.replica_core.specs.World.{rules_of, run}
 use Rattle.replica_core.specs.State.{meaning_of_state}
-use Rattle.replica_core.proofs.Joins.{Laws, joins-of}
-use Rattle.replica_core.proofs.Whole.{now-comes, saved-comes, means, members-closed, members-least, grows, restarts-saved, saved-last, never-saved, exchanged}
-use Rattle.replica_core.proofs.Whole.{agreed}
+use Rattle.replica_core.proofs.JoinLawFacts.{Laws, joins-of}
+use Rattle.replica_core.proofs.WorldLawFacts.{now-comes, saved-comes, means, members-closed, members-least, grows, restarts-saved, saved-last, never-saved}
+use Rattle.replica_core.proofs.WorldLawFacts.{exchanged}
+use Rattle.replica_core.proofs.WorldLawFacts.{agreed}
 use Rattle.replica_core.proofs.laws.world.Goals as goal
 
 -- The sets of receipts and of records keep the laws of joins.

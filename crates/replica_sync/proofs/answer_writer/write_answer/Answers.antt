@@ -4,7 +4,7 @@ use Rattle.std.specs.Io.KnownBytes.{Appends}
 use Rattle.byte_lines.specs.Device.{AppendsBeginning}
 use Rattle.replica_sync.specs.Snapshots.{ended}
 use Rattle.replica_sync.specs.Messages.{WritesText, told_of, told_text, record_text, receipt_text}
-use Rattle.replica_sync.proofs.Written.{begins-first, begins-second, writes-err, writes-then}
+use Rattle.replica_sync.proofs.WrittenPieceFacts.{begins-first, begins-second, writes-err, writes-then}
 use Rattle.replica_sync.proofs.answer_writer.write_answer.Goals as goal
 
 pub returns-in_err-write_all-clause-written : goal.returns-in_err-write_all-clause-written

@@ -2,7 +2,7 @@ use Rattle.std.proofs.Common.{◌∙◌, ap, subst}
 use Rattle.byte_lines.specs.Device.{AppendsBeginning}
 use Rattle.std.specs.List.{flat_map}
 use Rattle.replica_sync.specs.Messages.{receipt_text}
-use Rattle.replica_sync.proofs.Written.{wrote-piece, wrote-begun, writes-err}
+use Rattle.replica_sync.proofs.WrittenPieceFacts.{wrote-piece, wrote-begun, writes-err}
 use Rattle.replica_sync.proofs.answer_writer.write_receipts.Goals as goal
 
 pub loop-receipt-preserved : goal.loop-receipt-preserved

@@ -2,7 +2,7 @@
 use Rattle.std.proofs.Common.{◌≡◌}
 use Rattle.std.specs.List.{flat_map}
 use Rattle.replica_sync.specs.Messages.{receipt_text}
-use Rattle.replica_sync.proofs.Written.{Wrote}
+use Rattle.replica_sync.proofs.WrittenPieceFacts.{Wrote}
 use Rattle.replica_sync.proofs.answer_writer.write_receipts.Given as goal
 
 abbrev pub invariant-loop-receipt : goal.invariant-loop-receipt

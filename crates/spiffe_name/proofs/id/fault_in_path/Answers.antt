@@ -1,7 +1,7 @@
 use Rattle.std.proofs.Common.{◌≡◌, ◌≢◌, ◌∷◌, List, ℕ, length, Some, None, lit<, arith, rules, ap}
 use Rattle.std.proofs.lemmas.List.{length-append}
 use Rattle.std.proofs.lemmas.Str.Pattern.{strip_prefix_char}
-use Rattle.spiffe_name.proofs.Paths.{Reads-more, IsPath-read}
+use Rattle.spiffe_name.proofs.PathFacts.{Reads-more, IsPath-read}
 use Rattle.spiffe_name.proofs.id.fault_in_path.Goals as goal
 
 pub loop-after-preserved : goal.loop-after-preserved

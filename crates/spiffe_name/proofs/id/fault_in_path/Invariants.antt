@@ -1,7 +1,7 @@
 use Rattle.std.proofs.Common.{◌≤◌, length}
 use denote.Text.{Utf8}
 use denote.Shadow.{shadow}
-use Rattle.spiffe_name.proofs.Paths.{Reads}
+use Rattle.spiffe_name.proofs.PathFacts.{Reads}
 use Rattle.spiffe_name.proofs.id.fault_in_path.Given as goal
 
 abbrev pub invariant-loop-after : goal.invariant-loop-after

@@ -1,6 +1,6 @@
 use Rattle.std.proofs.Common.{Some, None, lit<}
 use Rattle.std.proofs.lemmas.Str.Pattern.{find_char}
-use Rattle.spiffe_name.proofs.Slashes.{splits_here, splits_none}
+use Rattle.spiffe_name.proofs.SlashFacts.{splits_here, splits_none}
 use Rattle.spiffe_name.proofs.id.split_at_slash.Goals as goal
 
 pub returns-in-Some : goal.returns-in-Some

@@ -1,5 +1,5 @@
-use Rattle.spiffe_name.proofs.Faults.{one_domain_error}
-use Rattle.spiffe_name.proofs.Ids.{one_id_error}
+use Rattle.spiffe_name.proofs.FaultFacts.{one_domain_error}
+use Rattle.spiffe_name.proofs.IdFacts.{one_id_error}
 use Rattle.spiffe_name.proofs.laws.one_cause.Goals as goal
 
 pub returns-clause-domain : goal.returns-clause-domain

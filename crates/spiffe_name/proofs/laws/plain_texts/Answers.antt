@@ -1,4 +1,4 @@
-use Rattle.spiffe_name.proofs.Plain.{IsPlainText-domain, IsPlainText-id}
+use Rattle.spiffe_name.proofs.PlainFacts.{IsPlainText-domain, IsPlainText-id}
 use Rattle.spiffe_name.proofs.laws.plain_texts.Goals as goal
 
 pub returns-clause-domain : goal.returns-clause-domain

@@ -3,7 +3,7 @@ use Rattle.std.proofs.Common.{◌+◌, ◌*◌, ◌≤◌, ℕ, Bool, true, List
 use Rattle.std.proofs.lemmas.List.Sums.{count_by-le-length}
 use Rattle.receipt_core.specs.declared.distrust.Distrust.{Distrust}
 use Rattle.wait_index.specs.declared.edges.Edge.{Edge}
-use Rattle.trust_closure.specs.Indexed.{Indexed}
+use Rattle.trust_closure.specs.Inside.Indexed.{Indexed}
 use Rattle.trust_closure.specs.Work.{ClosesAtOnce}
 use Rattle.trust_closure.proofs.laws.each_edge_twice.Goals as goal
 

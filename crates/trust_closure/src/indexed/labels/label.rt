@@ -2,7 +2,7 @@
 ghost use Rattle.std.specs.Prelude.{◌≡◌, ◌↔◌, IsTrue};
 ghost use Rattle.std.specs.Ordering.{nat_cmp, ordering_then};
 ghost use Rattle.std.specs.Cmp.Lexicographic.{slice_cmp};
-ghost use Rattle.trust_closure.specs.Labels.{label_cmp};
+ghost use Rattle.trust_closure.specs.Inside.Labels.{label_cmp};
 
 use bundle_doc::DocId;
 use jwk_set::KeyId;
@@ -37,7 +37,7 @@ pub(crate) struct SoughtLabel {
 }
 
 impl ItemProbe<Label> for SoughtLabel {
-    ghost use Rattle.trust_closure.specs.Labels.{label_cmp};
+    ghost use Rattle.trust_closure.specs.Inside.Labels.{label_cmp};
 
     ghost compared = { λ sought item. label_cmp item sought.label };
 
@@ -68,7 +68,7 @@ pub(crate) struct SoughtKey {
 }
 
 impl ItemProbe<Label> for SoughtKey {
-    ghost use Rattle.trust_closure.specs.Labels.{cmp_to_key};
+    ghost use Rattle.trust_closure.specs.Inside.Labels.{cmp_to_key};
 
     ghost compared = { λ sought item. cmp_to_key sought.domain sought.key item };
 

@@ -1,4 +1,4 @@
-use Rattle.wait_index.proofs.Least.{closed-all, closed-order}
+use Rattle.wait_index.proofs.NetLawFacts.{closed-all, closed-order}
 use Rattle.wait_index.proofs.laws.closes_in_any_order.Goals as goal
 
 pub returns-clause-closed : goal.returns-clause-closed

@@ -1,6 +1,6 @@
 use Rattle.std.proofs.Common.{◌≡◌, true}
 use Rattle.wait_index.specs.Net.{root, step}
-use Rattle.wait_index.proofs.Least.{reached-least}
+use Rattle.wait_index.proofs.NetLawFacts.{reached-least}
 use Rattle.wait_index.proofs.laws.least.Goals as goal
 
 pub returns-clause-roots : goal.returns-clause-roots

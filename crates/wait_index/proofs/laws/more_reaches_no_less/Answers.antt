@@ -1,4 +1,4 @@
-use Rattle.wait_index.proofs.Growing.{reached-more}
+use Rattle.wait_index.proofs.GrowthFacts.{reached-more}
 use Rattle.wait_index.proofs.laws.more_reaches_no_less.Goals as goal
 
 pub returns : goal.returns

@@ -1,4 +1,4 @@
-use Rattle.wait_index.proofs.Least.{visits-few}
+use Rattle.wait_index.proofs.NetLawFacts.{visits-few}
 use Rattle.wait_index.proofs.laws.no_edge_twice.Goals as goal
 
 pub returns : goal.returns

@@ -1,4 +1,4 @@
-use Rattle.byte_lines.proofs.Pieces.{unread-copied}
+use Rattle.byte_lines.proofs.PieceFacts.{unread-copied}
 use Rattle.byte_lines.proofs.mem_source.MemSourceSource.read.Goals as goal
 
 pub returns-clause-consumes : goal.returns-clause-consumes

@@ -2,7 +2,7 @@ use Rattle.std.proofs.Common.{◌≡◌, ℕ, true, List, sym, subst, ltb, arith
 use Rattle.std.specs.List.{AllPairs}
 use Rattle.std.specs.Ordering.{nat_cmp}
 use Rattle.sorted_order.specs.Sought.{IsRising}
-use Rattle.sorted_order.specs.Stock.{in_order}
+use Rattle.sorted_order.specs.ArenaView.{in_order}
 use Rattle.sorted_order.proofs.PickedFacts.{length-in_order, same_in_order}
 use Rattle.index_rows.proofs.SequenceFacts.{sizes_rise, sizes_insert}
 use Rattle.index_rows.proofs.sizes.Sizes.add.Goals as goal

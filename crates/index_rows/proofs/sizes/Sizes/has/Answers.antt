@@ -1,4 +1,4 @@
-use Rattle.sorted_order.specs.Stock.{in_order}
+use Rattle.sorted_order.specs.ArenaView.{in_order}
 use Rattle.index_rows.proofs.SequenceFacts.{sizes_rise}
 use Rattle.index_rows.proofs.sizes.Sizes.has.Goals as goal
 

@@ -1,5 +1,5 @@
 use Rattle.std.proofs.Common.{◌∙◌, ap, drop}
-use Rattle.sorted_order.specs.Stock.{in_order, picked}
+use Rattle.sorted_order.specs.ArenaView.{in_order, picked}
 use Rattle.sorted_order.proofs.PickedFacts.{drop-picked}
 use Rattle.sorted_order.proofs.arena.Arena.from.Goals as goal
 

@@ -1,6 +1,6 @@
 use Rattle.std.proofs.Common.{◌≡◌, ◌+◌, ◌≤◌, [], ◌∷◌, ◌++◌, ◌∙◌, ap, length, arith, length-append}
 use Rattle.std.specs.List.{insert}
-use Rattle.sorted_order.specs.Stock.{in_order, picked}
+use Rattle.sorted_order.specs.ArenaView.{in_order, picked}
 use Rattle.sorted_order.proofs.PickedFacts.{picked-insert, Arranges-insert}
 use Rattle.sorted_order.proofs.arena.Arena.insert.Goals as goal
 

@@ -1,5 +1,5 @@
 use Rattle.std.proofs.Common.{◌∙◌, ap}
-use Rattle.sorted_order.specs.Stock.{picked}
+use Rattle.sorted_order.specs.ArenaView.{picked}
 use Rattle.sorted_order.proofs.PickedFacts.{by_rises, filter_within, by_filter}
 use Rattle.sorted_order.proofs.arena.Arena.matching.Goals as goal
 

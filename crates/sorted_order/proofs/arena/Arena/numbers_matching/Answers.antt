@@ -2,19 +2,19 @@ use Rattle.std.proofs.Common.{◌≡◌, ◌∙◌, ℕ, List, ap}
 use Rattle.std.specs.List.{filter}
 use Rattle.std.specs.declared.cmp.Ordering.{Ordering}
 use Rattle.sorted_order.specs.Sought.{is_equal}
-use Rattle.sorted_order.specs.Stock.{Stock, compared_at}
+use Rattle.sorted_order.specs.ArenaView.{ArenaView, compared_at}
 use Rattle.sorted_order.proofs.PickedFacts.{by_rises}
 use Rattle.sorted_order.proofs.arena.Arena.numbers_matching.Goals as goal
 
 -- What is kept of the lent items is what is kept of the arena's, since both are the same.
 same_numbers : {T P : Type 0} (compared : P → T → Ordering) (p q : P) (items lent : List T)
-    (order : List ℕ) (capacity : ℕ) (stock : Stock T)
+    (order : List ℕ) (capacity : ℕ) (stock : ArenaView T)
     → record { items = items; order = order; capacity = capacity } ≡ stock → q ≡ p → lent ≡ items
     → filter (λ n. is_equal (compared_at (compared q) lent n)) order
     ≡ filter (λ n. is_equal (compared_at (compared p) stock.items n)) stock.order
 same_numbers {T} {P} compared p q items lent order capacity stock view same_probe same_items =
     rw (same_probe, same_items)
-    (ap (λ (s : Stock T). filter (λ n. is_equal (compared_at (compared p) s.items n)) s.order) view)
+    (ap (λ (s : ArenaView T). filter (λ n. is_equal (compared_at (compared p) s.items n)) s.order) view)
 
 pub matching-requires-clause-rising : goal.matching-requires-clause-rising
 matching-requires-clause-rising g c =

@@ -1,5 +1,5 @@
 use Rattle.std.proofs.Common.{length, ◌<◌, Some, ap, arith}
-use Rattle.sorted_order.specs.Stock.{picked}
+use Rattle.sorted_order.specs.ArenaView.{picked}
 use Rattle.sorted_order.proofs.PickedFacts.{next_within, lend_next}
 use Rattle.sorted_order.proofs.lent.LentIterator.next.Goals as goal
 

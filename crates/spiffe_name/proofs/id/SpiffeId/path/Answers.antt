@@ -1,6 +1,6 @@
 use Rattle.std.proofs.Common.{sym, ap, ◌∙◌}
 use Rattle.spiffe_name.specs.SpiffeId.{Id}
-use Rattle.spiffe_name.proofs.Ids.{boundary}
+use Rattle.spiffe_name.proofs.IdFacts.{boundary}
 use Rattle.spiffe_name.proofs.id.SpiffeId.path.Goals as goal
 
 pub range_from-requires : goal.range_from-requires

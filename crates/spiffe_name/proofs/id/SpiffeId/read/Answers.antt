@@ -1,7 +1,7 @@
 use Rattle.std.specs.String.{string_bytes}
 use Rattle.std.proofs.lemmas.Result.{err_from_is_err_and}
 use Rattle.spiffe_name.specs.declared.error.NameError.TheVariants.{NoMemory}
-use Rattle.spiffe_name.proofs.Ids.{one_id_error, IsIdText-copied}
+use Rattle.spiffe_name.proofs.IdFacts.{one_id_error, IsIdText-copied}
 use Rattle.spiffe_name.proofs.id.SpiffeId.read.Goals as goal
 
 pub returns-in_err-domain-clause-complete : goal.returns-in_err-domain-clause-complete

@@ -5,8 +5,8 @@ use Rattle.std.proofs.lemmas.List.{take_rest, length-take, length-drop}
 use Rattle.std.proofs.lemmas.List.Elements.{All-drop}
 use Rattle.closure_core.specs.Inside.Flags.{raised_count}
 use Rattle.closure_core.specs.Inside.Nodes.{flags_of, count_at}
-use Rattle.trust_closure.specs.NodeCounts.{AddsNodes}
-use Rattle.trust_closure.specs.Indexed.{IsIndexed}
+use Rattle.trust_closure.specs.Inside.NodeCounts.{AddsNodes}
+use Rattle.trust_closure.specs.Inside.Indexed.{IsIndexed}
 use Rattle.trust_closure.proofs.NodeCountFacts.{counts-more, count_at-push, nodes_with-few}
 use Rattle.trust_closure.proofs.IndexFacts.{marked-within, marked-few, firsts-within, built-counts, gain-more}
 use Rattle.trust_closure.proofs.indexed.grow.add.Goals as goal
@@ -14,7 +14,7 @@ use Rattle.trust_closure.proofs.indexed.grow.add.Goals as goal
 pub raise-requires-clause-nodes : goal.raise-requires-clause-nodes
 raise-requires-clause-nodes c =
     let p = c.place_receipt.new.pairs in
-    let w = c.place_receipt.new.wiring in
+    let w = c.place_receipt.new.label_index in
     let count = length c.marked-count.result.now in
     let nodes = c.marked.result.now in
     let all = marked-within c.place_receipt.new.held p w c.place_receipt.ensures.built in
@@ -22,15 +22,15 @@ raise-requires-clause-nodes c =
     subst (All (λ n. n < length p.firsts)) (sym (take_rest nodes count)) (All-drop (λ n. n < length p.firsts) count nodes whole)
 
 pub raise-requires-clause-firsts : goal.raise-requires-clause-firsts
-raise-requires-clause-firsts c = firsts-within c.place_receipt.new.held c.place_receipt.new.pairs c.place_receipt.new.wiring c.place_receipt.ensures.built
+raise-requires-clause-firsts c = firsts-within c.place_receipt.new.held c.place_receipt.new.pairs c.place_receipt.new.label_index c.place_receipt.ensures.built
 
 -- there are no more nodes than configured documents and receipts
 pub raise-requires-clause-few : goal.raise-requires-clause-few
 raise-requires-clause-few c n =
     let h = c.place_receipt.new.held in
     let p = c.args.pairs.now in
-    let w = c.place_receipt.new.wiring in
-    let before = c.args.wiring.now in
+    let w = c.place_receipt.new.label_index in
+    let before = c.args.label_index.now in
     let count = length c.marked-count.result.now in
     let nodes = c.marked.result.now in
     let at : count_at c.place_receipt.new.pairs.counts n ≡ count_at p.counts n = ap
@@ -56,11 +56,11 @@ returns-clause-indexed c =
     let h = c.place_receipt.new.held in
     let p = c.place_receipt.new.pairs in
     let q = c.raise.new.self in
-    let w = c.place_receipt.new.wiring in
+    let w = c.place_receipt.new.label_index in
     let count = length c.marked-count.result.now in
     let nodes = c.marked.result.now in
     let marked : nodes ≡ w.marked = c.marked.ensures.nodes ∙ c.reach-2.ensures.marked in
-    let size : count ≡ length c.args.wiring.now.marked = ap length (c.marked-count.ensures.nodes ∙ c.reach.ensures.marked) in
+    let size : count ≡ length c.args.label_index.now.marked = ap length (c.marked-count.ensures.nodes ∙ c.reach.ensures.marked) in
     let rest : take (length nodes - count) (drop count nodes) ≡ drop count w.marked = take_rest nodes count ∙ ap (drop count) marked in
     let adds : AddsNodes q.firsts (drop count w.marked) (c.args.pairs.now.counts ++ 0 ∷ [])
     q.counts =
@@ -73,11 +73,11 @@ returns-clause-indexed c =
     let indexed : IsIndexed h q w = record {
       built = built-counts h p q w c.place_receipt.ensures.built c.raise.ensures.numbers
           c.raise.ensures.firsts c.raise.ensures.adds.size;
-      counts = counts-more c.args.pairs.now.firsts q.firsts c.args.wiring.now.marked w.marked
+      counts = counts-more c.args.pairs.now.firsts q.firsts c.args.label_index.now.marked w.marked
           c.args.pairs.now.counts q.counts c.place_receipt.ensures.firsts.0 count
           (c.raise.ensures.firsts ∙ c.place_receipt.ensures.firsts.1)
           (ap (λ n. take n w.marked) size ∙ c.place_receipt.ensures.front)
-          (marked-within c.args.held.now c.args.pairs.now c.args.wiring.now c.requires.indexed.built)
+          (marked-within c.args.held.now c.args.pairs.now c.args.label_index.now c.requires.indexed.built)
           c.requires.indexed.counts adds;
     } in
     indexed
@@ -87,11 +87,11 @@ returns-clause-gain c =
     let h = c.place_receipt.new.held in
     let p = c.place_receipt.new.pairs in
     let q = c.raise.new.self in
-    let w = c.place_receipt.new.wiring in
+    let w = c.place_receipt.new.label_index in
     let count = length c.marked-count.result.now in
     let nodes = c.marked.result.now in
     let marked : nodes ≡ w.marked = c.marked.ensures.nodes ∙ c.reach-2.ensures.marked in
-    let size : count ≡ length c.args.wiring.now.marked = ap length (c.marked-count.ensures.nodes ∙ c.reach.ensures.marked) in
+    let size : count ≡ length c.args.label_index.now.marked = ap length (c.marked-count.ensures.nodes ∙ c.reach.ensures.marked) in
     let rest : take (length nodes - count) (drop count nodes) ≡ drop count w.marked = take_rest nodes count ∙ ap (drop count) marked in
     let adds : AddsNodes q.firsts (drop count w.marked) (c.args.pairs.now.counts ++ 0 ∷ [])
     q.counts =
@@ -104,14 +104,14 @@ returns-clause-gain c =
     let indexed : IsIndexed h q w = record {
       built = built-counts h p q w c.place_receipt.ensures.built c.raise.ensures.numbers
           c.raise.ensures.firsts c.raise.ensures.adds.size;
-      counts = counts-more c.args.pairs.now.firsts q.firsts c.args.wiring.now.marked w.marked
+      counts = counts-more c.args.pairs.now.firsts q.firsts c.args.label_index.now.marked w.marked
           c.args.pairs.now.counts q.counts c.place_receipt.ensures.firsts.0 count
           (c.raise.ensures.firsts ∙ c.place_receipt.ensures.firsts.1)
           (ap (λ n. take n w.marked) size ∙ c.place_receipt.ensures.front)
-          (marked-within c.args.held.now c.args.pairs.now c.args.wiring.now c.requires.indexed.built)
+          (marked-within c.args.held.now c.args.pairs.now c.args.label_index.now c.requires.indexed.built)
           c.requires.indexed.counts adds;
     } in
-    gain-more c.args.held.now h c.args.pairs.now q c.args.wiring.now w c.args.receipt
+    gain-more c.args.held.now h c.args.pairs.now q c.args.label_index.now w c.args.receipt
     (drop count w.marked) c.raise.result c.requires.indexed indexed
     c.place_receipt.ensures.held adds (c.raise.ensures.count
     ∙ ap (λ ks. raised_count (flags_of ks) + c.raise.result) c.place_receipt.ensures.counts)

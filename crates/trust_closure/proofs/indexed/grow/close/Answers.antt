@@ -4,10 +4,10 @@ use Rattle.std.specs.Prelude.{◌↔◌}
 use Rattle.fed_config.specs.Configuration.{Configuration, AreDomains}
 use Rattle.receipt_core.specs.declared.distrust.Distrust.{Distrust}
 use Rattle.trust_closure.specs.declared.indexed.labels.label.Label.{Label}
-use Rattle.trust_closure.specs.Labels.{IsOfKey, Closes}
-use Rattle.trust_closure.specs.NetOf.{IsShutBy, triple_by}
-use Rattle.trust_closure.specs.NodeCounts.{AreCounts}
-use Rattle.trust_closure.specs.Indexed.{IsBuilt, IsIndexed}
+use Rattle.trust_closure.specs.Inside.Labels.{IsOfKey, Closes}
+use Rattle.trust_closure.specs.Inside.NetOf.{IsShutBy, triple_by}
+use Rattle.trust_closure.specs.Inside.NodeCounts.{AreCounts}
+use Rattle.trust_closure.specs.Inside.Indexed.{IsBuilt, IsIndexed}
 use Rattle.trust_closure.proofs.IndexFacts.{firsts-within, pairs-few, key-shut, shuts-more, built-closed, was-counted, closes-at_once, loss-closed}
 use Rattle.trust_closure.proofs.indexed.grow.close.Goals as goal
 
@@ -17,7 +17,7 @@ recount-lost-requires-clause-before c =
     let x : Distrust = record { domain = c.args.domain.now; key = c.args.key } in
     let number : ℕ = c.domain_number-number.result in
     let p = c.args.pairs.now in
-    let w = c.args.wiring.now in
+    let w = c.args.label_index.now in
     let v = c.close_key-turns.new.self in
     let turns : ℕ = c.close_key-turns.result in
     let closes : Closes w (IsOfKey number x.key) v turns = c.close_key-turns.ensures.closes in
@@ -27,7 +27,7 @@ recount-lost-requires-clause-before c =
 
 pub recount-lost-requires-clause-firsts : goal.recount-lost-requires-clause-firsts
 recount-lost-requires-clause-firsts c = let b = c.requires.before in firsts-within b.old
-    c.args.pairs.now c.args.wiring.now b.indexed.built
+    c.args.pairs.now c.args.label_index.now b.indexed.built
 
 pub recount-lost-requires-clause-few : goal.recount-lost-requires-clause-few
 recount-lost-requires-clause-few c =
@@ -47,7 +47,7 @@ returns-clause-indexed c =
     let x : Distrust = record { domain = c.args.domain.now; key = c.args.key } in
     let number : ℕ = c.domain_number-number.result in
     let p = c.args.pairs.now in
-    let w = c.args.wiring.now in
+    let w = c.args.label_index.now in
     let v = c.close_key-turns.new.self in
     let turns : ℕ = c.close_key-turns.result in
     let closes : Closes w (IsOfKey number x.key) v turns = c.close_key-turns.ensures.closes in
@@ -78,7 +78,7 @@ returns-clause-loss c old before was =
     let x : Distrust = record { domain = c.args.domain.now; key = c.args.key } in
     let number : ℕ = c.domain_number-number.result in
     let p = c.args.pairs.now in
-    let w = c.args.wiring.now in
+    let w = c.args.label_index.now in
     let v = c.close_key-turns.new.self in
     let turns : ℕ = c.close_key-turns.result in
     let closes : Closes w (IsOfKey number x.key) v turns = c.close_key-turns.ensures.closes in
@@ -110,7 +110,7 @@ returns-clause-work c old spare before_turns before was =
     let x : Distrust = record { domain = c.args.domain.now; key = c.args.key } in
     let number : ℕ = c.domain_number-number.result in
     let p = c.args.pairs.now in
-    let w = c.args.wiring.now in
+    let w = c.args.label_index.now in
     let v = c.close_key-turns.new.self in
     let turns : ℕ = c.close_key-turns.result in
     let closes : Closes w (IsOfKey number x.key) v turns = c.close_key-turns.ensures.closes in

@@ -1,9 +1,9 @@
 -- The labels of distrusted keys are closed, and what fell is no longer counted.
 use Rattle.std.proofs.Common.{List, ℕ, length, arith, sym, ap, subst}
 use Rattle.fed_config.specs.Configuration.{Configuration, AreDomains}
-use Rattle.trust_closure.specs.Labels.{Closes}
-use Rattle.trust_closure.specs.NodeCounts.{AreCounts}
-use Rattle.trust_closure.specs.Indexed.{IsBuilt, IsDistrusted, WasIndexed}
+use Rattle.trust_closure.specs.Inside.Labels.{Closes}
+use Rattle.trust_closure.specs.Inside.NodeCounts.{AreCounts}
+use Rattle.trust_closure.specs.Inside.Indexed.{IsBuilt, IsDistrusted, WasIndexed}
 use Rattle.trust_closure.proofs.IndexFacts.{firsts-within, pairs-few, distrusted-shut, shuts-all, built-closed, was-counted, work-of}
 use Rattle.trust_closure.proofs.indexed.grow.close_all.Goals as goal
 
@@ -11,9 +11,9 @@ pub recount-requires-clause-before : goal.recount-requires-clause-before
 recount-requires-clause-before c =
     let h = c.args.held.now in
     let more = c.requires.before.0 in
-    let b : WasIndexed h more c.args.pairs.now c.args.wiring.now = c.requires.before.1 in
+    let b : WasIndexed h more c.args.pairs.now c.args.label_index.now = c.requires.before.1 in
     let p = c.args.pairs.now in
-    let w = c.args.wiring.now in
+    let w = c.args.label_index.now in
     let v = c.close_where-turns.new.self in
     let turns : ℕ = c.close_where-turns.result in
     let closes : Closes w (IsDistrusted h) v turns = c.close_where-turns.ensures.closes in
@@ -22,7 +22,7 @@ recount-requires-clause-before c =
 
 pub recount-requires-clause-firsts : goal.recount-requires-clause-firsts
 recount-requires-clause-firsts c = let b = c.requires.before.1 in firsts-within b.old
-    c.args.pairs.now c.args.wiring.now b.indexed.built
+    c.args.pairs.now c.args.label_index.now b.indexed.built
 
 pub recount-requires-clause-few : goal.recount-requires-clause-few
 recount-requires-clause-few c =
@@ -46,9 +46,9 @@ pub returns-clause-indexed : goal.returns-clause-indexed
 returns-clause-indexed c =
     let h = c.args.held.now in
     let more = c.requires.before.0 in
-    let b : WasIndexed h more c.args.pairs.now c.args.wiring.now = c.requires.before.1 in
+    let b : WasIndexed h more c.args.pairs.now c.args.label_index.now = c.requires.before.1 in
     let p = c.args.pairs.now in
-    let w = c.args.wiring.now in
+    let w = c.args.label_index.now in
     let v = c.close_where-turns.new.self in
     let turns : ℕ = c.close_where-turns.result in
     let closes : Closes w (IsDistrusted h) v turns = c.close_where-turns.ensures.closes in
@@ -70,9 +70,9 @@ pub returns-clause-work : goal.returns-clause-work
 returns-clause-work c old before spare count was is =
     let h = c.args.held.now in
     let more = c.requires.before.0 in
-    let b : WasIndexed h more c.args.pairs.now c.args.wiring.now = c.requires.before.1 in
+    let b : WasIndexed h more c.args.pairs.now c.args.label_index.now = c.requires.before.1 in
     let p = c.args.pairs.now in
-    let w = c.args.wiring.now in
+    let w = c.args.label_index.now in
     let v = c.close_where-turns.new.self in
     let turns : ℕ = c.close_where-turns.result in
     let closes : Closes w (IsDistrusted h) v turns = c.close_where-turns.ensures.closes in

@@ -1,7 +1,7 @@
 -- Where nothing is new nothing is closed.
 use Rattle.std.proofs.Common.{inl, inr, refl}
 use Rattle.std.proofs.lemmas.Bool.{both_ways}
-use Rattle.trust_closure.specs.Held.{meaning_of}
+use Rattle.trust_closure.specs.Inside.Held.{meaning_of}
 use Rattle.trust_closure.proofs.IndexFacts.{all-old}
 use Rattle.trust_closure.proofs.indexed.grow.lose_all.Goals as goal
 

@@ -3,7 +3,7 @@ use Rattle.std.proofs.Common.{◌≡◌, ◌∙◌, ◌<◌, ◌≤◌, ℕ, Lis
 use Rattle.std.specs.Prelude.{AllPairs, ◌≢◌}
 use Rattle.std.specs.List.{All}
 use Rattle.closure_core.specs.Inside.Nodes.{flags_of, count_at}
-use Rattle.trust_closure.specs.NodeCounts.{nodes_with, AddsNodes, AreCounts}
+use Rattle.trust_closure.specs.Inside.NodeCounts.{nodes_with, AddsNodes, AreCounts}
 use Rattle.closure_core.proofs.FlagFacts.{count-fewer}
 use Rattle.closure_core.proofs.NodeFacts.{length-flags}
 use Rattle.trust_closure.proofs.NodeCountFacts.{flags-kept, nodes_with-few}

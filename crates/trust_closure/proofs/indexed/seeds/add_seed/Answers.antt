@@ -6,14 +6,14 @@ use Rattle.receipt_core.specs.declared.triple.Triple.{Triple}
 use Rattle.receipt_core.specs.Receipt.{Receipt}
 use Rattle.receipt_core.specs.Acceptance.{pair_of_seed}
 use Rattle.closure_core.specs.Inside.Nodes.{pairs_of}
-use Rattle.trust_closure.specs.Pairs.{IsPairing}
-use Rattle.trust_closure.proofs.Wirings.{offers-domain}
+use Rattle.trust_closure.specs.Inside.Pairs.{IsDocumentTable}
+use Rattle.trust_closure.proofs.LabelIndexFacts.{offers-domain}
 use Rattle.trust_closure.proofs.IndexFacts.{pairing-counts, wired-seed, seeded-more}
 use Rattle.trust_closure.proofs.indexed.seeds.add_seed.Goals as goal
 
 pub add-requires-clause-pairing : goal.add-requires-clause-pairing
 add-requires-clause-pairing c =
-    subst (λ (rs : List Receipt). IsPairing (pairs_of c.args.earlier.now rs) c.try_reserve.new.self) (sym c.arrived.ensures)
+    subst (λ (rs : List Receipt). IsDocumentTable (pairs_of c.args.earlier.now rs) c.try_reserve.new.self) (sym c.arrived.ensures)
     (pairing-counts (pairs_of c.args.earlier.now c.args.held.now.arrived) c.args.pairs.now
     c.try_reserve.new.self c.requires.seeded.pairing c.try_reserve.ensures.numbers
     c.try_reserve.ensures.firsts (ap length c.try_reserve.ensures.counts))
@@ -27,14 +27,14 @@ pub returns : goal.returns
 returns c =
     let h = c.args.held.now in
     let pairing =
-    subst (λ (rs : List Receipt). IsPairing (pairs_of c.args.earlier.now rs ++ pair_of_seed c.args.seed.now ∷ [])
+    subst (λ (rs : List Receipt). IsDocumentTable (pairs_of c.args.earlier.now rs ++ pair_of_seed c.args.seed.now ∷ [])
     c.add.new.self) c.arrived.ensures c.add.ensures.pairing in
     seeded-more h c.args.earlier.now c.args.seed.now c.args.pairs.now c.try_reserve.new.self c.add.new.self
-    c.args.wiring.now c.offer_triples.new.wiring c.add.ensures.firsts.0 c.requires.arrived c.requires.seeded
+    c.args.label_index.now c.offer_triples.new.label_index c.add.ensures.firsts.0 c.requires.arrived c.requires.seeded
     pairing c.try_reserve.ensures.counts c.try_reserve.ensures.firsts c.add.ensures.counts
     c.add.ensures.firsts.1 c.in_ok-try_reserve.ensures.ok c.add.ensures.capacity
-    (wired-seed h c.args.earlier.now c.args.seed.now c.args.wiring.now c.try_reserve-2.new.self c.add_node-node.new.self
-    c.mark.new.self c.offer_triples.new.wiring c.add_node-node.result c.as_slice.result.now
+    (wired-seed h c.args.earlier.now c.args.seed.now c.args.label_index.now c.try_reserve-2.new.self c.add_node-node.new.self
+    c.mark.new.self c.offer_triples.new.label_index c.add_node-node.result c.as_slice.result.now
     c.requires.seeded.wired c.try_reserve-2.ensures.roomier c.add_node-node.ensures.node c.mark.ensures.rooted
     (c.as_slice.ensures.value ∙ c.in_ok-offers.ensures) c.offer_triples.ensures.wired)
     c.offer_triples.ensures.reached

@@ -3,10 +3,10 @@ use Rattle.std.proofs.Common.{◌≡◌, ◌∙◌, ◌-◌, length, arith, ap}
 use Rattle.fed_config.specs.Configuration.{Configuration}
 use Rattle.closure_core.specs.Inside.Flags.{raised_count}
 use Rattle.closure_core.specs.Inside.Nodes.{flags_of}
-use Rattle.trust_closure.specs.Plain.{HasPlainFlags}
+use Rattle.trust_closure.specs.Inside.Plain.{HasPlainFlags}
 use Rattle.std.proofs.lemmas.List.{length_push}
 use Rattle.trust_closure.proofs.IndexFacts.{count-push}
-use Rattle.trust_closure.proofs.Carrying.{firsts-lowered, raised-as, settled-from, gain-added}
+use Rattle.trust_closure.proofs.PlainChangeFacts.{firsts-lowered, raised-as, settled-from, gain-added}
 use Rattle.trust_closure.proofs.NodeCountFacts.{flags-push}
 use Rattle.trust_closure.proofs.plain.changes.add.Goals as goal
 

@@ -2,8 +2,8 @@
 use Rattle.std.proofs.Common.{◌∙◌, ◌-◌, length, arith, ap}
 use Rattle.fed_config.specs.Configuration.{Configuration}
 use Rattle.closure_core.specs.Inside.Nodes.{flags_of}
-use Rattle.trust_closure.specs.Plain.{HasPlainFlags}
-use Rattle.trust_closure.proofs.Carrying.{firsts-lowered, raised-as, settled-from, set-closed, loss-fallen}
+use Rattle.trust_closure.specs.Inside.Plain.{HasPlainFlags}
+use Rattle.trust_closure.proofs.PlainChangeFacts.{firsts-lowered, raised-as, settled-from, set-closed, loss-fallen}
 use Rattle.trust_closure.proofs.plain.changes.fall.Goals as goal
 
 pub settle-requires-clause-offers : goal.settle-requires-clause-offers

@@ -6,10 +6,10 @@ use Rattle.bundle_doc.specs.Bundle.{Bundle}
 use Rattle.receipt_core.specs.Receipt.{Receipt, pair_of}
 use Rattle.closure_core.specs.Inside.Nodes.{pairs_of}
 use Rattle.closure_core.specs.AcceptedList.{document_of}
-use Rattle.trust_closure.specs.Pairs.{IsPairing}
-use Rattle.trust_closure.specs.Held.{meaning_of}
-use Rattle.trust_closure.specs.Plain.{IsSet, AreSound}
-use Rattle.trust_closure.proofs.Carrying.{set-more, sound-push}
+use Rattle.trust_closure.specs.Inside.Pairs.{IsDocumentTable}
+use Rattle.trust_closure.specs.Inside.Held.{meaning_of}
+use Rattle.trust_closure.specs.Inside.Plain.{IsSet, AreSound}
+use Rattle.trust_closure.proofs.PlainChangeFacts.{set-more, sound-push}
 use Rattle.trust_closure.proofs.plain.changes.place_receipt.Goals as goal
 
 pub returns-clause-set : goal.returns-clause-set
@@ -20,12 +20,12 @@ returns-clause-set c =
     (set-more h c.insert.new.self c.args.pairs.now c.add.new.self c.args.seed_offers.now c.args.released.now.items
     c.args.receipt c.requires.settled.set c.requires.absent.is c.requires.absent.unheld c.insert.ensures
     c.config-valid.ensures.valid
-    (subst (λ (ss : List Seed). IsPairing (pairs_of ss h.arrived ++ pair_of c.args.receipt ∷ []) c.add.new.self) seeds
-    (subst (λ (rs : List Receipt). IsPairing (pairs_of c.seeds-seeds.result.now rs ++ pair_of c.args.receipt ∷ []) c.add.new.self) c.arrived.ensures
-    (subst (λ (d : List ℕ). IsPairing
+    (subst (λ (ss : List Seed). IsDocumentTable (pairs_of ss h.arrived ++ pair_of c.args.receipt ∷ []) c.add.new.self) seeds
+    (subst (λ (rs : List Receipt). IsDocumentTable (pairs_of c.seeds-seeds.result.now rs ++ pair_of c.args.receipt ∷ []) c.add.new.self) c.arrived.ensures
+    (subst (λ (d : List ℕ). IsDocumentTable
     (pairs_of c.seeds-seeds.result.now c.arrived.result.now ++ document_of d c.args.receipt.document ∷ [])
     c.add.new.self) c.domain.ensures.domain
-    (subst (λ (b : Bundle). IsPairing
+    (subst (λ (b : Bundle). IsDocumentTable
     (pairs_of c.seeds-seeds.result.now c.arrived.result.now ++ document_of c.domain.result.now b ∷ [])
     c.add.new.self) c.document.ensures c.add.ensures.pairing)))))
 

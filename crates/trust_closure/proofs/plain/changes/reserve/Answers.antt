@@ -1,7 +1,7 @@
 -- What has grown is kept as it was.
 use Rattle.std.proofs.Common.{List, Bool, sym, subst}
-use Rattle.trust_closure.specs.Plain.{HasPlainFlags}
-use Rattle.trust_closure.proofs.Carrying.{settled-roomier}
+use Rattle.trust_closure.specs.Inside.Plain.{HasPlainFlags}
+use Rattle.trust_closure.proofs.PlainChangeFacts.{settled-roomier}
 use Rattle.trust_closure.proofs.plain.changes.reserve.Goals as goal
 
 pub returns-clause-kept : goal.returns-clause-kept

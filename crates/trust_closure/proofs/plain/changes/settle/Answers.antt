@@ -1,8 +1,8 @@
 -- The flags are written back.
 use Rattle.std.proofs.Common.{◌≡◌, ◌++◌, ◌∙◌, take, drop, length, arith, ap, sym, subst}
 use Rattle.std.proofs.Math.Seq.{take-append_seam}
-use Rattle.trust_closure.specs.Held.{meaning_of}
-use Rattle.trust_closure.specs.Plain.{AreReleased}
+use Rattle.trust_closure.specs.Inside.Held.{meaning_of}
+use Rattle.trust_closure.specs.Inside.Plain.{AreReleased}
 use Rattle.trust_closure.proofs.plain.changes.settle.Goals as goal
 
 pub returns-clause-released : goal.returns-clause-released

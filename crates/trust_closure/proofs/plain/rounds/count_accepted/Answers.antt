@@ -5,9 +5,9 @@ use Rattle.std.proofs.lemmas.Bool.{both_ways}
 use Rattle.std.proofs.lemmas.List.Elements.{All-cons}
 use Rattle.std.proofs.lemmas.List.Sums.{count_by-le-length}
 use Rattle.closure_core.specs.Inside.Nodes.{is_raised, flags_of, count_at}
-use Rattle.trust_closure.specs.NodeCounts.{AddsNodes}
+use Rattle.trust_closure.specs.Inside.NodeCounts.{AddsNodes}
 use Rattle.closure_core.specs.Inside.Flags.{raised_count}
-use Rattle.trust_closure.specs.Plain.{IsFirstAccepted}
+use Rattle.trust_closure.specs.Inside.Plain.{IsFirstAccepted}
 use Rattle.closure_core.proofs.FlagFacts.{count-lowered}
 use Rattle.closure_core.proofs.NodeFacts.{length-flags, zero-lowered}
 use Rattle.trust_closure.proofs.NodeCountFacts.{flags-raised, nodes_with-few}

@@ -3,7 +3,7 @@ use Rattle.std.proofs.Common.{◌≡◌, ◌≤◌, ℕ, true, length}
 use Rattle.std.specs.Prelude.{◌↔◌}
 use Rattle.closure_core.specs.Inside.Nodes.{is_raised, flags_of, count_at}
 use Rattle.closure_core.specs.Inside.Flags.{raised_count}
-use Rattle.trust_closure.specs.Plain.{IsFirstAccepted}
+use Rattle.trust_closure.specs.Inside.Plain.{IsFirstAccepted}
 use Rattle.trust_closure.proofs.plain.rounds.count_accepted.Given as goal
 
 abbrev pub invariant-loop-node : goal.invariant-loop-node

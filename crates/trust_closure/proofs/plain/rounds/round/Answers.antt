@@ -2,10 +2,10 @@
 use Rattle.std.proofs.Common.{◌∙◌, ◌+◌, true, length, arith, sym, ap, subst}
 use Rattle.std.proofs.lemmas.Bool.{both_ways}
 use Rattle.std.proofs.lemmas.List.{length-set}
-use Rattle.trust_closure.proofs.Edges.{slice_get-Contains}
+use Rattle.trust_closure.proofs.EdgeFacts.{slice_get-Contains}
 use Rattle.closure_core.specs.Inside.Flags.{raised_count}
-use Rattle.trust_closure.specs.Held.{meaning_of}
-use Rattle.trust_closure.specs.Plain.{AreSound, AreQuietBelow}
+use Rattle.trust_closure.specs.Inside.Held.{meaning_of}
+use Rattle.trust_closure.specs.Inside.Plain.{AreSound, AreQuietBelow}
 use Rattle.trust_closure.proofs.PlainFacts.{item_at, vouched-released, sound-more, quiet-more}
 use Rattle.trust_closure.proofs.plain.rounds.round.Goals.{then-is_due, else-is_due}
 use Rattle.trust_closure.proofs.plain.rounds.round.Goals as goal

@@ -2,8 +2,8 @@
 -- by none.
 use Rattle.std.proofs.Common.{◌≡◌, ◌+◌, ◌≤◌, length}
 use Rattle.closure_core.specs.Inside.Flags.{raised_count}
-use Rattle.trust_closure.specs.Held.{meaning_of}
-use Rattle.trust_closure.specs.Plain.{AreSound, AreQuietBelow}
+use Rattle.trust_closure.specs.Inside.Held.{meaning_of}
+use Rattle.trust_closure.specs.Inside.Plain.{AreSound, AreQuietBelow}
 use Rattle.trust_closure.proofs.plain.rounds.round.Given as goal
 
 abbrev pub invariant-loop-place : goal.invariant-loop-place

@@ -1,6 +1,6 @@
 -- A round that raises no flag leaves none to raise.
 use Rattle.std.proofs.Common.{arith}
-use Rattle.trust_closure.specs.Held.{meaning_of}
+use Rattle.trust_closure.specs.Inside.Held.{meaning_of}
 use Rattle.trust_closure.proofs.PlainFacts.{quiet-released}
 use Rattle.trust_closure.proofs.plain.rounds.spread.Goals as goal
 

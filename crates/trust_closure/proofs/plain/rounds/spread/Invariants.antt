@@ -2,8 +2,8 @@
 -- round.
 use Rattle.std.proofs.Common.{◌≡◌, ◌-◌, length}
 use Rattle.closure_core.specs.Inside.Flags.{raised_count}
-use Rattle.trust_closure.specs.Held.{meaning_of}
-use Rattle.trust_closure.specs.Plain.{AreSound}
+use Rattle.trust_closure.specs.Inside.Held.{meaning_of}
+use Rattle.trust_closure.specs.Inside.Plain.{AreSound}
 use Rattle.trust_closure.proofs.plain.rounds.spread.Given as goal
 
 abbrev pub invariant-loop : goal.invariant-loop

@@ -3,14 +3,14 @@ use Rattle.std.proofs.Common.{◌++◌, ◌∷◌, [], List, length, ap, sym, su
 use Rattle.receipt_core.specs.Receipt.{Receipt}
 use Rattle.receipt_core.specs.Acceptance.{pair_of_seed}
 use Rattle.closure_core.specs.Inside.Nodes.{pairs_of}
-use Rattle.trust_closure.specs.Pairs.{IsPairing}
+use Rattle.trust_closure.specs.Inside.Pairs.{IsDocumentTable}
 use Rattle.trust_closure.proofs.IndexFacts.{pairing-counts}
 use Rattle.trust_closure.proofs.SownFacts.{sown-more}
 use Rattle.trust_closure.proofs.plain.seeds.sow.Goals as goal
 
 pub add-requires-clause-pairing : goal.add-requires-clause-pairing
 add-requires-clause-pairing c =
-    subst (λ (rs : List Receipt). IsPairing (pairs_of c.args.earlier.now rs) c.try_reserve.new.self) (sym c.arrived.ensures)
+    subst (λ (rs : List Receipt). IsDocumentTable (pairs_of c.args.earlier.now rs) c.try_reserve.new.self) (sym c.arrived.ensures)
     (pairing-counts (pairs_of c.args.earlier.now c.args.held.now.arrived) c.args.pairs.now
     c.try_reserve.new.self c.requires.sown.pairing c.try_reserve.ensures.numbers
     c.try_reserve.ensures.firsts (ap (λ fs. length fs) c.try_reserve.ensures.counts))
@@ -21,7 +21,7 @@ returns c =
     sown-more h c.args.earlier.now c.args.seed.now c.args.pairs.now c.try_reserve.new.self c.add.new.self
     c.args.seed_offers.now.items c.in_ok-offers.offers.items c.append.new.self.items c.add.ensures.firsts.0
     c.requires.arrived c.requires.sown
-    (subst (λ (rs : List Receipt). IsPairing (pairs_of c.args.earlier.now rs ++ pair_of_seed c.args.seed.now ∷ [])
+    (subst (λ (rs : List Receipt). IsDocumentTable (pairs_of c.args.earlier.now rs ++ pair_of_seed c.args.seed.now ∷ [])
     c.add.new.self) c.arrived.ensures c.add.ensures.pairing)
     c.try_reserve.ensures.counts c.try_reserve.ensures.firsts c.add.ensures.counts
     c.add.ensures.firsts.1 c.in_ok-try_reserve.ensures.ok c.add.ensures.capacity

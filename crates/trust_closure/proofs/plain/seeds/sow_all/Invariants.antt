@@ -1,6 +1,6 @@
 -- The documents so far have their numbers.
 use Rattle.std.proofs.Common.{take}
-use Rattle.trust_closure.specs.Plain.{IsSown}
+use Rattle.trust_closure.specs.Inside.Plain.{IsSown}
 use Rattle.trust_closure.proofs.plain.seeds.sow_all.Given as goal
 
 abbrev pub invariant-loop-place : goal.invariant-loop-place

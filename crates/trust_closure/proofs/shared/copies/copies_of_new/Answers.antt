@@ -3,7 +3,7 @@ use Rattle.std.proofs.Common.{List, ◌∙◌, subst}
 use Rattle.std.specs.List.{Contains}
 use Rattle.std.proofs.lemmas.Result.{err_from_is_err_and}
 use Rattle.receipt_core.specs.Receipt.{Receipt}
-use Rattle.trust_closure.specs.Held.{meaning_of}
+use Rattle.trust_closure.specs.Inside.Held.{meaning_of}
 use Rattle.trust_closure.proofs.MergeFacts.{IsCopied, IsCopied-held, IsCopied-new, IsCopied-end, IsCopied-has, lacks_of}
 use Rattle.trust_closure.proofs.shared.copies.copies_of_new.Goals as goal
 

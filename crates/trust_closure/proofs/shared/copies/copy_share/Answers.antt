@@ -1,7 +1,7 @@
 -- Where the offers are too many to count, some receipt was copied.
 use Rattle.std.proofs.Common.{length, ap, arith}
 use Rattle.std.proofs.lemmas.Result.{err_from_is_err_and}
-use Rattle.trust_closure.specs.Held.{meaning_of}
+use Rattle.trust_closure.specs.Inside.Held.{meaning_of}
 use Rattle.trust_closure.proofs.MergeFacts.{copies_new}
 use Rattle.trust_closure.proofs.shared.copies.copy_share.Goals as goal
 

@@ -1,8 +1,8 @@
 -- Each cause in its turn.
 use Rattle.std.proofs.Common.{inl, inr, arith}
 use Rattle.std.proofs.lemmas.Result.{err_from_is_err_and}
-use Rattle.trust_closure.specs.Held.{meaning_of}
-use Rattle.closure_core.specs.Refusals.{IsAlike}
+use Rattle.trust_closure.specs.Inside.Held.{meaning_of}
+use Rattle.closure_core.specs.Refusals.{HasSameDigest}
 use Rattle.trust_closure.proofs.MergeFacts.{alike_of, refuses_record, refuses_receipt, knows_records, fits_receipts}
 use Rattle.trust_closure.proofs.shared.copies.judge.Goals as goal
 
@@ -10,7 +10,7 @@ pub returns-then-not-knows_all : goal.returns-then-not-knows_all
 returns-then-not-knows_all c =
     let m = meaning_of c.args.held.now in
     let other = meaning_of c.args.other.now in
-    let alike : IsAlike m other =
+    let alike : HasSameDigest m other =
     alike_of m other c.config-config.result.now c.config.result.now c.digest.result.0 c.digest-2.result.0
     c.config-config.ensures.config c.config.ensures.config c.digest.ensures c.digest-2.ensures c.if-ne.ensures in
     refuses_record m other c.config-config.result.now c.distrusts.result c.config-config.ensures.config c.distrusts.ensures alike c.if-not-knows_all.ensures
@@ -19,7 +19,7 @@ pub returns-in_err-fit_all : goal.returns-in_err-fit_all
 returns-in_err-fit_all c =
     let m = meaning_of c.args.held.now in
     let other = meaning_of c.args.other.now in
-    let alike : IsAlike m other =
+    let alike : HasSameDigest m other =
     alike_of m other c.config-config.result.now c.config.result.now c.digest.result.0 c.digest-2.result.0
     c.config-config.ensures.config c.config.ensures.config c.digest.ensures c.digest-2.ensures c.if-ne.ensures in
     let known = knows_records m other c.config-config.result.now c.distrusts.result c.config-config.ensures.config
@@ -32,7 +32,7 @@ pub returns-then-new_receipts-receipts_left : goal.returns-then-new_receipts-rec
 returns-then-new_receipts-receipts_left c =
     let m = meaning_of c.args.held.now in
     let other = meaning_of c.args.other.now in
-    let alike : IsAlike m other =
+    let alike : HasSameDigest m other =
     alike_of m other c.config-config.result.now c.config.result.now c.digest.result.0 c.digest-2.result.0
     c.config-config.ensures.config c.config.ensures.config c.digest.ensures c.digest-2.ensures c.if-ne.ensures in (
       record {
@@ -48,7 +48,7 @@ pub returns-then-new_records-records_left : goal.returns-then-new_records-record
 returns-then-new_records-records_left c =
     let m = meaning_of c.args.held.now in
     let other = meaning_of c.args.other.now in
-    let alike : IsAlike m other =
+    let alike : HasSameDigest m other =
     alike_of m other c.config-config.result.now c.config.result.now c.digest.result.0 c.digest-2.result.0
     c.config-config.ensures.config c.config.ensures.config c.digest.ensures c.digest-2.ensures c.if-ne.ensures in (
       record {
@@ -64,7 +64,7 @@ pub returns : goal.returns
 returns c =
     let m = meaning_of c.args.held.now in
     let other = meaning_of c.args.other.now in
-    let alike : IsAlike m other =
+    let alike : HasSameDigest m other =
     alike_of m other c.config-config.result.now c.config.result.now c.digest.result.0 c.digest-2.result.0
     c.config-config.ensures.config c.config.ensures.config c.digest.ensures c.digest-2.ensures c.if-ne.ensures in
     record {

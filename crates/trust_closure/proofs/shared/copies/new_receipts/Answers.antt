@@ -2,7 +2,7 @@
 use Rattle.std.proofs.Common.{List, ◌∙◌, subst}
 use Rattle.std.specs.List.{Contains}
 use Rattle.receipt_core.specs.Receipt.{Receipt}
-use Rattle.trust_closure.specs.Held.{meaning_of}
+use Rattle.trust_closure.specs.Inside.Held.{meaning_of}
 use Rattle.trust_closure.proofs.MergeFacts.{IsCounted, IsCounted-new, counted_receipts, lacks_of}
 use Rattle.trust_closure.proofs.shared.copies.new_receipts.Goals as goal
 

@@ -1,7 +1,7 @@
 -- One more node is no longer counted.
 use Rattle.std.proofs.Common.{◌≡◌, ◌∙◌, ◌+◌, ℕ, List, sym, ap, get_or, take, arith, subst}
 use Rattle.std.proofs.lemmas.List.{get_or_default}
-use Rattle.trust_closure.specs.NodeCounts.{AddsNodes, first_of_node}
+use Rattle.trust_closure.specs.Inside.NodeCounts.{AddsNodes, first_of_node}
 use Rattle.trust_closure.proofs.NodeCountFacts.{AddsNodes-fewer, next-counted}
 use Rattle.trust_closure.proofs.shared.counts.lower_all.Goals as goal
 

@@ -2,7 +2,7 @@
 use Rattle.std.proofs.Common.{◌≡◌, ◌+◌, take}
 use Rattle.closure_core.specs.Inside.Flags.{raised_count}
 use Rattle.closure_core.specs.Inside.Nodes.{flags_of}
-use Rattle.trust_closure.specs.NodeCounts.{AddsNodes}
+use Rattle.trust_closure.specs.Inside.NodeCounts.{AddsNodes}
 use Rattle.trust_closure.proofs.shared.counts.lower_all.Given as goal
 
 abbrev pub invariant-loop-node : goal.invariant-loop-node

@@ -1,7 +1,7 @@
 -- One more node is counted.
 use Rattle.std.proofs.Common.{◌≡◌, ◌∙◌, ◌+◌, ℕ, sym, ap, get_or, take, arith, subst}
 use Rattle.std.proofs.lemmas.List.{get_or_default}
-use Rattle.trust_closure.specs.NodeCounts.{AddsNodes, first_of_node}
+use Rattle.trust_closure.specs.Inside.NodeCounts.{AddsNodes, first_of_node}
 use Rattle.trust_closure.proofs.NodeCountFacts.{AddsNodes-more, nodes_with-short}
 use Rattle.trust_closure.proofs.shared.counts.raise_all.Goals as goal
 

@@ -3,7 +3,7 @@ use Rattle.std.specs.Option.{option_copied}
 use Rattle.std.specs.Cmp.Lexicographic.{same_text}
 use Rattle.fed_config.specs.Configuration.{IsRelationshipOf}
 use Rattle.spiffe_name.specs.SpiffeId.{Id, IsId}
-use Rattle.spiffe_name.proofs.Ids.{one_value}
+use Rattle.spiffe_name.proofs.IdFacts.{one_value}
 use Rattle.trust_closure.proofs.shared.held.fit.Goals as goal
 
 pub returns-in_default-clause-fits : goal.returns-in_default-clause-fits

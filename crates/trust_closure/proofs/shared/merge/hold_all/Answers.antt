@@ -3,8 +3,8 @@ use Rattle.std.proofs.Common.{List, inr, refl, sym, ap, subst, ◌∙◌}
 use Rattle.receipt_core.specs.declared.distrust.Distrust.{Distrust}
 use Rattle.receipt_core.specs.Receipt.{distrust_cmp}
 use Rattle.receipt_core.specs.Rising.{with_items}
-use Rattle.trust_closure.specs.Held.{meaning_of}
-use Rattle.trust_closure.specs.Merge.{AreKnown}
+use Rattle.trust_closure.specs.Inside.Held.{meaning_of}
+use Rattle.trust_closure.specs.Inside.Merge.{AreKnown}
 use Rattle.trust_closure.proofs.JoinFacts.{IsDistrusting-start, IsDistrusting-next, IsDistrusting-end, grown_next}
 use Rattle.trust_closure.proofs.shared.merge.hold_all.Goals as goal
 

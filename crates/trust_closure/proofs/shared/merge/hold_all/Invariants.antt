@@ -1,6 +1,6 @@
 -- Those so far are held.
 use Rattle.std.proofs.Common.{◌≡◌}
-use Rattle.trust_closure.specs.Held.{meaning_of}
+use Rattle.trust_closure.specs.Inside.Held.{meaning_of}
 use Rattle.trust_closure.proofs.JoinFacts.{IsDistrusting, HasGrown}
 use Rattle.trust_closure.proofs.shared.merge.hold_all.Given as goal
 

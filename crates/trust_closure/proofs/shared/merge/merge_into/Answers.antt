@@ -3,7 +3,7 @@ use Rattle.std.proofs.Common.{◌≡◌, List, inl, inr, refl, sym, ap, subst, �
 use Rattle.std.proofs.lemmas.Result.{err_from_is_err_and}
 use Rattle.receipt_core.specs.Acceptance.{Meaning}
 use Rattle.receipt_core.specs.declared.distrust.Distrust.{Distrust}
-use Rattle.trust_closure.specs.Held.{meaning_of}
+use Rattle.trust_closure.specs.Inside.Held.{meaning_of}
 use Rattle.trust_closure.specs.Work.{AreOld}
 use Rattle.closure_core.specs.Refusals.{IsRoomier}
 use Rattle.trust_closure.proofs.JoinFacts.{on_ok, refuses_same, share_same, share_known, share_welcome, share_merged, share_spent, share_wants}

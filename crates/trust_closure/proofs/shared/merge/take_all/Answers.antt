@@ -3,8 +3,8 @@ use Rattle.std.proofs.Common.{◌≡◌, ◌∷◌, List, length, arith, refl, s
 use Rattle.std.specs.Vec.Iter.{into_iter_items}
 use Rattle.receipt_core.specs.Receipt.{Receipt, receipt_cmp}
 use Rattle.receipt_core.specs.Rising.{with_items}
-use Rattle.trust_closure.specs.Held.{meaning_of}
-use Rattle.trust_closure.specs.Merge.{FitWithinRoom, HasSpentOn}
+use Rattle.trust_closure.specs.Inside.Held.{meaning_of}
+use Rattle.trust_closure.specs.Inside.Merge.{FitWithinRoom, HasSpentOn}
 use Rattle.trust_closure.proofs.JoinFacts.{IsJoining-start, IsJoining-next, IsJoining-end, IsJoining-spent, none_left}
 use Rattle.trust_closure.proofs.shared.merge.take_all.Goals as goal
 

@@ -1,6 +1,6 @@
 use Rattle.std.proofs.Common.{◌≡◌, ◌+◌, [], ◌∷◌, ◌++◌, length, get_or, arith}
 use Rattle.std.proofs.lemmas.List.{get_or_read}
-use Rattle.wait_index.proofs.Links.{AreLinked-push}
+use Rattle.wait_index.proofs.LinkFacts.{AreLinked-push}
 use Rattle.wait_index.proofs.edges.Edges.add.Goals as goal
 
 pub invariant_of-self : goal.invariant_of-self

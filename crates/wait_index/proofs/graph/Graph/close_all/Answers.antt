@@ -1,6 +1,6 @@
 use Rattle.std.proofs.Common.{length, take, ap, arith}
 use Rattle.wait_index.specs.Net.{Net}
-use Rattle.wait_index.proofs.Least.{length-all_set}
+use Rattle.wait_index.proofs.NetLawFacts.{length-all_set}
 use Rattle.wait_index.proofs.graph.Graph.close_all.Goals as goal
 
 pub close-requires : goal.close-requires

@@ -1,6 +1,6 @@
 use Rattle.std.proofs.Common.{length, ap, ◌∙◌, arith}
 use Rattle.std.proofs.lemmas.List.{length_push}
-use Rattle.wait_index.proofs.Listings.{IsListing-grow}
+use Rattle.wait_index.proofs.ListingFacts.{IsListing-grow}
 use Rattle.wait_index.proofs.label_set.LabelSet.add_label.Goals as goal
 
 pub invariant_of-self-clause-listed : goal.invariant_of-self-clause-listed

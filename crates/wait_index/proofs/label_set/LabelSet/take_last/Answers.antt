@@ -1,6 +1,6 @@
 use Rattle.std.proofs.Common.{◌≡◌, [], ◌∷◌, ◌++◌, arith}
 use Rattle.std.proofs.lemmas.List.{length-set}
-use Rattle.wait_index.proofs.Listings.{IsListing-pop}
+use Rattle.wait_index.proofs.ListingFacts.{IsListing-pop}
 use Rattle.wait_index.proofs.label_set.LabelSet.take_last.Goals as goal
 
 pub invariant_of-self-clause-listed : goal.invariant_of-self-clause-listed

@@ -1,6 +1,6 @@
 use Rattle.std.proofs.Common.{length, arith}
 use Rattle.wait_index.specs.Inside.Listing.{holds}
-use Rattle.wait_index.proofs.Counts.{count_below-le}
+use Rattle.wait_index.proofs.CountBelowFacts.{count_below-le}
 use Rattle.wait_index.proofs.label_set.LabelSet.try_reserve.Goals as goal
 
 pub overflow_sub-unlisted : goal.overflow_sub-unlisted

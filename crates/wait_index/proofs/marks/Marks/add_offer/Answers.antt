@@ -2,9 +2,9 @@ use Rattle.std.proofs.Common.{◌≡◌, inl, inr, length, take, ap, ◌∙◌, 
 use Rattle.std.proofs.lemmas.List.{take_all}
 use Rattle.wait_index.specs.Net.{Net}
 use Rattle.wait_index.specs.Inside.Tally.{Tally, net_of, tally_of}
-use Rattle.wait_index.proofs.Following.{Follows-visits, Follows-support, Settles-spreads, with_support}
-use Rattle.wait_index.proofs.Growing.{Follows-offer}
-use Rattle.wait_index.proofs.Spread.{front-trans}
+use Rattle.wait_index.proofs.FollowFacts.{Follows-visits, Follows-support, Settles-spreads, with_support}
+use Rattle.wait_index.proofs.GrowthFacts.{Follows-offer}
+use Rattle.wait_index.proofs.ReleaseFacts.{front-trans}
 use Rattle.wait_index.proofs.marks.Marks.add_offer.Goals as goal
 
 pub follow_new_offer-requires-clause-visits : goal.follow_new_offer-requires-clause-visits

@@ -1,6 +1,6 @@
 use Rattle.std.proofs.Common.{◌≡◌, length, arith}
 use Rattle.wait_index.specs.Inside.Tally.{net_of, tally_of}
-use Rattle.wait_index.proofs.Growing.{Follows-root}
+use Rattle.wait_index.proofs.GrowthFacts.{Follows-root}
 use Rattle.wait_index.proofs.marks.Marks.add_root.Goals as goal
 
 pub follow_all-requires-clause-follows : goal.follow_all-requires-clause-follows

@@ -1,9 +1,9 @@
 use Rattle.std.proofs.Common.{◌≡◌, inl, inr, length, take, ap, ◌∙◌, arith}
 use Rattle.std.proofs.lemmas.List.{take_all}
 use Rattle.wait_index.specs.Inside.Tally.{Tally, net_of, tally_of}
-use Rattle.wait_index.proofs.Following.{Follows-visits}
-use Rattle.wait_index.proofs.Growing.{Follows-wait}
-use Rattle.wait_index.proofs.Spread.{front-trans}
+use Rattle.wait_index.proofs.FollowFacts.{Follows-visits}
+use Rattle.wait_index.proofs.GrowthFacts.{Follows-wait}
+use Rattle.wait_index.proofs.ReleaseFacts.{front-trans}
 use Rattle.wait_index.proofs.marks.Marks.add_wait.Goals as goal
 
 pub follow_new_wait-requires-clause-visits : goal.follow_new_wait-requires-clause-visits

@@ -6,13 +6,13 @@ use Rattle.wait_index.specs.Edge.{from_at}
 use Rattle.wait_index.specs.Inside.Fall.{HasFallen, IsFalling, IsSettled, ListsFallen}
 use Rattle.wait_index.specs.Net.{ClosesIn, with_all_closed}
 use Rattle.wait_index.specs.Inside.Tally.{Tally, net_of, tally_of, is_marked_in, is_open_in}
-use Rattle.wait_index.proofs.Closing.{marked-from_reached, open-from_shown, IsFalling-touched, HasFallen-listed}
-use Rattle.wait_index.proofs.Closing.{IsSettled-shut, reached-before, Follows-fallen, visits_after, visits_fall}
-use Rattle.wait_index.proofs.Closing.{ClosesIn-shut, ClosesIn-open, ClosesIn-near}
-use Rattle.wait_index.proofs.Following.{Follows-visits, Follows-nodes}
-use Rattle.wait_index.proofs.Listings.{holds-from_contains, listed-once}
-use Rattle.wait_index.proofs.Fallen.{ListsFallen-none, TellsFallen-listed}
-use Rattle.wait_index.proofs.Touching.{TouchesAll-same, TouchesAll-shut, TouchesAll-untouched}
+use Rattle.wait_index.proofs.CloseFacts.{marked-from_reached, open-from_shown, IsFalling-touched, HasFallen-listed}
+use Rattle.wait_index.proofs.CloseFacts.{IsSettled-shut, reached-before, Follows-fallen, visits_after, visits_fall}
+use Rattle.wait_index.proofs.CloseFacts.{ClosesIn-shut, ClosesIn-open, ClosesIn-near}
+use Rattle.wait_index.proofs.FollowFacts.{Follows-visits, Follows-nodes}
+use Rattle.wait_index.proofs.ListingFacts.{holds-from_contains, listed-once}
+use Rattle.wait_index.proofs.FallenListFacts.{ListsFallen-none, TellsFallen-listed}
+use Rattle.wait_index.proofs.TouchFacts.{TouchesAll-same, TouchesAll-shut, TouchesAll-untouched}
 use Rattle.wait_index.proofs.marks.Marks.close.Goals as goal
 
 -- None is touched.

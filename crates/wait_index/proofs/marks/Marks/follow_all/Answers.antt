@@ -1,6 +1,6 @@
 use Rattle.std.proofs.Common.{arith}
 use Rattle.wait_index.specs.Inside.Tally.{net_of, tally_of}
-use Rattle.wait_index.proofs.Following.{Follows-nodes}
+use Rattle.wait_index.proofs.FollowFacts.{Follows-nodes}
 use Rattle.wait_index.proofs.marks.Marks.follow_all.Goals as goal
 
 pub nodes-smaller : goal.nodes-smaller

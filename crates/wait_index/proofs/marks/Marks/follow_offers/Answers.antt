@@ -2,8 +2,8 @@ use Rattle.std.proofs.Common.{◌≡◌, ◌+◌, ◌-◌, ◌<◌, length, get_
 use Rattle.std.proofs.lemmas.List.{get_or_read}
 use Rattle.wait_index.specs.Edge.{to_at}
 use Rattle.wait_index.specs.Inside.Tally.{net_of, tally_of, Supports}
-use Rattle.wait_index.proofs.Links.{first_link, next_link, read_to}
-use Rattle.wait_index.proofs.Following.{OffersFrom-start, OffersFrom-step, Follows-visits, Follows-support}
+use Rattle.wait_index.proofs.LinkFacts.{first_link, next_link, read_to}
+use Rattle.wait_index.proofs.FollowFacts.{OffersFrom-start, OffersFrom-step, Follows-visits, Follows-support}
 use Rattle.wait_index.proofs.marks.Marks.follow_offers.Goals as goal
 
 pub offers-init : goal.offers-init

@@ -1,8 +1,8 @@
 use Rattle.std.proofs.Common.{◌≡◌, ◌+◌, ◌-◌, ◌<◌, length, refl, subst, ◌∙◌, arith}
 use Rattle.wait_index.specs.Edge.{to_at}
 use Rattle.wait_index.specs.Inside.Tally.{Tally, net_of, tally_of, MarksNode}
-use Rattle.wait_index.proofs.Links.{first_link, next_link, read_to}
-use Rattle.wait_index.proofs.Spread.{ReleasesFrom-start, ReleasesFrom-step, ReleasesFrom-fits}
+use Rattle.wait_index.proofs.LinkFacts.{first_link, next_link, read_to}
+use Rattle.wait_index.proofs.ReleaseFacts.{ReleasesFrom-start, ReleasesFrom-step, ReleasesFrom-fits}
 use Rattle.wait_index.proofs.marks.Marks.release.Goals as goal
 
 pub waits-init : goal.waits-init

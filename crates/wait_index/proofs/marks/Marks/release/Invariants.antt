@@ -1,6 +1,6 @@
 use Rattle.std.proofs.Common.{◌≡◌}
 use Rattle.wait_index.specs.Inside.Tally.{net_of, tally_of, marks_capacity}
-use Rattle.wait_index.proofs.Spread.{ReleasesFrom}
+use Rattle.wait_index.proofs.ReleaseFacts.{ReleasesFrom}
 use Rattle.wait_index.proofs.marks.Marks.release.Given as goal
 
 abbrev pub invariant-waits : goal.invariant-waits

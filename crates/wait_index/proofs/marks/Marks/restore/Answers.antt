@@ -2,8 +2,8 @@ use Rattle.std.proofs.Common.{◌≡◌, ◌+◌, ◌<◌, ◌≤◌, length, ge
 use Rattle.std.specs.Prelude.{min, vec_capacity}
 use Rattle.std.proofs.lemmas.List.{length-take, get_or_push, length_push}
 use Rattle.wait_index.specs.Inside.Tally.{Tally, net_of, tally_of, marks_capacity, SettlesLabel}
-use Rattle.wait_index.proofs.Following.{Follows-visits, Restore-step, Settles-spreads, with_untouched}
-use Rattle.wait_index.proofs.Spread.{front-trans}
+use Rattle.wait_index.proofs.FollowFacts.{Follows-visits, Restore-step, Settles-spreads, with_untouched}
+use Rattle.wait_index.proofs.ReleaseFacts.{front-trans}
 use Rattle.wait_index.proofs.marks.Marks.restore.Goals as goal
 
 pub settle-requires-clause-visits : goal.settle-requires-clause-visits

@@ -4,11 +4,11 @@ use Rattle.wait_index.specs.Edge.{to_at}
 use Rattle.wait_index.specs.Inside.Links.{IsLast}
 use Rattle.wait_index.specs.Inside.Fall.{CanFall, IsFalling, with_fallen}
 use Rattle.wait_index.specs.Inside.Tally.{Tally, net_of, tally_of, is_marked_in, Falls}
-use Rattle.wait_index.proofs.Links.{first_link, next_link, read_to, IsLink-last}
-use Rattle.wait_index.proofs.Listings.{holds-from_placed, some-from_holds}
-use Rattle.wait_index.proofs.Following.{flag-here}
-use Rattle.wait_index.proofs.Falling.{IsFalling-start, IsFalling-between, TakesBackFrom-step, visits_some, node_marked, node_can}
-use Rattle.wait_index.proofs.Fallen.{ListsFallen-step, fallen-many}
+use Rattle.wait_index.proofs.LinkFacts.{first_link, next_link, read_to, IsLink-last}
+use Rattle.wait_index.proofs.ListingFacts.{holds-from_placed, some-from_holds}
+use Rattle.wait_index.proofs.FollowFacts.{flag-here}
+use Rattle.wait_index.proofs.FallFacts.{IsFalling-start, IsFalling-between, TakesBackFrom-step, visits_some, node_marked, node_can}
+use Rattle.wait_index.proofs.FallenListFacts.{ListsFallen-step, fallen-many}
 use Rattle.wait_index.proofs.marks.Marks.take_back_waits.Goals as goal
 
 pub waits-init : goal.waits-init

@@ -2,7 +2,7 @@ use Rattle.std.proofs.Common.{◌≡◌, ◌+◌, length}
 use Rattle.std.specs.Prelude.{vec_capacity}
 use Rattle.wait_index.specs.Inside.Fall.{ListsFallen}
 use Rattle.wait_index.specs.Inside.Tally.{net_of, tally_of, marks_capacity}
-use Rattle.wait_index.proofs.Falling.{TakesBackFrom}
+use Rattle.wait_index.proofs.FallFacts.{TakesBackFrom}
 use Rattle.wait_index.proofs.marks.Marks.take_back_waits.Given as goal
 
 abbrev pub invariant-waits : goal.invariant-waits

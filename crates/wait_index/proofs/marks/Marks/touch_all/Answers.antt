@@ -1,7 +1,7 @@
 use Rattle.std.proofs.Common.{◌≡◌, get_or, sym, ◌∙◌}
 use Rattle.std.proofs.lemmas.List.{get_or_default}
 use Rattle.wait_index.specs.Inside.Tally.{tally_of}
-use Rattle.wait_index.proofs.Touching.{TouchesAll-more}
+use Rattle.wait_index.proofs.TouchFacts.{TouchesAll-more}
 use Rattle.wait_index.proofs.marks.Marks.touch_all.Goals as goal
 
 pub loop-label-preserved : goal.loop-label-preserved

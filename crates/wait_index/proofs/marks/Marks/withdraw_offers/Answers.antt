@@ -1,8 +1,8 @@
 use Rattle.std.proofs.Common.{◌≡◌, ◌+◌, ◌-◌, ◌<◌, length, get_or, refl, sym, subst, ◌∙◌, arith}
 use Rattle.wait_index.specs.Edge.{to_at}
 use Rattle.wait_index.specs.Inside.Tally.{net_of, tally_of, Withdraws}
-use Rattle.wait_index.proofs.Links.{first_link, next_link, read_to}
-use Rattle.wait_index.proofs.Withdrawing.{WithdrawsFrom-start, WithdrawsFrom-step, WithdrawsFrom-some}
+use Rattle.wait_index.proofs.LinkFacts.{first_link, next_link, read_to}
+use Rattle.wait_index.proofs.WithdrawalFacts.{WithdrawsFrom-start, WithdrawsFrom-step, WithdrawsFrom-some}
 use Rattle.wait_index.proofs.marks.Marks.withdraw_offers.Goals as goal
 
 pub offers-init : goal.offers-init

@@ -1,6 +1,6 @@
 use Rattle.std.proofs.Common.{◌≡◌}
 use Rattle.wait_index.specs.Inside.Tally.{net_of, tally_of, marks_capacity}
-use Rattle.wait_index.proofs.Withdrawing.{WithdrawsFrom}
+use Rattle.wait_index.proofs.WithdrawalFacts.{WithdrawsFrom}
 use Rattle.wait_index.proofs.marks.Marks.withdraw_offers.Given as goal
 
 abbrev pub invariant-offers : goal.invariant-offers

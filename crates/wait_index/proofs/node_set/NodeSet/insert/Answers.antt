@@ -1,6 +1,6 @@
 use Rattle.std.proofs.Common.{◌≡◌, ◌+◌, [], ◌∷◌, ◌++◌, length, arith}
 use Rattle.std.proofs.lemmas.List.{length-set}
-use Rattle.wait_index.proofs.Listings.{fewer, IsListing-insert}
+use Rattle.wait_index.proofs.ListingFacts.{fewer, IsListing-insert}
 use Rattle.wait_index.proofs.node_set.NodeSet.insert.Goals as goal
 
 pub push_reserved-requires : goal.push_reserved-requires

@@ -2,7 +2,7 @@ use Rattle.std.proofs.Common.{◌≡◌, ℕ, true, ◌+◌, ◌-◌, ◌<◌, l
 use Rattle.std.proofs.lemmas.List.{get_or_read, length-set}
 use Rattle.wait_index.specs.declared.node_set.NodeSet.{NodeSet}
 use Rattle.wait_index.specs.Inside.Listing.{holds}
-use Rattle.wait_index.proofs.Listings.{placed-from_holds, IsListing-swap, holds-swap}
+use Rattle.wait_index.proofs.ListingFacts.{placed-from_holds, IsListing-swap, holds-swap}
 use Rattle.wait_index.proofs.node_set.NodeSet.remove.Goals as goal
 
 -- the place of a node that the set has

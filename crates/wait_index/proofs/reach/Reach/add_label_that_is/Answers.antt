@@ -4,8 +4,8 @@ use Rattle.wait_index.specs.Inside.Capacity.{GraphCapacity}
 use Rattle.wait_index.specs.Index.{Index}
 use Rattle.wait_index.specs.Net.{Net}
 use Rattle.wait_index.specs.Inside.Tally.{Capacity, net_of, tally_of}
-use Rattle.wait_index.proofs.Growing.{IsSettled-label}
-use Rattle.wait_index.proofs.Showing.{lists}
+use Rattle.wait_index.proofs.GrowthFacts.{IsSettled-label}
+use Rattle.wait_index.proofs.ShownFacts.{lists}
 use Rattle.wait_index.proofs.reach.Reach.add_label_that_is.Goals as goal
 
 pub invariant_of-self : goal.invariant_of-self

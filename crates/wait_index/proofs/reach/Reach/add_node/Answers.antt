@@ -4,8 +4,8 @@ use Rattle.wait_index.specs.Inside.Capacity.{GraphCapacity}
 use Rattle.wait_index.specs.Index.{Index}
 use Rattle.wait_index.specs.Net.{Net, has_wait}
 use Rattle.wait_index.specs.Inside.Tally.{Capacity, net_of, tally_of}
-use Rattle.wait_index.proofs.Growing.{IsSettled-node}
-use Rattle.wait_index.proofs.Showing.{lists, has_wait-past}
+use Rattle.wait_index.proofs.GrowthFacts.{IsSettled-node}
+use Rattle.wait_index.proofs.ShownFacts.{lists, has_wait-past}
 use Rattle.wait_index.proofs.reach.Reach.add_node.Goals as goal
 
 pub invariant_of-self : goal.invariant_of-self

@@ -1,4 +1,4 @@
-use Rattle.wait_index.proofs.Showing.{lists}
+use Rattle.wait_index.proofs.ShownFacts.{lists}
 use Rattle.wait_index.proofs.reach.Reach.add_wait.Goals as goal
 
 pub returns-clause-marked : goal.returns-clause-marked

@@ -4,10 +4,10 @@ use Rattle.wait_index.specs.Index.{Index}
 use Rattle.wait_index.specs.Inside.Capacity.{GraphCapacity}
 use Rattle.wait_index.specs.Net.{Net, IsOpen, ClosesIn, visits_of}
 use Rattle.wait_index.specs.Inside.Tally.{Tally, Capacity, net_of, tally_of, is_open_in}
-use Rattle.wait_index.proofs.Closing.{open-shown}
-use Rattle.wait_index.proofs.Following.{Follows-nodes}
-use Rattle.wait_index.proofs.Least.{length-all_set}
-use Rattle.wait_index.proofs.Showing.{lists, visits-shown}
+use Rattle.wait_index.proofs.CloseFacts.{open-shown}
+use Rattle.wait_index.proofs.FollowFacts.{Follows-nodes}
+use Rattle.wait_index.proofs.NetLawFacts.{length-all_set}
+use Rattle.wait_index.proofs.ShownFacts.{lists, visits-shown}
 use Rattle.wait_index.proofs.reach.Reach.close_labels.Goals as goal
 
 pub invariant_of-self : goal.invariant_of-self

@@ -3,8 +3,8 @@ use Rattle.std.specs.Prelude.{Contains}
 use Rattle.wait_index.specs.Index.{Index}
 use Rattle.wait_index.specs.Net.{IsReached}
 use Rattle.wait_index.specs.Inside.Tally.{net_of, tally_of, is_marked_in}
-use Rattle.wait_index.proofs.Closing.{marked-from_reached}
-use Rattle.wait_index.proofs.Listings.{contains-from_holds, holds-from_contains}
+use Rattle.wait_index.proofs.CloseFacts.{marked-from_reached}
+use Rattle.wait_index.proofs.ListingFacts.{contains-from_holds, holds-from_contains}
 use Rattle.wait_index.proofs.reach.Reach.is_marked.Goals as goal
 
 pub returns-clause-reached : goal.returns-clause-reached

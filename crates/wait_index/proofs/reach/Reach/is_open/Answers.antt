@@ -3,7 +3,7 @@ use Rattle.std.proofs.lemmas.List.{get_or_read}
 use Rattle.wait_index.specs.Index.{Index}
 use Rattle.wait_index.specs.Net.{IsOpen}
 use Rattle.wait_index.specs.Inside.Tally.{net_of, tally_of, is_open_in}
-use Rattle.wait_index.proofs.Closing.{open-shown, open-from_shown}
+use Rattle.wait_index.proofs.CloseFacts.{open-shown, open-from_shown}
 use Rattle.wait_index.proofs.reach.Reach.is_open.Goals as goal
 
 pub returns : goal.returns

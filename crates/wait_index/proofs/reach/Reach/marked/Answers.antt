@@ -2,7 +2,7 @@ use Rattle.std.proofs.Common.{sym, subst}
 use Rattle.wait_index.specs.Index.{Index}
 use Rattle.wait_index.specs.Net.{ListsReached}
 use Rattle.wait_index.specs.Inside.Tally.{net_of, tally_of}
-use Rattle.wait_index.proofs.Showing.{lists-reached}
+use Rattle.wait_index.proofs.ShownFacts.{lists-reached}
 use Rattle.wait_index.proofs.reach.Reach.marked.Goals as goal
 
 pub returns-clause-reached : goal.returns-clause-reached

@@ -1,7 +1,7 @@
 use Rattle.std.proofs.Common.{refl, subst}
 use Rattle.wait_index.specs.Index.{Index}
 use Rattle.wait_index.specs.Net.{ListsReached}
-use Rattle.wait_index.proofs.Showing.{lists, lists-grown}
+use Rattle.wait_index.proofs.ShownFacts.{lists, lists-grown}
 use Rattle.wait_index.proofs.reach.Reach.try_reserve.Goals as goal
 
 pub returns-then-covers-clause-reached : goal.returns-then-covers-clause-reached

@@ -2,7 +2,7 @@ use Rattle.std.proofs.Common.{ap, ◌∙◌}
 use Rattle.wait_index.specs.Index.{Index}
 use Rattle.wait_index.specs.Net.{visits_of}
 use Rattle.wait_index.specs.Inside.Tally.{net_of, tally_of}
-use Rattle.wait_index.proofs.Showing.{visits-shown}
+use Rattle.wait_index.proofs.ShownFacts.{visits-shown}
 use Rattle.wait_index.proofs.reach.Reach.visits.Goals as goal
 
 pub returns : goal.returns

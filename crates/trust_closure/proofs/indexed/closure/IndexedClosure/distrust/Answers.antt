@@ -1,14 +1,14 @@
 -- The work is that of the one close.
 use Rattle.std.proofs.Common.{subst}
 use Rattle.receipt_core.specs.declared.distrust.Distrust.{Distrust}
-use Rattle.trust_closure.specs.Indexed.{Indexed, indexed_of}
+use Rattle.trust_closure.specs.Inside.Indexed.{Indexed, indexed_of}
 use Rattle.trust_closure.specs.Work.{Works}
 use Rattle.trust_closure.proofs.indexed.closure.IndexedClosure.distrust.Goals as goal
 
 pub returns-clause-work : goal.returns-clause-work
 returns-clause-work c =
     let x : Distrust = record { domain = c.args.domain.now; key = c.args.key } in
-    let after : Indexed = indexed_of c.lose.new.held c.lose.new.wiring c.self.inside.spare
+    let after : Indexed = indexed_of c.lose.new.held c.lose.new.label_index c.self.inside.spare
     c.lose.new.turns in
     subst (λ v. Works v x after c.lose.result) c.self.view_is
     (c.lose.ensures.work c.self.inside.spare)

@@ -17,7 +17,7 @@ pub raise-requires-clause-nodes : goal.raise-requires-clause-nodes
 raise-requires-clause-nodes c =
     let h = c.in_ok-held.held in
     let p = c.add_seeds.new.pairs in
-    let w = c.add_seeds.new.wiring in
+    let w = c.add_seeds.new.label_index in
     let seeds : c.seeds.result.now ≡ h.config.seeds = c.seeds.ensures ∙ ap (λ (a : Configuration). a.seeds) c.config-2.ensures.config in
     let marked : c.marked.result.now ≡ w.marked = c.marked.ensures.nodes ∙ c.reach.ensures.marked in
     let built = built-seeded h c.domains-domains.result.now p w c.seeds.result.now c.config.ensures.valid
@@ -30,7 +30,7 @@ pub raise-requires-clause-firsts : goal.raise-requires-clause-firsts
 raise-requires-clause-firsts c =
     let h = c.in_ok-held.held in
     let p = c.add_seeds.new.pairs in
-    let w = c.add_seeds.new.wiring in
+    let w = c.add_seeds.new.label_index in
     let seeds : c.seeds.result.now ≡ h.config.seeds = c.seeds.ensures ∙ ap (λ (a : Configuration). a.seeds) c.config-2.ensures.config in
     let built = built-seeded h c.domains-domains.result.now p w c.seeds.result.now c.config.ensures.valid
     (ap (λ (m : Meaning). m.held) c.in_ok-held.ensures.0) c.in_ok-held.ensures.1
@@ -42,7 +42,7 @@ pub raise-requires-clause-few : goal.raise-requires-clause-few
 raise-requires-clause-few c n =
     let h = c.in_ok-held.held in
     let p = c.add_seeds.new.pairs in
-    let w = c.add_seeds.new.wiring in
+    let w = c.add_seeds.new.label_index in
     let seeds : c.seeds.result.now ≡ h.config.seeds = c.seeds.ensures
     ∙ ap (λ (a : Configuration). a.seeds) c.config-2.ensures.config in
     let marked : c.marked.result.now ≡ w.marked = c.marked.ensures.nodes ∙ c.reach.ensures.marked in
@@ -64,7 +64,7 @@ pub invariant_of-result : goal.invariant_of-result
 invariant_of-result c =
     let h = c.in_ok-held.held in
     let p = c.add_seeds.new.pairs in
-    let w = c.add_seeds.new.wiring in
+    let w = c.add_seeds.new.label_index in
     let seeds : c.seeds.result.now ≡ h.config.seeds = c.seeds.ensures ∙ ap (λ (a : Configuration). a.seeds) c.config-2.ensures.config in
     let marked : c.marked.result.now ≡ w.marked = c.marked.ensures.nodes ∙ c.reach.ensures.marked in
     let built = built-seeded h c.domains-domains.result.now p w c.seeds.result.now c.config.ensures.valid

@@ -1,8 +1,8 @@
 -- Raised flags are membership, in the order of the different documents.
 use Rattle.std.proofs.Common.{◌≡◌, ◌∙◌, ap, sym, subst}
-use Rattle.trust_closure.specs.Held.{meaning_of}
+use Rattle.trust_closure.specs.Inside.Held.{meaning_of}
 use Rattle.closure_core.specs.Inside.Nodes.{pairs_of}
-use Rattle.trust_closure.specs.Pairs.{raised_of}
+use Rattle.trust_closure.specs.Inside.Pairs.{raised_of}
 use Rattle.closure_core.specs.AcceptedList.{IsAcceptedList}
 use Rattle.trust_closure.proofs.AcceptedFacts.{accepted-list}
 use Rattle.trust_closure.proofs.IndexFacts.{tells}
@@ -20,4 +20,4 @@ returns c =
     subst (λ v. IsAcceptedList v.state.meaning c.args.domain.now c.accepted.result) c.self.view_is
     (subst (IsAcceptedList (meaning_of h) c.args.domain.now) (sym list)
     (accepted-list (meaning_of h) (pairs_of h.config.seeds h.arrived) p c.args.domain.now
-    (tells h p c.self.inside.wiring i.built i.counts) i.built.pairing.rising))
+    (tells h p c.self.inside.label_index i.built i.counts) i.built.pairing.rising))

@@ -5,7 +5,7 @@ use Rattle.fed_config.specs.declared.seed.Seed.{Seed}
 use Rattle.receipt_core.specs.Receipt.{Receipt}
 use Rattle.receipt_core.specs.Acceptance.{IsMember}
 use Rattle.closure_core.specs.Inside.Nodes.{pairs_of}
-use Rattle.trust_closure.specs.Pairs.{HasRaised}
+use Rattle.trust_closure.specs.Inside.Pairs.{HasRaised}
 use Rattle.closure_core.specs.AcceptedList.{document_of}
 use Rattle.trust_closure.proofs.IndexFacts.{raised-member}
 use Rattle.trust_closure.proofs.indexed.closure.IndexedClosureClosure.is_accepted.Goals as goal
@@ -20,6 +20,6 @@ returns c =
     (subst (λ (rs : List Receipt). IsTrue c.is_raised.result
     ↔ HasRaised (pairs_of c.seeds-seeds.result.now rs) c.self.inside.pairs q) c.arrived.ensures c.is_raised.ensures)
     in
-    let member = raised-member h c.self.inside.pairs c.self.inside.wiring c.self.invariant.indexed q in
+    let member = raised-member h c.self.inside.pairs c.self.inside.label_index c.self.invariant.indexed q in
     subst (λ v. IsTrue c.is_raised.result ↔ IsMember v.state.meaning q) c.self.view_is
     ((λ e. member.0 (raised.0 e)), (λ m. raised.1 (member.1 m)))

@@ -10,7 +10,7 @@ pub overflow_sub-result : goal.overflow_sub-result
 overflow_sub-result c =
     omega (
       arith,
-      marked-few c.self.inside.held c.self.inside.pairs c.self.inside.wiring c.self.invariant.indexed.built,
+      marked-few c.self.inside.held c.self.inside.pairs c.self.inside.label_index c.self.invariant.indexed.built,
       ap length (c.marked.ensures.nodes ∙ c.reach.ensures.marked),
       ap length c.arrived.ensures,
       ap length (c.seeds.ensures ∙ ap (λ (a : Configuration). a.seeds) c.config-config.ensures.config),
@@ -28,10 +28,10 @@ returns c =
     } in
     let n = (length c.seeds.result.now + length c.arrived.result.now) - length c.marked.result.now in
     subst (λ v. IsPendingCount v.state.meaning n) c.self.view_is
-    (pending-count c.self.inside.held c.self.inside.pairs c.self.inside.wiring none n c.self.invariant.indexed.built
+    (pending-count c.self.inside.held c.self.inside.pairs c.self.inside.label_index none n c.self.invariant.indexed.built
     (omega (
       arith,
-      marked-few c.self.inside.held c.self.inside.pairs c.self.inside.wiring c.self.invariant.indexed.built,
+      marked-few c.self.inside.held c.self.inside.pairs c.self.inside.label_index c.self.invariant.indexed.built,
       ap length (c.marked.ensures.nodes ∙ c.reach.ensures.marked),
       ap length c.arrived.ensures,
       ap length (c.seeds.ensures ∙ ap (λ (a : Configuration). a.seeds) c.config-config.ensures.config),

@@ -4,7 +4,7 @@ use Rattle.fed_config.specs.Configuration.{Configuration}
 use Rattle.fed_config.specs.declared.seed.Seed.{Seed}
 use Rattle.receipt_core.specs.Receipt.{Receipt}
 use Rattle.closure_core.specs.Inside.Nodes.{pairs_of}
-use Rattle.trust_closure.specs.Pairs.{raised_of}
+use Rattle.trust_closure.specs.Inside.Pairs.{raised_of}
 use Rattle.closure_core.specs.AcceptedList.{IsAcceptedList}
 use Rattle.trust_closure.proofs.AcceptedFacts.{accepted-list}
 use Rattle.trust_closure.proofs.PlainFacts.{plain-tells}

@@ -6,7 +6,7 @@ use Rattle.fed_config.specs.declared.seed.Seed.{Seed}
 use Rattle.receipt_core.specs.Receipt.{Receipt}
 use Rattle.receipt_core.specs.Acceptance.{IsMember}
 use Rattle.closure_core.specs.Inside.Nodes.{pairs_of}
-use Rattle.trust_closure.specs.Pairs.{HasRaised}
+use Rattle.trust_closure.specs.Inside.Pairs.{HasRaised}
 use Rattle.closure_core.specs.AcceptedList.{document_of}
 use Rattle.trust_closure.proofs.PlainFacts.{plain-member}
 use Rattle.trust_closure.proofs.plain.closure.PlainClosureClosure.is_accepted.Goals as goal

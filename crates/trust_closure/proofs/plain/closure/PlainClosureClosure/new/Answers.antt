@@ -3,8 +3,8 @@ use Rattle.std.proofs.Common.{◌≡◌, ◌∙◌, [], List, Bool, length, arit
 use Rattle.fed_config.specs.Configuration.{Configuration}
 use Rattle.receipt_core.specs.Acceptance.{Meaning}
 use Rattle.closure_core.specs.Inside.Nodes.{flags_of}
-use Rattle.trust_closure.specs.Plain.{HasPlainFlags}
-use Rattle.trust_closure.proofs.Carrying.{firsts-within, raised-as, settled-from}
+use Rattle.trust_closure.specs.Inside.Plain.{HasPlainFlags}
+use Rattle.trust_closure.proofs.PlainChangeFacts.{firsts-within, raised-as, settled-from}
 use Rattle.trust_closure.proofs.SownFacts.{sown-set, none-released}
 use Rattle.trust_closure.proofs.plain.closure.PlainClosureClosure.new.Goals as goal
 

@@ -1,9 +1,9 @@
 use Rattle.std.proofs.Common.{◌≡◌, ◌<◌, ℕ, [], sym, ap, subst, length, arith, ◌∙◌, get_or}
 use Rattle.receipt_core.specs.declared.distrust.Distrust.{Distrust}
 use Rattle.receipt_core.specs.Receipt.{IsDigest}
-use Rattle.sorted_order.specs.Stock.{in_order}
+use Rattle.sorted_order.specs.ArenaView.{in_order}
 use Rattle.closure_core.specs.Inside.Records.{distrust_by}
-use Rattle.trust_closure.specs.Held.{Hoard, meaning_of, addition_result, AddsOrRefuses, domains_of}
+use Rattle.trust_closure.specs.Inside.Held.{HeldReceipts, meaning_of, addition_result, AddsOrRefuses, domains_of}
 use Rattle.trust_closure.proofs.ConfigFacts.{place_few, place_below, place_is, hoard_add, told_adds, meaning_with}
 use Rattle.trust_closure.proofs.shared.held.Held.add_record.Goals as goal
 
@@ -37,7 +37,7 @@ returns-clause-meaning c =
     let answer = c.answer_of.ensures in
     subst (λ r. AddsOrRefuses (meaning_of c.args.self.now) (record { domain = c.args.domain.now; key = c.args.key })
     (meaning_with c.self.inside.config (in_order c.self.inside.receipts) c.add.new.self) r) (sym answer)
-    (subst (λ (h : Hoard). AddsOrRefuses (meaning_of h) (record { domain = c.args.domain.now; key = c.args.key })
+    (subst (λ (h : HeldReceipts). AddsOrRefuses (meaning_of h) (record { domain = c.args.domain.now; key = c.args.key })
     (meaning_with c.self.inside.config (in_order c.self.inside.receipts) c.add.new.self)
     (addition_result c.add.result)) c.self.view_is
     (subst (λ (d : Distrust). AddsOrRefuses

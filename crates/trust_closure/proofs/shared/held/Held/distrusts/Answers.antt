@@ -1,5 +1,5 @@
 use Rattle.std.proofs.Common.{◌≡◌, ◌∙◌, sym, ap, ap₂, subst, length, List, ℕ}
-use Rattle.trust_closure.specs.Held.{Hoard, domains_of}
+use Rattle.trust_closure.specs.Inside.Held.{HeldReceipts, domains_of}
 use Rattle.closure_core.specs.Inside.Records.{AreWithin, distrusts_of}
 use Rattle.trust_closure.proofs.ConfigFacts.{one_domains}
 use Rattle.trust_closure.proofs.shared.held.Held.distrusts.Goals as goal
@@ -13,4 +13,4 @@ new-requires c =
 pub returns : goal.returns
 returns c =
     let names : c.domains.result.now ≡ domains_of c.self.inside.config = one_domains c.self.inside.config c.domains.result.now c.domains.ensures.all in
-    c.new.ensures ∙ ap₂ distrusts_of names c.as_slice.ensures.records ∙ ap (λ (h : Hoard). h.records) c.self.view_is
+    c.new.ensures ∙ ap₂ distrusts_of names c.as_slice.ensures.records ∙ ap (λ (h : HeldReceipts). h.records) c.self.view_is

@@ -6,8 +6,8 @@ use Rattle.std.specs.List.Sorted.{IsNonDecreasingBy}
 use Rattle.std.specs.Prelude.{◌↔◌}
 use Rattle.receipt_core.specs.Order.{receipt_total}
 use Rattle.receipt_core.specs.Receipt.{Receipt, receipt_cmp}
-use Rattle.sorted_order.specs.Stock.{in_order, FindsNumber}
-use Rattle.trust_closure.specs.Held.{Hoard}
+use Rattle.sorted_order.specs.ArenaView.{in_order, FindsNumber}
+use Rattle.trust_closure.specs.Inside.Held.{HeldReceipts}
 use Rattle.closure_core.proofs.RisingFacts.{sought}
 use Rattle.trust_closure.proofs.HeldFacts.{finds_held}
 use Rattle.trust_closure.proofs.shared.held.Held.holds.Goals as goal
@@ -21,6 +21,6 @@ find-requires c = record {
 pub returns : goal.returns
 returns c =
     let found = subst (λ (r : Receipt). FindsNumber (λ s. receipt_cmp s r) c.self.inside.receipts c.find.result) c.new.ensures c.find.ensures in
-    subst (λ (h : Hoard). IsTrue c.is_ok.result ↔ Contains h.held c.args.receipt.now) c.self.view_is
+    subst (λ (h : HeldReceipts). IsTrue c.is_ok.result ↔ Contains h.held c.args.receipt.now) c.self.view_is
     (subst (λ b. IsTrue b ↔ Contains (in_order c.self.inside.receipts) c.args.receipt.now) (sym c.is_ok.ensures.value)
     (finds_held c.self.inside.receipts c.args.receipt.now c.find.result c.self.invariant.receipts c.domain-form.ensures.form found))

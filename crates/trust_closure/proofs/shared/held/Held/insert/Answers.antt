@@ -3,9 +3,9 @@ use Rattle.std.specs.Prelude.{min}
 use Rattle.std.specs.List.{insert}
 use Rattle.receipt_core.specs.Receipt.{Receipt, receipt_cmp, with_receipt}
 use Rattle.receipt_core.specs.Acceptance.{IsFitting}
-use Rattle.sorted_order.specs.Stock.{in_order, compared_at}
+use Rattle.sorted_order.specs.ArenaView.{in_order, compared_at}
 use Rattle.sorted_order.specs.Sought.{IsMissing, IsGap}
-use Rattle.trust_closure.specs.Held.{Hoard, bucket_cmp}
+use Rattle.trust_closure.specs.Inside.Held.{HeldReceipts, bucket_cmp}
 use Rattle.trust_closure.proofs.HeldFacts.{bucket_sought, length_in_order, missing_inserts, hoard_more}
 use Rattle.trust_closure.proofs.shared.held.Held.insert.Goals as goal
 
@@ -17,7 +17,7 @@ before-spot-requires-clause-rising c =
 pub insert-number-requires-clause-place : goal.insert-number-requires-clause-place
 insert-number-requires-clause-place c =
     let missing : IsMissing (λ s. receipt_cmp s c.args.receipt) (in_order c.self.inside.receipts) c.args.place =
-    subst (λ (h : Hoard). IsMissing (λ s. receipt_cmp s c.args.receipt) h.held c.args.place) (sym c.self.view_is) c.requires.absent.missing in
+    subst (λ (h : HeldReceipts). IsMissing (λ s. receipt_cmp s c.args.receipt) h.held c.args.place) (sym c.self.view_is) c.requires.absent.missing in
     let size : length (in_order c.self.inside.receipts) ≡ length c.self.inside.receipts.items =
     length_in_order c.self.inside.receipts c.self.invariant.arranged in
     let within = missing.within in
@@ -26,10 +26,10 @@ insert-number-requires-clause-place c =
 pub invariant_of-self : goal.invariant_of-self
 invariant_of-self c =
     let missing : IsMissing (λ s. receipt_cmp s c.args.receipt) (in_order c.self.inside.receipts) c.args.place =
-    subst (λ (h : Hoard). IsMissing (λ s. receipt_cmp s c.args.receipt) h.held c.args.place) (sym c.self.view_is) c.requires.absent.missing in
+    subst (λ (h : HeldReceipts). IsMissing (λ s. receipt_cmp s c.args.receipt) h.held c.args.place) (sym c.self.view_is) c.requires.absent.missing in
     let fits : IsFitting c.self.inside.config c.args.receipt =
-    subst (λ (h : Hoard). IsFitting h.config c.args.receipt) (sym c.self.view_is) c.requires.absent.fits in
-    let few : length (in_order c.self.inside.receipts) < 65536 = subst (λ (h : Hoard). length h.held < 65536) (sym c.self.view_is) c.requires.absent.few in
+    subst (λ (h : HeldReceipts). IsFitting h.config c.args.receipt) (sym c.self.view_is) c.requires.absent.fits in
+    let few : length (in_order c.self.inside.receipts) < 65536 = subst (λ (h : HeldReceipts). length h.held < 65536) (sym c.self.view_is) c.requires.absent.few in
     let size : length (in_order c.self.inside.receipts) ≡ length c.self.inside.receipts.items =
     length_in_order c.self.inside.receipts c.self.invariant.arranged in
     let gap : IsGap (λ n. compared_at (λ x. bucket_cmp x c.args.receipt) c.self.inside.receipts.items n) c.self.inside.buckets.items c.before-spot.result =
@@ -47,12 +47,12 @@ invariant_of-self c =
 pub returns : goal.returns
 returns c =
     let missing : IsMissing (λ s. receipt_cmp s c.args.receipt) (in_order c.self.inside.receipts) c.args.place =
-    subst (λ (h : Hoard). IsMissing (λ s. receipt_cmp s c.args.receipt) h.held c.args.place) (sym c.self.view_is) c.requires.absent.missing in
-    let arrived = c.insert-number.ensures.items ∙ ap (λ (h : Hoard). h.arrived ++ c.args.receipt ∷ []) c.self.view_is in
+    subst (λ (h : HeldReceipts). IsMissing (λ s. receipt_cmp s c.args.receipt) h.held c.args.place) (sym c.self.view_is) c.requires.absent.missing in
+    let arrived = c.insert-number.ensures.items ∙ ap (λ (h : HeldReceipts). h.arrived ++ c.args.receipt ∷ []) c.self.view_is in
     let held = c.insert-number.ensures.in_order
     ∙ sym (missing_inserts (in_order c.self.inside.receipts) c.args.receipt c.args.place missing)
-    ∙ ap (λ (h : Hoard). with_receipt c.args.receipt h.held) c.self.view_is in
-    let config = ap (λ (h : Hoard). h.config) c.self.view_is in
-    let records = ap (λ (h : Hoard). h.records) c.self.view_is in
-    let capacity = ap₂ (λ a b. min a b) c.insert-number.ensures.capacity c.insert.ensures.capacity ∙ ap (λ (h : Hoard). h.capacity) c.self.view_is in
+    ∙ ap (λ (h : HeldReceipts). with_receipt c.args.receipt h.held) c.self.view_is in
+    let config = ap (λ (h : HeldReceipts). h.config) c.self.view_is in
+    let records = ap (λ (h : HeldReceipts). h.records) c.self.view_is in
+    let capacity = ap₂ (λ a b. min a b) c.insert-number.ensures.capacity c.insert.ensures.capacity ∙ ap (λ (h : HeldReceipts). h.capacity) c.self.view_is in
     λ i. record { config = config i; arrived = arrived i; held = held i; records = records i; capacity = capacity i }

@@ -4,7 +4,7 @@ use Rattle.std.specs.Prelude.{◌↔◌}
 use Rattle.std.specs.List.{Contains}
 use Rattle.receipt_core.specs.declared.distrust.Distrust.{Distrust}
 use Rattle.closure_core.specs.Inside.Records.{distrust_by, distrusts_of}
-use Rattle.trust_closure.specs.Held.{Hoard, domains_of}
+use Rattle.trust_closure.specs.Inside.Held.{HeldReceipts, domains_of}
 use Rattle.trust_closure.proofs.ConfigFacts.{place_few, place_below, place_is, distrust_held, distrust_lacks}
 use Rattle.trust_closure.proofs.shared.held.Held.is_distrusted.Goals as goal
 
@@ -26,7 +26,7 @@ returns-in-Some c =
       domain = c.args.domain.now;
       key = c.args.key;
     } = λ i. record { domain = domains i; key = record { 0 = keys i } } in
-    subst (λ (h : Hoard). IsTrue c.holds.result ↔ Contains h.records (record { domain = c.args.domain.now; key = c.args.key })) c.self.view_is
+    subst (λ (h : HeldReceipts). IsTrue c.holds.result ↔ Contains h.records (record { domain = c.args.domain.now; key = c.args.key })) c.self.view_is
     (subst (λ (d : Distrust). IsTrue c.holds.result ↔ Contains (distrusts_of (domains_of c.self.inside.config) c.self.inside.records) d) same
     (distrust_held c.self.inside.config c.self.inside.records c.record_of.result c.holds.result below c.self.invariant.within c.holds.ensures))
 
@@ -35,5 +35,5 @@ returns-in-None c = (
   λ t. absurd (cc),
   λ has. absurd (distrust_lacks c.self.inside.config c.self.inside.records
       (record { domain = c.args.domain.now; key = c.args.key }) c.self.invariant.within c.in-None.ensures
-      (subst (λ (h : Hoard). Contains h.records (record { domain = c.args.domain.now; key = c.args.key })) (sym c.self.view_is) has)),
+      (subst (λ (h : HeldReceipts). Contains h.records (record { domain = c.args.domain.now; key = c.args.key })) (sym c.self.view_is) has)),
 )

@@ -3,9 +3,9 @@ use Rattle.std.specs.Ordering.{nat_cmp}
 use Rattle.std.specs.List.{All, filter}
 use Rattle.receipt_core.specs.Receipt.{Receipt}
 use Rattle.sorted_order.specs.Sought.{is_equal}
-use Rattle.sorted_order.specs.Stock.{picked, compared_at}
+use Rattle.sorted_order.specs.ArenaView.{picked, compared_at}
 use Rattle.sorted_order.proofs.PickedFacts.{filter_within}
-use Rattle.trust_closure.specs.Held.{Hoard, bucket_of}
+use Rattle.trust_closure.specs.Inside.Held.{HeldReceipts, bucket_of}
 use Rattle.closure_core.specs.AcceptedList.{receipts_in}
 use Rattle.trust_closure.proofs.HeldFacts.{buckets_rise, bucket_list}
 use Rattle.trust_closure.proofs.shared.held.Held.receipts_of.Goals as goal
@@ -37,4 +37,4 @@ returns c =
     c.new-3.ensures ∙ c.new-2.ensures ∙ ap (λ xs. picked xs c.matching-numbers.result) lent ∙ ap (picked c.self.inside.receipts.items) numbers
     ∙ bucket_list c.self.inside.receipts c.self.inside.buckets.items c.args.bucket c.self.invariant.arranged
     c.self.invariant.buckets_arranged c.self.invariant.rising c.self.invariant.buckets_rising
-    ∙ ap (λ (h : Hoard). receipts_in c.args.bucket h.held) c.self.view_is
+    ∙ ap (λ (h : HeldReceipts). receipts_in c.args.bucket h.held) c.self.view_is

@@ -1,8 +1,8 @@
 -- A record has the key and the number of the domain.
 use Rattle.std.proofs.Common.{◌<◌, length, subst}
 use Rattle.std.specs.Prelude.{◌↔◌, IsTrue}
-use Rattle.trust_closure.specs.Held.{Hoard, domains_of}
-use Rattle.trust_closure.specs.Indexed.{IsDistrusted}
+use Rattle.trust_closure.specs.Inside.Held.{HeldReceipts, domains_of}
+use Rattle.trust_closure.specs.Inside.Indexed.{IsDistrusted}
 use Rattle.closure_core.specs.declared.record.Record.{Record}
 use Rattle.trust_closure.proofs.ConfigFacts.{distrust_held}
 use Rattle.closure_core.proofs.RisingFacts.{each_has}
@@ -16,7 +16,7 @@ returns c =
     let x : Record = record { key = label.key; domain = label.domain } in
     let held = λ (l : label.domain < length (domains_of config)).
     distrust_held config records x c.holds.result l c.self.invariant.within c.holds.ensures in
-    subst (λ (h : Hoard). IsTrue c.holds.result ↔ IsDistrusted h label) c.self.view_is (
+    subst (λ (h : HeldReceipts). IsTrue c.holds.result ↔ IsDistrusted h label) c.self.view_is (
       λ t.
           let l : label.domain < length (domains_of config) =
           each_has (λ (r : Record). r.domain < length (domains_of config)) records x

@@ -1,7 +1,7 @@
 -- One more pair has a number in order.
 use Rattle.std.proofs.Common.{◌∙◌, subst, sym}
 use Rattle.closure_core.specs.Inside.Nodes.{pairs_of}
-use Rattle.trust_closure.specs.Pairs.{IsPairing}
+use Rattle.trust_closure.specs.Inside.Pairs.{IsDocumentTable}
 use Rattle.closure_core.specs.AcceptedList.{document_of}
 use Rattle.trust_closure.proofs.PairFacts.{pairing-more}
 use Rattle.trust_closure.proofs.shared.pairs.Pairs.add.Goals as goal
@@ -10,6 +10,6 @@ pub returns-clause-pairing : goal.returns-clause-pairing
 returns-clause-pairing c =
     pairing-more (pairs_of c.args.seeds.now c.args.receipts.now) _ _ (document_of c.args.domain.now c.args.document.now)
     c.len-number.result c.first_number-first.result
-    (subst (IsPairing (pairs_of c.args.seeds.now c.args.receipts.now)) (sym c.self.view_is) c.requires.pairing)
+    (subst (IsDocumentTable (pairs_of c.args.seeds.now c.args.receipts.now)) (sym c.self.view_is) c.requires.pairing)
     c.canonical-form.ensures.form (c.len-number.ensures ∙ c.self.inside.firsts.ok.0)
     c.first_number-first.ensures.first c.push_reserved.ensures.items c.push_reserved-2.ensures.items

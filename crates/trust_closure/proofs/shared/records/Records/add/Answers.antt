@@ -4,7 +4,7 @@ use Rattle.std.specs.List.Sorted.{IsStrictlySortedBy, IsPartitionPoint}
 use Rattle.std.specs.Vec.{vec_capacity, vec_len}
 use Rattle.receipt_core.specs.Rising.{with_item}
 use Rattle.sorted_order.proofs.BlockFacts.{if_ok}
-use Rattle.trust_closure.specs.Records.{record_cmp, AreRecords, IsAdded}
+use Rattle.trust_closure.specs.Inside.Records.{record_cmp, AreRecords, IsAdded}
 use Rattle.trust_closure.proofs.RecordFacts.{record_total, held_at, searched, split_lacks, with_record, more_records}
 use Rattle.trust_closure.proofs.shared.records.Records.add.Goals as goal
 

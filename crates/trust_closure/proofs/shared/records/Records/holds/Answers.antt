@@ -4,7 +4,7 @@ use Rattle.std.specs.List.{Contains}
 use Rattle.std.specs.List.Sorted.{IsStrictlySortedBy}
 use Rattle.std.specs.Prelude.{◌↔◌}
 use Rattle.std.specs.Result.{is_ok}
-use Rattle.trust_closure.specs.Records.{record_cmp}
+use Rattle.trust_closure.specs.Inside.Records.{record_cmp}
 use Rattle.trust_closure.proofs.RecordFacts.{holds_found}
 use Rattle.trust_closure.proofs.shared.records.Records.holds.Goals as goal
 

@@ -1,6 +1,6 @@
 use Rattle.std.proofs.Common.{sym, subst, arith, ◌≤◌}
 use Rattle.std.specs.Vec.{vec_capacity}
-use Rattle.trust_closure.specs.Records.{AreRecords}
+use Rattle.trust_closure.specs.Inside.Records.{AreRecords}
 use Rattle.trust_closure.proofs.RecordFacts.{no_records}
 use Rattle.trust_closure.proofs.shared.records.Records.new.Goals as goal
 

@@ -1,0 +1,121 @@
+-- What one exchange about a bucket gives.
+use Rattle.std.proofs.Common.{◌≡◌, ℕ, ◌<◌, ◌≤◌, inl, inr, Bool, true, ◌&&◌, nat_le, List, [], length, map, refl, sym, ap, ◌∙◌, subst, le-leb, eq-eqb}
+use Rattle.std.specs.Prelude.{Contains, filter, slice_get, Some, not, bytes_eq}
+use Rattle.std.specs.List.{AllByRecursion}
+use Rattle.std.proofs.lemmas.Bool.{cases_Bool, and_from}
+use Rattle.std.proofs.lemmas.Slice.Eq.{bytes_eq-Decides}
+use Rattle.receipt_core.specs.Receipt.{Receipt, IsReceipt, IsDistrust, receipt_id_of}
+use Rattle.replica_core.specs.State.{State, id_cmp, joined, is_within_limits, bucket_of_id, is_of_bucket, is_named, ids_held, receipts_lacking}
+use Rattle.replica_core.specs.World.{question, answer, World, Rules, sends, where_so, replies, takes_whole, gained, apply, happens, is_replica}
+use Rattle.replica_core.specs.Convergence.{Inquiry, IsInquiry, Exchange, at_question, at_answer, at_taking, after_taking, HasAll, IsPartOf}
+use Rattle.replica_core.specs.declared.event.Event.{Event}
+use Rattle.replica_core.specs.declared.event.Event.TheVariants.{Ask, Answer, Absorb}
+use Rattle.replica_core.proofs.ContainsFacts.{filter-from, filter-to, map-from, any-from, each-to, get-new, contains-none}
+use Rattle.replica_core.proofs.JoinLawFacts.{Laws, Keeps, joined-only}
+use Rattle.replica_core.proofs.EventFacts.{at-here, part-trans, part-event, part-run, sent-stays, replica-true}
+
+-- the question stands at its place
+pub asked-here : (rules : Rules) (w : World) (i b : ℕ) → i < rules.replicas → b ≤ 255
+    → slice_get (happens rules w (Ask i b)).sent (length w.sent) ≡ Some (question i b (ids_held (w.now i) b))
+asked-here rules w i b l m =
+    let e : (is_replica rules i && nat_le b 255) ≡ true = and_from (is_replica rules i) (nat_le b 255) (replica-true rules i l) (le-leb b 255 m) in
+    ap (λ t. slice_get (apply w (where_so t (sends (question i b (ids_held (w.now i) b))))).sent (length w.sent)) e
+    ∙ get-new w.sent (question i b (ids_held (w.now i) b))
+
+-- what a replica answers to a question about the bucket that names the ids
+abbrev content_of : State → ℕ → List (List ℕ) → State
+content_of state b ids = record { held = receipts_lacking state b ids; records = state.records }
+
+-- The answer stands at its place.
+answered-here : (rules : Rules) (w : World) (i j b k : ℕ) (ids : List (List ℕ)) → j < rules.replicas → slice_get w.sent k ≡ Some (question i b ids)
+    → slice_get (happens rules w (Answer j k)).sent (length w.sent) ≡ Some (answer j k (content_of (w.now j) b ids))
+answered-here rules w i j b k ids l e =
+    ap (λ t. slice_get (apply w (where_so t (replies (w.now j) j k (slice_get w.sent k)))).sent (length w.sent)) (replica-true rules j l)
+    ∙ ap (λ f. slice_get (apply w (replies (w.now j) j k f)).sent (length w.sent)) e
+    ∙ get-new w.sent (answer j k (content_of (w.now j) b ids))
+
+-- The taking of an answer within the limits joins its content.
+absorbed-here : (rules : Rules) (w : World) (i j n k : ℕ) (content : State) → i < rules.replicas → slice_get w.sent n ≡ Some (answer j k content)
+    → is_within_limits (joined (w.now i) content) ≡ true → (happens rules w (Absorb i n)).now i ≡ joined (w.now i) content
+absorbed-here rules w i j n k content l e t =
+    ap (λ b. (apply w (where_so b (takes_whole i (slice_get w.sent n)))).now i) (replica-true rules i l)
+    ∙ ap (λ f. (apply w (takes_whole i f)).now i) e
+    ∙ ap (λ b. (gained b w i (joined (w.now i) content)).now i) t
+    ∙ at-here i (joined (w.now i) content) w.now
+
+-- an id that a question names is that of a receipt that the asker held
+named-held : (state : State) (b : ℕ) (r : Receipt) → is_named (ids_held state b) r ≡ true
+    → (s : Receipt) × Contains state.held s × (receipt_id_of s ≡ receipt_id_of r)
+named-held state b r e =
+    let found = any-from (λ id. bytes_eq id (receipt_id_of r)) (ids_held state b) e in
+    let same : found.0 ≡ receipt_id_of r = (bytes_eq-Decides found.0 (receipt_id_of r)).0 found.2 in
+    elim (joined-only id_cmp (map receipt_id_of (filter (is_of_bucket b) state.held)) [] found.0 found.1) [
+      | inl c ↦
+          let source = map-from receipt_id_of (filter (is_of_bucket b) state.held) found.0 c in
+          (source.0, (filter-from (is_of_bucket b) state.held source.0 source.1).0, source.2 ∙ same)
+      | inr c ↦ absurd (contains-none found.0 c)
+    ]
+
+-- whether the receipt is of the bucket and not among those that the asker named
+abbrev lacking : State → ℕ → Receipt → Bool
+lacking asking b r = is_of_bucket b r && not (is_named (ids_held asking b) r)
+
+-- the asker held what it named, and takes the others
+gives : (laws : Laws) (i b : ℕ) (asking given before : State) → IsPartOf asking before → Keeps IsReceipt IsDistrust given → Keeps IsReceipt IsDistrust before
+    → HasAll b given (joined before (content_of given b (ids_held asking b)))
+gives laws i b asking given before part forms own = record {
+  receipts = λ r c e.
+      elim (cases_Bool (is_named (ids_held asking b) r)) [
+        | inl named ↦
+            let s = named-held asking b r named in
+            (s.0, laws.receipts.old (receipts_lacking given b (ids_held asking b)) before.held s.0 (part.receipts s.0 s.1), s.2)
+        | inr unnamed ↦
+            let sent : Contains (receipts_lacking given b (ids_held asking b)) r =
+            filter-to (lacking asking b) given.held r c
+            (and_from (is_of_bucket b r) (not (is_named (ids_held asking b) r)) (eq-eqb (bucket_of_id r) b e)
+            (ap not unnamed)) in
+            let each : AllByRecursion IsReceipt (receipts_lacking given b (ids_held asking b)) =
+            each-to IsReceipt (receipts_lacking given b (ids_held asking b))
+            (λ s d. forms.receipts s (filter-from (lacking asking b) given.held s d).0) in
+            (r, laws.receipts.new (receipts_lacking given b (ids_held asking b)) before.held r each (each-to IsReceipt before.held own.receipts) sent, refl)
+      ];
+  distrusts = λ x c. laws.records.new given.records before.records x (each-to IsDistrust given.records forms.records)
+      (each-to IsDistrust before.records own.records) c;
+}
+
+-- After the exchange the asker has what the answerer held of the bucket.
+pub exchange-gives : (laws : Laws) (rules : Rules) (start : World) (inquiry : Inquiry) (events : List Event) → IsInquiry rules.replicas inquiry
+    → (x : Exchange rules start inquiry events) → Keeps IsReceipt IsDistrust ((at_answer rules start x.course).now inquiry.answerer)
+    → Keeps IsReceipt IsDistrust ((at_taking rules start x.course).now inquiry.asker)
+    → HasAll inquiry.bucket ((at_answer rules start x.course).now inquiry.answerer) ((after_taking rules start x.course).now inquiry.asker)
+exchange-gives laws rules start inquiry events is x forms own =
+    let i = inquiry.asker in
+    let j = inquiry.answerer in
+    let b = inquiry.bucket in
+    let w = at_question rules start x.course in
+    let v = at_answer rules start x.course in
+    let u = at_taking rules start x.course in
+    let q : slice_get v.sent x.course.question_place ≡ Some (question i b (ids_held (w.now i) b)) =
+    sent-stays rules x.course.asked (happens rules w (Ask i b)) x.course.question_place (question i b (ids_held (w.now i) b))
+    (subst (λ k. slice_get (happens rules w (Ask i b)).sent k ≡ Some (question i b (ids_held (w.now i) b))) (sym x.asked_at) (asked-here rules w i b is.asker is.bucket))
+    in
+    let a : slice_get u.sent x.course.answer_place ≡ Some (answer j x.course.question_place (content_of (v.now j) b (ids_held (w.now i) b))) =
+    sent-stays rules x.course.answered (happens rules v (Answer j x.course.question_place)) x.course.answer_place
+    (answer j x.course.question_place (content_of (v.now j) b (ids_held (w.now i) b)))
+    (subst (λ k. slice_get (happens rules v (Answer j x.course.question_place)).sent k
+    ≡ Some (answer j x.course.question_place (content_of (v.now j) b (ids_held (w.now i) b)))) (sym x.answered_at)
+    (answered-here rules v i j b x.course.question_place (ids_held (w.now i) b) is.answerer q))
+    in
+    let part : IsPartOf (w.now i) (u.now i) =
+    part-trans (w.now i) (v.now i) (u.now i)
+    (part-trans (w.now i) ((happens rules w (Ask i b)).now i) (v.now i) (part-event laws rules w i (Ask i b) (λ e. cc))
+    (part-run laws rules i x.course.asked (happens rules w (Ask i b)) x.no_restart))
+    (part-trans (v.now i) ((happens rules v (Answer j x.course.question_place)).now i) (u.now i)
+    (part-event laws rules v i (Answer j x.course.question_place) (λ e. cc))
+    (part-run laws rules i x.course.answered (happens rules v (Answer j x.course.question_place)) x.none_later))
+    in
+    subst (HasAll b (v.now j))
+    (sym (absorbed-here rules u i j x.course.answer_place x.course.question_place
+    (content_of (v.now j) b (ids_held (w.now i) b)) is.asker a
+    (x.whole (content_of (v.now j) b (ids_held (w.now i) b)) a)))
+    (gives laws i b (w.now i) (v.now j) (u.now i) part forms own)

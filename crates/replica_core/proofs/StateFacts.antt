@@ -1,0 +1,95 @@
+-- Every state is a pair of rising lists within the limits, and what is no replica holds nothing.
+use Rattle.std.proofs.Common.{◌≡◌, ℕ, ◌+◌, ◌≤◌, inl, inr, Bool, true, false, List, [], ◌∷◌, arith, refl, sym, subst, leb-true}
+use Rattle.std.specs.List.Sorted.{IsStrictlySortedBy}
+use Rattle.std.proofs.lemmas.Bool.{cases_eq}
+use Rattle.receipt_core.specs.Receipt.{receipt_cmp, distrust_cmp}
+use Rattle.replica_core.specs.State.{State, no_state, joined, is_within_limits}
+use Rattle.replica_core.specs.World.{World, empty_world, Rules, apply, at_replica, gained, happens, run_from, is_replica}
+use Rattle.replica_core.specs.declared.event.Event.{Event}
+use Rattle.replica_core.proofs.JoinLawFacts.{Laws}
+use Rattle.replica_core.proofs.EventFacts.{covered, at-here, at-other}
+
+-- two rising lists within the limits
+pub record IsTidy (state : State) : Type 0 where
+  pub rising : IsStrictlySortedBy receipt_cmp state.held
+  pub records_rising : IsStrictlySortedBy distrust_cmp state.records
+  pub within : is_within_limits state ≡ true
+
+-- a property of every state that is held or saved
+pub record Throughout (P : ℕ → State → Type 0) (w : World) : Type 0 where
+  pub now : (i : ℕ) → P i (w.now i)
+  pub saved : (i : ℕ) → P i (w.saved i)
+
+-- It stays so when one replica's state is replaced by one that has the property.
+throughout-at : (P : ℕ → State → Type 0) (i k : ℕ) (state : State) (states : ℕ → State) → P k state → P i (states i) → P i (at_replica k state states i)
+throughout-at P i k state states here there =
+    elim (cases_eq i k) [
+      | inl e ↦ subst (λ j. P j (at_replica k state states j)) (sym e) (subst (P k) (sym (at-here k state states)) here)
+      | inr d ↦ subst (P i) (sym (at-other i k state states d)) there
+    ]
+
+-- It stays so after a gain, where that keeps the property or is beyond the limits.
+throughout-gained : (P : ℕ → State → Type 0) (b : Bool) (w : World) (k : ℕ) (state : State) → Throughout P w
+    → (b ≡ true → P k state) → Throughout P (gained b w k state)
+throughout-gained P true w k state h s = record { now = λ i. throughout-at P i k state w.now (s refl) (h.now i); saved = h.saved }
+throughout-gained P false w k state h s = h
+
+-- Saves and restarts keep every property that is the same for all replicas or concerns none: a gain
+-- has to show it.
+pub record IsKeptByGains (rules : Rules) (P : ℕ → State → Type 0) : Type 0 where
+  pub gain : (k : ℕ) (state more : State) → is_replica rules k ≡ true → P k state → is_within_limits (joined state more) ≡ true → P k (joined state more)
+
+-- It stays so over each event, where gains keep the property.
+pub throughout-event : (rules : Rules) (P : ℕ → State → Type 0) → IsKeptByGains rules P → (w : World) (event : Event)
+    → Throughout P w → Throughout P (happens rules w event)
+throughout-event rules P kept w event h =
+    covered rules w event (λ effect. Throughout P (apply w effect)) (record {
+      idle = h;
+      more = λ k gain e. throughout-gained P (is_within_limits (joined (w.now k) gain)) w k (joined (w.now k) gain) h
+          (λ b. kept.gain k (w.now k) gain e (h.now k) b);
+      told = λ message. record { now = h.now; saved = h.saved };
+      kept = λ k e s. record { now = h.now; saved = λ i. throughout-at P i k (w.now k) w.saved (h.now k) (h.saved i) };
+      again = λ k e s. record { now = λ i. throughout-at P i k (w.saved k) w.now (h.saved k) (h.now i); saved = h.saved };
+    })
+
+-- So it stays so over each list of events.
+pub throughout-run : (rules : Rules) (P : ℕ → State → Type 0) → IsKeptByGains rules P
+    → (events : List Event) (w : World) → Throughout P w → Throughout P (run_from rules w events)
+throughout-run rules P kept [] w h = h
+throughout-run rules P kept (event ∷ events) w h = throughout-run rules P kept events (happens rules w event) (throughout-event rules P kept w event h)
+
+-- ---- rising lists within the limits
+
+-- A gain within the limits joins rising lists into rising lists.
+pub tidy-kept : (laws : Laws) (rules : Rules) → IsKeptByGains rules (λ i state. IsTidy state)
+tidy-kept laws rules = record {
+  gain = λ k state more e t b. record {
+    rising = laws.receipts.rising more.held state.held t.rising;
+    records_rising = laws.records.rising more.records state.records t.records_rising;
+    within = b;
+  };
+}
+
+-- At the beginning all lists are empty, so they rise.
+pub tidy-empty : Throughout (λ i state. IsTidy state) empty_world
+unfolding IsStrictlySortedBy
+tidy-empty = record {
+  now = λ i. record { rising = tt; records_rising = tt; within = refl };
+  saved = λ i. record { rising = tt; records_rising = tt; within = refl };
+}
+
+-- ---- what is no replica
+
+-- what is no replica holds nothing
+abbrev pub IsOutside : Rules → ℕ → State → Type 0
+IsOutside rules i state = rules.replicas ≤ i → state ≡ no_state
+
+-- What is no replica gains nothing.
+pub outside-kept : (rules : Rules) → IsKeptByGains rules (IsOutside rules)
+outside-kept rules = record {
+  gain = λ k state more e o b l. absurd (let inside : k + 1 ≤ rules.replicas = leb-true (k + 1) rules.replicas e in omega arith);
+}
+
+-- At the beginning nothing is held.
+pub outside-empty : (rules : Rules) → Throughout (IsOutside rules) empty_world
+outside-empty rules = record { now = λ i l. refl; saved = λ i l. refl }

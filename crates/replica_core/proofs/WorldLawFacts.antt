@@ -1,0 +1,258 @@
+-- The clauses of the law, each of every list of events.
+use Rattle.std.proofs.Common.{◌≡◌, ◌≢◌, ℕ, ◌<◌, ◌⊎◌, inl, inr, Bool, true, false, cond, ◌&&◌, nat_le, List, []}
+use Rattle.std.proofs.Common.{◌∷◌, ◌++◌, length, arith, refl, sym, ap, ◌∙◌, subst, leb-true}
+use Rattle.std.specs.Prelude.{Contains, ⊤, bytes_eq}
+use Rattle.std.specs.List.{AllByRecursion, list_any}
+use Rattle.std.proofs.lemmas.Bool.{and_parts}
+use Rattle.std.proofs.lemmas.Slice.Eq.{bytes_eq-Decides}
+use Rattle.std.proofs.lemmas.List.Sums.{fold-append}
+use Rattle.spiffe_name.specs.SpiffeId.{Id}
+use Rattle.fed_config.specs.Configuration.{Configuration, HasDomain}
+use Rattle.fed_config.specs.declared.relationship.Relationship.{Relationship}
+use Rattle.fed_config.specs.declared.seed.Seed.{Seed}
+use Rattle.receipt_core.specs.declared.distrust.Distrust.{Distrust}
+use Rattle.receipt_core.specs.Receipt.{Receipt, IsReceipt, IsDistrust, Pair, pair_of}
+use Rattle.receipt_core.specs.Acceptance.{Meaning, IsMeaning, IsFitting, Vouches, Leads, IsMember, IsClosed, pair_of_seed}
+use Rattle.replica_core.specs.State.{no_state, meaning_of_state}
+use Rattle.replica_core.specs.World.{Message, question, answer, World, empty_world, Rules, rules_of, same_id, is_fitting, is_known, happens, run_from, run}
+use Rattle.replica_core.specs.World.{WorldRun, rules_in, world_after, held_by, saved_by, followed_by}
+use Rattle.replica_core.specs.Convergence.{IsEvent, AreEvents, Lacks, IsPartOf, Inquiry, IsInquiry, Exchange, at_answer, after_taking, HasAll, Settles}
+use Rattle.replica_core.specs.declared.event.Event.{Event}
+use Rattle.replica_core.specs.declared.event.Event.TheVariants.{Take, Revoke, Ask, Answer, Absorb, Part, Join, Save, Restart}
+use Rattle.replica_core.proofs.ContainsFacts.{any-from, each-from, each-to}
+use Rattle.replica_core.proofs.JoinLawFacts.{Laws}
+use Rattle.replica_core.proofs.Provenance.{empty-kept}
+use Rattle.replica_core.proofs.KeptFacts.{IsKept, KeepsMessage, Admits, kept-run}
+use Rattle.replica_core.proofs.EventFacts.{part-event, saved-run, saved-here, restarted-here}
+use Rattle.replica_core.proofs.StateFacts.{IsTidy, IsOutside, Throughout, throughout-run, tidy-kept, tidy-empty, outside-kept, outside-empty}
+use Rattle.replica_core.proofs.ExchangeFacts.{exchange-gives}
+use Rattle.replica_core.proofs.AgreementFacts.{IsStart, course-forms, agree}
+
+-- ---- what is held is a meaning
+
+-- Ids that the test finds equal are equal.
+same-ids : (a b : Id) → same_id a b ≡ true → a ≡ b
+same-ids a b e =
+    let parts = and_parts (bytes_eq a.text b.text && bytes_eq a.domain b.domain) (bytes_eq a.path b.path) e in
+    let front = and_parts (bytes_eq a.text b.text) (bytes_eq a.domain b.domain) parts.0 in
+    let text : a.text ≡ b.text = (bytes_eq-Decides a.text b.text).0 front.0 in
+    let domain : a.domain ≡ b.domain = (bytes_eq-Decides a.domain b.domain).0 front.1 in
+    let path : a.path ≡ b.path = (bytes_eq-Decides a.path b.path).0 parts.1 in
+    ap (λ t. record a { text = t }) text ∙ ap (λ t. record { text = b.text; domain = t; path = a.path }) domain
+    ∙ ap (λ t. record { text = b.text; domain = b.domain; path = t }) path
+
+-- A receipt that passes the world's test fits.
+pub fits-from : (config : Configuration) (r : Receipt) → is_fitting config r ≡ true → IsFitting config r
+fits-from config r e =
+    let found = any-from (λ (o : Relationship). bytes_eq o.domain r.domain && same_id o.endpoint r.endpoint) config.relationships e in
+    let both = and_parts (bytes_eq found.0.domain r.domain) (same_id found.0.endpoint r.endpoint) found.2 in
+    record {
+      relationship = found.0;
+      has = found.1;
+      domain = (bytes_eq-Decides found.0.domain r.domain).0 both.0;
+      endpoint = same-ids found.0.endpoint r.endpoint both.1;
+    }
+
+-- Where a test that finds one of three passes, one of the three does.
+known-cases : (a b c : Bool) → cond a true (cond b true c) ≡ true → (a ≡ true) ⊎ ((b ≡ true) ⊎ (c ≡ true))
+known-cases true b c e = inl refl
+known-cases false true c e = inr (inl refl)
+known-cases false false c e = inr (inr e)
+
+-- A domain that passes the world's test is one of the configuration.
+pub knows-from : (config : Configuration) (domain : List ℕ) → is_known config domain ≡ true → HasDomain config domain
+knows-from config domain e =
+    elim (known-cases (list_any (λ (r : Relationship). bytes_eq r.domain domain) config.relationships)
+    (list_any (λ (r : Relationship). bytes_eq r.endpoint.domain domain) config.relationships)
+    (list_any (λ (s : Seed). bytes_eq s.domain domain) config.seeds) e) [
+      | inl h ↦ let found = any-from (λ (r : Relationship). bytes_eq r.domain domain) config.relationships h in
+          inl (found.0, found.1, (bytes_eq-Decides found.0.domain domain).0 found.2)
+      | inr k ↦ elim k [
+        | inl h ↦ let found = any-from (λ (r : Relationship). bytes_eq r.endpoint.domain domain) config.relationships h
+            in inr (inl (found.0, found.1, (bytes_eq-Decides found.0.endpoint.domain domain).0 found.2))
+        | inr h ↦ let found = any-from (λ (s : Seed). bytes_eq s.domain domain) config.seeds h in
+            inr (inr (found.0, found.1, (bytes_eq-Decides found.0.domain domain).0 found.2))
+      ]
+    ]
+
+-- the receipt is of its form and fits the configuration
+abbrev IsReceiptOf : Configuration → Receipt → Type 0
+IsReceiptOf config r = IsReceipt r × IsFitting config r
+
+-- the record is of its form, and its domain is known
+abbrev IsDistrustOf : Configuration → Distrust → Type 0
+IsDistrustOf config x = IsDistrust x × HasDomain config x.domain
+
+-- An event that takes a receipt, or a record, of its form takes one of this configuration.
+forms-admits : (config : Configuration) (n : ℕ) (event : Event) → IsEvent event
+    → Admits (rules_of config n) (IsReceiptOf config) (IsDistrustOf config) 0 ⊤ event
+forms-admits config n (Take i r) h = λ o e. (h, fits-from config r e)
+forms-admits config n (Revoke i x) h = λ o e. (h, knows-from config x.domain e)
+forms-admits config n (Ask i b) h = tt
+forms-admits config n (Answer j k) h = tt
+forms-admits config n (Absorb i k) h = omega arith
+forms-admits config n (Part i k m) h = omega arith
+forms-admits config n (Join i j) h = tt
+forms-admits config n (Save i) h = tt
+forms-admits config n (Restart i) h = tt
+
+-- So all that is held, saved and sent is of its form and of the configuration.
+all-forms : (laws : Laws) (config : Configuration) (n : ℕ) (events : List Event) → AreEvents events
+    → IsKept (IsReceiptOf config) (IsDistrustOf config) 0 ⊤ (run (rules_of config n) events)
+all-forms laws config n events h =
+    kept-run laws (IsReceiptOf config) (IsDistrustOf config) 0 ⊤ (rules_of config n) events empty_world
+    (empty-kept (IsReceiptOf config) (IsDistrustOf config) 0 ⊤)
+    (λ event c. forms-admits config n event (each-from IsEvent events h event c))
+
+-- All states are rising lists within the limits.
+all-tidy : (laws : Laws) (rules : Rules) (events : List Event) → Throughout (λ i state. IsTidy state) (run rules events)
+all-tidy laws rules events = throughout-run rules (λ i state. IsTidy state) (tidy-kept laws rules) events empty_world tidy-empty
+
+-- The clause `means`: what a replica holds is what a closure can mean.
+pub means : (laws : Laws) (past : WorldRun) (i : ℕ) → AreEvents past.events → IsMeaning (meaning_of_state past.config (held_by past i))
+means laws past i h =
+    let config = past.config in
+    let n = past.replicas in
+    let events = past.events in
+    let state = held_by past i in
+    let forms = (all-forms laws config n events h).now i in
+    let tidy = (all-tidy laws (rules_of config n) events).now i in
+    let within = and_parts (nat_le (length state.held) 65536) (nat_le (length state.records) 4096) tidy.within in
+    record {
+      receipts = each-to IsReceipt state.held (λ r c. (forms.receipts r c).0);
+      rising = tidy.rising;
+      fitting = each-to (IsFitting config) state.held (λ r c. (forms.receipts r c).1);
+      few = leb-true (length state.held) 65536 within.0;
+      distrusts = each-to IsDistrust state.records (λ x c. (forms.records x c).0);
+      records_rising = tidy.records_rising;
+      domains = each-to (λ (x : Distrust). HasDomain config x.domain) state.records (λ x c. (forms.records x c).1);
+      few_records = leb-true (length state.records) 4096 within.1;
+    }
+
+-- ---- growth, saves and restarts
+
+-- The clause `grows`: no event but its own restart takes anything from a replica.
+pub grows : (laws : Laws) (past : WorldRun) (event : Event) (i : ℕ) → event ≢ Restart i
+    → IsPartOf (held_by past i) (held_by (followed_by past (event ∷ [])) i)
+grows laws past event i d =
+    subst (λ (w : World). IsPartOf (held_by past i) (w.now i))
+    (sym (fold-append (happens (rules_in past)) empty_world past.events (event ∷ [])))
+    (part-event laws (rules_in past) (world_after past) i event d)
+
+-- The clause `restarts`: a restart gives what was saved last.
+pub restarts-saved : (past : WorldRun) (i : ℕ) → i < past.replicas → held_by (followed_by past (Restart i ∷ [])) i ≡ saved_by past i
+restarts-saved past i l =
+    ap (λ (w : World). w.now i) (fold-append (happens (rules_in past)) empty_world past.events (Restart i ∷ []))
+    ∙ restarted-here (rules_in past) i (world_after past) l
+
+-- The clause `saves`: what was saved stays until the next save.
+pub saved-last : (past : WorldRun) (since : List Event) (i : ℕ) → i < past.replicas → Lacks since (Save i)
+    → saved_by (followed_by past (Save i ∷ since)) i ≡ held_by past i
+saved-last past since i l h =
+    let rules = rules_in past in
+    ap (λ (w : World). w.saved i) (fold-append (happens rules) empty_world past.events (Save i ∷ since))
+    ∙ saved-run rules i since (happens rules (world_after past) (Save i)) h
+    ∙ saved-here rules i (world_after past) l
+
+-- The clause `never_saved`: who never saved has saved nothing.
+pub never-saved : (past : WorldRun) (i : ℕ) → Lacks past.events (Save i) → saved_by past i ≡ no_state
+never-saved past i h = saved-run (rules_in past) i past.events empty_world h
+
+-- ---- exchanges and agreement
+
+-- What an answer brings of this configuration is of its form.
+plain-message : (config : Configuration) (message : Message)
+    → KeepsMessage (IsReceiptOf config) (IsDistrustOf config) message → KeepsMessage IsReceipt IsDistrust message
+plain-message config (question asker bucket ids) h = tt
+plain-message config (answer answerer place content) h = record { receipts = λ r c. (h.receipts r c).0; records = λ x c. (h.records x c).0 }
+
+-- All that is held, saved and sent of this configuration is of its form.
+plain-kept : (config : Configuration) (w : World) → IsKept (IsReceiptOf config) (IsDistrustOf config) 0 ⊤ w → IsKept IsReceipt IsDistrust 0 ⊤ w
+plain-kept config w h = record {
+  now = λ i. record { receipts = λ r c. ((h.now i).receipts r c).0; records = λ x c. ((h.now i).records x c).0 };
+  saved = λ a i. record { receipts = λ r c. ((h.saved a i).receipts r c).0; records = λ x c. ((h.saved a i).records x c).0 };
+  sent = λ n message l e. plain-message config message (h.sent n message l e);
+}
+
+-- An event that takes a receipt, or a record, of its form keeps all of its form.
+event-admits : (rules : Rules) (event : Event) → IsEvent event → Admits rules IsReceipt IsDistrust 0 ⊤ event
+event-admits rules (Take i r) h = λ o e. h
+event-admits rules (Revoke i x) h = λ o e. h
+event-admits rules (Ask i b) h = tt
+event-admits rules (Answer j k) h = tt
+event-admits rules (Absorb i k) h = omega arith
+event-admits rules (Part i k m) h = omega arith
+event-admits rules (Join i j) h = tt
+event-admits rules (Save i) h = tt
+event-admits rules (Restart i) h = tt
+
+-- What is known after any list of events is what the exchanges and the agreement begin with.
+starts : (laws : Laws) (config : Configuration) (n : ℕ) (events : List Event) → AreEvents events → IsStart (rules_of config n) (run (rules_of config n) events)
+starts laws config n events h =
+    record {
+      forms = plain-kept config (run (rules_of config n) events) (all-forms laws config n events h);
+      tidy = all-tidy laws (rules_of config n) events;
+      outside = throughout-run (rules_of config n) (IsOutside (rules_of config n)) (outside-kept (rules_of config n))
+          events empty_world (outside-empty (rules_of config n));
+    }
+
+-- The clause `exchanged`: who takes another's whole answer has what that held of the bucket.
+pub exchanged : (laws : Laws) (past : WorldRun) (since : List Event) (q : Inquiry) → AreEvents past.events
+    → AreEvents since → IsInquiry past.replicas q → (x : Exchange (rules_in past) (world_after past) q since)
+    → HasAll q.bucket ((at_answer (rules_in past) (world_after past) x.course).now q.answerer)
+    ((after_taking (rules_in past) (world_after past) x.course).now q.asker)
+exchanged laws past since q f s is x =
+    let rules = rules_in past in
+    let w = world_after past in
+    let formed = course-forms laws rules q since w x.course (starts laws past.config past.replicas past.events f).forms
+    (λ event c. event-admits rules event (each-from IsEvent since s event c)) in
+    exchange-gives laws rules w q since is x (formed.0.now q.answerer) (formed.1.now q.asker)
+
+-- The clause `agreed`: after all exchanges in quiet any two replicas hold the same.
+pub agreed : (laws : Laws) (past : WorldRun) (since : List Event) (i j : ℕ) → AreEvents past.events → i < past.replicas → j < past.replicas
+    → Settles (rules_in past) (world_after past) since → held_by (followed_by past since) i ≡ held_by (followed_by past since) j
+agreed laws past since i j f l m s =
+    let rules = rules_in past in
+    let first = past.events in
+    let same : run rules (first ++ since) ≡ run_from rules (run rules first) since = fold-append (happens rules) empty_world first since in
+    let tidy : Throughout (λ k state. IsTidy state) (run_from rules (run rules first) since) =
+    subst (Throughout (λ k state. IsTidy state)) same (all-tidy laws rules (first ++ since)) in
+    subst (λ (w : World). w.now i ≡ w.now j) (sym same)
+    (agree laws rules (run rules first) since i j (starts laws past.config past.replicas first f) tidy s l m)
+
+-- ---- accepted is least
+
+-- A chain goes on by a receipt for which the document at its end vouches.
+follows : (c : Configuration) (records : List Distrust) (from to : Pair) (r : Receipt) (chain : List Receipt)
+    → Leads c records from chain to → IsFitting c r → Vouches records to r
+    → Leads c records from (chain ++ r ∷ []) (pair_of r)
+follows c records from to r [] l f v = (f, subst (λ p. Vouches records p r) (sym l) v, refl)
+follows c records from to r (q ∷ chain) l f v = (l.0, l.1, follows c records (pair_of q) to r chain l.2 f v)
+
+-- What holds of all receipts of a chain, and of one more, holds of the longer chain.
+all-more : (P : Receipt → Type 0) (chain : List Receipt) (r : Receipt) → AllByRecursion P chain → P r → AllByRecursion P (chain ++ r ∷ [])
+all-more P [] r h p = (p, tt)
+all-more P (q ∷ chain) r h p = (h.0, all-more P chain r h.1 p)
+
+-- The clause `closed`: what is accepted is closed.
+pub members-closed : (m : Meaning) → IsClosed m (IsMember m)
+members-closed m = record {
+  seeds = λ s c. record { seed = s; configured = c; chain = []; held = tt; leads = refl };
+  steps = λ p r member h f v. record {
+    seed = member.seed;
+    configured = member.configured;
+    chain = member.chain ++ r ∷ [];
+    held = all-more (Contains m.held) member.chain r member.held h;
+    leads = follows m.config m.records (pair_of_seed member.seed) p r member.chain member.leads f v;
+  };
+}
+
+-- A chain that begins in a closed set ends in it.
+along : (m : Meaning) (set : Pair → Bool) → IsClosed m (λ p. set p ≡ true) → (chain : List Receipt) (from to : Pair)
+    → set from ≡ true → AllByRecursion (Contains m.held) chain → Leads m.config m.records from chain to → set to ≡ true
+along m set h [] from to s a l = subst (λ p. set p ≡ true) l s
+along m set h (r ∷ chain) from to s a l = along m set h chain (pair_of r) to (h.steps from r s a.0 l.0 l.1) a.1 l.2
+
+-- The clause `least`: each closed set has all that is accepted.
+pub members-least : (m : Meaning) (set : Pair → Bool) → IsClosed m (λ p. set p ≡ true) → (p : Pair) → IsMember m p → set p ≡ true
+members-least m set h p member = along m set h member.chain (pair_of_seed member.seed) p (h.seeds member.seed member.configured) member.held member.leads

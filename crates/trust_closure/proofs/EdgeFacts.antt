@@ -1,0 +1,240 @@
+-- The edges of a net and what stands at its nodes
+use Rattle.std.proofs.Common.{◌≡◌, ◌≢◌, ℕ, zero, suc, ◌+◌, ◌⊎◌, inl, inr, true, false, List, [], ◌∷◌, ◌++◌, length}
+use Rattle.std.proofs.Common.{get_or, map, Option, Some, None, arith, refl, sym, ap, ◌∙◌, subst}
+use Rattle.std.specs.Prelude.{Contains, slice_get, AllPairs}
+use Rattle.std.specs.Option.{option_to_list}
+use Rattle.std.proofs.lemmas.Bool.{cases_lt, cases_Bool, cases_order, both_ways}
+use Rattle.std.proofs.lemmas.List.{length-map, get_or_default, get_or_past}
+use Rattle.std.proofs.lemmas.Option.{slice_get_within, same_Some, slice_get-get_or, get_or_from_slice_get}
+use Rattle.wait_index.specs.declared.edges.Edge.{Edge}
+use Rattle.wait_index.specs.Edge.{edge_at, IsEdge}
+use Rattle.wait_index.specs.Net.{Net, is_root, is_closed, IsReached, step}
+use Rattle.trust_closure.specs.Inside.NodeSpecs.{NodeSpec, LabelledEdge, labelled_edge_at, offered_at, awaited_at, offer_edge, wait_edge, Represents}
+use Rattle.trust_closure.proofs.LabelledEdgeFacts.{Contains-from_map, arrow-cases, arrow-has}
+use Rattle.closure_core.proofs.ContainsFacts.{contains_first, contains_cases, contains_map}
+
+-- ---- lists by places
+
+-- An item keeps its place when a list is appended.
+pub slice_get-left : {A : Type 0} (xs ys : List A) (i : ℕ) (x : A) → slice_get xs i ≡ Some x → slice_get (xs ++ ys) i ≡ Some x
+slice_get-left [] ys i x e = absurd (omega (arith, slice_get_within [] i x e))
+slice_get-left (z ∷ xs) ys zero x e = e
+slice_get-left (z ∷ xs) ys (suc i) x e = slice_get-left xs ys i x e
+
+-- An item of the second list stands further on by the length of the first.
+pub slice_get-right : {A : Type 0} (xs ys : List A) (k : ℕ) → slice_get (xs ++ ys) (length xs + k) ≡ slice_get ys k
+slice_get-right [] ys k = let e : 0 + k ≡ k = omega arith in ap (λ n. slice_get ys n) e
+slice_get-right (z ∷ xs) ys k =
+    let e : suc (length xs) + k ≡ suc (length xs + k) = omega arith in
+    ap (λ n. slice_get (z ∷ (xs ++ ys)) n) e ∙ slice_get-right xs ys k
+
+-- the item stands in the second of two lists
+pub record IsPast {A : Type 0} (xs ys : List A) (i : ℕ) (x : A) : Type 0 where
+  pub place : ℕ
+  pub is : i ≡ length xs + place
+  pub at : slice_get ys place ≡ Some x
+
+-- An item of two lists stands in the first or in the second.
+pub slice_get-append_cases : {A : Type 0} (xs ys : List A) (i : ℕ) (x : A) → slice_get (xs ++ ys) i ≡ Some x → (slice_get xs i ≡ Some x) ⊎ IsPast xs ys i x
+slice_get-append_cases [] ys i x e = inr (record { place = i; is = omega arith; at = e })
+slice_get-append_cases (z ∷ xs) ys zero x e = inl e
+slice_get-append_cases (z ∷ xs) ys (suc i) x e =
+    elim (slice_get-append_cases xs ys i x e) [
+      | inl a ↦ inl a
+      | inr a ↦ inr (record { place = a.place; is = omega (arith, a.is); at = a.at })
+    ]
+
+-- The image of an item stands at its place.
+pub slice_get-map_at : {A B : Type 0} (f : A → B) (xs : List A) (i : ℕ) (x : A) → slice_get xs i ≡ Some x → slice_get (map f xs) i ≡ Some (f x)
+slice_get-map_at f [] i x e = absurd (omega (arith, slice_get_within [] i x e))
+slice_get-map_at {B = B} f (z ∷ xs) zero x e = ap (λ y. Some (f y)) (same_Some z x e)
+slice_get-map_at f (z ∷ xs) (suc i) x e = slice_get-map_at f xs i x e
+
+-- What stands in a mapped list is the image of what stands there in the list.
+pub slice_get-map_cases : {A B : Type 0} (f : A → B) (xs : List A) (i : ℕ) (y : B) → slice_get (map f xs) i ≡ Some y
+    → (x : A) × (slice_get xs i ≡ Some x) × (f x ≡ y)
+slice_get-map_cases f [] i y e = absurd (omega (arith, slice_get_within [] i y e))
+slice_get-map_cases f (z ∷ xs) zero y e = (z, refl, same_Some (f z) y e)
+slice_get-map_cases f (z ∷ xs) (suc i) y e = slice_get-map_cases f xs i y e
+
+-- What a list contains stands at some place.
+pub Contains-slice_get : {A : Type 0} (xs : List A) (x : A) → Contains xs x → (i : ℕ) × (slice_get xs i ≡ Some x)
+Contains-slice_get xs x c = (c.0, slice_get-get_or xs c.0 x c.1 ∙ ap (λ y. Some y) c.2)
+
+-- What stands at a place is contained.
+pub slice_get-Contains : {A : Type 0} (xs : List A) (i : ℕ) (x : A) → slice_get xs i ≡ Some x → Contains xs x
+slice_get-Contains xs i x e = (i, slice_get_within xs i x e, get_or_from_slice_get xs i x x e)
+
+-- different items stand at different places
+pub one_place : {A : Type 0} (xs : List A) → AllPairs ◌≢◌ xs → (i j : ℕ) (x : A) → slice_get xs i ≡ Some x → slice_get xs j ≡ Some x → i ≡ j
+one_place xs once i j x a b =
+    elim (cases_order i j) [
+      | inl e ↦ e
+      | inr d ↦
+          elim d [
+            | inl l ↦ absurd (once i j x l (slice_get_within xs j x b) (get_or_from_slice_get xs i x x a ∙ sym (get_or_from_slice_get xs j x x b)))
+            | inr l ↦ absurd (once j i x l (slice_get_within xs i x a) (get_or_from_slice_get xs j x x b ∙ sym (get_or_from_slice_get xs i x x a)))
+          ]
+    ]
+
+-- ---- edges and arrows
+
+-- An offer edge is among the arrows, as the one that it is mapped to.
+edge-offer_edge : {A : Type 0} (labels : List A) (edges : List Edge) (i m l : ℕ) → IsEdge edges i m l
+    → Contains (map (offer_edge labels) edges) (record { node = m; label = slice_get labels l })
+edge-offer_edge {A = A} labels edges i m l e =
+    let edge : Edge = edge_at edges i in
+    let has : Contains edges edge = (i, e.within, get_or_default edges i edge (record { from = 0; to = 0 }) e.within) in
+    let mapped : Contains (map (offer_edge labels) edges) (offer_edge labels edge) = contains_map (offer_edge labels) edges edge has in
+    let same : offer_edge labels edge ≡ record { node = m; label = slice_get labels l } =
+    ap (λ (n : ℕ). let a : LabelledEdge A = record { node = n; label = slice_get labels edge.to } in a) e.from
+    ∙ ap (λ (n : ℕ). let a : LabelledEdge A = record { node = m; label = slice_get labels n } in a) e.to
+    in
+    subst (Contains (map (offer_edge labels) edges)) same mapped
+
+-- A wait edge is among the arrows, as the one that it is mapped to.
+edge-wait_edge : {A : Type 0} (labels : List A) (edges : List Edge) (i l n : ℕ) → IsEdge edges i l n
+    → Contains (map (wait_edge labels) edges) (record { node = n; label = slice_get labels l })
+edge-wait_edge {A = A} labels edges i l n e =
+    let edge : Edge = edge_at edges i in
+    let has : Contains edges edge = (i, e.within, get_or_default edges i edge (record { from = 0; to = 0 }) e.within) in
+    let mapped : Contains (map (wait_edge labels) edges) (wait_edge labels edge) = contains_map (wait_edge labels) edges edge has in
+    let same : wait_edge labels edge ≡ record { node = n; label = slice_get labels l } =
+    ap (λ (k : ℕ). let a : LabelledEdge A = record { node = k; label = slice_get labels edge.from } in a) e.to
+    ∙ ap (λ (k : ℕ). let a : LabelledEdge A = record { node = n; label = slice_get labels k } in a) e.from
+    in
+    subst (Contains (map (wait_edge labels) edges)) same mapped
+
+-- An edge that is listed has a place.
+edge-from_contains : (edges : List Edge) (edge : Edge) → Contains edges edge → (i : ℕ) × IsEdge edges i edge.from edge.to
+edge-from_contains edges edge c =
+    let at : edge_at edges c.0 ≡ edge = get_or_default edges c.0 (record { from = 0; to = 0 }) edge c.1 ∙ c.2 in
+    (c.0, record { within = c.1; from = ap (λ (e : Edge). e.from) at; to = ap (λ (e : Edge). e.to) at })
+
+-- ---- a net of spots
+
+-- an offer edge leads from the node to the label
+pub record HasOfferEdge {A : Type 0} (net : Net) (labels : List A) (node : ℕ) (label : A) : Type 0 where
+  pub place : ℕ
+  pub number : ℕ
+  pub edge : IsEdge net.offers place node number
+  pub named : slice_get labels number ≡ Some label
+
+-- a wait edge leads from the label to the node
+pub record HasWaitEdge {A : Type 0} (net : Net) (labels : List A) (node : ℕ) (label : A) : Type 0 where
+  pub place : ℕ
+  pub number : ℕ
+  pub edge : IsEdge net.waits place number node
+  pub named : slice_get labels number ≡ Some label
+
+-- the node's spot offers the label with the number
+pub record IsOfferOf {A : Type 0} (spots : List (NodeSpec A)) (labels : List A) (node number : ℕ) : Type 0 where
+  pub spot : NodeSpec A
+  pub label : A
+  pub at : slice_get spots node ≡ Some spot
+  pub has : Contains spot.offers label
+  pub named : slice_get labels number ≡ Some label
+
+-- the node's spot awaits the label with the number
+pub record IsWaitOf {A : Type 0} (spots : List (NodeSpec A)) (labels : List A) (node number : ℕ) : Type 0 where
+  pub spot : NodeSpec A
+  pub label : A
+  pub at : slice_get spots node ≡ Some spot
+  pub awaits : spot.awaits ≡ Some label
+  pub named : slice_get labels number ≡ Some label
+
+-- What the list of an awaited label contains is awaited.
+awaits-from_list : {A : Type 0} (o : Option A) (label : A) → Contains (option_to_list o) label → o ≡ Some label
+awaits-from_list None label c = absurd (omega (arith, c.1))
+awaits-from_list (Some x) label c =
+    elim (contains_cases x [] label c) [ inl e ↦ ap (λ y. Some y) e | inr d ↦ absurd (omega (arith, d.1)) ]
+
+module _ {A : Type 0} (spots : List (NodeSpec A)) (labels : List A) (IsShut : A → Type 0) (net : Net) (h : Represents spots labels IsShut net) where
+  -- Each offer edge is an offer of a spot.
+  pub offer-of_edge : (i m l : ℕ) → IsEdge net.offers i m l → IsOfferOf spots labels m l
+  offer-of_edge i m l e =
+      let r = arrow-cases offered_at 0 spots (record { node = m; label = slice_get labels l })
+      (subst (λ arrows. Contains arrows (record { node = m; label = slice_get labels l })) h.offers
+      (edge-offer_edge labels net.offers i m l e)) in
+      let at : m ≡ r.place = omega (arith, r.node_is) in
+      record { spot = r.spot; label = r.label; at = ap (λ n. slice_get spots n) at ∙ r.at; has = r.has; named = r.label_is }
+
+  -- Each wait edge is what a spot awaits.
+  pub wait-of_edge : (j l n : ℕ) → IsEdge net.waits j l n → IsWaitOf spots labels n l
+  wait-of_edge j l n e =
+      let r = arrow-cases awaited_at 0 spots (record { node = n; label = slice_get labels l })
+      (subst (λ arrows. Contains arrows (record { node = n; label = slice_get labels l })) h.waits
+      (edge-wait_edge labels net.waits j l n e)) in
+      let at : n ≡ r.place = omega (arith, r.node_is) in
+      record {
+        spot = r.spot;
+        label = r.label;
+        at = ap (λ k. slice_get spots k) at ∙ r.at;
+        awaits =
+            awaits-from_list r.spot.awaits r.label r.has;
+        named = r.label_is;
+      }
+
+  -- Each offer of a spot has its offer edge.
+  pub edge-of_offer : (m : ℕ) (spot : NodeSpec A) (label : A) → slice_get spots m ≡ Some spot → Contains spot.offers label → HasOfferEdge net labels m label
+  edge-of_offer m spot label at has =
+      let c : Contains (map (offer_edge labels) net.offers) (labelled_edge_at (0 + m) label) =
+      subst (λ arrows. Contains arrows (labelled_edge_at (0 + m) label)) (sym h.offers)
+      (arrow-has offered_at 0 spots m spot label at has) in
+      let f = Contains-from_map (offer_edge labels) net.offers (labelled_edge_at (0 + m) label) c in
+      let e = edge-from_contains net.offers f.0 f.1 in
+      let node : f.0.from ≡ m = omega (arith, ap (λ (a : LabelledEdge A). a.node) f.2) in
+      record {
+        place = e.0;
+        number = f.0.to;
+        edge = record { within = e.1.within; from = e.1.from ∙ node; to = e.1.to };
+        named = ap (λ (a : LabelledEdge A). a.label) f.2;
+      }
+
+  -- What a spot awaits has its wait edge.
+  pub edge-of_wait : (n : ℕ) (spot : NodeSpec A) (label : A) → slice_get spots n ≡ Some spot → spot.awaits ≡ Some label → HasWaitEdge net labels n label
+  edge-of_wait n spot label at awaits =
+      let has : Contains (awaited_at spot) label = subst (λ o. Contains (option_to_list o) label) (sym awaits) (contains_first label []) in
+      let c : Contains (map (wait_edge labels) net.waits) (labelled_edge_at (0 + n) label) =
+      subst (λ arrows. Contains arrows (labelled_edge_at (0 + n) label)) (sym h.waits)
+      (arrow-has awaited_at 0 spots n spot label at has) in
+      let f = Contains-from_map (wait_edge labels) net.waits (labelled_edge_at (0 + n) label) c in
+      let e = edge-from_contains net.waits f.0 f.1 in
+      let node : f.0.to ≡ n = omega (arith, ap (λ (a : LabelledEdge A). a.node) f.2) in
+      record {
+        place = e.0;
+        number = f.0.from;
+        edge = record { within = e.1.within; from = e.1.from; to = e.1.to ∙ node };
+        named = ap (λ (a : LabelledEdge A). a.label) f.2;
+      }
+
+  -- A node is a root exactly where its spot says so.
+  pub root-of_spot : (n : ℕ) (spot : NodeSpec A) → slice_get spots n ≡ Some spot → is_root net n ≡ spot.rooted
+  root-of_spot n spot at =
+      ap (λ rs. get_or rs n false) h.roots ∙ get_or_from_slice_get (map (λ (s : NodeSpec A). s.rooted) spots) n spot.rooted
+      false (slice_get-map_at (λ (s : NodeSpec A). s.rooted) spots n spot at)
+
+  -- A root has a spot.
+  pub spot-of_root : (n : ℕ) → is_root net n ≡ true → (spot : NodeSpec A) × (slice_get spots n ≡ Some spot)
+  spot-of_root n e =
+      elim (cases_lt n (length spots)) [
+        | inl l ↦ let d : NodeSpec A = record { rooted = false; offers = []; awaits = None } in (get_or spots n d, slice_get-get_or spots n d l)
+        | inr g ↦
+            let size : length net.roots ≡ length spots = ap length h.roots ∙ length-map spots (λ (s : NodeSpec A). s.rooted) in
+            absurd (both_ways (is_root net n) (get_or_past net.roots n false (omega (arith, g, size))) e)
+      ]
+
+  -- An awaited label that is not shut, and that a reached node offers, reaches the node that awaits
+  -- it.
+  pub reached-on : (m n : ℕ) (here there : NodeSpec A) (label : A) → IsReached net m → slice_get spots m ≡ Some here
+      → slice_get spots n ≡ Some there → Contains here.offers label → there.awaits ≡ Some label → (IsShut label → ⊥)
+      → IsReached net n
+  reached-on m n here there label r at to has awaits open' =
+      let o = edge-of_offer m here label at has in
+      let w = edge-of_wait n there label to awaits in
+      let same : w.number ≡ o.number = one_place labels h.once w.number o.number label w.named o.named in
+      let wait : IsEdge net.waits w.place o.number n = record { within = w.edge.within; from = w.edge.from ∙ same; to = w.edge.to } in
+      elim (cases_Bool (is_closed net o.number)) [
+        | inl e ↦ absurd (open' ((h.closed o.number label o.named).0 e))
+        | inr e ↦ step r o.edge e wait
+      ]
