@@ -1,11 +1,17 @@
 -- Configurations, texts that are none, and canonical texts, said of the definitions: a slip in one of these does not
 -- check.
-use Rattle.std.proofs.Common.{◌≡◌, [], ◌∷◌, None, Some, codes, refl, Less, Greater}
+use Rattle.std.proofs.Common.{◌≡◌, ℕ, List, [], ◌∷◌, length, None, Some, Result, Ok, Err, codes, refl, sym, ap, ◌∙◌, Less, Greater, arith, lit≤}
+use Rattle.url.specs.Parts.{Parts}
+use Rattle.url.specs.Parser.{parse_url}
+use Rattle.url.specs.declared.error.ParseError.{ParseError}
+use Rattle.url.specs.declared.host.Host.TheVariants.{Domain}
+use Rattle.url.proofs.OnLiterals.{url_on_literals}
 use Rattle.json.specs.Print.{escape_byte}
 use Rattle.serde_json.specs.Data.{Data, string, array, object, no_items, no_members, member}
 use Rattle.bundle_doc.specs.Bundle.{Bundle}
-use Rattle.fed_config.specs.Configuration.{Configuration, config_text, seed_cmp}
-use Rattle.fed_config.specs.Reading.{IsProfile, earlier}
+use Rattle.fed_config.specs.Configuration.{Configuration, AreDomains, config_text, seed_cmp}
+use Rattle.fed_config.specs.EndpointUrl.{IsParsed}
+use Rattle.fed_config.specs.Reading.{HasFew, IsMeant, IsProfile, earlier}
 use Rattle.fed_config.specs.Written.{RelationshipText, SaysRelationshipText, SaysWritten, Written}
 use Rattle.fed_config.specs.declared.error.ConfigError.TheVariants.{BadProfile, DoubleRelationship, BadSeed, BadName, BadUrl}
 use Rattle.fed_config.specs.declared.relationship.Relationship.{Relationship}
@@ -102,3 +108,78 @@ by_domain = refl
 pub by_text : seed_cmp seed (record { domain = codes "a.example"; document = first_bundle }) ≡ Greater
 unfolding escape_byte
 by_text = refl
+
+-- ---- URLs of endpoints
+
+-- what the URL Standard reads in a text: the scheme, the user name and the password
+abbrev read_of : Result Parts ParseError → List ℕ × List ℕ × List ℕ
+read_of (Ok parts) = (parts.scheme, parts.username, parts.password)
+read_of (Err e) = ([], [], [])
+
+-- an endpoint's URL has the scheme https, and neither a user name nor a password
+read_of_endpoint : (text : List ℕ) (parts : Parts) → IsParsed text parts → read_of (parse_url None text) ≡ (codes "https", [], [])
+read_of_endpoint text parts h = ap read_of h.parses ∙ (λ i. (h.scheme i, h.username i, h.password i))
+
+abbrev endpoint_url : Parts
+endpoint_url = record {
+  scheme = codes "https";
+  username = [];
+  password = [];
+  host = Some (Domain (codes "a.b"));
+  port = Some 8443;
+  path = codes "/x";
+  query = None;
+  fragment = None;
+}
+
+pub with_a_port : IsParsed (codes "HTTPS://A.b:8443/x") endpoint_url
+unfolding url_on_literals
+with_a_port = record { limit = lit≤ tt; parses = refl; scheme = refl; username = refl; password = refl }
+
+read_of_http : read_of (parse_url None (codes "http://a.b/x")) ≡ (codes "http", [], [])
+unfolding url_on_literals
+read_of_http = refl
+
+pub with_another_scheme : (parts : Parts) → IsParsed (codes "http://a.b/x") parts → ⊥
+with_another_scheme parts h =
+    let e = ap (λ (p : List ℕ × List ℕ × List ℕ). length p.0) (sym read_of_http ∙ read_of_endpoint (codes "http://a.b/x") parts h) in omega (arith, e)
+
+read_of_user : read_of (parse_url None (codes "https://u@a.b/x")) ≡ (codes "https", codes "u", [])
+unfolding url_on_literals
+read_of_user = refl
+
+pub with_a_user : (parts : Parts) → IsParsed (codes "https://u@a.b/x") parts → ⊥
+with_a_user parts h =
+    let e = ap (λ (p : List ℕ × List ℕ × List ℕ). length p.1) (sym read_of_user ∙ read_of_endpoint (codes "https://u@a.b/x") parts h) in omega (arith, e)
+
+read_of_password : read_of (parse_url None (codes "https://:p@a.b/x")) ≡ (codes "https", [], codes "p")
+unfolding url_on_literals
+read_of_password = refl
+
+pub with_a_password : (parts : Parts) → IsParsed (codes "https://:p@a.b/x") parts → ⊥
+with_a_password parts h =
+    let e = ap (λ (p : List ℕ × List ℕ × List ℕ). length p.2) (sym read_of_password ∙ read_of_endpoint (codes "https://:p@a.b/x") parts h) in
+    omega (arith, e)
+
+pub longer_text : (text : List ℕ) (parts : Parts) → length text ≡ 2049 → IsParsed text parts → ⊥
+longer_text text parts e h = omega (arith, e, h.limit)
+
+-- ---- how many there may be
+
+pub most : (w : Written) → length w.relationships ≡ 1024 → length w.seeds ≡ 4096
+    → ((c : Configuration) (domains : List (List ℕ)) → IsMeant w c → AreDomains c domains → length domains ≡ 1024) → HasFew w
+most w r s d = record {
+  relationships = omega (arith, r);
+  seeds = omega (arith, s);
+  domains = λ c domains meant are. let e = d c domains meant are in omega (arith, e);
+}
+
+pub one_relationship_more : (w : Written) → length w.relationships ≡ 1025 → HasFew w → ⊥
+one_relationship_more w e h = omega (arith, e, h.relationships)
+
+pub one_seed_more : (w : Written) → length w.seeds ≡ 4097 → HasFew w → ⊥
+one_seed_more w e h = omega (arith, e, h.seeds)
+
+pub one_domain_more : (w : Written) (c : Configuration) (domains : List (List ℕ)) → IsMeant w c → AreDomains c domains → length domains ≡ 1025
+    → HasFew w → ⊥
+one_domain_more w c domains meant are e h = let few = h.domains c domains meant are in omega (arith, e, few)
