@@ -1,4 +1,5 @@
-//! Authorities read from their canonical texts, with no JSON tree between.
+//! Authorities read from their canonical texts, with no JSON tree between. Each function says which
+//! part of the text it read and what is left, on `Ok` alone.
 ghost use Rattle.std.specs.Prelude.{◌≡◌, ◌++◌, IfOk, MatchOption, Ok};
 ghost use Rattle.std.specs.List.{AllPass};
 ghost use Rattle.base64.specs.Engines.{standard};

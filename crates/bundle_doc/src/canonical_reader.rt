@@ -1,6 +1,9 @@
 //! Canonical texts of documents read directly, with no JSON tree between. A text of another kind is
 //! left to the reader of JSON, and so is one with an escape in a string: nothing is claimed of
 //! those.
+//!
+//! Each function says which part of the text it read and what is left, on `Ok` alone. The numbers
+//! are read without a promise, written by the writer of canonical texts, and compared.
 ghost use Rattle.std.specs.Prelude.{◌≡◌, ◌++◌, IfOk, IfSome, ◌==◌, not, vec_len};
 ghost use Rattle.serde_json.specs.Written.{comma_if};
 ghost use Rattle.bundle_doc.specs.CanonicalReader.{ReadsBundle, ReadsKeys, ReadsNext, ReadsNumbers};

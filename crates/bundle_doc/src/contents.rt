@@ -1,4 +1,5 @@
-//! What a text or a JSON value says of a document, before it is one.
+//! What a text or a JSON value says of a document, before it is one: authorities under their texts,
+//! and the numbers.
 ghost use Rattle.std.specs.Prelude.{◌≤◌, MatchResult, length};
 ghost use Rattle.serde_json.specs.View.{view};
 ghost use Rattle.bundle_doc.specs.Bundle.{document_limit};

@@ -1,4 +1,5 @@
-//! Where the accepted documents of a domain contradict each other.
+//! Where the accepted documents of a domain contradict each other. The list of them is cut into
+//! groups of one rank; a group of two or more with a sequence number is a conflict.
 ghost use Rattle.std.specs.Prelude.{◌≡◌, ◌<◌, ◌≤◌, ◌++◌, ◌↔◌, List, map, length, IsTrue, IfOk};
 ghost use Rattle.std.specs.Prelude.{OnOk, Contains};
 ghost use Rattle.std.specs.List.Sorted.{IsStrictlySortedBy};

@@ -1,5 +1,6 @@
 //! What a replica shows of what it accepts: the current documents, conflicts between documents, the
-//! report, why a document is accepted, and what is observed.
+//! report, why a document is accepted, and what is observed. It knows closures by their trait
+//! alone.
 #![tactic(auto)]
 
 mod conflict;

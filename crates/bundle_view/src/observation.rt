@@ -1,4 +1,6 @@
-//! What is made of the bytes that an endpoint served, and of TLS's verdict on the endpoint.
+//! What is made of the bytes that an endpoint served, and of TLS's verdict on the endpoint. In
+//! order: the relationship and its endpoint, the current document of the endpoint's trust domain,
+//! the key in it, the records of distrust, the bytes, and then the receipt.
 ghost use Rattle.std.specs.Prelude.{◌≡◌, ◌↔◌, IsTrue, MatchResult, Contains};
 ghost use Rattle.fed_config.specs.Configuration.{IsConfiguration};
 ghost use Rattle.receipt_core.specs.Acceptance.{IsMeaning};

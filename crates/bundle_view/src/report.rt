@@ -1,4 +1,4 @@
-//! The report: what a replica accepts, as a text.
+//! The report: what a replica accepts, as a text, which is rendered whole before it is written.
 ghost use Rattle.std.specs.Prelude.{◌≡◌, ◌++◌, ◌||◌, true, List, map, length, IfOk, OnOk, Err};
 ghost use Rattle.std.specs.Prelude.{codes, flat_map, option_copied};
 ghost use Rattle.bundle_view.specs.Conflicts.{reported_by};

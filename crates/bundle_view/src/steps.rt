@@ -1,4 +1,9 @@
 //! The search for a shortest chain: steps from receipt to receipt, in rising length.
+//!
+//! The search is breadth first, over one list of steps. A step is a receipt, the place of the step
+//! before it, and how many receipts its chain has. Each step looks each offer up once, by a binary
+//! search among the needs, and comes to all receipts with that need together. The first step of the
+//! document ends the search, and the places before it lead back.
 ghost use Rattle.std.specs.Prelude.{◌≡◌, ◌↔◌, ◌+◌, ◌<◌, ◌≤◌, ◌∷◌, [], Some, IsTrue, IfOk, OnOk};
 ghost use Rattle.std.specs.Prelude.{length, slice_get, slice_set, replicate, reverse, true, false};
 ghost use Rattle.std.specs.List.Sorted.{IsSortedByKey};

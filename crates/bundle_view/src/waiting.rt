@@ -1,4 +1,5 @@
-//! The receipts that may be vouched for, in the order of what they need.
+//! The receipts whose key is not distrusted, so that they may be vouched for, in the order of what
+//! they need.
 ghost use Rattle.std.specs.Prelude.{◌≡◌, ◌↔◌, true, IsTrue, IfOk, Contains};
 ghost use Rattle.std.specs.Ordering.{is_lt};
 ghost use Rattle.std.specs.List.Sorted.{IsStrictlySortedBy};

@@ -1,4 +1,6 @@
-//! What every closure does.
+//! What every closure does. The trait has one ghost member, `state` (meaning and room). Its
+//! contracts speak in the words of `specs/` alone; each change is one relation by cases on the
+//! result.
 ghost use Rattle.std.specs.Prelude.{◌≡◌, ℕ, ◌≤◌, ◌↔◌, IsTrue, IsOk, OnOk, IfOk, length};
 
 use crate::error::TakeError;

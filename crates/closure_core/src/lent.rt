@@ -1,4 +1,6 @@
-//! What a closure lends, in order and without memory.
+//! What a closure lends, in order and without memory: three iterators over slices. Their value in
+//! contracts is the list that is left. Those who implement `Closure` make them, by the numbers of
+//! `nodes` and the rows of `record`; `specs/Inside/` says what these and their flags mean.
 ghost use Rattle.std.specs.Prelude.{◌≡◌, length};
 ghost use Rattle.std.specs.Iterator.{YieldsFirstBy, YieldsFirstRef, item_count};
 ghost use Rattle.closure_core.specs.Inside.Nodes.{flags_of, pairs_of, raised_documents, AreNumbers};

@@ -1,4 +1,4 @@
-//! The canonical text of a configuration.
+//! The canonical text of a configuration, of which only the digest is kept.
 ghost use Rattle.std.specs.Prelude.{◌≡◌, ◌++◌, false, IfOk, OnOk, map};
 ghost use Rattle.json.specs.Print.{quoted};
 ghost use Rattle.serde_json.specs.View.{items_of, view};

@@ -1,4 +1,5 @@
-//! The parts of a configuration, read one kind after another: names, URLs, profiles, documents.
+//! The parts of a configuration, read one kind after another: names, URLs, profiles, documents. So
+//! the first cause is reported, wherever it is.
 ghost use Rattle.std.specs.Prelude.{◌≡◌, ◌↔◌, List, ℕ, IsTrue, MatchResult, IfOk, map};
 ghost use Rattle.std.specs.List.{AllByRecursion, AllZip, zip};
 ghost use Rattle.bundle_doc.specs.Bundle.{Bundle, Means, Fits};

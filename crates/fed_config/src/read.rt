@@ -1,4 +1,5 @@
-//! Reading a configuration.
+//! Reading a configuration: what is written in its shape, then its parts, then these as sets, and
+//! its canonical text.
 ghost use Rattle.std.specs.Prelude.{◌≡◌, ◌↔◌, ◌≤◌, IsTrue, MatchResult, length};
 ghost use Rattle.fed_config.specs.Configuration.{IsConfiguration};
 ghost use Rattle.fed_config.specs.Inside.Entries.{written_of};

@@ -1,4 +1,4 @@
-//! `pull`: what another replica holds, asked for and taken.
+//! `pull`: what another replica holds, asked for and taken, over any devices.
 ghost use Rattle.std.specs.Prelude.{◌≡◌, ◌⊎◌, true, IfErr, IsErrOf, OnOk};
 ghost use Rattle.replica_sync.specs.declared.pulling.PullFault.{PullFault};
 ghost use Rattle.replica_core.specs.declared.error.SyncError.TheVariants.{Io as DeviceFailed};

@@ -1,4 +1,4 @@
-//! `serve`: the questions of other replicas, answered.
+//! `serve`: the questions of other replicas, answered, over any devices.
 ghost use Rattle.std.specs.Prelude.{◌≡◌, ◌⊎◌, true, IfErr, IsErrOf, OnOk};
 ghost use Rattle.std.specs.Io.KnownBytes.{Appends};
 ghost use Rattle.byte_lines.specs.Device.{AppendsBeginning};

@@ -1,4 +1,4 @@
-//! Reads the words of the command line.
+//! Reads the words of the command line. `specs/Words` has the command as `clap` knows it.
 ghost use Rattle.std.specs.Prelude.{◌≡◌, ℕ, false, Some, IfOk, IfSome, map};
 ghost use Rattle.clap.specs.Words.{app_of, found_of, rule_of, rows_of};
 ghost use Rattle.fedbundle.specs.Words.{Calls, given, leaf, name_text, rule_of_option, the_command};

@@ -1,4 +1,6 @@
-// `serve` and `pull`: a replica's two ends of a session, over sockets.
+// `serve` and `pull`: a replica's two ends of a session, over sockets. Each loads the state,
+// reads the address, and opens the socket before a session begins; `pull` saves the state at the
+// end.
 use crate::commands::{load_closure, lock, output};
 use crate::connection::{Connection, accept, connect, listen};
 use crate::exit::{Exit, print_fault};

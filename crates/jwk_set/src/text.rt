@@ -1,4 +1,5 @@
-//! The text of an authority's element, written member by member in the order of their names.
+//! The text of an authority's element, written token by token, member by member in the order of
+//! their names. `specs/Written.antt` has the tokens, for private clauses.
 ghost use Rattle.std.specs.Prelude.{◌≡◌, [], ◌∷◌, codes, IfOk, OnOk, string_bytes};
 ghost use Rattle.json.specs.Token.{key, string};
 ghost use Rattle.jwk_set.specs.Element.{element_text};

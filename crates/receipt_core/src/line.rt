@@ -1,4 +1,4 @@
-//! The one spelling of a receipt.
+//! The one spelling of a receipt, and its id, hashed piece by piece.
 ghost use Rattle.std.specs.Prelude.{◌≡◌, IfOk};
 ghost use Rattle.hex.specs.Hex.{encode_lower};
 ghost use Rattle.receipt_core.specs.Receipt.{IsDigest, IsReceipt, line, receipt_id_of};

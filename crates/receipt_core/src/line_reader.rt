@@ -1,4 +1,5 @@
-//! Receipts read from their lines.
+//! Receipts read from their lines: by their parts first, over `Document::read_canonical`, and where
+//! that gives up by a JSON tree, which is written again and compared.
 ghost use Rattle.std.specs.Prelude.{◌≡◌, ◌++◌, ◌↔◌, IsTrue, IfOk, IfSome, MatchResult};
 ghost use Rattle.serde_json.specs.View.{view};
 ghost use Rattle.jwk_set.specs.Json.{IsJson};

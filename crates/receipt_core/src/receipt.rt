@@ -1,4 +1,4 @@
-//! Receipts.
+//! Receipts. A clone copies what was computed, the id and the offers.
 ghost use Rattle.std.specs.Prelude.{◌≡◌, ◌↔◌, IsTrue, IfOk, IfSome, MatchResult, Some, refl};
 ghost use Rattle.std.specs.Cmp.{partial_equiv_from_equiv};
 ghost use Rattle.receipt_core.specs.Receipt.{IsReceipt, line, receipt_cmp, receipt_id_of, need_of};

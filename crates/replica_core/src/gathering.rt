@@ -1,4 +1,4 @@
-//! Closures that gain what others hold, or what lists have.
+//! Closures that gain what others hold, are copied, or are made of lists.
 ghost use Rattle.std.specs.Prelude.{◌≡◌, ◌≢◌, ◌++◌, ◌∷◌, [], false, List, IfOk, OnOk};
 ghost use Rattle.receipt_core.specs.declared.distrust.Distrust.{Distrust};
 ghost use Rattle.receipt_core.specs.Receipt.{Receipt};

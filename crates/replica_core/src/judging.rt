@@ -1,4 +1,5 @@
-//! Which records and receipts a closure would refuse, were it given one after another.
+//! Which records and receipts a closure would refuse, were it given one after another: the first
+//! one is found without any change.
 ghost use Rattle.std.specs.Prelude.{◌≡◌, ◌+◌, ◌^◌, ◌<◌, List, MatchOption, MatchResult, length};
 ghost use Rattle.receipt_core.specs.declared.distrust.Distrust.{Distrust};
 ghost use Rattle.receipt_core.specs.Receipt.{IsReceipt};

@@ -1,5 +1,9 @@
 //! What a replica holds, asks, answers and takes, as values, and the world of replicas: events on
 //! what they hold, and what converges. No text is known here.
+//!
+//! A replica asks and answers by `asking`, `answering`, `question` and `reply`. It takes by
+//! `absorbing`: `judging`, `places` and then `joining`. Worlds are `world` over `playing`,
+//! `gathering` and `message`.
 #![tactic(auto)]
 
 mod absorbing;

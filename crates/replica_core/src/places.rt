@@ -1,4 +1,5 @@
-//! Places for more records and receipts, of which this many may be held.
+//! Places for more records and receipts, of which this many may be held. Free places are counted,
+//! and what is held is searched only where not all that is left has one.
 ghost use Rattle.std.specs.Prelude.{◌≡◌, ◌<◌, ◌↔◌, IsTrue, MatchOption, Contains, length};
 ghost use Rattle.std.specs.List.{AllByRecursion};
 ghost use Rattle.receipt_core.specs.Receipt.{IsReceipt, receipt_cmp, distrust_cmp};

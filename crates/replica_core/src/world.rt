@@ -1,4 +1,4 @@
-//! Lists of events, played on replicas in memory.
+//! Lists of events, played on replicas in memory, with one arm for each event.
 ghost use Rattle.std.specs.Prelude.{IfOk, OnOk};
 ghost use Rattle.replica_core.specs.World.{rules_of, run, AreOf};
 ghost use Rattle.replica_core.specs.Inside.Playing.{StandsForEvent};

@@ -1,4 +1,5 @@
-//! One line of a list of receipts and records of distrust.
+//! One line of a list of receipts and records of distrust, read and judged (not canonical, not
+//! rising, refused) for snapshots and answers alike.
 ghost use Rattle.std.specs.Prelude.{◌≡◌, MatchResult, length};
 ghost use Rattle.receipt_core.specs.Line.{RefusesRecord, RefusesReceiptLine as RefusesReceipt};
 ghost use Rattle.replica_sync.specs.Entries.{IsEntry, IsNextEntry};

@@ -1,4 +1,5 @@
-//! The first lines of answers, read.
+//! The first lines of answers, read: what the line says is guessed, written again by `spelling` and
+//! compared with the line. So a line is read exactly where it has the one spelling.
 ghost use Rattle.std.specs.Prelude.{◌≡◌, ◌++◌, ◌<◌, ◌^◌, ◌↔◌, ◌||◌, ℕ, List, Option, IsTrue, IfOk};
 ghost use Rattle.std.specs.Prelude.{IfErr, IfSome, OnOk, MatchOption, codes};
 ghost use Rattle.byte_lines.specs.Streams.{stream_of, left_of};

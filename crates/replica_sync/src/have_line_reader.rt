@@ -1,4 +1,5 @@
-//! The lines of questions, read.
+//! The lines of questions, read: what the line says is guessed, written again by `spelling` and
+//! compared with the line. So a line is read exactly where it has the one spelling.
 ghost use Rattle.std.specs.Prelude.{◌≡◌, ◌<◌, ◌^◌, ◌↔◌, IsTrue, IfOk, MatchOption, map};
 ghost use Rattle.std.specs.List.Sorted.{IsStrictlySortedBy};
 ghost use Rattle.receipt_core.specs.Receipt.{IsDigest};

@@ -1,5 +1,13 @@
 //! All texts by which replicas come to hold the same receipts, and the sessions of which they are
 //! parts: snapshots, questions and answers. What these say is in `replica_core`.
+//!
+//! Snapshots: `header` and `format` are the first and the last line, read and written by
+//! `snapshot_reader` and `snapshot_writer`. First lines of messages: `scanner` guesses their parts,
+//! and `have_line_reader` and `give_header_reader` judge them.
+//!
+//! Sessions: `serving` answers one. `pulling` asks, bucket by bucket, and counts; `taking` reads an
+//! answer, line by line. Lines are numbered by how many were read. That number and the bytes that
+//! may still come are below 2^64 together, so no number can pass its type.
 #![tactic(auto)]
 
 mod answer_reader;

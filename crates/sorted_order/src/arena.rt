@@ -1,4 +1,5 @@
-//! Items in order of arrival, beside the order that the caller gives them.
+//! Items in order of arrival, beside the order that the caller gives them. A second order over the
+//! same items is an `Order` of its own, searched by `ByItem` and lent by `Lent::new`.
 ghost use Rattle.std.specs.Prelude.{◌≡◌, ℕ, ◌+◌, ◌<◌, ◌≤◌, [], ◌∷◌, ◌++◌, length, drop};
 ghost use Rattle.std.specs.Prelude.{slice_get, IsOk, OnOk, Some};
 ghost use Rattle.std.specs.List.{insert, filter};

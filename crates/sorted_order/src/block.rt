@@ -1,4 +1,5 @@
-//! A block: a few hundred numbers whose room is there from the start.
+//! A block: a vector of at most 512 numbers whose room is there from the start. Contracts see it as
+//! a list.
 ghost use Rattle.std.specs.Prelude.{◌≡◌, ℕ, ◌<◌, ◌≤◌, List, [], length, take, drop, vec_capacity};
 ghost use Rattle.std.specs.Prelude.{IfOk};
 ghost use Rattle.std.specs.List.{insert};

@@ -1,4 +1,5 @@
-//! Calls over the blocks of a sequence.
+//! Calls over the blocks of a sequence, a list of lists: where a place lies, putting a number in,
+//! cutting a full block into halves with a spare one, making spare blocks.
 ghost use Rattle.std.specs.Prelude.{◌≡◌, ℕ, ◌+◌, ◌-◌, ◌*◌, ◌^◌, ◌<◌, ◌≤◌, length, vec_capacity};
 ghost use Rattle.std.specs.Prelude.{OnOk};
 ghost use Rattle.std.specs.List.{concat, insert};

@@ -1,4 +1,10 @@
-//! A sequence of numbers in the order that its caller gives.
+//! A sequence of numbers in the order that its caller gives: blocks, spare blocks, sums and the
+//! count.
+//!
+//! Each block but the first is at least half full. The blocks, spare ones among them, number at
+//! most one for each 256 numbers of capacity and one more. So where there is room, a full block
+//! means that a spare one is left, and insertion needs no memory. A number of capacity costs 8
+//! bytes.
 ghost use Rattle.std.specs.Prelude.{◌≡◌, ℕ, ◌+◌, ◌-◌, ◌*◌, ◌^◌, ◌<◌, ◌≤◌, [], length, take, drop};
 ghost use Rattle.std.specs.Prelude.{slice_get, slice_index, min, IsOk, OnOk};
 ghost use Rattle.std.specs.List.{All, filter, insert};

@@ -1,4 +1,5 @@
-//! Searches over the blocks of a sequence.
+//! Searches over the blocks of a sequence: the block by the first numbers of the blocks, and then
+//! the place in it.
 ghost use Rattle.std.specs.Prelude.{◌≡◌, ℕ, ◌+◌, ◌-◌, ◌^◌, ◌<◌, ◌≤◌, length, slice_get};
 ghost use Rattle.std.specs.List.{All, concat};
 ghost use Rattle.sorted_order.specs.Blocks.{AreFilled, block_at, length_before, IsSpot, IsBoundary};

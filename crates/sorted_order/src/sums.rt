@@ -1,4 +1,5 @@
-//! Sums over the blocks of a sequence: how many numbers lie in each group of 64 blocks.
+//! Sums over the blocks of a sequence: how many numbers lie in each group of 64 blocks. By them a
+//! place is found, and the numbers before a block are counted.
 ghost use Rattle.std.specs.Prelude.{◌≡◌, ℕ, ◌+◌, ◌*◌, ◌/◌, ◌^◌, ◌<◌, ◌≤◌, length, take};
 ghost use Rattle.std.specs.Prelude.{slice_index, slice_set, OnOk};
 ghost use Rattle.std.specs.List.{concat, sum};

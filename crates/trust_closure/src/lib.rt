@@ -1,5 +1,6 @@
 //! Which documents a replica accepts, by its configuration, its receipts and its records of
-//! distrust: the promise of `closure_core`, kept over an index and by rounds.
+//! distrust: the promise of `closure_core`, kept over an index and by rounds. It hands on the names
+//! of `closure_core` that a caller needs.
 #![tactic(auto)]
 
 mod indexed;

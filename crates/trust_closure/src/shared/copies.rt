@@ -1,4 +1,5 @@
-//! Copies of what another closure holds and this one does not.
+//! Copies of what another closure holds and this one does not: first the causes of refusal, in
+//! their order, then copies of the receipts, and how many offers these have.
 ghost use Rattle.std.specs.Prelude.{◌≡◌, ◌+◌, ◌<◌, length, Contains, MatchBool, MatchOption};
 ghost use Rattle.std.specs.Prelude.{MatchResult};
 ghost use Rattle.fed_config.specs.Configuration.{HasDomain};

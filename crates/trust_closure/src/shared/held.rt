@@ -1,4 +1,5 @@
-//! What a closure holds: its configuration, receipts, and records of distrust.
+//! What a closure holds: its configuration; its receipts, in an arena by line, with their order by
+//! bucket beside it; and its records of distrust.
 ghost use Rattle.std.specs.Prelude.{◌≡◌, ℕ, ◌+◌, ◌<◌, ◌≤◌, ◌↔◌, [], ◌∷◌, ◌++◌, length, Contains};
 ghost use Rattle.std.specs.Prelude.{IsTrue, IsOk, OnOk, IfOk, MatchResult};
 ghost use Rattle.fed_config.specs.Configuration.{IsConfiguration};

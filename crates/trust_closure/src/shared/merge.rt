@@ -1,4 +1,6 @@
-//! All that another closure holds is taken in, or nothing.
+//! All that another closure holds is taken in, or nothing. All memory is there before the first
+//! change, and a take within room is never refused. `merge_into` is generic over the private trait
+//! `Mergeable`.
 ghost use Rattle.std.specs.Prelude.{◌≡◌, ◌⊎◌, ℕ, List, IsTrue, IsOk, OnOk, MatchResult};
 ghost use Rattle.receipt_core.specs.declared.distrust.Distrust.{Distrust};
 ghost use Rattle.receipt_core.specs.Receipt.{receipt_cmp, distrust_cmp};

@@ -1,4 +1,5 @@
-//! Different documents of domains in order.
+//! Different documents of domains in order, each with a count of the nodes that have it and are
+//! accepted.
 ghost use Rattle.std.specs.Prelude.{◌≡◌, ℕ, ◌+◌, ◌^◌, ◌<◌, ◌≤◌, ◌↔◌, ◌∷◌, ◌++◌, [], length, IsTrue};
 ghost use Rattle.std.specs.Prelude.{OnOk};
 ghost use Rattle.std.specs.List.{All};

@@ -1,4 +1,5 @@
-//! The records of distrust that a closure keeps.
+//! The records of distrust that a closure keeps: a rising vector of at most 4,096, whose room is
+//! made at the start.
 ghost use Rattle.std.specs.Prelude.{◌≡◌, ◌+◌, ◌≤◌, ◌↔◌, [], length, Contains, IfOk, IsTrue};
 ghost use Rattle.std.specs.List.Sorted.{IsStrictlySortedBy};
 ghost use Rattle.trust_closure.specs.Inside.Records.{InsertsRecord, record_cmp};
