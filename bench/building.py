@@ -1,14 +1,25 @@
-"""What the benchmarks of the upper crates share: their crates proved and built in a repository of their own, plain Rust
-over Debian's packages, and programs run with the most memory that they held."""
+"""What the benchmarks share: our programs proved and built in a repository of their own, the peers in plain Rust built over
+Debian's packages, the built `fedbundle`, and programs run with the most memory that they held."""
 import os
 import shutil
 import subprocess
 import sys
 import tempfile
+import time
 from pathlib import Path
 
-TOP = Path(__file__).resolve().parent.parent
+BENCH = Path(__file__).resolve().parent
+TOP = BENCH.parent
+OUT = BENCH / "out"
 REGISTRY = Path("/usr/share/cargo/registry")
+# The packages of the crates that the peers use.
+PACKAGES = {
+    "serde_json": "librust-serde-json-dev",
+    "sha2": "librust-sha2-dev",
+    "base64": "librust-base64-dev",
+    "hex": "librust-hex-dev",
+    "url": "librust-url-dev",
+}
 TIME = "/usr/bin/time"
 
 
@@ -16,34 +27,43 @@ def stop(text):
     sys.exit(f"run: {text}")
 
 
-def build_ours(here, name, crate):
-    """Builds the program of main.rt.txt and the other files NAME.rt.txt over a crate and all that it stands on, and
-    answers where it is."""
-    repo = here / "out/repo"
-    bench = repo / "crates" / name
-    shutil.rmtree(bench / "src", ignore_errors=True)
-    (bench / "src").mkdir(parents=True)
+def built_program():
+    """The program that is measured whole: the one that ./fedbundle runs, or that $FEDBUNDLE names."""
+    program = os.environ.get("FEDBUNDLE", str(TOP / "crates/fedbundle_cli/out/fedbundle"))
+    if not os.access(program, os.X_OK):
+        stop(f"{program} is not there: build it with ./fedbundle --version, or name it in $FEDBUNDLE")
+    return program
+
+
+def build_ours(name, *crates, words=(), text=b""):
+    """Builds the program programs/NAME.rt.txt, with the files of programs/NAME/ if there are any, over the crates and all
+    that they stand on, runs it once on the words and the text, and returns where it is."""
+    repo = OUT / "repo"
+    program = repo / "crates" / f"{name}_bench"
+    shutil.rmtree(program / "src", ignore_errors=True)
+    (program / "src").mkdir(parents=True)
     lines = {line.split(":")[0]: line for line in (TOP / "crates.txt").read_text().splitlines() if ":" in line}
-    needed = below(lines, crate)
-    own = [other for other in needed if other != "thiserror"]
-    (repo / "crates.txt").write_text("".join(f"{lines[other]}\n" for other in needed) + f"{name}: {' '.join(own)}\n")
+    needed = below(lines, crates)
+    own = f"{program.name}: {' '.join(needed)}\n"
+    (repo / "crates.txt").write_text("".join(f"{lines[crate]}\n" for crate in needed) + own)
     shutil.copy(TOP / "HANDLES", repo / "HANDLES")
     if not (repo / ".git").is_dir():
         subprocess.run(["git", "init", "-q", repo], check=True)
-    for other in needed:
-        copy_crate(TOP / "crates" / other, repo / "crates" / other)
-    for file in here.glob("*.rt.txt"):
-        shutil.copy(file, bench / "src" / file.stem)
+    for crate in needed:
+        copy_crate(TOP / "crates" / crate, repo / "crates" / crate)
+    shutil.copy(BENCH / "programs" / f"{name}.rt.txt", program / "src/main.rt")
+    for file in (BENCH / "programs" / name).glob("*.rt.txt"):
+        shutil.copy(file, program / "src" / file.stem)
     print("proving and building the crates and their benchmark", file=sys.stderr)
-    done = subprocess.run(["rt", "run"], cwd=bench, stdin=subprocess.DEVNULL, capture_output=True)
+    done = subprocess.run(["rt", "run", "--", *words], cwd=program, input=text, capture_output=True)
     if done.returncode != 0:
         stop((done.stdout + done.stderr)[-4_000:].decode(errors="replace"))
-    return bench / "out" / name
+    return program / "out" / program.name
 
 
-def below(lines, crate):
-    """The crate and those of the repository that it stands on, each once."""
-    found = [crate]
+def below(lines, crates):
+    """The crates and those of the repository that they stand on, each once."""
+    found = list(crates)
     for at in found:
         for other in lines[at].split(":")[1].split():
             if other in lines and other not in found:
@@ -67,30 +87,45 @@ def built_at(crate):
     return stamp.stat().st_mtime if stamp.is_file() else 0
 
 
-def build_plain(here, name, packages, features=()):
-    """Builds the plain program, and answers where it is. The packages are those of the crates that it uses."""
-    missing = [package for crate, package in packages.items() if not list(REGISTRY.glob(f"{crate}-[0-9]*"))]
+def build_peer(name, soft=False, cpu=None):
+    """Builds the peer in plain Rust, and returns where it is. `soft` has it compute digests without the processor's own
+    instructions; `cpu` names the processors that it is built for, where these are not all of the kind."""
+    missing = [package for crate, package in PACKAGES.items() if not list(REGISTRY.glob(f"{crate}-[0-9]*"))]
     if missing:
         stop("these packages are missing: " + " ".join(missing))
-    target = here / "out" / "-".join(["plain", *features])
+    target = OUT / "-".join(filter(None, ["peer", soft and "soft", cpu]))
     environment = {**os.environ, "CARGO_TARGET_DIR": str(target)}
-    done = subprocess.run(
-        ["cargo", "build", "--release", "--offline", "--quiet", "--features", ",".join(features)],
-        cwd=here / "plain", env=environment, stdin=subprocess.DEVNULL, capture_output=True, text=True,
-    )
+    if cpu:
+        environment["RUSTFLAGS"] = f"-C target-cpu={cpu}"
+    words = ["cargo", "build", "--release", "--offline", "--quiet", "--bin", name]
+    words += ["--features", "soft"] if soft else []
+    how = {"stdin": subprocess.DEVNULL, "capture_output": True, "text": True}
+    try:
+        done = subprocess.run(words, cwd=BENCH / "peer", env=environment, **how)
+    except FileNotFoundError:
+        stop("cargo is not on PATH")
     if done.returncode != 0:
         stop("cargo built nothing:\n" + done.stderr)
     return target / "release" / name
 
 
-def run(program, words, path):
-    """The numbers that the program prints, and the most memory that it held, in bytes: as `time` tells it, whose own
-    process is small. A process that starts another hands its own most on to it."""
+def run_timed(command, path, sink=subprocess.PIPE):
+    """Runs the command on a file, and returns what it printed, where that goes to no sink, the seconds that it took, and the
+    most memory that it held, in bytes: as `time` tells it, whose own process is small. A process that starts another
+    hands its own most on to it."""
     if not os.access(TIME, os.X_OK):
         stop(f"{TIME} is not there: it is in the package time")
     with open(path, "rb") as source, tempfile.NamedTemporaryFile("r") as told:
-        command = [TIME, "-f", "%M", "-o", told.name, str(program), *map(str, words)]
-        done = subprocess.run(command, stdin=source, stdout=subprocess.PIPE)
+        words = [TIME, "-f", "%M", "-o", told.name, *map(str, command)]
+        begun = time.perf_counter()
+        done = subprocess.run(words, stdin=source, stdout=sink)
+        took = time.perf_counter() - begun
         if done.returncode != 0:
-            stop(f"{program} {words} ended with {done.returncode}")
-        return [int(word) for word in done.stdout.split()], int(told.read()) * 1024
+            stop(f"{' '.join(map(str, command))} ended with {done.returncode}")
+        return done.stdout, took, int(told.read()) * 1024
+
+
+def run(program, words, path=os.devnull):
+    """The numbers that the program prints, and the most memory that it held, in bytes."""
+    printed, _, held = run_timed([program, *words], path)
+    return [int(word) for word in printed.split()], held

@@ -1,0 +1,313 @@
+"""Measures `trust_closure` beside plain Rust that gives the same answers, both built here, run in turn.
+
+words: [TURNS [PART..]]    TURNS is how often each program takes each set; 5 if left out
+                           PART is one of: takes double merges singly whole; all but the last if left out
+"""
+import base64
+import hashlib
+import json
+import random
+import statistics
+import tempfile
+from pathlib import Path
+
+from building import build_ours, build_peer, run, stop
+
+SIZES = [4_096, 16_384, 65_536]
+DOUBLES = [16_384, 32_768, 65_536]
+RECORDS = [256, 1_024, 4_096]
+SAMPLE = 64
+RING = 16
+LEAVES = 8
+DOMAIN = "a.example"
+ENDPOINT = "spiffe://a.example/bundle"
+RELATIONSHIP = {
+    "domain": DOMAIN,
+    "endpoint": ENDPOINT,
+    "profile": "https_spiffe",
+    "url": "https://bundles.a.example/",
+}
+
+
+# Documents and receipts.
+
+
+def authority(certificate):
+    der = base64.b64encode(certificate).decode()
+    return f'{{"e":"AQAB","kty":"RSA","n":"AQAB","use":"x509-svid","x5c":["{der}"]}}'
+
+
+COMMON, OTHER = b"common", b"other"
+RARE = [b"rare %d" % number for number in range(LEAVES)]
+IDLE = [b"idle %d" % number for number in range(LEAVES)]
+FAN = [b"fan %d" % number for number in range(RECORDS[-1] + 1)]
+
+
+def document(sequence, *certificates):
+    keys = ",".join(sorted(map(authority, certificates)))
+    return f'{{"keys":[{keys}],"spiffe_sequence":{sequence}}}'
+
+
+def receipt(text, voucher, certificate):
+    """The line of a document's receipt, under a key of another document."""
+    key = hashlib.sha256(certificate).hexdigest()
+    voucher = hashlib.sha256(f"{DOMAIN}\n{voucher}".encode()).hexdigest()
+    return f'{{"doc":{text},"domain":"{DOMAIN}","endpoint":"{ENDPOINT}","key":"{key}","voucher":"{voucher}"}}'
+
+
+def record(certificate):
+    return f'{{"distrust":"{hashlib.sha256(certificate).hexdigest()}","domain":"{DOMAIN}"}}'
+
+
+# The configured document of takes, and one document under each of its rare keys, which nothing else is under.
+SEED = document(1, COMMON, *RARE, *IDLE)
+LEAF_LINES = [receipt(document(0, COMMON, b"leaf of " + rare), SEED, rare) for rare in RARE]
+
+
+def forward(count):
+    """Each document under the key of the one before."""
+    last = SEED
+    for sequence in range(2, count + 1):
+        text = document(sequence, COMMON)
+        yield receipt(text, last, COMMON)
+        last = text
+
+
+def reverse(count):
+    return reversed(list(forward(count)))
+
+
+def star(count):
+    """Each document under the key of the configured one."""
+    return (receipt(document(sequence, COMMON), SEED, COMMON) for sequence in range(2, count + 1))
+
+
+def shuffled(count):
+    """Each document, with a key of its own too, under one of the keys of any earlier one; the receipts in no order."""
+    random_ = random.Random(count)
+    documents = [(SEED, [COMMON])]
+    lines = []
+    for sequence in range(2, count + 1):
+        own = random_.randbytes(16)
+        text = document(sequence, COMMON, own)
+        voucher, keys = random_.choice(documents)
+        lines.append(receipt(text, voucher, random_.choice(keys)))
+        documents.append((text, [COMMON, own]))
+    random_.shuffle(lines)
+    return lines
+
+
+def rings(count):
+    """Rings of documents, each under the key of the one before it in its ring, and at last one way into each."""
+    entries = []
+    for start in range(2, count - RING + 2, RING):
+        texts = [document(sequence, COMMON) for sequence in range(start, start + RING - 1)]
+        for at, text in enumerate(texts):
+            yield receipt(text, texts[at - 1], COMMON)
+        entries.append(receipt(texts[0], SEED, COMMON))
+    yield from entries
+
+
+SHAPES = [
+    ("chain", forward),
+    ("reversed", reverse),
+    ("star", star),
+    ("shuffled", shuffled),
+    ("rings", rings),
+]
+
+
+def both_ways(last, sequences):
+    """Each document under both keys of the one before, the first one's before being the last."""
+    for sequence in sequences:
+        text = document(sequence, COMMON, OTHER)
+        yield receipt(text, last, COMMON)
+        yield receipt(text, last, OTHER)
+        last = text
+
+
+def write(path, seed, receipts, certificates):
+    """The configuration with its one document, the receipts, and a record of distrust for each certificate."""
+    config = {"relationships": [RELATIONSHIP], "seeds": [{"bundle": json.loads(seed), "domain": DOMAIN}]}
+    path.write_text("".join(f"{line}\n" for line in [json.dumps(config), *receipts, *map(record, certificates)]))
+
+
+def write_shape(path, make, count):
+    """The receipts of a shape, and records of the keys that nothing rests on, of the rare ones, and of the common one."""
+    receipts = [*LEAF_LINES, *make(count + 1 - LEAVES)]
+    write(path, SEED, receipts, [*IDLE, *RARE, COMMON])
+    return len(receipts)
+
+
+def write_double(path, count, shuffles):
+    """A double chain of at most that many receipts, and records of both keys."""
+    seed = document(1, COMMON, OTHER)
+    receipts = list(both_ways(seed, range(2, count // 2 + 1)))
+    if shuffles:
+        random.Random(count).shuffle(receipts)
+    write(path, seed, receipts, [COMMON, OTHER])
+    return len(receipts)
+
+
+def write_fan(path, records, shuffles):
+    """A full store: one document under each of 4,097 keys of the configured one, a double chain from there on, and
+    records of some of those keys. On each of them the whole chain rests, and it is reached otherwise too."""
+    seed = document(1, *FAN)
+    first = document(2, COMMON, OTHER)
+    receipts = [receipt(first, seed, certificate) for certificate in FAN]
+    left = SIZES[-1] - len(receipts)
+    receipts += both_ways(first, range(3, left // 2 + 3))
+    if shuffles:
+        random.Random(left).shuffle(receipts)
+    write(path, seed, receipts, FAN[1 : records + 1])
+    return len(receipts)
+
+
+# The tables.
+
+
+class Runs:
+    """What the takes and the records took in each run of a program, what is the same in all of them, and the bytes
+    beyond the receipts."""
+
+    def __init__(self):
+        self.taken = []
+        self.records = []
+        self.told = set()
+        self.held = float("inf")
+
+    def add(self, program, word, path):
+        (taken, accepted, pending, before, *rest), held = run(program, [word], path)
+        self.taken.append(taken)
+        self.records.append(rest[0:-2:2])
+        self.told.add((accepted, pending, before, *rest[1:-2:2], *rest[-2:]))
+        return held
+
+    def add_with_memory(self, program, path):
+        held = self.add(program, "take", path)
+        _, alone = run(program, ["hold"], path)
+        self.held = min(self.held, held - alone)
+
+    def of(self, first, end):
+        """For each run the median of these records."""
+        return [statistics.median(took[first:end]) for took in self.records]
+
+    def sums(self):
+        return [sum(took) for took in self.records]
+
+
+def measure(programs, turns, add):
+    found = [Runs() for _ in programs]
+    for _ in range(turns):
+        for runs, program in zip(found, programs):
+            add(runs, program)
+    told = set.union(*(runs.told for runs in found))
+    if len(told) != 1:
+        stop(f"the answers differ: {[numbers[-40:] for numbers in told]}")
+    return found
+
+
+ROW = "{:<9} {:>8} | {:>6} {:>6} | {:>6} {:>6} {:>5} | {:>5} {:>5} | {:>5} {:>5} | {:>5} {:>5} {:>5} | {:>5} {:>5}"
+
+
+def print_takes(programs, path, turns):
+    print("\nTakes and a distrust that reaches all: ns for each receipt. Growth: over the time for each receipt at the size")
+    print("before. A distrust on which nothing rests, and one that reaches one receipt: us, the median of eight. Held: bytes")
+    print("for each receipt beyond the receipt itself. Least times of the runs.\n")
+    heads = ["", "", "take", "", "plain", "", "", "none", "plain", "one", "plain", "all", "plain", "", "held", "plain"]
+    print(ROW.format(*heads))
+    heads = ["ns", "growth", "ns", "growth", "ratio", "us", "us", "us", "us", "ns", "ns", "ratio", "bytes", "bytes"]
+    print(ROW.format("shape", "receipts", *heads), flush=True)
+    for name, make in SHAPES:
+        last = None
+        for size in SIZES:
+            last = print_shape(programs, path, name, make, size, turns, last)
+
+
+def print_shape(programs, path, name, make, size, turns, last):
+    count = write_shape(path, make, size)
+    found = measure(programs, turns, lambda runs, program: runs.add_with_memory(program, path))
+    taken = [min(runs.taken) / count for runs in found]
+    none, one, all_ = [
+        [min(runs.of(*places)) for runs in found]
+        for places in ((0, LEAVES), (LEAVES, 2 * LEAVES), (2 * LEAVES, 2 * LEAVES + 1))
+    ]
+    growth = [f"{now / before:.2f}" for now, before in zip(taken, last)] if last else ["", ""]
+    print(ROW.format(
+        name, count,
+        f"{taken[0]:.0f}", growth[0], f"{taken[1]:.0f}", growth[1], f"{taken[0] / taken[1]:.2f}",
+        *(f"{time / 1e3:.1f}" for time in [*none, *one]),
+        *(f"{time / count:.0f}" for time in all_), f"{all_[0] / all_[1]:.2f}",
+        *(f"{runs.held / count:.0f}" for runs in found),
+    ), flush=True)
+    return taken
+
+
+MANY = "{:<28} {:<9} {:>8} {:>7} | {:>8} {:>8} {:>6} | {:>8} {:>8} {:>6} | {:>5}"
+
+
+def print_many(title):
+    print(f"\n{title} Growth: least time over that of the size before.\n")
+    print(MANY.format("", "", "", "", "least", "median", "growth", "plain", "median", "growth", ""))
+    print(MANY.format("what", "order", "receipts", "records", "ms", "ms", "", "ms", "ms", "", "ratio"), flush=True)
+
+
+def print_line(last, what, shuffles, count, records, own, other):
+    """A line of print_many. `last` has the least times of the size before, by what was timed."""
+    before = last.get((what, shuffles))
+    last[what, shuffles] = min(own), min(other)
+    cells = []
+    for at, times in enumerate((own, other)):
+        growth = f"{min(times) / before[at]:.2f}" if before else ""
+        cells += [f"{min(times) / 1e6:.2f}", f"{statistics.median(times) / 1e6:.2f}", growth]
+    order = "shuffled" if shuffles else "in order"
+    print(MANY.format(what, order, count, records, *cells, f"{min(own) / min(other):.2f}"), flush=True)
+
+
+def print_double(programs, path, turns):
+    print_many("Double chains: each document under both keys of the one before. First one key is distrusted, then the other.")
+    last = {}
+    for shuffles in (False, True):
+        for size in DOUBLES:
+            count = write_double(path, size, shuffles)
+            found = measure(programs, turns, lambda runs, program: runs.add(program, "take", path))
+            for at, what in enumerate(["reaches all, loses nothing", "reaches all, loses all"]):
+                print_line(last, what, shuffles, count, 1, *(runs.of(at, at + 1) for runs in found))
+
+
+def print_merges(programs, path, turns):
+    print_many("One merge of records into a full store. The whole chain rests on each of them, and is reached otherwise.")
+    last = {}
+    for shuffles in (False, True):
+        for records in RECORDS:
+            count = write_fan(path, records, shuffles)
+            found = measure(programs, turns, lambda runs, program: runs.add(program, "merge", path))
+            print_line(last, "one merge", shuffles, count, records, *(runs.sums() for runs in found))
+
+
+def print_singly(programs, path, turns, records):
+    print_many("The same records, each distrusted on its own, as a pull does: the times of all together.")
+    for shuffles in (False, True):
+        count = write_fan(path, records, shuffles)
+        found = measure(programs, turns, lambda runs, program: runs.add(program, "take", path))
+        print_line({}, "one after another", shuffles, count, records, *(runs.sums() for runs in found))
+
+
+def main(words):
+    turns = int(words[0]) if words else 5
+    parts = words[1:] or ["takes", "double", "merges", "singly"]
+    programs = [build_ours("closure", "trust_closure"), build_peer("closure")]
+    print(f"{turns} runs of each program, in turns.")
+    with tempfile.TemporaryDirectory() as folder:
+        path = Path(folder) / "receipts"
+        if "takes" in parts:
+            print_takes(programs, path, turns)
+        if "double" in parts:
+            print_double(programs, path, turns)
+        if "merges" in parts:
+            print_merges(programs, path, turns)
+        if "singly" in parts:
+            print_singly(programs, path, turns, SAMPLE)
+        if "whole" in parts:
+            print_singly(programs, path, turns, RECORDS[-1])
+    print("\nBoth programs gave the same answers on each set.")
