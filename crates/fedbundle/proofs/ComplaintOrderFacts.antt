@@ -13,6 +13,7 @@ use Rattle.receipt_core.specs.Receipt.{Receipt, receipt_cmp}
 use Rattle.receipt_core.proofs.OrderFacts.{by_order_of, cmp_equal, cmp_greater}
 use Rattle.receipt_core.proofs.RisingFacts.{Has, Has-from_contains, Contains-from_has, each_has}
 use Rattle.bundle_view.proofs.RisingListFacts.{not_below_itself, not_both, same_list}
+use Rattle.receipt_core.specs.Limits.{receipt_limit}
 use Rattle.fedbundle.specs.Stream.{AreTaken, OverfillStore, Complaint, complaint_cmp, AreComplaints, AreFirstComplaints}
 
 module _ {A : Type 0} (cmp : A → A → Ordering) (total : IsTotalOrder cmp) where
@@ -108,7 +109,7 @@ first_telling c lines xs ys p q =
 
 -- where some receipts to take are more than a closure holds, all of them are, as `laws::too_many`
 -- says
-pub too_many_for_all : (c : Configuration) (texts : List (List ℕ)) (rs : List Receipt) → OverfillStore c texts → AreTaken c texts rs → 65536 < length rs
+pub too_many_for_all : (c : Configuration) (texts : List (List ℕ)) (rs : List Receipt) → OverfillStore c texts → AreTaken c texts rs → receipt_limit < length rs
 too_many_for_all c texts rs many taken =
     let fewer = no_longer receipt_cmp receipt_total many.some rs many.rising taken.rising
     (λ r has. Has-from_contains rs r (taken.complete r (many.each r (Contains-from_has many.some r has)))) in

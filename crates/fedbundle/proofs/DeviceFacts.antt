@@ -16,8 +16,7 @@ use Rattle.replica_core.specs.declared.error.SyncError.TheVariants.{NotCanonical
 use Rattle.replica_core.specs.declared.error.SyncError.TheVariants.{Refused}
 use Rattle.replica_core.specs.declared.error.SyncError.TheVariants.{Io as StreamFailed}
 use Rattle.replica_core.specs.declared.error.SyncError.TheVariants.{NoMemory as NoMemoryForStream}
-use Rattle.fedbundle.specs.Run.{of_line, of_report}
-use Rattle.fedbundle.specs.Status.{of_read}
+use Rattle.fedbundle.specs.Errors.{of_line, of_report, of_read}
 use Rattle.fedbundle.specs.declared.error.CommandError.TheVariants.{Io}
 use Rattle.fedbundle.specs.declared.run_error.RunError.TheVariants.{Io as RunIo}
 

@@ -6,3 +6,4 @@ mod ComplaintOrderFacts
 mod PollsFacts
 mod SessionsFacts
 mod DeviceFacts
+mod CommandFacts

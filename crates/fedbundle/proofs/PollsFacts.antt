@@ -9,13 +9,13 @@ use Rattle.std.proofs.lemmas.Slice.Eq.{bytes_eq-Decides}
 use Rattle.std.specs.Str.{bytes_eq}
 use Rattle.jiff.specs.Types.{Timestamp}
 use Rattle.fed_config.specs.declared.relationship.Relationship.{Relationship}
-use Rattle.receipt_core.specs.Acceptance.{Meaning}
 use Rattle.poll_log.specs.Polling.{Standing, IsPollDue, IsNext, IsNextAfter, polled_domains, standing_in}
 use Rattle.poll_log.specs.declared.error.PollError.{PollError}
 use Rattle.poll_log.specs.declared.error.PollError.TheVariants.{PastRange}
 use Rattle.bundle_view.proofs.GroupFacts.{taken_more}
 use Rattle.bundle_view.proofs.RisingListFacts.{contains_none, contains_cases}
-use Rattle.fedbundle.specs.Polls.{AddsNext, AddsPollLine, ArePollLines, IsPollLine, seconds_text}
+use Rattle.fedbundle.specs.Polls.{PollView, ArePollLines, IsPollLine, seconds_text}
+use Rattle.fedbundle.specs.Inside.PollSteps.{AddsNext, AddsPollLine}
 
 -- ---- what is refused for a domain of the log is past the range
 
@@ -79,15 +79,15 @@ concat_more [] l = sym (append-nil l)
 concat_more (x ∷ ls) l = append_assoc x (concat ls) l ∙ ap (λ t. x ++ t) (concat_more ls l)
 
 -- one more line was written: the step of the loop in `render`
-pub lines_more : (m : Meaning) (log : List Standing) (now : ℤ) (rs : List Relationship) (k : ℕ) (r : Relationship)
+pub lines_more : (view : PollView) (rs : List Relationship) (k : ℕ) (r : Relationship)
     (old new : List ℕ) → k < length rs → r ≡ get_or rs k r
-    → ArePollLines m log now (map (λ r. r.domain) (take k rs)) old → AddsPollLine m log now r.domain old new
-    → ArePollLines m log now (map (λ r. r.domain) (take (k + 1) rs)) new
-lines_more m log now rs k r old new low is has adds =
+    → ArePollLines view (map (λ r. r.domain) (take k rs)) old → AddsPollLine view r.domain old new
+    → ArePollLines view (map (λ r. r.domain) (take (k + 1) rs)) new
+lines_more view rs k r old new low is has adds =
     let domains : map (λ (r : Relationship). r.domain) (take (k + 1) rs) ≡ map (λ (r : Relationship). r.domain) (take k rs) ++ r.domain ∷ [] =
     ap (map (λ (r : Relationship). r.domain)) (taken_more rs k r low is) ∙ map-append (λ (r : Relationship). r.domain) (take k rs) (r ∷ []) in
-    subst (λ ds. ArePollLines m log now ds new) (sym domains) (record {
+    subst (λ ds. ArePollLines view ds new) (sym domains) (record {
       lines = has.lines ++ adds.line ∷ [];
-      each = zip_more (IsPollLine m log now) (map (λ (r : Relationship). r.domain) (take k rs)) has.lines r.domain adds.line has.each adds.is;
+      each = zip_more (IsPollLine view) (map (λ (r : Relationship). r.domain) (take k rs)) has.lines r.domain adds.line has.each adds.is;
       is = adds.now_is ∙ ap (λ t. t ++ adds.line) has.is ∙ concat_more has.lines adds.line;
     })

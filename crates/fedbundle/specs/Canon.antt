@@ -1,17 +1,17 @@
--- What `canon` prints, and what a run of it does to its two devices.
-use Rattle.std.specs.Prelude.{◌≡◌, ℕ, ◌+◌, ◌++◌, ◌⊎◌, List, [], ◌∷◌, codes, Option, Some, None}
-use Rattle.std.specs.Prelude.{Bool, true}
-use Rattle.std.specs.Io.KnownBytes.{Appends}
+-- What a run of `canon` does.
+use Rattle.std.specs.Prelude.{ℕ, ◌++◌, ◌⊎◌, List, [], ◌∷◌, codes, Option, Some, None}
+use Rattle.std.specs.Prelude.{Result, Ok, Err}
 use Rattle.hex.specs.Hex.{encode_lower}
 use Rattle.jwk_set.specs.declared.authority.Authority.{Authority}
 use Rattle.jwk_set.specs.declared.authority.KeyId.{KeyId}
 use Rattle.jwk_set.specs.Element.{key_id_of}
-use Rattle.bundle_doc.specs.Bundle.{Bundle, IsDocument, canonical_text, doc_id_of, document_limit}
-use Rattle.bundle_doc.specs.Refusal.{RefusesBytes}
-use Rattle.bundle_doc.specs.declared.error.DocError.{DocError}
-use Rattle.byte_lines.specs.Device.{TakesUpTo, AppendsBeginning}
+use Rattle.bundle_doc.specs.Bundle.{Bundle, canonical_text, doc_id_of}
+use Rattle.fedbundle.specs.CommandRun.{CommandRun, ReadsDocument, RefusesDocument, PrintsText}
+use Rattle.fedbundle.specs.CommandRun.{WritesNothing, CutsOff, FailsToRead}
 use Rattle.fedbundle.specs.declared.error.CommandError.{CommandError}
-use Rattle.fedbundle.specs.declared.error.CommandError.TheVariants.{Document}
+use Rattle.fedbundle.specs.declared.error.CommandError.TheVariants.{Document, NoMemory, Io}
+
+-- ---- the text
 
 -- a label, a digest in lower-case hexadecimal, and a line feed
 abbrev pub digest_line : List ℕ → List ℕ → List ℕ
@@ -31,42 +31,26 @@ abbrev pub canon_text : List ℕ → Bundle → List ℕ
 canon_text domain b = canonical_text b
     ++ (10 ∷ [] ++ (digest_line (codes "id ") (doc_id_of domain b) ++ key_lines b.authorities))
 
--- the bytes that were read: all, where there are no more than a document may have, and else one
--- byte more than that
-abbrev pub Reads : Option (List ℕ) → Option (List ℕ) → List ℕ → Type 0
-Reads old new bytes = TakesUpTo old new (document_limit + 1) bytes
+-- ---- a run
 
 -- The bytes read are a document, and its text was written and nothing else.
-pub record PrintsCanon (before after : Option (List ℕ)) (domain : List ℕ)
-    (held holds : Option (List ℕ)) : Type 0 where
-  pub bytes : List ℕ
-  pub read : Reads before after bytes
+pub record PrintsCanon (run : CommandRun) (domain : List ℕ) : Type 0 where
   pub document : Bundle
-  pub is : IsDocument bytes document
-  pub written : Appends held holds (canon_text domain document)
-
--- The error is the cause for which the bytes read are refused, and nothing was written.
-pub record RefusesCanon (before after held holds : Option (List ℕ))
-    (error : CommandError) : Type 0 where
-  pub bytes : List ℕ
-  pub read : Reads before after bytes
-  pub why : DocError
-  pub is : error ≡ Document why
-  pub cause : RefusesBytes bytes why
-  pub unwritten : holds ≡ held
+  pub read : ReadsDocument run.source document
+  pub written : PrintsText run.sink (canon_text domain document)
 
 -- The bytes read are a document, and the sink failed after a beginning of its text.
-pub record CutsCanon (before after : Option (List ℕ)) (domain : List ℕ)
-    (held holds : Option (List ℕ)) : Type 0 where
-  pub bytes : List ℕ
-  pub read : Reads before after bytes
+pub record CutsCanon (run : CommandRun) (domain : List ℕ) : Type 0 where
   pub document : Bundle
-  pub is : IsDocument bytes document
-  pub beginning : AppendsBeginning held holds (canon_text domain document)
+  pub read : ReadsDocument run.source document
+  pub cut : CutsOff run.sink (canon_text domain document)
 
--- The source failed before anything was written, or the sink failed.
-abbrev pub FailsCanon : Option (List ℕ) → Option (List ℕ) → List ℕ → Option (List ℕ)
-    → Option (List ℕ) → Bool → Bool → Type 0
-FailsCanon before after domain held holds source_failed
-    sink_failed = ((source_failed ≡ true) × (holds ≡ held))
-    ⊎ ((sink_failed ≡ true) × CutsCanon before after domain held holds)
+-- By the answer: the text of the document was written; the source failed before anything was
+-- written, or the sink failed; memory ran out before anything was written; the bytes are no
+-- document. There is no other error.
+abbrev pub RunsCanon : CommandRun → List ℕ → Result (Unit {0}) CommandError → Type 0
+RunsCanon run domain (Ok _) = PrintsCanon run domain
+RunsCanon run domain (Err Io) = FailsToRead run ⊎ CutsCanon run domain
+RunsCanon run domain (Err NoMemory) = WritesNothing run.sink
+RunsCanon run domain (Err (Document why)) = RefusesDocument run why
+RunsCanon run domain (Err _) = ⊥

@@ -1,22 +1,23 @@
--- What `bundle` prints.
-use Rattle.std.specs.Prelude.{◌≡◌, ℕ, ◌++◌, List, [], ◌∷◌, Option, Some, None, Bool, true, false}
-use Rattle.std.specs.Io.KnownBytes.{Appends}
+-- What a run of `bundle` does. It reads nothing.
+use Rattle.std.specs.Prelude.{ℕ, ◌++◌, List, [], ◌∷◌, Some, None, Bool, true, false}
+use Rattle.std.specs.Prelude.{Result, Ok, Err}
 use Rattle.bundle_doc.specs.Bundle.{Bundle, canonical_text}
 use Rattle.bundle_view.specs.Current.{IsCurrent}
 use Rattle.receipt_core.specs.Acceptance.{Meaning}
-use Rattle.byte_lines.specs.Device.{AppendsBeginning}
+use Rattle.fedbundle.specs.CommandRun.{DeviceRun, PrintsText, WritesNothing, CutsOff}
+use Rattle.fedbundle.specs.declared.error.CommandError.{CommandError}
+use Rattle.fedbundle.specs.declared.error.CommandError.TheVariants.{Io}
 
 abbrev pub bundle_text : Bundle → List ℕ
 bundle_text b = canonical_text b ++ 10 ∷ []
 
--- The domain's current document was written, and nothing else; or it has none, and nothing was
--- written.
-abbrev pub PrintsCurrent : Meaning → List ℕ → Option (List ℕ) → Option (List ℕ) → Bool → Type 0
-PrintsCurrent m domain held holds true = (b : Bundle) × IsCurrent m domain (Some b)
-    × Appends held holds (bundle_text b)
-PrintsCurrent m domain held holds false = IsCurrent m domain None × (holds ≡ held)
-
--- A beginning of the domain's current document was written.
-abbrev pub BeginsCurrent : Meaning → List ℕ → Option (List ℕ) → Option (List ℕ) → Type 0
-BeginsCurrent m domain held holds = (b : Bundle) × IsCurrent m domain (Some b)
-    × AppendsBeginning held holds (bundle_text b)
+-- By the answer: the domain's current document was written, and nothing else; it has none, and
+-- nothing was written; it has one, and the sink failed after a beginning of it. There is no other
+-- error.
+abbrev pub RunsBundle : DeviceRun → Meaning → List ℕ → Result Bool CommandError → Type 0
+RunsBundle sink m domain (Ok true) = (b : Bundle) × IsCurrent m domain (Some b)
+    × PrintsText sink (bundle_text b)
+RunsBundle sink m domain (Ok false) = IsCurrent m domain None × WritesNothing sink
+RunsBundle sink m domain (Err Io) = (b : Bundle) × IsCurrent m domain (Some b)
+    × CutsOff sink (bundle_text b)
+RunsBundle sink m domain (Err _) = ⊥

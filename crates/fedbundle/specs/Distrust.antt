@@ -1,9 +1,8 @@
--- What a run of `distrust` does to what is held.
-use Rattle.std.specs.Prelude.{◌≡◌, ℕ, ◌⊎◌}
+-- What a run of `distrust` does to what is held. It reads and writes nothing.
+use Rattle.std.specs.Prelude.{ℕ, ◌⊎◌, Result, Ok, Err}
 use Rattle.receipt_core.specs.Acceptance.{Meaning}
 use Rattle.receipt_core.specs.declared.distrust.Distrust.{Distrust}
 use Rattle.closure_core.specs.Changes.{HasDistrusted, HasRecordAlready, HasRefusedDistrust}
-use Rattle.closure_core.specs.declared.error.TakeError.{TakeError}
 use Rattle.fedbundle.specs.declared.error.CommandError.{CommandError}
 use Rattle.fedbundle.specs.declared.error.CommandError.TheVariants.{Take}
 
@@ -11,8 +10,8 @@ use Rattle.fedbundle.specs.declared.error.CommandError.TheVariants.{Take}
 abbrev pub HoldsRecord : Meaning → Distrust → Meaning → Type 0
 HoldsRecord old x new = ((lost : ℕ) × HasDistrusted old x new lost) ⊎ HasRecordAlready old x new
 
-pub record RefusesDistrusting (old : Meaning) (x : Distrust) (new : Meaning)
-    (error : CommandError) : Type 0 where
-  pub why : TakeError
-  pub is : error ≡ Take why
-  pub refused : HasRefusedDistrust old x new why
+-- By the answer: the record is held; or it is refused for this cause, and all is as it was.
+abbrev pub RunsDistrust : Meaning → Distrust → Meaning → Result (Unit {0}) CommandError → Type 0
+RunsDistrust old x new (Ok _) = HoldsRecord old x new
+RunsDistrust old x new (Err (Take why)) = HasRefusedDistrust old x new why
+RunsDistrust old x new (Err _) = ⊥

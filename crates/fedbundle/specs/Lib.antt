@@ -1,17 +1,23 @@
-pub mod Canon
+-- The promise of each command has a file of its own; what they share stands in the first four.
+-- `Inside` has the steps of the two longest.
+pub mod CommandRun
+pub mod Limits
+pub mod Errors
 pub mod Counts
+pub mod Canon
 pub mod CurrentBundle
 pub mod Distrust
 pub mod Explain
 pub mod Fault
-pub mod Judging
 pub mod Merge
 pub mod Observe
 pub mod Polls
 pub mod Pull
-pub mod Run
+pub mod Report
+pub mod SameSets
 pub mod Serve
 pub mod Sessions
 pub mod Status
 pub mod Stream
 pub mod Words
+pub mod Inside

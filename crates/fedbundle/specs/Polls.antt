@@ -1,20 +1,20 @@
--- What `polls` prints, and what a run of it does to its two devices.
+-- What a run of `polls` does.
 use Rattle.std.specs.Prelude.{◌≡◌, ℕ, ℤ, pos, int_div, ◌++◌, ◌⊎◌, List, codes, Option, Some, None}
-use Rattle.std.specs.Prelude.{IfSome, Bool, true, Ok, Err}
+use Rattle.std.specs.Prelude.{IfSome, Result, Ok, Err}
 use Rattle.std.specs.Fmt.{signed_decimal}
-use Rattle.std.specs.Io.KnownBytes.{Appends}
 use Rattle.std.specs.List.{AllZip, concat}
 use Rattle.jiff.specs.Types.{Timestamp}
 use Rattle.bundle_doc.specs.Bundle.{Bundle}
 use Rattle.receipt_core.specs.Acceptance.{Meaning}
-use Rattle.byte_lines.specs.Device.{AppendsBeginning}
 use Rattle.bundle_view.specs.Current.{IsCurrent}
 use Rattle.poll_log.specs.Polling.{Standing, IsPollDue, IsNext, polled_domains, polled, standing_in}
 use Rattle.poll_log.specs.PollLines.{IsLogOf, RefusesPolls}
 use Rattle.poll_log.specs.declared.error.PollError.{PollError}
 use Rattle.poll_log.specs.declared.error.PollError.TheVariants.{PastRange, Io as SourceFailed}
+use Rattle.fedbundle.specs.CommandRun.{CommandRun, DeviceRun, IsReadOut, PrintsText, WritesNothing}
+use Rattle.fedbundle.specs.CommandRun.{CutsOff, HasFailed}
 use Rattle.fedbundle.specs.declared.error.CommandError.{CommandError}
-use Rattle.fedbundle.specs.declared.error.CommandError.TheVariants.{Poll}
+use Rattle.fedbundle.specs.declared.error.CommandError.TheVariants.{Poll, NoMemory, Io}
 
 -- ---- a line
 
@@ -45,75 +45,70 @@ TellsNext hint s now answer =
     ⊎ (IsNext hint s (Err PastRange) × (answer ≡ codes "past range"))
     ⊎ ((IsPollDue hint s now → ⊥) × TellsMoment hint s answer)
 
+-- what the next polls follow from: what is held, the log of the polls so far, and the moment
+pub record PollView : Type 0 where
+  pub meaning : Meaning
+  pub log : List Standing
+  pub now : ℤ
+
 -- the domain's line
-pub record IsPollLine (m : Meaning) (log : List Standing) (now : ℤ)
-    (domain line : List ℕ) : Type 0 where
+pub record IsPollLine (view : PollView) (domain line : List ℕ) : Type 0 where
   pub hint : Option ℕ
-  pub is_hint : IsHint m domain hint
+  pub is_hint : IsHint view.meaning domain hint
   pub answer : List ℕ
-  pub tells : TellsNext hint (standing_in log domain) now answer
+  pub tells : TellsNext hint (standing_in view.log domain) view.now answer
   pub is : line ≡ domain ++ (codes " " ++ (answer ++ codes "\n"))
 
 -- ---- the whole
 
 -- the lines of these domains, one after another
-pub record ArePollLines (m : Meaning) (log : List Standing) (now : ℤ) (domains : List (List ℕ))
-    (text : List ℕ) : Type 0 where
+pub record ArePollLines (view : PollView) (domains : List (List ℕ)) (text : List ℕ) : Type 0 where
   pub lines : List (List ℕ)
-  pub each : AllZip (IsPollLine m log now) domains lines
+  pub each : AllZip (IsPollLine view) domains lines
   pub is : text ≡ concat lines
 
 -- a line for each relationship, rising by domain
-abbrev pub IsPollsText : Meaning → List Standing → ℤ → List ℕ → Type 0
-IsPollsText m log now text = ArePollLines m log now (polled m.config) text
-
--- The log has each relationship's domain, and is that of the bytes where the source tells them.
-pub record ReadsLog (before : Option (List ℕ)) (m : Meaning) (log : List Standing) : Type 0 where
-  pub domains : polled_domains log ≡ polled m.config
-  pub lines : IfSome before (λ bytes. IsLogOf (polled m.config) bytes log)
+abbrev pub IsPollsText : PollView → List ℕ → Type 0
+IsPollsText view text = ArePollLines view (polled view.meaning.config) text
 
 -- ---- a run
 
--- The lines read have a log, and its text was written and nothing else.
-pub record PrintsPolls (before : Option (List ℕ)) (m : Meaning) (now : ℤ)
-    (held holds : Option (List ℕ)) : Type 0 where
+-- The log has each relationship's domain, and is that of the lines that the source had, where it
+-- tells them.
+pub record ReadsLog (source : DeviceRun) (m : Meaning) (log : List Standing) : Type 0 where
+  pub domains : polled_domains log ≡ polled m.config
+  pub lines : IfSome source.before (λ bytes. IsLogOf (polled m.config) bytes log)
+
+-- The lines have a log, from which this text follows.
+pub record HasPollsText (source : DeviceRun) (m : Meaning) (now : ℤ) (text : List ℕ) : Type 0 where
   pub log : List Standing
-  pub reads : ReadsLog before m log
+  pub reads : ReadsLog source m log
+  pub is : IsPollsText (record { meaning = m; log = log; now = now }) text
+
+-- They have, and the text was written and nothing else.
+pub record PrintsPolls (run : CommandRun) (m : Meaning) (now : ℤ) : Type 0 where
   pub text : List ℕ
-  pub is : IsPollsText m log now text
-  pub written : Appends held holds text
+  pub is : HasPollsText run.source m now text
+  pub read : IsReadOut run.source
+  pub written : PrintsText run.sink text
 
--- The error is the cause for which the lines have none, or the source failed, and nothing was
--- written.
-pub record RefusesLines (before : Option (List ℕ)) (m : Meaning) (held holds : Option (List ℕ))
-    (source_failed : Bool) (error : CommandError) : Type 0 where
-  pub why : PollError
-  pub is : error ≡ Poll why
-  pub cause : IfSome before (λ bytes. RefusesPolls (polled m.config) bytes why)
-  pub fault : why ≡ SourceFailed → source_failed ≡ true
-  pub unwritten : holds ≡ held
-
--- The lines read have a log, and the sink failed after a beginning of its text.
-pub record CutsPolls (before : Option (List ℕ)) (m : Meaning) (now : ℤ)
-    (held holds : Option (List ℕ)) : Type 0 where
-  pub log : List Standing
-  pub reads : ReadsLog before m log
+-- They have, and the sink failed after a beginning of the text.
+pub record CutsPolls (run : CommandRun) (m : Meaning) (now : ℤ) : Type 0 where
   pub text : List ℕ
-  pub is : IsPollsText m log now text
-  pub beginning : AppendsBeginning held holds text
+  pub is : HasPollsText run.source m now text
+  pub cut : CutsOff run.sink text
 
--- ---- the text as far as it is made
+-- The lines have none for this cause, or the source failed, and nothing was written.
+pub record RefusesLines (run : CommandRun) (m : Meaning) (why : PollError) : Type 0 where
+  pub cause : IfSome run.source.before (λ bytes. RefusesPolls (polled m.config) bytes why)
+  pub fault : why ≡ SourceFailed → HasFailed run.source
+  pub unwritten : WritesNothing run.sink
 
--- a line of the domain was added
-pub record AddsPollLine (m : Meaning) (log : List Standing) (now : ℤ) (domain : List ℕ)
-    (old new : List ℕ) : Type 0 where
-  pub line : List ℕ
-  pub is : IsPollLine m log now domain line
-  pub now_is : new ≡ old ++ line
-
--- an answer was added
-pub record AddsNext (hint : Option ℕ) (s : Option Standing) (now : ℤ)
-    (old new : List ℕ) : Type 0 where
-  pub answer : List ℕ
-  pub tells : TellsNext hint s now answer
-  pub now_is : new ≡ old ++ answer
+-- By the answer: the text was written; the sink failed; memory ran out for the text; the lines are
+-- refused. There is no other error.
+abbrev pub RunsPolls : CommandRun → Meaning → ℤ → Result (Unit {0}) CommandError → Type 0
+RunsPolls run m now (Ok _) = PrintsPolls run m now
+RunsPolls run m now (Err Io) = CutsPolls run m now
+RunsPolls run m now (Err NoMemory) = WritesNothing run.sink
+RunsPolls run m now (Err (Poll why)) = RefusesLines run m why
+RunsPolls run m now (Err _) = ⊥

@@ -1,34 +1,43 @@
--- What a run of `pull` does to what is held, to the two devices of the other replica, and to the
--- sink.
-use Rattle.std.specs.Prelude.{◌≡◌, ℕ, List, Option, Ok, Err}
-use Rattle.std.specs.Io.KnownBytes.{Appends}
-use Rattle.receipt_core.specs.Acceptance.{Meaning}
-use Rattle.byte_lines.specs.Device.{AppendsBeginning}
+-- What a run of `pull` does. `peer` is the sink on which the other replica is asked, and the source
+-- of the run has its answers.
+use Rattle.std.specs.Prelude.{◌≡◌, ℕ, ◌⊎◌, Result, Ok, Err}
+use Rattle.replica_core.specs.declared.error.SyncError.TheVariants.{Io as StreamFailed}
 use Rattle.replica_sync.specs.Pulling.{Pulls}
 use Rattle.replica_sync.specs.declared.pulling.PullFault.{PullFault}
+use Rattle.fedbundle.specs.CommandRun.{CommandRun, DeviceRun, StateRun, PrintsText, WritesNothing}
+use Rattle.fedbundle.specs.CommandRun.{CutsOff, HasFailed}
 use Rattle.fedbundle.specs.Merge.{count_text}
 use Rattle.fedbundle.specs.declared.error.CommandError.{CommandError}
-use Rattle.fedbundle.specs.declared.error.CommandError.TheVariants.{Pull}
+use Rattle.fedbundle.specs.declared.error.CommandError.TheVariants.{Pull, Io}
 
--- All buckets were asked about, what the answers have is held, and how many receipts were not was
--- written and nothing else.
-pub record Pulled (old : Meaning) (stream asked : Option (List ℕ)) (new : Meaning)
-    (asks held holds : Option (List ℕ)) : Type 0 where
-  pub count : ℕ
-  pub pulls : Pulls old stream asked new asks (Ok count)
-  pub written : Appends held holds (count_text count)
+-- What the answers have is held, as the call of `pull` says by cases on how the session ended.
+abbrev pub HasPulled : CommandRun → DeviceRun → StateRun → Result ℕ PullFault → Type 0
+HasPulled run peer state ended = Pulls state.old.meaning run.source.before peer.before
+    state.new.meaning peer.after ended
 
--- That was done, and a beginning of the number's line was written.
-pub record BeginsPulled (old : Meaning) (stream asked : Option (List ℕ)) (new : Meaning)
-    (asks held holds : Option (List ℕ)) : Type 0 where
+-- All buckets were asked about, and how many receipts were not held was written and nothing else.
+pub record PrintsPull (run : CommandRun) (peer : DeviceRun) (state : StateRun) : Type 0 where
   pub count : ℕ
-  pub pulls : Pulls old stream asked new asks (Ok count)
-  pub begun : AppendsBeginning held holds (count_text count)
+  pub pulls : HasPulled run peer state (Ok count)
+  pub written : PrintsText run.sink (count_text count)
+
+-- All were, and the sink failed after a beginning of the number's line.
+pub record CutsPull (run : CommandRun) (peer : DeviceRun) (state : StateRun) : Type 0 where
+  pub count : ℕ
+  pub pulls : HasPulled run peer state (Ok count)
+  pub cut : CutsOff run.sink (count_text count)
 
 -- What the answers before this fault have is held, and nothing was written.
-pub record PulledBefore (old : Meaning) (stream asked : Option (List ℕ)) (new : Meaning)
-    (asks held holds : Option (List ℕ)) (error : CommandError) : Type 0 where
-  pub fault : PullFault
-  pub is : error ≡ Pull fault
-  pub pulls : Pulls old stream asked new asks (Err fault)
-  pub unwritten : holds ≡ held
+pub record PullsBefore (run : CommandRun) (peer : DeviceRun) (state : StateRun)
+    (fault : PullFault) : Type 0 where
+  pub pulls : HasPulled run peer state (Err fault)
+  pub failed : fault.why ≡ StreamFailed → HasFailed run.source ⊎ HasFailed peer
+  pub unwritten : WritesNothing run.sink
+
+-- By the answer: all answers are taken, and the number was written; the sink failed after that; the
+-- session ended at a fault. There is no other error.
+abbrev pub RunsPull : CommandRun → DeviceRun → StateRun → Result (Unit {0}) CommandError → Type 0
+RunsPull run peer state (Ok _) = PrintsPull run peer state
+RunsPull run peer state (Err Io) = CutsPull run peer state
+RunsPull run peer state (Err (Pull fault)) = PullsBefore run peer state fault
+RunsPull run peer state (Err _) = ⊥

@@ -1,24 +1,26 @@
--- What a session that is served does to its two devices.
-use Rattle.std.specs.Prelude.{◌≡◌, ℕ, List, codes, Option, Result, Ok, Err}
+-- What a run of `serve` does in one session.
+use Rattle.std.specs.Prelude.{◌≡◌, ℕ, ◌⊎◌, List, codes, Result, Ok, Err}
 use Rattle.receipt_core.specs.Acceptance.{Meaning}
-use Rattle.replica_sync.specs.Questions.{ServesAll, ServesUpTo}
+use Rattle.replica_sync.specs.Questions.{Serves}
 use Rattle.replica_core.specs.declared.error.SyncError.{SyncError}
+use Rattle.replica_core.specs.declared.error.SyncError.TheVariants.{Io as StreamFailed}
+use Rattle.fedbundle.specs.CommandRun.{CommandRun, HasFailed}
 use Rattle.fedbundle.specs.Counts.{counted}
 use Rattle.fedbundle.specs.declared.error.CommandError.{CommandError}
 use Rattle.fedbundle.specs.declared.error.CommandError.TheVariants.{Sync}
 
--- The questions before the fault are answered, and nothing else is written.
-pub record ServesBefore (m : Meaning) (stream held holds : Option (List ℕ))
-    (error : CommandError) : Type 0 where
-  pub why : SyncError
-  pub is : error ≡ Sync why
-  pub serves : ServesUpTo m stream held holds why
-
--- Every question is answered, and their number is told; or those before a fault.
-abbrev pub ServesSession : Meaning → Option (List ℕ) → Option (List ℕ) → Option (List ℕ)
-    → Result ℕ CommandError → Type 0
-ServesSession m stream held holds (Ok count) = ServesAll m stream held holds count
-ServesSession m stream held holds (Err error) = ServesBefore m stream held holds error
-
 abbrev pub served_text : ℕ → List ℕ
 served_text n = counted (codes "served ") n
+
+-- The questions of the source are answered on the sink, as `serve_one` says by cases on how the
+-- session ended.
+abbrev pub HasServed : CommandRun → Meaning → Result ℕ SyncError → Type 0
+HasServed run m ended = Serves m run.source.before run.sink.before run.sink.after ended
+
+-- By the answer: every question is answered, and this is their number; or those before this fault.
+-- There is no other error.
+abbrev pub RunsServe : CommandRun → Meaning → Result ℕ CommandError → Type 0
+RunsServe run m (Ok count) = HasServed run m (Ok count)
+RunsServe run m (Err (Sync why)) = HasServed run m (Err why)
+    × (why ≡ StreamFailed → HasFailed run.source ⊎ HasFailed run.sink)
+RunsServe run m (Err _) = ⊥

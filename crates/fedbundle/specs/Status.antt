@@ -10,17 +10,10 @@ use Rattle.poll_log.specs.declared.error.PollError.TheVariants.{Io as PollIo}
 use Rattle.replica_core.specs.declared.error.SyncError.{SyncError}
 use Rattle.replica_core.specs.declared.error.SyncError.TheVariants.{NoMemory as NoMemoryToSync}
 use Rattle.replica_core.specs.declared.error.SyncError.TheVariants.{Io as SyncIo}
-use Rattle.byte_lines.specs.declared.error.DeviceError.{DeviceError}
-use Rattle.byte_lines.specs.declared.error.DeviceError.TheVariants.{Io as SourceFailed}
-use Rattle.byte_lines.specs.declared.error.DeviceError.TheVariants.{NoMemory as NoMemoryForBytes}
 use Rattle.fedbundle.specs.declared.error.CommandError.{CommandError}
 use Rattle.fedbundle.specs.declared.error.CommandError.TheVariants.{Name, Document, Config, Take}
 use Rattle.fedbundle.specs.declared.error.CommandError.TheVariants.{Observe, Poll, Sync, Pull, Full}
 use Rattle.fedbundle.specs.declared.error.CommandError.TheVariants.{NoMemory, Io}
-use Rattle.fedbundle.specs.declared.run_error.RunError.{RunError}
-use Rattle.fedbundle.specs.declared.run_error.RunError.TheVariants.{Full as RunFull}
-use Rattle.fedbundle.specs.declared.run_error.RunError.TheVariants.{NoMemory as RunNoMemory}
-use Rattle.fedbundle.specs.declared.run_error.RunError.TheVariants.{Io as RunIo}
 
 abbrev pub status_of_sync : SyncError → ℕ
 status_of_sync NoMemoryToSync = 4
@@ -47,14 +40,3 @@ status_of (Pull fault) = status_of_sync fault.why
 status_of Full = 1
 status_of NoMemory = 4
 status_of Io = 3
-
--- the error for a source that gave no bytes
-abbrev pub of_read : DeviceError → CommandError
-of_read SourceFailed = Io
-of_read NoMemoryForBytes = NoMemory
-
--- the error for a run that gave no report
-abbrev pub of_run : RunError → CommandError
-of_run RunFull = Full
-of_run RunNoMemory = NoMemory
-of_run RunIo = Io

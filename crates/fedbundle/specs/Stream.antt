@@ -11,6 +11,8 @@ use Rattle.receipt_core.specs.Line.{IsLine, IsNoLine}
 use Rattle.byte_lines.specs.Lines.{Lines}
 use Rattle.receipt_core.specs.Receipt.{Receipt, IsReceipt, line, receipt_cmp}
 use Rattle.closure_core.specs.Refusals.{IsOfUnknownDomain, IsOfWrongEndpoint}
+use Rattle.receipt_core.specs.Limits.{receipt_limit}
+use Rattle.byte_lines.specs.Limits.{line_limit}
 use Rattle.fedbundle.specs.declared.complaint.LineFault.{LineFault}
 use Rattle.fedbundle.specs.declared.complaint.LineFault.TheVariants.{NotCanonical, TooLong}
 use Rattle.fedbundle.specs.declared.complaint.LineFault.TheVariants.{UnknownDomain, WrongEndpoint}
@@ -36,17 +38,17 @@ pub record OverfillStore (c : Configuration) (texts : List (List ℕ)) : Type 0 
   pub some : List Receipt
   pub rising : IsStrictlySortedBy receipt_cmp some
   pub each : (r : Receipt) → Contains some r → IsTaken c texts r
-  pub many : 65536 < length some
+  pub many : receipt_limit < length some
 
 -- ---- what is told
 
 -- a line without a receipt that fits, and the cause
 abbrev pub IsRefusedLine : Configuration → List ℕ → LineFault → Type 0
-IsRefusedLine c text NotCanonical = (length text ≤ 8388608) × IsNoLine text
-IsRefusedLine c text TooLong = 8388608 < length text
+IsRefusedLine c text NotCanonical = (length text ≤ line_limit) × IsNoLine text
+IsRefusedLine c text TooLong = line_limit < length text
 IsRefusedLine c text UnknownDomain = (r : Receipt) × IsLine text r × IsOfUnknownDomain c r
 IsRefusedLine c text WrongEndpoint = (r : Receipt) × IsLine text r × IsOfWrongEndpoint c r
-IsRefusedLine c text Cut = ⊥
+IsRefusedLine c text _ = ⊥
 
 pub record Complaint : Type 0 where
   pub number : ℕ

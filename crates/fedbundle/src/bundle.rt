@@ -1,9 +1,9 @@
 //! `bundle`: the current document of a domain.
-ghost use Rattle.std.specs.Prelude.{◌≡◌, true, OnOk, IfOk, IfErr, IsErr};
+ghost use Rattle.std.specs.Prelude.{◌≡◌, true, OnOk, IsErr};
 ghost use Rattle.std.specs.Io.KnownBytes.{Appends};
 ghost use Rattle.byte_lines.specs.Device.{AppendsBeginning};
-ghost use Rattle.fedbundle.specs.CurrentBundle.{PrintsCurrent, BeginsCurrent, bundle_text};
-ghost use Rattle.fedbundle.specs.declared.error.CommandError.TheVariants.{Io};
+ghost use Rattle.fedbundle.specs.CommandRun.{device_run};
+ghost use Rattle.fedbundle.specs.CurrentBundle.{RunsBundle, bundle_text};
 
 use crate::error::CommandError;
 use bundle_doc::Document;
@@ -23,12 +23,8 @@ pub fn run_bundle<C: Closure, W: Sink>(
     domain: &TrustDomain,
     sink: &mut W,
 ) -> Result<bool, CommandError>
-    ensures ok { IfOk result
-        (PrintsCurrent (C.state closure.now).meaning domain.now (W.contents sink.old)
-        (W.contents sink.new)) }
-    ensures io { IfErr result (λ e. (e ≡ Io) × (W.has_failed sink.new ≡ true)
-        × BeginsCurrent (C.state closure.now).meaning domain.now (W.contents sink.old)
-        (W.contents sink.new)) }
+    ensures { RunsBundle (device_run W.contents W.has_failed sink.old sink.new)
+        (C.state closure.now).meaning domain.now result }
 {
     match current(closure, domain) {
         Some(document) => {

@@ -1,8 +1,8 @@
 //! `canon`: a bundle document as it was fetched, printed in its canonical form with its ids.
-ghost use Rattle.std.specs.Prelude.{◌≡◌, ◌++◌, IfErr, IfOk, IsErrOf, OnOk};
-ghost use Rattle.fedbundle.specs.Canon.{FailsCanon, PrintsCanon, RefusesCanon, canon_text};
-ghost use Rattle.fedbundle.specs.Canon.{digest_line, key_line, key_lines};
-ghost use Rattle.fedbundle.specs.declared.error.CommandError.TheVariants.{Io, NoMemory};
+ghost use Rattle.std.specs.Prelude.{◌≡◌, ◌++◌, IfOk, IsErrOf, OnOk};
+ghost use Rattle.fedbundle.specs.Canon.{RunsCanon, canon_text, digest_line, key_line, key_lines};
+ghost use Rattle.fedbundle.specs.CommandRun.{device_run, run_of};
+ghost use Rattle.fedbundle.specs.declared.error.CommandError.TheVariants.{Io};
 ghost use Rattle.jwk_set.specs.Element.{key_id_of};
 
 use crate::error::CommandError;
@@ -29,19 +29,10 @@ pub fn run_canon<R: Source, W: Sink>(
     source: &mut R,
     sink: &mut W,
 ) -> Result<(), CommandError>
-    ensures ok { OnOk result
-        (PrintsCanon (R.remaining source.old) (R.remaining source.new) domain.now
-        (W.contents sink.old) (W.contents sink.new)) }
-
-    // Every error but these two is the cause for which the bytes are refused.
-    ensures refused { IfErr result (λ e. (e ≡ Io → ⊥) → (e ≡ NoMemory → ⊥)
-        → RefusesCanon (R.remaining source.old) (R.remaining source.new) (W.contents sink.old)
-        (W.contents sink.new) e) }
-    ensures io { IsErrOf result Io
-        → FailsCanon (R.remaining source.old) (R.remaining source.new) domain.now
-        (W.contents sink.old) (W.contents sink.new) (R.has_failed source.new)
-        (W.has_failed sink.new) }
-    ensures memory { IsErrOf result NoMemory → W.contents sink.new ≡ W.contents sink.old }
+    ensures runs { RunsCanon
+        (run_of (device_run R.remaining R.has_failed source.old source.new)
+        (device_run W.contents W.has_failed sink.old sink.new))
+        domain.now result }
 
     // No fault of a device is passed over, or reported as another error.
     ensures sound { (IsErrOf result Io → ⊥) → (R.has_failed source.new ≡ R.has_failed source.old)

@@ -1,6 +1,5 @@
 //! `distrust`: a key that vouches for nothing any more.
-ghost use Rattle.std.specs.Prelude.{◌≡◌, MatchResult};
-ghost use Rattle.fedbundle.specs.Distrust.{HoldsRecord, RefusesDistrusting};
+ghost use Rattle.fedbundle.specs.Distrust.{RunsDistrust};
 
 use crate::error::CommandError;
 use closure_core::{Closure, Distrusted};
@@ -17,11 +16,8 @@ pub fn run_distrust<C: Closure>(
     domain: &TrustDomain,
     key: KeyId,
 ) -> Result<(), CommandError>
-    ensures { MatchResult result
-        (λ _. HoldsRecord (C.state closure.old).meaning (record { domain = domain.now; key = key })
-        (C.state closure.new).meaning)
-        (RefusesDistrusting (C.state closure.old).meaning
-        (record { domain = domain.now; key = key }) (C.state closure.new).meaning) }
+    ensures { RunsDistrust (C.state closure.old).meaning
+        (record { domain = domain.now; key = key }) (C.state closure.new).meaning result }
 {
     match closure.distrust(domain, key) {
         Ok(Distrusted::New { .. }) => Ok(()),

@@ -1,6 +1,7 @@
 //! Why a command ends without its result, and the exit status that says so.
 ghost use Rattle.std.specs.Prelude.{◌≡◌};
-ghost use Rattle.fedbundle.specs.Status.{of_read, of_run, status_of, status_of_sync};
+ghost use Rattle.fedbundle.specs.Errors.{of_read, of_run};
+ghost use Rattle.fedbundle.specs.Status.{status_of, status_of_sync};
 ghost use Rattle.fedbundle.specs.declared.error.CommandError.TheVariants.{Name, Document, Config};
 ghost use Rattle.fedbundle.specs.declared.error.CommandError.TheVariants.{Take, Observe, Poll};
 ghost use Rattle.fedbundle.specs.declared.error.CommandError.TheVariants.{Sync, Pull, NoMemory, Io};

@@ -1,8 +1,7 @@
 //! `explain`: the receipts by which a document is accepted.
-ghost use Rattle.std.specs.Prelude.{◌≡◌, ◌++◌, flat_map, IfErr, IfOk, IsErrOf, OnOk};
-ghost use Rattle.fedbundle.specs.Canon.{RefusesCanon};
-ghost use Rattle.fedbundle.specs.Explain.{Explains, FailsExplanation, receipt_line};
-ghost use Rattle.fedbundle.specs.declared.error.CommandError.TheVariants.{Io, NoMemory};
+ghost use Rattle.std.specs.Prelude.{◌≡◌, ◌++◌, flat_map, IfOk, OnOk};
+ghost use Rattle.fedbundle.specs.CommandRun.{device_run, run_of};
+ghost use Rattle.fedbundle.specs.Explain.{RunsExplain, receipt_line};
 
 use crate::error::CommandError;
 use bundle_doc::{Document, MAX_DOCUMENT_BYTES};
@@ -29,19 +28,10 @@ pub fn run_explain<C: Closure, R: Source, W: Sink>(
     source: &mut R,
     sink: &mut W,
 ) -> Result<bool, CommandError>
-    ensures ok { IfOk result
-        (Explains (R.remaining source.old) (R.remaining source.new) (C.state closure.now).meaning
-        domain.now (W.contents sink.old) (W.contents sink.new)) }
-
-    // Every error but these two is the cause for which the bytes are refused.
-    ensures refused { IfErr result (λ e. (e ≡ Io → ⊥) → (e ≡ NoMemory → ⊥)
-        → RefusesCanon (R.remaining source.old) (R.remaining source.new) (W.contents sink.old)
-        (W.contents sink.new) e) }
-    ensures io { IsErrOf result Io
-        → FailsExplanation (R.remaining source.old) (R.remaining source.new)
-        (C.state closure.now).meaning domain.now (W.contents sink.old) (W.contents sink.new)
-        (R.has_failed source.new) (W.has_failed sink.new) }
-    ensures memory { IsErrOf result NoMemory → W.contents sink.new ≡ W.contents sink.old }
+    ensures { RunsExplain
+        (run_of (device_run R.remaining R.has_failed source.old source.new)
+        (device_run W.contents W.has_failed sink.old sink.new))
+        (C.state closure.now).meaning domain.now result }
 {
     let bytes = read_up_to(alloc, source, MAX_DOCUMENT_BYTES + 1)?;
     let document = Document::read(alloc, bytes.as_slice())?;

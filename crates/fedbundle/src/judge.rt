@@ -7,8 +7,8 @@ ghost use Rattle.std.specs.Io.KnownBytes.{IsAtEnd};
 ghost use Rattle.fed_config.specs.Configuration.{IsConfiguration};
 ghost use Rattle.byte_lines.specs.Lines.{lines_of};
 ghost use Rattle.receipt_core.specs.Line.{IsLine};
-ghost use Rattle.fedbundle.specs.Judging.{JudgesText, FailsText, TriesText, HasJudged};
-ghost use Rattle.fedbundle.specs.Judging.{StopsJudging};
+ghost use Rattle.fedbundle.specs.Inside.Judging.{JudgesText, FailsText, TriesText, HasJudged};
+ghost use Rattle.fedbundle.specs.Inside.Judging.{StopsJudging};
 ghost use Rattle.fedbundle.specs.declared.run_error.RunError.TheVariants.{Io};
 
 use crate::complaint::{LineFault, complain};

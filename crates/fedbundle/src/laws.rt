@@ -4,10 +4,18 @@ ghost use Rattle.std.specs.Prelude.{◌≡◌, ◌<◌, ◌++◌, ◌↔◌, ℕ
 ghost use Rattle.fed_config.specs.Configuration.{Configuration};
 ghost use Rattle.byte_lines.specs.Lines.{Lines};
 ghost use Rattle.receipt_core.specs.Receipt.{Receipt};
+ghost use Rattle.receipt_core.specs.Acceptance.{Meaning};
 ghost use Rattle.bundle_view.specs.Report.{IsReport};
+ghost use Rattle.replica_core.specs.State.{meaning_of_state};
+ghost use Rattle.replica_core.specs.World.{WorldRun, rules_in, world_after, held_by};
+ghost use Rattle.replica_core.specs.World.{followed_by};
+ghost use Rattle.replica_core.specs.Convergence.{AreEvents, Settles};
+ghost use Rattle.replica_core.specs.declared.event.Event.{Event};
 ghost use Rattle.fedbundle.specs.Stream.{IsTaken, AreTaken, OverfillStore, Complaint};
 ghost use Rattle.fedbundle.specs.Stream.{AreComplaints, AreFirstComplaints};
-ghost use Rattle.fedbundle.specs.Run.{meaning_of_receipts};
+ghost use Rattle.receipt_core.specs.Limits.{receipt_limit};
+ghost use Rattle.fedbundle.specs.Report.{meaning_of_receipts};
+ghost use Rattle.fedbundle.specs.SameSets.{HaveOneSnapshot, HoldSameSets};
 
 /// Two streams with the same receipts that fit among their lines have one report, whatever their
 /// order, their repeats and their other lines, and whichever closure took them.
@@ -18,6 +26,32 @@ pub fn one_report()
         → IsReport (meaning_of_receipts c rs) s → IsReport (meaning_of_receipts c ss) t → s ≡ t }
 {
     closure_core::laws::one_list();
+    bundle_view::laws::one_view();
+}
+
+/// Replicas that hold equal sets under equal configurations have one report, and one snapshot in
+/// each format. It does not matter which calls brought the receipts and records: the lines of a
+/// stream, a snapshot, `merge`, `observe`, `distrust`, `pull` or `absorb`, and in which order.
+pub fn one_text()
+    ensures report { (one other : Meaning) (s t : List ℕ) → HoldSameSets one other
+        → IsReport one s → IsReport other t → s ≡ t }
+    ensures snapshot { (one other : Meaning) → HoldSameSets one other
+        → HaveOneSnapshot one other }
+{
+    closure_core::laws::one_list();
+    bundle_view::laws::one_view();
+}
+
+/// Replicas of one world that each took, in quiet, the whole answers of all others have one report.
+pub fn settled_reports()
+    ensures { (past : WorldRun) (since : List Event) (i j : ℕ) (s t : List ℕ)
+        → AreEvents past.events → i < past.replicas → j < past.replicas
+        → Settles (rules_in past) (world_after past) since
+        → IsReport (meaning_of_state past.config (held_by (followed_by past since) i)) s
+        → IsReport (meaning_of_state past.config (held_by (followed_by past since) j)) t
+        → s ≡ t }
+{
+    replica_core::laws::agreement();
     bundle_view::laws::one_view();
 }
 
@@ -33,5 +67,5 @@ pub fn one_telling()
 /// Where there are too many receipts, no closure can hold those that are taken.
 pub fn too_many()
     ensures { (c : Configuration) (texts : List (List ℕ)) (rs : List Receipt)
-        → OverfillStore c texts → AreTaken c texts rs → 65536 < length rs }
+        → OverfillStore c texts → AreTaken c texts rs → receipt_limit < length rs }
 {}

@@ -1,7 +1,7 @@
 //! `merge`: what a snapshot holds, taken into what is held.
-ghost use Rattle.std.specs.Prelude.{◌≡◌, true, IfErr, IsErrOf, OnOk};
-ghost use Rattle.std.specs.Io.KnownBytes.{IsAtEnd};
-ghost use Rattle.fedbundle.specs.Merge.{BeginsMerged, Merged, RefusesMergeRun};
+ghost use Rattle.std.specs.Prelude.{◌≡◌, IsErrOf};
+ghost use Rattle.fedbundle.specs.CommandRun.{device_run, run_of, state_run};
+ghost use Rattle.fedbundle.specs.Merge.{RunsMerge};
 ghost use Rattle.fedbundle.specs.declared.error.CommandError.TheVariants.{Io, Sync};
 ghost use Rattle.replica_core.specs.declared.error.SyncError.TheVariants.{Io as DeviceFailed};
 
@@ -26,19 +26,12 @@ pub fn run_merge<C: Closure, R: Source, W: Sink>(
     source: &mut R,
     sink: &mut W,
 ) -> Result<(), CommandError>
-    ensures ok { OnOk result
-        (Merged (R.remaining source.old) (C.state closure.old).meaning (C.state closure.new).meaning
-        (W.contents sink.old) (W.contents sink.new)) }
-    ensures ends { OnOk result (IsAtEnd (R.remaining source.new)) }
-    ensures refused { IfErr result (λ e. (e ≡ Io → ⊥)
-        → RefusesMergeRun (R.remaining source.old) (C.state closure.old) (C.state closure.new)
-        (W.contents sink.old) (W.contents sink.new) e) }
-    ensures io { IsErrOf result Io → (W.has_failed sink.new ≡ true)
-        × BeginsMerged (R.remaining source.old) (C.state closure.old).meaning
-        (C.state closure.new).meaning (W.contents sink.old) (W.contents sink.new) }
+    ensures runs { RunsMerge
+        (run_of (device_run R.remaining R.has_failed source.old source.new)
+        (device_run W.contents W.has_failed sink.old sink.new))
+        (state_run (C.state closure.old) (C.state closure.new)) result }
 
-    // A fault of a device is reported, and where none failed none is.
-    ensures device { IsErrOf result (Sync DeviceFailed) → R.has_failed source.new ≡ true }
+    // Where no fault of a device is reported, none was passed over.
     ensures source_sound { (IsErrOf result (Sync DeviceFailed) → ⊥)
         → R.has_failed source.new ≡ R.has_failed source.old }
     ensures sink_sound { (IsErrOf result Io → ⊥) → W.has_failed sink.new ≡ W.has_failed sink.old }

@@ -1,9 +1,8 @@
 //! `observe`: a bundle as it was fetched, taken on the word of TLS.
-ghost use Rattle.std.specs.Prelude.{◌≡◌, ◌++◌, ◌∷◌, [], IfErr, IfOk, IsErrOf, OnOk};
-ghost use Rattle.receipt_core.specs.Receipt.{line};
-ghost use Rattle.fedbundle.specs.Observe.{FailsObservation, LacksMemory, PrintsObservation};
-ghost use Rattle.fedbundle.specs.Observe.{RefusesRun};
-ghost use Rattle.fedbundle.specs.declared.error.CommandError.TheVariants.{Io, NoMemory};
+ghost use Rattle.std.specs.Prelude.{◌≡◌, IfOk};
+ghost use Rattle.fedbundle.specs.CommandRun.{device_run, run_of, state_run};
+ghost use Rattle.fedbundle.specs.Explain.{receipt_line};
+ghost use Rattle.fedbundle.specs.Observe.{RunsObserve};
 
 use crate::error::CommandError;
 use bundle_doc::MAX_DOCUMENT_BYTES;
@@ -32,23 +31,11 @@ pub fn run_observe<C: Closure, R: Source, W: Sink>(
     source: &mut R,
     sink: &mut W,
 ) -> Result<(), CommandError>
-    ensures ok { OnOk result
-        (PrintsObservation (R.remaining source.old) (R.remaining source.new) domain.now verdict.now
-        (C.state closure.old).meaning (C.state closure.new).meaning (W.contents sink.old)
-        (W.contents sink.new)) }
-
-    // Every error but these two is the cause for which nothing is observed.
-    ensures refused { IfErr result (λ e. (e ≡ Io → ⊥) → (e ≡ NoMemory → ⊥)
-        → RefusesRun (R.remaining source.old) (R.remaining source.new) domain.now verdict.now
-        (C.state closure.old) (C.state closure.new) (W.contents sink.old) (W.contents sink.new) e) }
-    ensures io { IsErrOf result Io
-        → FailsObservation (R.remaining source.old) (R.remaining source.new) domain.now verdict.now
-        (C.state closure.old).meaning (C.state closure.new).meaning (W.contents sink.old)
-        (W.contents sink.new) (R.has_failed source.new) (W.has_failed sink.new) }
-    ensures memory { IsErrOf result NoMemory
-        → LacksMemory (R.remaining source.old) (R.remaining source.new) domain.now verdict.now
-        (C.state closure.old).meaning (C.state closure.new).meaning (W.contents sink.old)
-        (W.contents sink.new) }
+    ensures { RunsObserve
+        (run_of (device_run R.remaining R.has_failed source.old source.new)
+        (device_run W.contents W.has_failed sink.old sink.new))
+        (state_run (C.state closure.old) (C.state closure.new))
+        (record { domain = domain.now; verdict = verdict.now }) result }
 {
     let bytes = read_up_to(alloc, source, MAX_DOCUMENT_BYTES + 1)?;
     let receipt = observe(alloc, closure, domain, bytes.as_slice(), verdict)?;
@@ -58,7 +45,7 @@ pub fn run_observe<C: Closure, R: Source, W: Sink>(
 }
 
 fn render(alloc: Global, receipt: &Receipt) -> Result<Vec<u8>, AllocError>
-    ensures { IfOk result (λ text. text.items ≡ line receipt.now ++ 10 ∷ []) }
+    ensures { IfOk result (λ text. text.items ≡ receipt_line receipt.now) }
 {
     let mut text = receipt.write_line(alloc)?;
     text.push(b'\n')?;

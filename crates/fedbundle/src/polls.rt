@@ -1,10 +1,9 @@
 //! `polls`: when each domain is polled next.
-ghost use Rattle.std.specs.Prelude.{◌≡◌, ◌++◌, true, Contains, IfErr, IfOk, IsErrOf, OnOk};
-ghost use Rattle.std.specs.Io.KnownBytes.{IsAtEnd};
+ghost use Rattle.std.specs.Prelude.{◌≡◌, ◌++◌, Contains, IfOk, OnOk};
 ghost use Rattle.poll_log.specs.Polling.{polled_domains, polled, standing_in};
-ghost use Rattle.fedbundle.specs.Polls.{AddsNext, AddsPollLine, CutsPolls, IsHint, IsPollsText};
-ghost use Rattle.fedbundle.specs.Polls.{PrintsPolls, RefusesLines, seconds_text};
-ghost use Rattle.fedbundle.specs.declared.error.CommandError.TheVariants.{Io, NoMemory};
+ghost use Rattle.fedbundle.specs.CommandRun.{device_run, run_of};
+ghost use Rattle.fedbundle.specs.Polls.{IsHint, IsPollsText, RunsPolls, seconds_text};
+ghost use Rattle.fedbundle.specs.Inside.PollSteps.{AddsNext, AddsPollLine};
 
 use crate::error::CommandError;
 use bundle_view::current;
@@ -34,20 +33,10 @@ pub fn run_polls<C: Closure, R: Source, W: Sink>(
     source: &mut R,
     sink: &mut W,
 ) -> Result<(), CommandError>
-    ensures ok { OnOk result
-        (PrintsPolls (R.remaining source.old) (C.state closure.now).meaning now.nanosecond
-        (W.contents sink.old) (W.contents sink.new)) }
-    ensures end { OnOk result (IsAtEnd (R.remaining source.new)) }
-
-    // Every error but these two is the cause for which the lines have no log.
-    ensures refused { IfErr result (λ e. (e ≡ Io → ⊥) → (e ≡ NoMemory → ⊥)
-        → RefusesLines (R.remaining source.old) (C.state closure.now).meaning (W.contents sink.old)
-        (W.contents sink.new) (R.has_failed source.new) e) }
-    ensures io { IsErrOf result Io
-        → (W.has_failed sink.new ≡ true)
-        × CutsPolls (R.remaining source.old) (C.state closure.now).meaning now.nanosecond
-        (W.contents sink.old) (W.contents sink.new) }
-    ensures memory { IsErrOf result NoMemory → W.contents sink.new ≡ W.contents sink.old }
+    ensures { RunsPolls
+        (run_of (device_run R.remaining R.has_failed source.old source.new)
+        (device_run W.contents W.has_failed sink.old sink.new))
+        (C.state closure.now).meaning now.nanosecond result }
 {
     let log = read_polls(alloc, closure.config(), source)?;
     let text = render(alloc, closure, &log, now)?;
@@ -62,7 +51,8 @@ fn render<C: Closure>(
     now: Timestamp,
 ) -> Result<Vec<u8>, AllocError>
     requires { polled_domains log.now ≡ polled (C.state closure.now).meaning.config }
-    ensures { IfOk result (λ text. IsPollsText (C.state closure.now).meaning log.now now.nanosecond
+    ensures { IfOk result (λ text. IsPollsText
+        (record { meaning = (C.state closure.now).meaning; log = log.now; now = now.nanosecond })
         text.items) }
 {
     let mut text = Vec::new(alloc);
@@ -80,7 +70,8 @@ fn push_line<C: Closure>(
     now: Timestamp,
 ) -> Result<(), AllocError>
     requires { Contains (polled_domains log.now) domain.now }
-    ensures { OnOk result (AddsPollLine (C.state closure.now).meaning log.now now.nanosecond
+    ensures { OnOk result (AddsPollLine
+        (record { meaning = (C.state closure.now).meaning; log = log.now; now = now.nanosecond })
         domain.now text.old.items text.new.items) }
 {
     text.extend_from_slice(domain.as_str().as_bytes())?;

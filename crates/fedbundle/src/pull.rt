@@ -1,9 +1,6 @@
 //! `pull`: what another replica holds, asked for and taken, over any devices.
-ghost use Rattle.std.specs.Prelude.{◌≡◌, ◌⊎◌, true, IfErr, IsErrOf, OnOk};
-ghost use Rattle.replica_sync.specs.declared.pulling.PullFault.{PullFault};
-ghost use Rattle.replica_core.specs.declared.error.SyncError.TheVariants.{Io as DeviceFailed};
-ghost use Rattle.fedbundle.specs.Pull.{BeginsPulled, Pulled, PulledBefore};
-ghost use Rattle.fedbundle.specs.declared.error.CommandError.TheVariants.{Io, Pull};
+ghost use Rattle.fedbundle.specs.CommandRun.{device_run, run_of, state_run};
+ghost use Rattle.fedbundle.specs.Pull.{RunsPull};
 
 use crate::counts::write_counted;
 use crate::error::CommandError;
@@ -27,22 +24,11 @@ pub fn run_pull<C: Closure, R: Source, P: Sink, W: Sink>(
     peer: &mut P,
     sink: &mut W,
 ) -> Result<(), CommandError>
-    ensures ok { OnOk result
-        (Pulled (C.state closure.old).meaning (R.remaining source.old) (P.contents peer.old)
-        (C.state closure.new).meaning (P.contents peer.new)
-        (W.contents sink.old) (W.contents sink.new)) }
-
-    // Every error but a failure of the sink is a fault of the session.
-    ensures refused { IfErr result (λ e. (e ≡ Io → ⊥)
-        → PulledBefore (C.state closure.old).meaning (R.remaining source.old) (P.contents peer.old)
-        (C.state closure.new).meaning (P.contents peer.new)
-        (W.contents sink.old) (W.contents sink.new) e) }
-    ensures io { IsErrOf result Io → (W.has_failed sink.new ≡ true)
-        × BeginsPulled (C.state closure.old).meaning (R.remaining source.old) (P.contents peer.old)
-        (C.state closure.new).meaning (P.contents peer.new)
-        (W.contents sink.old) (W.contents sink.new) }
-    ensures failed { (fault : PullFault) → IsErrOf result (Pull fault) → fault.why ≡ DeviceFailed
-        → (R.has_failed source.new ≡ true) ⊎ (P.has_failed peer.new ≡ true) }
+    ensures { RunsPull
+        (run_of (device_run R.remaining R.has_failed source.old source.new)
+        (device_run W.contents W.has_failed sink.old sink.new))
+        (device_run P.contents P.has_failed peer.old peer.new)
+        (state_run (C.state closure.old) (C.state closure.new)) result }
 {
     let count = pull(alloc, closure, source, peer)?;
     write_counted(b"new ", count, sink)?;

@@ -1,10 +1,6 @@
 //! `report`: what a replica accepts, from the bytes of a stream of receipts.
-ghost use Rattle.std.specs.Prelude.{◌≡◌, IfOk, OnOk, OnErr, IfSome, IsErrOf};
-ghost use Rattle.std.specs.Io.KnownBytes.{IsAtEnd};
-ghost use Rattle.byte_lines.specs.Lines.{lines_of};
-ghost use Rattle.fedbundle.specs.Stream.{OverfillStore};
-ghost use Rattle.fedbundle.specs.Run.{Reports, BeginsTelling, FailsReport};
-ghost use Rattle.fedbundle.specs.declared.run_error.RunError.TheVariants.{Full, NoMemory, Io};
+ghost use Rattle.fedbundle.specs.CommandRun.{device_run, run_of};
+ghost use Rattle.fedbundle.specs.Report.{RunsReport};
 
 use crate::judge::take_lines;
 use crate::run_error::RunError;
@@ -48,27 +44,10 @@ pub fn run_report<R: Source, W: Sink, E: Sink>(
     sink: &mut W,
     complaints: &mut E,
 ) -> Result<u64, RunError>
-    ensures ok { IfOk result (λ n. IfSome (R.remaining source.old) (λ bytes.
-        Reports config.now (lines_of bytes) (W.contents sink.old) (W.contents sink.new)
-        (E.contents complaints.old) (E.contents complaints.new) n)) }
-    ensures read { OnOk result (IsAtEnd (R.remaining source.new)) }
-    ensures full { IsErrOf result Full → (W.contents sink.new ≡ W.contents sink.old)
-        × IfSome (R.remaining source.old)
-        (λ bytes. OverfillStore config.now (lines_of bytes).whole) }
-    ensures memory { IsErrOf result NoMemory → W.contents sink.new ≡ W.contents sink.old }
-    ensures io { IsErrOf result Io
-        → FailsReport config.now (R.remaining source.old) (W.contents sink.old)
-        (W.contents sink.new) (R.has_failed source.new) (W.has_failed sink.new)
-        (E.has_failed complaints.new) }
-
-    // No fault of a device is passed over, or reported as another error.
-    ensures sound { (IsErrOf result Io → ⊥)
-        → (R.has_failed source.new ≡ R.has_failed source.old)
-        × (W.has_failed sink.new ≡ W.has_failed sink.old)
-        × (E.has_failed complaints.new ≡ E.has_failed complaints.old) }
-    ensures told { OnErr result (IfSome (R.remaining source.old) (λ bytes.
-        BeginsTelling config.now (lines_of bytes) (E.contents complaints.old)
-        (E.contents complaints.new))) }
+    ensures { RunsReport
+        (run_of (device_run R.remaining R.has_failed source.old source.new)
+        (device_run W.contents W.has_failed sink.old sink.new))
+        (device_run E.contents E.has_failed complaints.old complaints.new) config.now result }
 {
     run_report_with::<IndexedClosure, R, W, E>(alloc, config, source, sink, complaints)
 }
@@ -84,27 +63,10 @@ pub fn run_report_with<C: Closure, R: Source, W: Sink, E: Sink>(
     sink: &mut W,
     complaints: &mut E,
 ) -> Result<u64, RunError>
-    ensures ok { IfOk result (λ n. IfSome (R.remaining source.old) (λ bytes.
-        Reports config.now (lines_of bytes) (W.contents sink.old) (W.contents sink.new)
-        (E.contents complaints.old) (E.contents complaints.new) n)) }
-    ensures read { OnOk result (IsAtEnd (R.remaining source.new)) }
-    ensures full { IsErrOf result Full → (W.contents sink.new ≡ W.contents sink.old)
-        × IfSome (R.remaining source.old)
-        (λ bytes. OverfillStore config.now (lines_of bytes).whole) }
-    ensures memory { IsErrOf result NoMemory → W.contents sink.new ≡ W.contents sink.old }
-    ensures io { IsErrOf result Io
-        → FailsReport config.now (R.remaining source.old) (W.contents sink.old)
-        (W.contents sink.new) (R.has_failed source.new) (W.has_failed sink.new)
-        (E.has_failed complaints.new) }
-
-    // No fault of a device is passed over, or reported as another error.
-    ensures sound { (IsErrOf result Io → ⊥)
-        → (R.has_failed source.new ≡ R.has_failed source.old)
-        × (W.has_failed sink.new ≡ W.has_failed sink.old)
-        × (E.has_failed complaints.new ≡ E.has_failed complaints.old) }
-    ensures told { OnErr result (IfSome (R.remaining source.old) (λ bytes.
-        BeginsTelling config.now (lines_of bytes) (E.contents complaints.old)
-        (E.contents complaints.new))) }
+    ensures { RunsReport
+        (run_of (device_run R.remaining R.has_failed source.old source.new)
+        (device_run W.contents W.has_failed sink.old sink.new))
+        (device_run E.contents E.has_failed complaints.old complaints.new) config.now result }
 {
     // The prover learns here that each domain has one relationship.
     let _domains = config.domains();

@@ -1,6 +1,6 @@
 //! Why a stream of receipts gives no report.
 ghost use Rattle.std.specs.Prelude.{◌≡◌};
-ghost use Rattle.fedbundle.specs.Run.{of_line, of_report};
+ghost use Rattle.fedbundle.specs.Errors.{of_line, of_report};
 ghost use Rattle.fedbundle.specs.declared.run_error.RunError.TheVariants.{NoMemory, Io};
 
 use bundle_view::ReportError;

@@ -1,10 +1,10 @@
 //! `serve`: the questions of other replicas, answered, over any devices.
-ghost use Rattle.std.specs.Prelude.{◌≡◌, ◌⊎◌, true, IfErr, IsErrOf, OnOk};
+ghost use Rattle.std.specs.Prelude.{◌≡◌, true, IfErr, OnOk};
 ghost use Rattle.std.specs.Io.KnownBytes.{Appends};
 ghost use Rattle.byte_lines.specs.Device.{AppendsBeginning};
-ghost use Rattle.replica_core.specs.declared.error.SyncError.TheVariants.{Io as DeviceFailed};
-ghost use Rattle.fedbundle.specs.Serve.{ServesSession, served_text};
-ghost use Rattle.fedbundle.specs.declared.error.CommandError.TheVariants.{Io, Sync};
+ghost use Rattle.fedbundle.specs.CommandRun.{device_run, run_of};
+ghost use Rattle.fedbundle.specs.Serve.{RunsServe, served_text};
+ghost use Rattle.fedbundle.specs.declared.error.CommandError.TheVariants.{Io};
 
 use crate::counts::write_counted;
 use crate::error::CommandError;
@@ -25,10 +25,10 @@ pub fn run_serve<C: Closure, R: Source, W: Sink>(
     source: &mut R,
     sink: &mut W,
 ) -> Result<u64, CommandError>
-    ensures serves { ServesSession (C.state closure.now).meaning (R.remaining source.old)
-        (W.contents sink.old) (W.contents sink.new) result }
-    ensures io { IsErrOf result (Sync DeviceFailed)
-        → (R.has_failed source.new ≡ true) ⊎ (W.has_failed sink.new ≡ true) }
+    ensures { RunsServe
+        (run_of (device_run R.remaining R.has_failed source.old source.new)
+        (device_run W.contents W.has_failed sink.old sink.new))
+        (C.state closure.now).meaning result }
 {
     let count = serve_one(alloc, closure, source, sink)?;
     Ok(count)

@@ -1,7 +1,7 @@
 use Rattle.std.proofs.Common.{◌≡◌, List, sym, subst}
 use Rattle.receipt_core.specs.Receipt.{Receipt}
 use Rattle.bundle_view.specs.Report.{IsReport}
-use Rattle.fedbundle.specs.Run.{meaning_of_receipts}
+use Rattle.fedbundle.specs.Report.{meaning_of_receipts}
 use Rattle.fedbundle.proofs.laws.one_report.Goals as goal
 
 pub returns : goal.returns

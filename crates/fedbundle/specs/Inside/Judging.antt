@@ -13,7 +13,8 @@ use Rattle.closure_core.specs.Refusals.{IsOneTooMany}
 use Rattle.closure_core.specs.declared.outcome.Taken.{Taken}
 use Rattle.fedbundle.specs.Stream.{AreTaken, OverfillStore, IsRefusedLine, Complaint, AreComplaints}
 use Rattle.fedbundle.specs.Stream.{complaint_text}
-use Rattle.fedbundle.specs.Run.{BeginsTelling}
+use Rattle.receipt_core.specs.Limits.{receipt_limit}
+use Rattle.fedbundle.specs.Report.{BeginsTelling}
 use Rattle.fedbundle.specs.declared.complaint.LineFault.{LineFault}
 use Rattle.fedbundle.specs.declared.run_error.RunError.{RunError}
 use Rattle.fedbundle.specs.declared.run_error.RunError.TheVariants.{Full, NoMemory, Io}
@@ -80,7 +81,7 @@ pub record HasJudged (c : Configuration) (lines : Lines) (m : Meaning)
   pub config : m.config ≡ c
   pub records : m.records ≡ []
   pub taken : AreTaken c lines.whole m.held
-  pub few : length m.held ≤ 65536
+  pub few : length m.held ≤ receipt_limit
   pub complaints : List Complaint
   pub all : AreComplaints c lines complaints
   pub telling : Appends told tells (flat_map complaint_text complaints)

@@ -1,0 +1,34 @@
+-- The errors of the parts that a command stands on, as its own.
+use Rattle.byte_lines.specs.declared.error.DeviceError.{DeviceError}
+use Rattle.byte_lines.specs.declared.error.DeviceError.TheVariants.{Io as DeviceIo}
+use Rattle.byte_lines.specs.declared.error.DeviceError.TheVariants.{NoMemory as DeviceNoMemory}
+use Rattle.bundle_view.specs.declared.error.ReportError.{ReportError}
+use Rattle.bundle_view.specs.declared.error.ReportError.TheVariants.{Io as SinkFailed}
+use Rattle.bundle_view.specs.declared.error.ReportError.TheVariants.{NoMemory as NoMemoryForReport}
+use Rattle.fedbundle.specs.declared.error.CommandError.{CommandError}
+use Rattle.fedbundle.specs.declared.error.CommandError.TheVariants.{Full, NoMemory, Io}
+use Rattle.fedbundle.specs.declared.run_error.RunError.{RunError}
+use Rattle.fedbundle.specs.declared.run_error.RunError.TheVariants.{Full as RunFull}
+use Rattle.fedbundle.specs.declared.run_error.RunError.TheVariants.{NoMemory as RunNoMemory}
+use Rattle.fedbundle.specs.declared.run_error.RunError.TheVariants.{Io as RunIo}
+
+-- the error for a line that could not be had
+abbrev pub of_line : DeviceError → RunError
+of_line DeviceIo = RunIo
+of_line DeviceNoMemory = RunNoMemory
+
+-- the error for a report that could not be written
+abbrev pub of_report : ReportError → RunError
+of_report SinkFailed = RunIo
+of_report NoMemoryForReport = RunNoMemory
+
+-- the error for a source that gave no bytes
+abbrev pub of_read : DeviceError → CommandError
+of_read DeviceIo = Io
+of_read DeviceNoMemory = NoMemory
+
+-- the error for a run that gave no report
+abbrev pub of_run : RunError → CommandError
+of_run RunFull = Full
+of_run RunNoMemory = NoMemory
+of_run RunIo = Io

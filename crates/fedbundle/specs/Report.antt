@@ -1,0 +1,89 @@
+-- What a run of `report` does. `complaints` is the sink of what is told of single lines.
+use Rattle.std.specs.Prelude.{◌≡◌, ℕ, ◌≤◌, ◌⊎◌, List, [], length, flat_map, Option, IfSome}
+use Rattle.std.specs.Prelude.{Result, Ok, Err, IsErrOf}
+use Rattle.std.specs.Io.KnownBytes.{Appends}
+use Rattle.byte_lines.specs.Device.{AppendsBeginning}
+use Rattle.byte_lines.specs.Lines.{Lines, lines_of}
+use Rattle.fed_config.specs.Configuration.{Configuration}
+use Rattle.receipt_core.specs.Acceptance.{Meaning}
+use Rattle.receipt_core.specs.Receipt.{Receipt}
+use Rattle.bundle_view.specs.Report.{WritesReport, BeginsReport}
+use Rattle.fedbundle.specs.CommandRun.{CommandRun, DeviceRun, IsReadOut, WritesNothing}
+use Rattle.fedbundle.specs.CommandRun.{HasFailed, IsAsSound}
+use Rattle.receipt_core.specs.Limits.{receipt_limit}
+use Rattle.fedbundle.specs.Stream.{AreTaken, OverfillStore, Complaint, AreComplaints}
+use Rattle.fedbundle.specs.Stream.{AreFirstComplaints, complaint_text}
+use Rattle.fedbundle.specs.declared.run_error.RunError.{RunError}
+use Rattle.fedbundle.specs.declared.run_error.RunError.TheVariants.{Full, NoMemory, Io}
+
+-- ---- what is written
+
+-- these receipts, and no record of distrust
+abbrev pub meaning_of_receipts : Configuration → List Receipt → Meaning
+meaning_of_receipts c receipts = record { config = c; held = receipts; records = [] }
+
+-- The report of the receipts that are taken of these lines was written, and nothing else.
+pub record PrintsReport (sink : DeviceRun) (c : Configuration) (lines : Lines) : Type 0 where
+  pub receipts : List Receipt
+  pub taken : AreTaken c lines.whole receipts
+  pub few : length receipts ≤ receipt_limit
+  pub report : WritesReport (meaning_of_receipts c receipts) sink.before sink.after
+
+-- The sink failed, after a beginning of that report.
+pub record CutsReport (sink : DeviceRun) (c : Configuration) (lines : Lines) : Type 0 where
+  pub receipts : List Receipt
+  pub taken : AreTaken c lines.whole receipts
+  pub begun : BeginsReport (meaning_of_receipts c receipts) sink.before sink.after
+
+-- ---- what is told
+
+-- All complaints of the lines were told, n of them.
+pub record TellsAll (complaints : DeviceRun) (c : Configuration) (lines : Lines)
+    (n : ℕ) : Type 0 where
+  pub list : List Complaint
+  pub all : AreComplaints c lines list
+  pub telling : Appends complaints.before complaints.after (flat_map complaint_text list)
+  pub counted : n ≡ length list
+
+-- A beginning of what there is to tell was told, perhaps all of it.
+pub record BeginsTelling (c : Configuration) (lines : Lines)
+    (told tells : Option (List ℕ)) : Type 0 where
+  pub complaints : List Complaint
+  pub first : AreFirstComplaints c lines complaints
+  pub begun : AppendsBeginning told tells (flat_map complaint_text complaints)
+
+-- ---- a run
+
+-- The source, or the sink of complaints, failed before anything of the report was written; or the
+-- report's sink failed.
+abbrev pub FailsReport : CommandRun → DeviceRun → Configuration → Type 0
+FailsReport run complaints c =
+    ((HasFailed run.source ⊎ HasFailed complaints) × WritesNothing run.sink)
+    ⊎ (HasFailed run.sink
+    × IfSome run.source.before (λ bytes. CutsReport run.sink c (lines_of bytes)))
+
+-- By the error: there are too many receipts, or memory ran out, and nothing of the report was
+-- written; or a device failed.
+abbrev pub StopsReport : CommandRun → DeviceRun → Configuration → RunError → Type 0
+StopsReport run complaints c Full = WritesNothing run.sink
+    × IfSome run.source.before (λ bytes. OverfillStore c (lines_of bytes).whole)
+StopsReport run complaints c NoMemory = WritesNothing run.sink
+StopsReport run complaints c Io = FailsReport run complaints c
+
+-- By the answer: the report was written and all complaints told, n of them; or the run stopped, and
+-- a beginning of the complaints was told. Where the source cannot tell its bytes, nothing is said
+-- of its lines.
+abbrev pub AnswersReport : CommandRun → DeviceRun → Configuration → Result ℕ RunError → Type 0
+AnswersReport run complaints c (Ok n) = IsReadOut run.source
+    × IfSome run.source.before
+    (λ bytes. PrintsReport run.sink c (lines_of bytes) × TellsAll complaints c (lines_of bytes) n)
+AnswersReport run complaints c (Err e) = StopsReport run complaints c e
+    × IfSome run.source.before
+    (λ bytes. BeginsTelling c (lines_of bytes) complaints.before complaints.after)
+
+-- That, and no fault of a device is passed over, or reported as another error.
+pub record RunsReport (run : CommandRun) (complaints : DeviceRun) (c : Configuration)
+    (result : Result ℕ RunError) : Type 0 where
+  pub answer : AnswersReport run complaints c result
+  pub sound : (IsErrOf result Io → ⊥)
+      → IsAsSound run.source × IsAsSound run.sink × IsAsSound complaints
