@@ -44,7 +44,7 @@ static const char *const HOWS[] = {"once", "lasting", "piece", "pieces", "nothin
 
 /* What is told: how often each kind was called, `system` last; whether the call that is meant came; of that call its
  * descriptor, -1 where it has none, and its name; and the names of the first calls of the system, in order, each
- * followed by a space. `refusing.py` reads it. */
+ * followed by a space. `harness.py` reads it. */
 struct told {
     uint64_t calls[KINDS + 1];
     int64_t met;

@@ -17,10 +17,10 @@ from importlib.util import module_from_spec, spec_from_loader
 from itertools import count
 from pathlib import Path
 
-TOP = Path(__file__).resolve().parent.parent
+TOP = Path(__file__).resolve().parent.parent.parent
 SECONDS = 10
 
-# As `struct told` of refusals.c.
+# As `struct told` of inject.c.
 KINDS = ["alloc", "open", "read", "write", "sync", "rename", "lock", "close", "change", "socket", "system"]
 TOLD = struct.Struct("<11Qqq24s4000s")
 
@@ -63,7 +63,7 @@ def symbols(file, which):
 def build_library(folder, program):
     """Builds the library, and stops where the program calls what the library does not see."""
     library = str(Path(folder) / "refusals.so")
-    source = Path(__file__).resolve().parent / "refusals.c"
+    source = Path(__file__).resolve().parent / "inject.c"
     if subprocess.run(["cc", "-O2", "-fPIC", "-shared", "-o", library, source]).returncode != 0:
         stop("the library is not built")
     called = symbols(program, "--undefined-only")
@@ -71,7 +71,7 @@ def build_library(folder, program):
         stop(f"{program} does not take its memory from the C library, so nothing can be refused")
     unknown = called - symbols(library, "--defined-only") - UNSEEN
     if unknown:
-        stop(f"the program calls what refusals.c does not know: {' '.join(sorted(unknown))}")
+        stop(f"the program calls what inject.c does not know: {' '.join(sorted(unknown))}")
     return library
 
 
