@@ -16,6 +16,12 @@
  *   REFUSE_TOLD    a file of at least sizeof(struct told) bytes, in which the library tells what it saw, also where the
  *                  process is killed
  *
+ * `calls` has the program say itself what is refused, by names that it looks up in the environment:
+ *
+ *   REFUSE 7 once      from here on allocations are counted anew, and the 7th is refused (`lasting`: and each later one;
+ *                      0: none)
+ *   REFUSE end         from here on none is refused; the value is how many were counted
+ *
  * Calls are counted from the first that the program makes once it is loaded. What the C library does within itself, as
  * the loader's own opening of libraries, does not come here. The library asks for no memory. */
 #define _GNU_SOURCE
@@ -178,6 +184,37 @@ static void *aligned(const char *name, size_t a, size_t n) {
 }
 void *aligned_alloc(size_t a, size_t n) { return aligned("aligned_alloc", a, n); }
 void *memalign(size_t a, size_t n) { return aligned("memalign", a, n); }
+
+/* What stands in the environment: getenv itself is seen, below. */
+static const char *value_of(const char *name) {
+    size_t length = strlen(name);
+    for (char **at = environ; at && *at; at++)
+        if (!strncmp(*at, name, length) && (*at)[length] == '=') return *at + length + 1;
+    return 0;
+}
+
+/* The marks of a program that says itself what is refused, and else the environment. It asks for no memory. */
+char *getenv(const char *name) {
+    static char counted[24];
+    static const char mark[] = "REFUSE ";
+    if (strncmp(name, mark, sizeof mark - 1)) return (char *)value_of(name);
+    const char *said = name + sizeof mark - 1;
+    if (!strcmp(said, "end")) {
+        kind = -1;
+        char *at = counted + sizeof counted - 1;
+        uint64_t count = told->calls[ALLOC];
+        do *--at = '0' + count % 10;
+        while (count /= 10);
+        return at;
+    }
+    char *rest;
+    call = strtoul(said, &rest, 10);
+    how = !strcmp(rest, " lasting") ? LASTING : ONCE;
+    told->calls[ALLOC] = 0;
+    told->met = 0;
+    kind = ALLOC;
+    return 0;
+}
 
 static int open_at(const char *name, int dir, const char *path, int flags, mode_t mode) {
     SYSTEM_CALL(OPEN, name, -1, syscall(SYS_openat, dir, path, flags, mode));
