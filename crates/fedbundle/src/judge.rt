@@ -1,6 +1,6 @@
 //! The lines of a stream, taken one after another. `specs/Stream` says what is taken of a list of
-//! lines and what is reported, `specs/Run` what a run does to its devices, and `specs/Judging` is
-//! for private clauses.
+//! lines and what is reported, `specs/Report` what a run does to its devices, and
+//! `specs/Inside/Judging` is for private clauses.
 ghost use Rattle.std.specs.Prelude.{◌≡◌, ◌⊎◌, ℕ, [], true, IfOk, IfErr, OnOk, IfSome, IsErrOf};
 ghost use Rattle.std.specs.Prelude.{MatchResult, List};
 ghost use Rattle.std.specs.Io.KnownBytes.{IsAtEnd};

@@ -57,8 +57,8 @@ pub(crate) fn moment(text: &str) -> Result<Timestamp, Exit> {
     Timestamp::from_second(seconds).map_err(|_| Exit::BadMoment)
 }
 
-/// The address of an IP address and a port. At port 0 the system would choose a port, which nobody
-/// is told.
+/// The address of an IP address and a port. At port 0 the system would choose a port that nobody
+/// knows.
 pub(crate) fn address(text: &str) -> Result<SocketAddr, Exit> {
     match text.parse::<SocketAddr>() {
         Ok(address) if address.port() != 0 => Ok(address),
