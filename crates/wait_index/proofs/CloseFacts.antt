@@ -484,7 +484,7 @@ module _ (net : Net) (t : Tally) (h : IsSettled net t) (queue : IsListing t.touc
             | inr d ↦ ap (is_touched_in now) (sym e.to) ∙ d
           ]
 
-      -- The touched labels are exactly those that are taken back, so a close can count its turns by
+      -- The touched labels are exactly those that are taken back, so a close can count its work by
       -- them.
       pub touched-all : AreTakenBack net closing (is_touched_in now)
       touched-all = record { only = touched-taken; all = taken-touched }
@@ -641,16 +641,16 @@ visits_after net t h queue labels closing new k =
           )),
     )
 
--- How many turns a close takes
+-- How much work a close is
 
--- Closing labels of which none is open takes no turn.
+-- Closing labels of which none is open is no work.
 pub ClosesIn-shut : (net : Net) (closing : List ℕ) (visits : ℕ) → ((l : ℕ) → Contains closing l → IsOpen net l → ⊥) → ClosesIn net closing visits visits 0
 ClosesIn-shut net closing visits shut = record {
   labels = λ l. false;
   taken_back = none-taken net closing shut;
   again = 0;
   visits = omega (arith, none-edges net);
-  turns = omega (arith, none-edges net);
+  work = omega (arith, none-edges net);
 }
 
 module _ (net : Net) (t : Tally) (h : IsSettled net t) (queue : IsListing t.touched t.touched_places) (labels : (i : ℕ)
@@ -661,33 +661,33 @@ module _ (net : Net) (t : Tally) (h : IsSettled net t) (queue : IsListing t.touc
   pub visits_fall : now.visits ≤ t.visits
   visits_fall = omega (arith, visits_taken net t h queue labels closing now f once waits)
 
-  -- A close takes a turn for each visit that the fall takes away and for each that comes after it.
+  -- A close works once for each visit that the fall takes away and for each that comes after it.
   pub ClosesIn-open : (after : ℕ) → now.visits ≤ after → ClosesIn net closing t.visits after ((t.visits - now.visits) + (after - now.visits))
   ClosesIn-open after l = record {
     labels = is_touched_in now;
     taken_back = touched-all net t h queue labels closing now f once;
     again = after - now.visits;
     visits = omega (arith, l, visits_taken net t h queue labels closing now f once waits);
-    turns = omega (arith, l, visits_taken net t h queue labels closing now f once waits);
+    work = omega (arith, l, visits_taken net t h queue labels closing now f once waits);
   }
 
--- no more than two turns for each edge at labels of the reach, where the visits do not grow
-pub ClosesIn-near : (net : Net) (closing : List ℕ) (before after turns : ℕ) (labels : ℕ → Bool)
-    → ClosesIn net closing before after turns → after ≤ before → HasReachOf net closing labels
-    → turns ≤ 2 * edges_at net labels
-ClosesIn-near net closing before after turns labels c l h = omega (arith, c.visits, c.turns, l, taken-few net closing c.labels labels c.taken_back h)
+-- no more work than twice for each edge at labels of the reach, where the visits do not grow
+pub ClosesIn-near : (net : Net) (closing : List ℕ) (before after work : ℕ) (labels : ℕ → Bool)
+    → ClosesIn net closing before after work → after ≤ before → HasReachOf net closing labels
+    → work ≤ 2 * edges_at net labels
+ClosesIn-near net closing before after work labels c l h = omega (arith, c.visits, c.work, l, taken-few net closing c.labels labels c.taken_back h)
 
--- A close takes one number of turns.
-pub ClosesIn-one : (net : Net) (closing others : List ℕ) (before after turns other : ℕ)
-    → ((l : ℕ) → (Contains closing l ↔ Contains others l)) → ClosesIn net closing before after turns
-    → ClosesIn net others before after other → turns ≡ other
-ClosesIn-one net closing others before after turns other same a b =
+-- The work of a close is one number.
+pub ClosesIn-one : (net : Net) (closing others : List ℕ) (before after work other : ℕ)
+    → ((l : ℕ) → (Contains closing l ↔ Contains others l)) → ClosesIn net closing before after work
+    → ClosesIn net others before after other → work ≡ other
+ClosesIn-one net closing others before after work other same a b =
     omega (
       arith,
       a.visits,
-      a.turns,
+      a.work,
       b.visits,
-      b.turns,
+      b.work,
       taken-same closing others (λ l c. (same l).0 c) a.labels b.labels a.taken_back b.taken_back,
       taken-same others closing (λ l c. (same l).1 c) b.labels a.labels b.taken_back a.taken_back,
     )

@@ -11,4 +11,5 @@ pub mod CloseFacts
 pub mod GrowthFacts
 pub mod ShownFacts
 pub mod NetLawFacts
+pub mod WorkFacts
 pub mod StandardFacts

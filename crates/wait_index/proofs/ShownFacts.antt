@@ -82,7 +82,7 @@ module _ (net : Net) (t : Tally) (h : IsSettled net t) (queue : IsListing t.touc
             (not-true (is_closed net l) parts.0))) ∙ sym o
       ]
 
-  -- The turns that are counted are those by the definition.
+  -- The visits that are counted are those by the definition.
   pub visits-shown : t.visits ≡ visits_of net t.marked
   visits-shown =
       omega (

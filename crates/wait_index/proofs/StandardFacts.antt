@@ -126,7 +126,7 @@ not_awaited = refl
 
 -- What closing label 0 takes back: the wait edge to node 1, which falls with its offer edge, and
 -- the wait edge to node 3, which is then followed again, since node 2 offers label 2 too. So it
--- takes 3 turns and 1.
+-- is the work 3 and 1.
 
 -- the labels that are taken back with label 0: itself and label 2
 abbrev pub lost : ℕ → Bool
@@ -180,17 +180,17 @@ three_taken = refl
 pub five_near : edges_at net lost ≡ 5
 five_near = refl
 
--- The close takes four turns.
-pub four_turns : ClosesIn net (0 ∷ []) 7 5 4
-four_turns = record { labels = lost; taken_back = taken; again = 1; visits = refl; turns = refl }
+-- The close is the work 4.
+pub work_of_four : ClosesIn net (0 ∷ []) 7 5 4
+work_of_four = record { labels = lost; taken_back = taken; again = 1; visits = refl; work = refl }
 
--- The close does not take two turns, which would be the fall of the visits alone.
+-- The close is not the work 2, which would be the fall of the visits alone.
 pub not_two : ClosesIn net (0 ∷ []) 7 5 2 → ⊥
-not_two c = omega (arith, ClosesIn-one net (0 ∷ []) (0 ∷ []) 7 5 4 2 (λ l. (λ a. a, λ a. a)) four_turns c)
+not_two c = omega (arith, ClosesIn-one net (0 ∷ []) (0 ∷ []) 7 5 4 2 (λ l. (λ a. a, λ a. a)) work_of_four c)
 
--- Nor does it take six turns, which would be twice what was taken back.
+-- Nor is it the work 6, which would be twice what was taken back.
 pub not_six : ClosesIn net (0 ∷ []) 7 5 6 → ⊥
-not_six c = omega (arith, ClosesIn-one net (0 ∷ []) (0 ∷ []) 7 5 4 6 (λ l. (λ a. a, λ a. a)) four_turns c)
+not_six c = omega (arith, ClosesIn-one net (0 ∷ []) (0 ∷ []) 7 5 4 6 (λ l. (λ a. a, λ a. a)) work_of_four c)
 
 -- So the nodes 1 and 3 fall, of which 3 is marked again.
 
@@ -225,7 +225,7 @@ pub not_kept : (fallen : List ℕ) → TellsFallen net (0 ∷ []) fallen 3 (0 �
 not_kept fallen h = ((h.front 3).0 (2, omega arith, refl)).1 fallen_3
 
 -- What closing the labels 0 and 1 at once takes back: the three wait edges, and the offer edges of
--- the nodes 1 and 2. None is followed again, so it takes 5 turns; one label after the other takes 4
+-- the nodes 1 and 2. None is followed again, so it is the work 5; one label after the other is 4
 -- and 3.
 
 -- the labels that are taken back with both: all three
@@ -282,10 +282,10 @@ both_taken = record {
 pub visits_after_both : visits_of (with_all_closed net (0 ∷ 1 ∷ [])) (0 ∷ []) ≡ 2
 visits_after_both = refl
 
--- The close of both takes five turns.
-pub five_turns : ClosesIn net (0 ∷ 1 ∷ []) 7 2 5
-five_turns = record { labels = all_lost; taken_back = both_taken; again = 0; visits = refl; turns = refl }
+-- The close of both is the work 5.
+pub work_of_five : ClosesIn net (0 ∷ 1 ∷ []) 7 2 5
+work_of_five = record { labels = all_lost; taken_back = both_taken; again = 0; visits = refl; work = refl }
 
--- It does not take as many turns as two closes, one after the other.
+-- It is not as much work as two closes, one after the other.
 pub not_seven : ClosesIn net (0 ∷ 1 ∷ []) 7 2 7 → ⊥
-not_seven c = omega (arith, ClosesIn-one net (0 ∷ 1 ∷ []) (0 ∷ 1 ∷ []) 7 2 5 7 (λ l. (λ a. a, λ a. a)) five_turns c)
+not_seven c = omega (arith, ClosesIn-one net (0 ∷ 1 ∷ []) (0 ∷ 1 ∷ []) 7 2 5 7 (λ l. (λ a. a, λ a. a)) work_of_five c)

@@ -1,6 +1,7 @@
--- What a caller cites stands in the first three; `Inside` has what the index keeps and its
+-- What a caller cites stands in the first four; `Inside` has what the index keeps and its
 -- invariants.
 pub mod Net
 pub mod Index
+pub mod Close
 pub mod Edge
 pub mod Inside

@@ -87,7 +87,7 @@ with_all_closed net labels = record net
 abbrev pub has_wait : Net → ℕ → Bool
 has_wait net node = list_any (λ edge. edge.to == node) net.waits
 
--- Turns
+-- Work
 
 -- whether a node is in the list
 abbrev pub is_among : List ℕ → ℕ → Bool
@@ -128,14 +128,14 @@ abbrev pub edges_taken_back : Net → (ℕ → Bool) → ℕ
 edges_taken_back net labels = count_by (λ edge. falls_with net labels edge.from) net.offers
     + count_by (λ edge. labels edge.from) net.waits
 
--- Closing the labels takes so many turns: each edge that is taken back is one, and so is each that
+-- Closing the labels is so much work: one for each edge that is taken back, and one for each that
 -- is followed again, which brings the visits from what they were before to what they are after.
 pub record ClosesIn (net : Net) (closing : List ℕ) (before after count : ℕ) : Type 0 where
   pub labels : ℕ → Bool
   pub taken_back : AreTakenBack net closing labels
   pub again : ℕ
   pub visits : before + again ≡ after + edges_taken_back net labels
-  pub turns : count ≡ edges_taken_back net labels + again
+  pub work : count ≡ edges_taken_back net labels + again
 
 -- The set has the labels that are to be closed and are open and, with a label, each label that is
 -- offered by a node that awaits it.

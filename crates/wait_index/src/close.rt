@@ -5,8 +5,7 @@ ghost use Rattle.std.specs.Prelude.{length, slice_index, take, vec_capacity, All
 ghost use Rattle.wait_index.specs.Inside.Capacity.{graph_capacity};
 ghost use Rattle.wait_index.specs.Inside.Fall.{CanFall, HasFallen, IsFalling, IsSettled};
 ghost use Rattle.wait_index.specs.Inside.Fall.{ListsFallen, with_fallen};
-ghost use Rattle.wait_index.specs.Net.{with_all_closed, ClosesIn, HasReachOf, TellsFallen};
-ghost use Rattle.wait_index.specs.Net.{edges_at};
+ghost use Rattle.wait_index.specs.Net.{with_all_closed, ClosesIn, TellsFallen};
 ghost use Rattle.wait_index.specs.Inside.Step.{Follows};
 ghost use Rattle.wait_index.specs.Inside.Tally.{net_of, tally_of, marks_capacity, HasSizes};
 ghost use Rattle.wait_index.specs.Inside.Tally.{is_marked_in, is_open_in, Falls, Touches};
@@ -18,7 +17,7 @@ use crate::marks::Marks;
 use crate::number::LabelNo;
 
 impl Marks {
-    /// Closes the labels, and returns how many turns that took, where a turn looks at one edge.
+    /// Closes the labels, and returns how much work that was: how many times it looked at an edge.
     pub(crate) fn close(
         &mut self,
         graph: &mut Graph,
@@ -32,10 +31,9 @@ impl Marks {
         requires last_room { length graph.old.roots.items ≤ vec_capacity last.old.fallen }
         ensures net { net_of graph.new ≡ with_all_closed (net_of graph.old) labels.now }
         ensures settled { IsSettled (net_of graph.new) (tally_of self.new) }
-        ensures turns { ClosesIn (net_of graph.old) labels.now self.old.visits self.new.visits
+        ensures work { ClosesIn (net_of graph.old) labels.now self.old.visits self.new.visits
             result }
-        ensures near { (reach : ℕ → Bool) → HasReachOf (net_of graph.old) labels.now reach
-            → result ≤ 2 * edges_at (net_of graph.old) reach }
+        ensures fewer { self.new.visits ≤ self.old.visits }
         ensures shut { ((label : ℕ) → Contains labels.now label
             → is_open_in (tally_of self.old) label ≡ false)
             → (result ≡ 0) × (tally_of self.new ≡ tally_of self.old) }

@@ -54,13 +54,13 @@ impl Graph {
         self.closed.try_reserve(labels)?;
         self.offers.try_reserve(nodes, edges)?;
         self.waits.try_reserve(labels, edges)?;
-        self.try_reserve_turns(edges)?;
+        self.try_reserve_edges(edges)?;
         Ok(())
     }
 
     /// Two passes over all edges, with this many more, have to fit a word: past that it asks for a
     /// growth that is always refused.
-    fn try_reserve_turns(&mut self, edges: usize) -> Result<(), AllocError>
+    fn try_reserve_edges(&mut self, edges: usize) -> Result<(), AllocError>
         requires { length self.old.offers.edges.items + length self.old.waits.edges.items < 2 ^ 63 }
         ensures grows { GrowsGraph self.old self.new }
         ensures room { graph_capacity self.new ≡ graph_capacity self.old }

@@ -1,9 +1,12 @@
 //! What holds of every net of nodes and labels.
-ghost use Rattle.std.specs.Prelude.{◌≡◌, ℕ, ◌+◌, ◌<◌, ◌≤◌, ◌↔◌, ◌⊎◌, ◌∷◌, Bool, true, false, List};
-ghost use Rattle.std.specs.Prelude.{length, Contains};
+ghost use Rattle.std.specs.Prelude.{◌≡◌, ℕ, ◌+◌, ◌*◌, ◌<◌, ◌≤◌, ◌↔◌, ◌⊎◌, ◌∷◌, Bool, true, false};
+ghost use Rattle.std.specs.Prelude.{List, length, Contains};
 ghost use Rattle.wait_index.specs.Edge.{IsEdge};
 ghost use Rattle.wait_index.specs.Net.{Net, is_root, is_closed, IsReached, IsMore, IsClosedUnder};
-ghost use Rattle.wait_index.specs.Net.{ClosesIn, with_closed, with_all_closed, visits_of};
+ghost use Rattle.wait_index.specs.Index.{Index};
+ghost use Rattle.wait_index.specs.Close.{AreUnopened, ClosesWithWork};
+ghost use Rattle.wait_index.specs.Net.{with_closed, with_all_closed, visits_of, HasReachOf};
+ghost use Rattle.wait_index.specs.Net.{edges_at};
 
 use std::marker::Brand;
 
@@ -49,16 +52,26 @@ pub fn closes_in_any_order()
         → with_all_closed net labels ≡ with_all_closed net others }
 {}
 
-/// The turns are at most the edges: until a label is closed no edge is followed twice.
+/// The visits are at most the edges: until a label is closed no edge is followed twice.
 pub fn no_edge_twice()
     ensures { (net : Net) (nodes : List ℕ)
         → visits_of net nodes ≤ length net.offers + length net.waits }
 {}
 
-/// A close has one number of turns, whatever way it took, and however its labels are listed.
-pub fn one_number_of_turns()
-    ensures { (net : Net) (labels others : List ℕ) (before after count other : ℕ)
+/// How much work a close is.
+///
+/// - `near`: it looks only at edges at labels to which the closed ones lead, and at each at most
+///   twice.
+/// - `unopened`: there is none where no label was open.
+/// - `one`: it is one number, whatever way the close took, and however its labels are listed.
+pub fn work_of_a_close()
+    ensures near { (old new : Index) (labels : List ℕ) (work : ℕ)
+        → ClosesWithWork old labels new work → (reach : ℕ → Bool)
+        → HasReachOf old.net labels reach → work ≤ 2 * edges_at old.net reach }
+    ensures unopened { (old new : Index) (labels : List ℕ) (work : ℕ)
+        → ClosesWithWork old labels new work → AreUnopened old labels → work ≡ 0 }
+    ensures one { (old new other : Index) (labels others : List ℕ) (work more : ℕ)
         → ((label : ℕ) → (Contains labels label ↔ Contains others label))
-        → ClosesIn net labels before after count → ClosesIn net others before after other
-        → count ≡ other }
+        → ClosesWithWork old labels new work → ClosesWithWork old others other more
+        → work ≡ more }
 {}

@@ -12,7 +12,7 @@ use crate::node_set::NodeSet;
 use std::alloc::{AllocError, Global};
 
 /// The marked nodes, how many followed offer edges lead to each label, whether the wait edges of
-/// each label are followed, the labels whose wait edges are to be looked at again, and the turns:
+/// each label are followed, the labels whose wait edges are to be looked at again, and the visits:
 /// one more for each edge that is followed, one less for each that is taken back.
 #[derive(Drop)]
 pub(crate) struct Marks {

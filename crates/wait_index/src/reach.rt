@@ -41,9 +41,8 @@ impl Model for Reach {
 
 impl Reach {
     ghost use Rattle.wait_index.specs.Net.{with_node, with_label, with_offer, with_wait, with_root};
-    ghost use Rattle.wait_index.specs.Net.{with_closed, with_all_closed, has_wait, is_closed};
-    ghost use Rattle.wait_index.specs.Net.{IsReached, IsOpen, ListsReached, visits_of, ClosesIn};
-    ghost use Rattle.wait_index.specs.Net.{HasReachOf, TellsFallen, edges_at};
+    ghost use Rattle.wait_index.specs.Net.{IsReached, IsOpen, ListsReached, has_wait, visits_of};
+    ghost use Rattle.wait_index.specs.Close.{ClosesWithWork};
 
     /// An index without nodes, labels and room.
     pub fn new(alloc: Global) -> Self
@@ -197,32 +196,22 @@ impl Reach {
         self.marks.add_root(&mut self.graph, node.index());
     }
 
-    /// Closes the label for good, and returns its turns, as [`close_labels`](Reach::close_labels)
-    /// does.
+    /// Closes the label for good, and returns how much work that was, as
+    /// [`close_labels`](Reach::close_labels) does.
     pub fn close_label(&mut self, label: LabelNo) -> usize
         requires { label < length self.old.net.closed }
-        ensures net { self.new.net ≡ with_closed self.old.net label }
-        ensures marked { ListsReached self.new.net self.new.marked }
-        ensures room { self.new.room ≡ self.old.room }
-        ensures turns { ClosesIn self.old.net (label ∷ []) (visits_of self.old.net self.old.marked)
-            (visits_of self.new.net self.new.marked) result }
-        ensures near { (reach : ℕ → Bool) → HasReachOf self.old.net (label ∷ []) reach
-            → result ≤ 2 * edges_at self.old.net reach }
-        ensures shut { (IsOpen self.old.net label → ⊥)
-            → (result ≡ 0) × (self.new.marked ≡ self.old.marked) }
-        ensures closed { is_closed self.old.net label ≡ true → result ≡ 0 }
-        ensures fallen { TellsFallen self.old.net (label ∷ []) self.new.last.fallen
-            self.new.last.kept self.new.marked }
-        ensures many { length self.new.last.fallen + self.new.last.kept ≡ length self.old.marked }
+        ensures { ClosesWithWork self.old (label ∷ []) self.new result }
     {
         self.close_labels(&[label])
     }
 
-    /// Closes the labels for good, and returns the turns, each of which looked at one edge: one for
-    /// each edge that rests on the labels, taken back, and one for each that is followed again,
-    /// since it is reached otherwise. Where none of them was open that is 0, and the marked nodes
-    /// stay as they are. Else their order may change. The labels may repeat, and may be closed
-    /// already. [`fallen`](Reach::fallen) and [`kept`](Reach::kept) then say what fell.
+    /// Closes the labels for good, and returns how much work that was, by the number of times that
+    /// it looked at an edge: once for each edge that rests on the labels, which is taken back, and
+    /// once for each that is followed again, since it is reached otherwise. Where none of them was
+    /// open that is 0, and the marked nodes stay as they are. Else their order may change. The
+    /// labels may repeat, and may be closed already. [`fallen`](Reach::fallen) and
+    /// [`kept`](Reach::kept) then say what fell. What bounds the work is in
+    /// [`work_of_a_close`](crate::laws::work_of_a_close).
     ///
     /// First all that rests on the labels is deleted, and then all that is reached otherwise is
     /// derived again, once for all the labels: this is DRed, of A. Gupta, I. S. Mumick and V. S.
@@ -230,23 +219,7 @@ impl Reach {
     /// twice, however many the labels are.
     pub fn close_labels(&mut self, labels: &[LabelNo]) -> usize
         requires { All (λ label. label < length self.old.net.closed) labels.now }
-        ensures net { self.new.net ≡ with_all_closed self.old.net labels.now }
-        ensures marked { ListsReached self.new.net self.new.marked }
-        ensures room { self.new.room ≡ self.old.room }
-        ensures turns { ClosesIn self.old.net labels.now (visits_of self.old.net self.old.marked)
-            (visits_of self.new.net self.new.marked) result }
-
-        // Each turn looked at an edge at a label that those labels lead to, and at most two at one
-        // edge.
-        ensures near { (reach : ℕ → Bool) → HasReachOf self.old.net labels.now reach
-            → result ≤ 2 * edges_at self.old.net reach }
-        ensures shut { ((label : ℕ) → Contains labels.now label → IsOpen self.old.net label → ⊥)
-            → (result ≡ 0) × (self.new.marked ≡ self.old.marked) }
-
-        // Which nodes fell, and which of them were marked again: those after the first `kept`.
-        ensures fallen { TellsFallen self.old.net labels.now self.new.last.fallen
-            self.new.last.kept self.new.marked }
-        ensures many { length self.new.last.fallen + self.new.last.kept ≡ length self.old.marked }
+        ensures { ClosesWithWork self.old labels.now self.new result }
     {
         self.marks.close(&mut self.graph, &mut self.last, labels)
     }
@@ -275,8 +248,8 @@ impl Reach {
         self.graph.waits.has_edge_to(node.index())
     }
 
-    /// The turns so far: one more for each edge that was followed, one less for each that a close
-    /// took back.
+    /// How many edges are followed: one more for each that was followed, one less for each that a
+    /// close took back.
     pub fn visits(&self) -> usize
         ensures { result ≡ visits_of self.now.net self.now.marked }
     {

@@ -28,7 +28,7 @@ pub record GrowsGraph (old new : Graph) : Type 0 where
   pub offers : (graph_capacity old).offers ≤ (graph_capacity new).offers
   pub waits : (graph_capacity old).waits ≤ (graph_capacity new).waits
 
--- There is room for so many nodes, labels and edges of each kind more, and the turns of two passes
+-- There is room for so many nodes, labels and edges of each kind more, and the work of two passes
 -- over all edges fit a word.
 pub record HasGraphRoom (g : Graph) (more_nodes more_labels more_edges : ℕ) : Type 0 where
   pub nodes : length g.roots.items + more_nodes ≤ (graph_capacity g).nodes

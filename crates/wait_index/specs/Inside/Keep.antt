@@ -18,7 +18,7 @@ index_of graph marks room
       last = record { fallen = last.fallen.items; kept = last.kept };
     }
 
--- All edges that can be followed are, the turns of two passes over the edges fit a word, and the
+-- All edges that can be followed are, the work of two passes over the edges fit a word, and the
 -- vectors have the room.
 pub record IsStoredIndex (graph : Graph) (marks : Marks) (room : Room)
     (last : LastClose) : Type 0 where

@@ -19,7 +19,7 @@ net_of graph = record {
 
 -- the marked nodes with the place of each, how many followed offer edges lead to each label,
 -- whether the wait edges of each label are followed, the labels whose wait edges are to be looked
--- at again, and the turns
+-- at again, and the visits
 pub record Tally : Type 0 where
   pub marked : List ℕ
   pub places : List ℕ

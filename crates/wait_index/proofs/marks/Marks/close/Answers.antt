@@ -8,7 +8,7 @@ use Rattle.wait_index.specs.Net.{ClosesIn, with_all_closed}
 use Rattle.wait_index.specs.Inside.Tally.{Tally, net_of, tally_of, is_marked_in, is_open_in}
 use Rattle.wait_index.proofs.CloseFacts.{marked-from_reached, open-from_shown, IsFalling-touched, HasFallen-listed}
 use Rattle.wait_index.proofs.CloseFacts.{IsSettled-shut, reached-before, Follows-fallen, visits_after, visits_fall}
-use Rattle.wait_index.proofs.CloseFacts.{ClosesIn-shut, ClosesIn-open, ClosesIn-near}
+use Rattle.wait_index.proofs.CloseFacts.{ClosesIn-shut, ClosesIn-open}
 use Rattle.wait_index.proofs.FollowFacts.{Follows-visits, Follows-nodes}
 use Rattle.wait_index.proofs.ListingFacts.{holds-from_contains, listed-once}
 use Rattle.wait_index.proofs.FallenListFacts.{ListsFallen-none, TellsFallen-listed}
@@ -34,8 +34,8 @@ returns-then-is_empty-clause-settled c =
     (IsSettled-shut (net_of g) (tally_of s) c.requires.settled s.touched.listed g.shaped.labels c.args.labels.now
     shut))
 
-pub returns-then-is_empty-clause-turns : goal.returns-then-is_empty-clause-turns
-returns-then-is_empty-clause-turns c =
+pub returns-then-is_empty-clause-work : goal.returns-then-is_empty-clause-work
+returns-then-is_empty-clause-work c =
     let s = c.args.self.now in
     let g = c.args.graph.now in
     let touched = c.touch_all.new.self.touched in
@@ -118,8 +118,8 @@ overflow_add-result c =
     let visits : c.touch_all.new.self.visits ≡ s.visits = ap (λ (t : Tally). t.visits) c.touch_all.ensures.touched.same in
     omega (arith, visits, after, c.requires.few, Follows-visits (net_of g) (length s.marked.items.items) 0 0 (tally_of s) c.requires.settled.follows)
 
-pub returns-clause-turns : goal.returns-clause-turns
-returns-clause-turns c =
+pub returns-clause-work : goal.returns-clause-work
+returns-clause-work c =
     let s = c.args.self.now in
     let g = c.args.graph.now in
     let waits : (i : ℕ) → i < length g.waits.edges.items → from_at g.waits.edges.items i < length g.closed.items =
@@ -132,15 +132,17 @@ returns-clause-turns c =
     g.shaped.once c.args.labels.now (tally_of c.take_back.new.self) f c.follow_again.new.self.visits
     c.follow_again.ensures.visits)
 
-pub returns-clause-near : goal.returns-clause-near
-returns-clause-near c reach r =
+pub returns-then-is_empty-clause-fewer : goal.returns-then-is_empty-clause-fewer
+returns-then-is_empty-clause-fewer c = omega (arith, ap (λ (t : Tally). t.visits) c.touch_all.ensures.touched.same)
+
+pub returns-clause-fewer : goal.returns-clause-fewer
+returns-clause-fewer c =
     let s = c.args.self.now in
     let g = c.args.graph.now in
     let settled : IsSettled (with_all_closed (net_of g) c.args.labels.now) (tally_of c.follow_again.new.self) =
     rw c.close_all-2.ensures.net at c.follow_again.ensures.settled in
-    let after = visits_after (net_of g) (tally_of s) c.requires.settled s.touched.listed g.shaped.labels
-    c.args.labels.now (tally_of c.follow_again.new.self) settled in
-    ClosesIn-near (net_of g) c.args.labels.now s.visits c.follow_again.new.self.visits _ reach (returns-clause-turns c) after r
+    visits_after (net_of g) (tally_of s) c.requires.settled s.touched.listed g.shaped.labels c.args.labels.now
+    (tally_of c.follow_again.new.self) settled
 
 pub returns-clause-shut : goal.returns-clause-shut
 returns-clause-shut c shut =

@@ -1,8 +1,8 @@
-use Rattle.std.proofs.Common.{◌<◌, length, ap, ◌∙◌, subst, arith}
+use Rattle.std.proofs.Common.{◌<◌, length, refl, ap, ◌∙◌, subst, arith}
 use Rattle.std.proofs.lemmas.Bool.{false_from_ne_true}
 use Rattle.wait_index.specs.Index.{Index}
 use Rattle.wait_index.specs.Inside.Capacity.{GraphCapacity}
-use Rattle.wait_index.specs.Net.{Net, IsOpen, ClosesIn, visits_of}
+use Rattle.wait_index.specs.Net.{Net, ClosesIn, visits_of}
 use Rattle.wait_index.specs.Inside.Tally.{Tally, Capacity, net_of, tally_of, is_open_in}
 use Rattle.wait_index.proofs.CloseFacts.{open-shown}
 use Rattle.wait_index.proofs.FollowFacts.{Follows-nodes}
@@ -39,32 +39,27 @@ invariant_of-self c =
       last_nodes = omega (arith, k.last_nodes, c.close.ensures.last_room, roots);
     }
 
-pub returns-clause-marked : goal.returns-clause-marked
-returns-clause-marked c = lists c.close.new.graph c.close.new.self c.close.ensures.settled
-
-pub returns-clause-turns : goal.returns-clause-turns
-returns-clause-turns c =
+pub returns : goal.returns
+returns c =
     let r = c.self.inside in
+    let k = c.self.invariant.settled in
     let m = c.close.new.self in
     let g = c.close.new.graph in
     let labels = c.args.labels.now in
-    let before = visits-shown (net_of r.graph) (tally_of r.marks) c.self.invariant.settled r.marks.touched.listed r.graph.shaped.labels in
+    let before = visits-shown (net_of r.graph) (tally_of r.marks) k r.marks.touched.listed r.graph.shaped.labels in
     let after = visits-shown (net_of g) (tally_of m) c.close.ensures.settled m.touched.listed g.shaped.labels in
-    let shown : ClosesIn (net_of r.graph) labels (visits_of (net_of r.graph) r.marks.marked.items.items)
-    (visits_of (net_of g) m.marked.items.items) c.close.result =
-    subst (λ v. ClosesIn (net_of r.graph) labels (visits_of (net_of r.graph) r.marks.marked.items.items) v
-    c.close.result) after (subst (λ v. ClosesIn (net_of r.graph) labels v m.visits c.close.result) before
-    c.close.ensures.turns)
-    in
-    subst (λ (x : Index). ClosesIn x.net labels (visits_of x.net x.marked) (visits_of (net_of g) m.marked.items.items) c.close.result) c.self.view_is shown
-
-pub returns-clause-shut : goal.returns-clause-shut
-returns-clause-shut c shut =
-    let r = c.self.inside in
-    let k = c.self.invariant.settled in
-    let same = c.close.ensures.shut (λ l a.
-    false_from_ne_true (is_open_in (tally_of r.marks) l) (λ o.
-    let within : l < length r.graph.closed.items = omega (arith, c.requires a.0 l a.1, a.2, ap (λ (x : Index). length x.net.closed) c.self.view_is) in
-    shut l a (subst (λ (x : Index). IsOpen x.net l) c.self.view_is
-    (open-shown (net_of r.graph) (tally_of r.marks) k r.marks.touched.listed r.graph.shaped.labels l within o)))) in
-    (same.0, ap (λ (t : Tally). t.marked) same.1 ∙ ap (λ (x : Index). x.marked) c.self.view_is)
+    rw (← c.self.view_is) (record {
+      net = c.close.ensures.net;
+      marked = lists g m c.close.ensures.settled;
+      unopened = λ unopened. ap (λ (t : Tally). t.marked) (c.close.ensures.shut (λ l a.
+          false_from_ne_true (is_open_in (tally_of r.marks) l) (λ o.
+          let within : l < length r.graph.closed.items =
+          omega (arith, c.requires a.0 l a.1, a.2, ap (λ (x : Index). length x.net.closed) c.self.view_is) in
+          unopened l a (open-shown (net_of r.graph) (tally_of r.marks) k r.marks.touched.listed r.graph.shaped.labels l within o)))).1;
+      room = refl;
+      work_is = subst (λ v. ClosesIn (net_of r.graph) labels (visits_of (net_of r.graph) r.marks.marked.items.items) v c.close.result) after
+          (subst (λ v. ClosesIn (net_of r.graph) labels v m.visits c.close.result) before c.close.ensures.work);
+      fewer = omega (arith, before, after, c.close.ensures.fewer);
+      fallen = c.close.ensures.fallen;
+      many = c.close.ensures.many;
+    })

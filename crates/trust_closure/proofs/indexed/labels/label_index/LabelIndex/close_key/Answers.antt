@@ -4,6 +4,7 @@ use Rattle.sorted_order.specs.ArenaView.{in_order}
 use Rattle.wait_index.specs.declared.room.Room.{Room}
 use Rattle.wait_index.specs.Net.{Net}
 use Rattle.wait_index.proofs.NetLawFacts.{length-all_set}
+use Rattle.wait_index.proofs.WorkFacts.{work-near}
 use Rattle.trust_closure.specs.Inside.Labels.{AreNumbersOf, IsOfKey}
 use Rattle.trust_closure.proofs.ClosedLabelFacts.{key-rises, key-fits, key-numbers, closed-at-once}
 use Rattle.trust_closure.proofs.indexed.labels.label_index.LabelIndex.close_key.Goals as goal
@@ -65,8 +66,8 @@ returns-clause-closes c =
       edges = rw (e.room, c.list_numbers.ensures.room) refl;
       numbers = numbers;
       are = are;
-      turns = e.turns;
-      near = e.near;
+      turns = e.work_is;
+      near = work-near _ _ numbers _ e;
       fallen = e.fallen;
       many = e.many;
     })

@@ -3,6 +3,7 @@ use Rattle.std.proofs.Common.{◌∙◌, length, arith, refl, ap}
 use Rattle.wait_index.specs.declared.room.Room.{Room}
 use Rattle.wait_index.specs.Net.{Net}
 use Rattle.wait_index.proofs.NetLawFacts.{length-all_set}
+use Rattle.wait_index.proofs.WorkFacts.{work-near}
 use Rattle.trust_closure.specs.Inside.Labels.{AreNumbersOf}
 use Rattle.trust_closure.proofs.ClosedLabelFacts.{closed-at-once}
 use Rattle.trust_closure.proofs.indexed.labels.label_index.LabelIndex.close_where.Goals as goal
@@ -37,8 +38,8 @@ returns-clause-closes g c =
       edges = rw (e.room, c.list_meant.ensures.room) refl;
       numbers = numbers;
       are = are;
-      turns = e.turns;
-      near = e.near;
+      turns = e.work_is;
+      near = work-near _ _ numbers _ e;
       fallen = e.fallen;
       many = e.many;
     })
