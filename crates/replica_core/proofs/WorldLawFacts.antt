@@ -1,8 +1,8 @@
 -- The clauses of the law, each of every list of events.
 use Rattle.std.proofs.Common.{◌≡◌, ◌≢◌, ℕ, ◌<◌, ◌⊎◌, inl, inr, Bool, true, false, cond, ◌&&◌, nat_le, List, []}
 use Rattle.std.proofs.Common.{◌∷◌, ◌++◌, length, arith, refl, sym, ap, ◌∙◌, subst, leb-true}
-use Rattle.std.specs.Prelude.{Contains, ⊤, bytes_eq}
-use Rattle.std.specs.List.{AllByRecursion, list_any}
+use Rattle.std.specs.Prelude.{⊤, bytes_eq}
+use Rattle.std.specs.List.{list_any}
 use Rattle.std.proofs.lemmas.Bool.{and_parts}
 use Rattle.std.proofs.lemmas.Slice.Eq.{bytes_eq-Decides}
 use Rattle.std.proofs.lemmas.List.Sums.{fold-append}
@@ -11,8 +11,8 @@ use Rattle.fed_config.specs.Configuration.{Configuration, HasDomain}
 use Rattle.fed_config.specs.declared.relationship.Relationship.{Relationship}
 use Rattle.fed_config.specs.declared.seed.Seed.{Seed}
 use Rattle.receipt_core.specs.declared.distrust.Distrust.{Distrust}
-use Rattle.receipt_core.specs.Receipt.{Receipt, IsReceipt, IsDistrust, Pair, pair_of}
-use Rattle.receipt_core.specs.Acceptance.{Meaning, IsMeaning, IsFitting, Vouches, Leads, IsMember, IsClosed, pair_of_seed}
+use Rattle.receipt_core.specs.Receipt.{Receipt, IsReceipt, IsDistrust}
+use Rattle.receipt_core.specs.Acceptance.{IsMeaning, IsFitting}
 use Rattle.replica_core.specs.State.{no_state, meaning_of_state}
 use Rattle.replica_core.specs.World.{Message, question, answer, World, empty_world, Rules, rules_of, same_id, is_fitting, is_known, happens, run_from, run}
 use Rattle.replica_core.specs.World.{WorldRun, rules_in, world_after, held_by, saved_by, followed_by}
@@ -219,40 +219,3 @@ agreed laws past since i j f l m s =
     subst (Throughout (λ k state. IsTidy state)) same (all-tidy laws rules (first ++ since)) in
     subst (λ (w : World). w.now i ≡ w.now j) (sym same)
     (agree laws rules (run rules first) since i j (starts laws past.config past.replicas first f) tidy s l m)
-
--- ---- accepted is least
-
--- A chain goes on by a receipt for which the document at its end vouches.
-follows : (c : Configuration) (records : List Distrust) (from to : Pair) (r : Receipt) (chain : List Receipt)
-    → Leads c records from chain to → IsFitting c r → Vouches records to r
-    → Leads c records from (chain ++ r ∷ []) (pair_of r)
-follows c records from to r [] l f v = (f, subst (λ p. Vouches records p r) (sym l) v, refl)
-follows c records from to r (q ∷ chain) l f v = (l.0, l.1, follows c records (pair_of q) to r chain l.2 f v)
-
--- What holds of all receipts of a chain, and of one more, holds of the longer chain.
-all-more : (P : Receipt → Type 0) (chain : List Receipt) (r : Receipt) → AllByRecursion P chain → P r → AllByRecursion P (chain ++ r ∷ [])
-all-more P [] r h p = (p, tt)
-all-more P (q ∷ chain) r h p = (h.0, all-more P chain r h.1 p)
-
--- The clause `closed`: what is accepted is closed.
-pub members-closed : (m : Meaning) → IsClosed m (IsMember m)
-members-closed m = record {
-  seeds = λ s c. record { seed = s; configured = c; chain = []; held = tt; leads = refl };
-  steps = λ p r member h f v. record {
-    seed = member.seed;
-    configured = member.configured;
-    chain = member.chain ++ r ∷ [];
-    held = all-more (Contains m.held) member.chain r member.held h;
-    leads = follows m.config m.records (pair_of_seed member.seed) p r member.chain member.leads f v;
-  };
-}
-
--- A chain that begins in a closed set ends in it.
-along : (m : Meaning) (set : Pair → Bool) → IsClosed m (λ p. set p ≡ true) → (chain : List Receipt) (from to : Pair)
-    → set from ≡ true → AllByRecursion (Contains m.held) chain → Leads m.config m.records from chain to → set to ≡ true
-along m set h [] from to s a l = subst (λ p. set p ≡ true) l s
-along m set h (r ∷ chain) from to s a l = along m set h chain (pair_of r) to (h.steps from r s a.0 l.0 l.1) a.1 l.2
-
--- The clause `least`: each closed set has all that is accepted.
-pub members-least : (m : Meaning) (set : Pair → Bool) → IsClosed m (λ p. set p ≡ true) → (p : Pair) → IsMember m p → set p ≡ true
-members-least m set h p member = along m set h member.chain (pair_of_seed member.seed) p (h.seeds member.seed member.configured) member.held member.leads

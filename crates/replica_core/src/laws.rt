@@ -17,6 +17,8 @@ ghost use Rattle.replica_core.specs.declared.event.Event.{Event};
 ghost use Rattle.replica_core.specs.declared.event.Event.TheVariants.{Take, Revoke, Absorb, Part};
 ghost use Rattle.replica_core.specs.declared.event.Event.TheVariants.{Join, Save, Restart};
 
+use closure_core::laws::DocumentSet;
+
 /// Where it comes from: each receipt that a replica holds or saved was taken at some replica, which
 /// held it right after. The same is so of each record of distrust.
 ///
@@ -50,13 +52,18 @@ pub fn effects()
 /// What a replica holds is what a closure can mean.
 ///
 /// - `means`: its receipts and records have their form, rise, fit, and are not too many.
-/// - `closed`, `least`: what that accepts is the least closed set.
-pub fn validity()
+/// - `closed`, `least`: what that accepts is the least closed set, of all sets, also those that no
+///   test decides.
+/// - `tests`: the same of the sets that a test decides.
+pub fn validity<S: DocumentSet>()
     ensures means { (past : WorldRun) (i : ℕ) → AreEvents past.events
         → IsMeaning (meaning_of_state past.config (held_by past i)) }
     ensures closed { (past : WorldRun) (i : ℕ)
         → let m = meaning_of_state past.config (held_by past i) in IsClosed m (IsMember m) }
-    ensures least { (past : WorldRun) (i : ℕ) (set : Pair → Bool)
+    ensures least { (past : WorldRun) (i : ℕ)
+        → let m = meaning_of_state past.config (held_by past i) in IsClosed m S.has
+        → (p : Pair) → IsMember m p → S.has p }
+    ensures tests { (past : WorldRun) (i : ℕ) (set : Pair → Bool)
         → let m = meaning_of_state past.config (held_by past i) in IsClosed m (λ p. set p ≡ true)
         → (p : Pair) → IsMember m p → set p ≡ true }
 {}
