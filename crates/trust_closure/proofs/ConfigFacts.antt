@@ -279,14 +279,14 @@ lacks : (c : Configuration) (old : List Record) (x : Record) → x.domain < leng
 lacks c old x below within unheld has = unheld (record_of (domains_of c) x old (are_domains c).rising below within has)
 
 -- What was done to the records by numbers is what is to be done to the records of distrust.
-pub told_adds : (c : Configuration) (held : List Receipt) (old new : List Record) (x : Record)
+pub added_or_refused : (c : Configuration) (held : List Receipt) (old new : List Record) (x : Record)
     → x.domain < length (domains_of c) → AreWithin (length (domains_of c)) old → (a : Insertion)
     → InsertsRecord old x new a
     → AddsOrRefuses (meaning_with c held old) (distrust_by (domains_of c) x) (meaning_with c held new)
     (addition_result a)
-told_adds c held old new x below within There h =
+added_or_refused c held old new x below within There h =
     (contains_map (distrust_by (domains_of c)) old x h.0, ap (λ rs. meaning_with c held rs) h.1)
-told_adds c held old new x below within NoPlace h =
+added_or_refused c held old new x below within NoPlace h =
     let full = h.full in (
       record {
         domain = own_domain c x below;
@@ -295,7 +295,7 @@ told_adds c held old new x below within NoPlace h =
       },
       ap (λ rs. meaning_with c held rs) h.now,
     )
-told_adds c held old new x below within Added h =
+added_or_refused c held old new x below within Added h =
     let few = h.few in
     let records : distrusts_of (domains_of c) new ≡ with_distrust (distrust_by (domains_of c) x) (distrusts_of (domains_of c) old) =
     ap (distrusts_of (domains_of c)) h.now ∙ distrusts_with (domains_of c) x old (are_domains c).rising below within in

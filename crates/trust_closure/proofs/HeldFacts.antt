@@ -137,9 +137,9 @@ others held r is all unheld =
 
 -- One that ties with none, and does not come before, comes after.
 bucket_after : (x r : Receipt) → IsOther r x → (bucket_cmp x r ≡ Less → ⊥) → (o : Ordering) → bucket_cmp x r ≡ o → o ≡ Greater
-bucket_after x r other behind Less e = absurd (behind e)
-bucket_after x r other behind Equal e = absurd (other (both_equal (nat_cmp (bucket_of x) (bucket_of r)) (receipt_cmp x r) e).1)
-bucket_after x r other behind Greater e = refl
+bucket_after x r other not_below Less e = absurd (not_below e)
+bucket_after x r other not_below Equal e = absurd (other (both_equal (nat_cmp (bucket_of x) (bucket_of r)) (receipt_cmp x r) e).1)
+bucket_after x r other not_below Greater e = refl
 
 -- In the order of buckets a receipt is added by putting it into its gap.
 pub bucket_inserts : (items : List Receipt) (buckets : List ℕ) (r : Receipt) (spot : ℕ)

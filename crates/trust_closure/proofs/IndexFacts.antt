@@ -77,25 +77,25 @@ module _ (h : HeldReceipts) (p : DocumentTableView) (w : LabelIndexView) (b : Is
   member-reached q a = reached-from_member (meaning_of h) h.arrived b.same fits (map (triple_by b.domains) w.labels) w.net b.wired.mirrors q a
 
   -- The marked nodes are nodes that there are.
-  pub marked-within : All (λ n. n < length p.firsts) w.marked
+  pub marked-within : All (λ n. n < length p.heads) w.marked
   marked-within k d l =
       let c : Contains w.marked (get_or w.marked k d) = Contains-get_or w.marked k d l in
       let a = node-accepted (get_or w.marked k d) (b.reached.reached (get_or w.marked k d) c) in
       omega (arith, slice_get_within (pairs_of h.config.seeds h.arrived) (get_or w.marked k d) a.pair a.at, b.pairing.sizes)
 
   -- Each node's first number has a count.
-  pub firsts-within : All (λ f. f < length p.counts) p.firsts
-  firsts-within k d l =
-      let f = b.pairing.first k (get_or p.firsts k d) (slice_get-get_or p.firsts k d l) in
+  pub heads-within : All (λ f. f < length p.counts) p.heads
+  heads-within k d l =
+      let f = b.pairing.first k (get_or p.heads k d) (slice_get-get_or p.heads k d l) in
       omega (
         arith,
         All-contains (λ n. n < length (pairs_of h.config.seeds h.arrived)) p.numbers
-            (get_or p.firsts k d) b.pairing.within f.0,
+            (get_or p.heads k d) b.pairing.within f.0,
         b.pairing.counted,
       )
 
   -- Where the raised flags are those of marked nodes, they say what is accepted.
-  tells-flags : ((number : ℕ) → (is_raised (flags_of p.counts) number ≡ true) ↔ IsFirstOf p.firsts
+  tells-flags : ((number : ℕ) → (is_raised (flags_of p.counts) number ≡ true) ↔ IsFirstOf p.heads
       w.marked number) → TellsMembers (meaning_of h) (pairs_of h.config.seeds h.arrived) p.numbers
       (flags_of p.counts)
   tells-flags flags = record {
@@ -108,18 +108,18 @@ module _ (h : HeldReceipts) (p : DocumentTableView) (w : LabelIndexView) (b : Is
     listed = λ n e. let f = (flags n).0 e in (b.pairing.first f.0 n f.2).0;
     all = λ q a.
         let r = member-reached q a in
-        let l : r.node < length p.firsts = omega (arith, slice_get_within (pairs_of h.config.seeds h.arrived) r.node q r.at, b.pairing.sizes) in
-        let at = slice_get-get_or p.firsts r.node 0 l in
-        let f = b.pairing.first r.node (get_or p.firsts r.node 0) at in
-        (get_or p.firsts r.node 0, (flags (get_or p.firsts r.node 0)).1 (r.node, b.reached.all r.node r.reached, at), f.1 ∙ r.at);
+        let l : r.node < length p.heads = omega (arith, slice_get_within (pairs_of h.config.seeds h.arrived) r.node q r.at, b.pairing.sizes) in
+        let at = slice_get-get_or p.heads r.node 0 l in
+        let f = b.pairing.first r.node (get_or p.heads r.node 0) at in
+        (get_or p.heads r.node 0, (flags (get_or p.heads r.node 0)).1 (r.node, b.reached.all r.node r.reached, at), f.1 ∙ r.at);
     once = λ one other q. pairing-once (pairs_of h.config.seeds h.arrived) p b.pairing one other q;
   }
 
   -- Where the counts are those of marked nodes, their flags say what is accepted.
-  pub tells : AreCounts p.firsts w.marked p.counts
+  pub tells : AreCounts p.heads w.marked p.counts
       → TellsMembers (meaning_of h) (pairs_of h.config.seeds h.arrived) p.numbers
       (flags_of p.counts)
-  tells are = tells-flags (flags-counted p.firsts w.marked p.counts marked-within are)
+  tells are = tells-flags (flags-counted p.heads w.marked p.counts marked-within are)
 
 -- A pair's flag is raised exactly where its document is accepted.
 pub raised-member : (h : HeldReceipts) (p : DocumentTableView) (w : LabelIndexView) → IsIndexed h p w → (q : Pair)
@@ -145,11 +145,11 @@ spots-push seeds arrived r = ap (λ ss. map seed_node seeds ++ ss) (map_push rec
 
 -- Other counts, as many, leave each pair its number.
 pub pairing-counts : (pairs : List Pair) (p q : DocumentTableView) → IsDocumentTable pairs p → q.numbers ≡ p.numbers
-    → q.firsts ≡ p.firsts → length q.counts ≡ length p.counts → IsDocumentTable pairs q
-pairing-counts pairs p q h numbers firsts counts =
+    → q.heads ≡ p.heads → length q.counts ≡ length p.counts → IsDocumentTable pairs q
+pairing-counts pairs p q h numbers heads counts =
     let one : IsDocumentTable pairs (record {
       numbers = p.numbers;
-      firsts = p.firsts;
+      heads = p.heads;
       counts = q.counts;
       capacity = q.capacity;
     }) =
@@ -167,16 +167,16 @@ pairing-counts pairs p q h numbers firsts counts =
     in
     subst (λ ns. IsDocumentTable pairs (record {
       numbers = ns;
-      firsts = q.firsts;
+      heads = q.heads;
       counts = q.counts;
       capacity = q.capacity;
     })) (sym numbers)
     (subst (λ fs. IsDocumentTable pairs (record {
       numbers = p.numbers;
-      firsts = fs;
+      heads = fs;
       counts = q.counts;
       capacity = q.capacity;
-    })) (sym firsts) one)
+    })) (sym heads) one)
 
 -- Receipts of their form make sets: the order of lines tells them apart.
 receipt-sets : AreSets IsReceipt receipt_cmp
@@ -232,8 +232,8 @@ built-more h new p q w v r b form unheld is valid wired reached pairing =
 
 -- Other counts, as many, leave it built.
 pub built-counts : (h : HeldReceipts) (p q : DocumentTableView) (w : LabelIndexView) → IsBuilt h p w → q.numbers ≡ p.numbers
-    → q.firsts ≡ p.firsts → length q.counts ≡ length p.counts → IsBuilt h q w
-built-counts h p q w b numbers firsts counts = record {
+    → q.heads ≡ p.heads → length q.counts ≡ length p.counts → IsBuilt h q w
+built-counts h p q w b numbers heads counts = record {
   valid = b.valid;
   same = b.same;
   once = b.once;
@@ -241,7 +241,7 @@ built-counts h p q w b numbers firsts counts = record {
   are_domains = b.are_domains;
   wired = b.wired;
   reached = b.reached;
-  pairing = pairing-counts (pairs_of h.config.seeds h.arrived) p q b.pairing numbers firsts counts;
+  pairing = pairing-counts (pairs_of h.config.seeds h.arrived) p q b.pairing numbers heads counts;
 }
 
 -- A lowered flag at the end is not counted.
@@ -251,7 +251,7 @@ count-push flags = sum_by_push (λ b. cond b 1 0) flags false ∙ (let e : sum_b
 -- The rise of the number of raised flags, with one more receipt, is what is gained.
 pub gain-more : (h new : HeldReceipts) (p q : DocumentTableView) (w v : LabelIndexView) (r : Receipt) (nodes : List ℕ) (n : ℕ) → IsIndexed h p w
     → IsIndexed new q v → new ≡ with_arrival h r
-    → AddsNodes q.firsts nodes (p.counts ++ 0 ∷ []) q.counts
+    → AddsNodes q.heads nodes (p.counts ++ 0 ∷ []) q.counts
     → raised_count (flags_of q.counts) ≡ raised_count (flags_of (p.counts ++ 0 ∷ [])) + n
     → IsGain (meaning_of h) (meaning_of new) n
 gain-more h new p q w v r nodes n i j is adds count =
@@ -277,10 +277,10 @@ Shuts domains old new IsMeant = (label : Label) → label.domain < length domain
 
 -- The label index after a close mirrors the same spots under more records.
 label_index-closed : (domains : List (List ℕ)) (records more : List Distrust) (IsMeant : Label → Type 0)
-    (spots : List (NodeSpec Triple)) (old new : LabelIndexView) (turns : ℕ)
+    (spots : List (NodeSpec Triple)) (old new : LabelIndexView) (work : ℕ)
     → IsLabelIndexOf domains records spots old → Shuts domains records more IsMeant
-    → Closes old IsMeant new turns → IsLabelIndexOf domains more spots new
-label_index-closed domains records more IsMeant spots old new turns h shuts c =
+    → Closes old IsMeant new work → IsLabelIndexOf domains more spots new
+label_index-closed domains records more IsMeant spots old new work h shuts c =
     let mirrors = Represents-shut spots (map (triple_by domains) old.labels) (IsShutBy records) old.net
     h.mirrors (IsShutBy more) c.net.flags c.net.sizes (λ i t e.
     let f = slice_get-map_cases (triple_by domains) old.labels i t e in
@@ -389,20 +389,23 @@ pub hoard-before : (old new : HeldReceipts) (more : List Distrust) → IsBefore 
     → new ≡ with_mistrust old more new.capacity
 hoard-before old new more b =
     ap (λ c. let h : HeldReceipts = record { config = c; arrived = new.arrived; held = new.held; records = new.records; capacity = new.capacity } in h) b.config
-    ∙ ap (λ a. let h : HeldReceipts = record { config = old.config; arrived = a; held = new.held; records = new.records; capacity = new.capacity } in h) b.arrived
-    ∙ ap (λ a. let h : HeldReceipts = record { config = old.config; arrived = old.arrived; held = a; records = new.records; capacity = new.capacity } in h) b.held
-    ∙ ap (λ a. let h : HeldReceipts = record { config = old.config; arrived = old.arrived; held = old.held; records = a; capacity = new.capacity } in h) b.records
+    ∙ ap (λ a. let h : HeldReceipts = record { config = old.config; arrived = a; held = new.held; records = new.records; capacity = new.capacity } in
+    h) b.arrived
+    ∙ ap (λ a. let h : HeldReceipts = record { config = old.config; arrived = old.arrived; held = a; records = new.records; capacity = new.capacity } in
+    h) b.held
+    ∙ ap (λ a. let h : HeldReceipts = record { config = old.config; arrived = old.arrived; held = old.held; records = a; capacity = new.capacity } in
+    h) b.records
 
 -- The index is built of what is held, after a close for more records of distrust.
 pub built-closed : (old new : HeldReceipts) (more : List Distrust) (p q : DocumentTableView) (w v : LabelIndexView)
-    (IsMeant : Label → Type 0) (turns : ℕ) → IsBuilt old p w → IsBefore old more new
+    (IsMeant : Label → Type 0) (work : ℕ) → IsBuilt old p w → IsBefore old more new
     → IsMeaning (meaning_of new)
     → ((domains : List (List ℕ)) → AreDomains old.config domains
     → Shuts domains old.records (with_items distrust_cmp more old.records) IsMeant)
-    → Closes w IsMeant v turns → ListsReached v.net v.marked
-    → q.numbers ≡ p.numbers → q.firsts ≡ p.firsts → length q.counts ≡ length p.counts
+    → Closes w IsMeant v work → ListsReached v.net v.marked
+    → q.numbers ≡ p.numbers → q.heads ≡ p.heads → length q.counts ≡ length p.counts
     → IsBuilt new q v
-built-closed old new more p q w v IsMeant turns b before valid shuts closes reached numbers firsts
+built-closed old new more p q w v IsMeant work b before valid shuts closes reached numbers heads
     counts =
     let is = hoard-before old new more before in
     let valid' : IsMeaning (meaning_of (with_mistrust old more new.capacity)) = subst
@@ -414,18 +417,18 @@ built-closed old new more p q w v IsMeant turns b before valid shuts closes reac
       domains = b.domains;
       are_domains = b.are_domains;
       wired = label_index-closed b.domains old.records (with_items distrust_cmp more old.records) IsMeant
-          (node_specs_of old.config.seeds old.arrived) w v turns b.wired (shuts b.domains b.are_domains)
+          (node_specs_of old.config.seeds old.arrived) w v work b.wired (shuts b.domains b.are_domains)
           closes;
       reached = reached;
-      pairing = pairing-counts (pairs_of old.config.seeds old.arrived) p q b.pairing numbers firsts
+      pairing = pairing-counts (pairs_of old.config.seeds old.arrived) p q b.pairing numbers heads
           counts;
     })
 
 -- the counts are those of before a close
 pub was-counted : (h : HeldReceipts) (p : DocumentTableView) (w v : LabelIndexView) (i : Index) (IsMeant : Label → Type 0)
-    (turns : ℕ) → IsIndexed h p w → Closes w IsMeant v turns → i.marked ≡ v.marked → i.last ≡ v.last
+    (work : ℕ) → IsIndexed h p w → Closes w IsMeant v work → i.marked ≡ v.marked → i.last ≡ v.last
     → WasCounted p i
-was-counted h p w v i IsMeant turns is c marked last = record {
+was-counted h p w v i IsMeant work is c marked last = record {
   net = w.net;
   marked = w.marked;
   closing = c.numbers;
@@ -439,13 +442,13 @@ was-counted h p w v i IsMeant turns is c marked last = record {
 
 -- A close of the labels that records shut closes them at once, in the caller's words.
 pub closes-at_once : (old new : HeldReceipts) (p : DocumentTableView) (w v : LabelIndexView) (was after : FreeRoom)
-    (before turns : ℕ) (records : List Distrust) (IsMeant : Label → Type 0) → IsBuilt old p w
-    → Closes w IsMeant v turns
+    (before work : ℕ) (records : List Distrust) (IsMeant : Label → Type 0) → IsBuilt old p w
+    → Closes w IsMeant v work
     → ((domains : List (List ℕ)) → AreDomains old.config domains → (label : Label)
     → label.domain < length domains → IsMeant label ↔ IsShutBy records
     (triple_by domains label))
-    → ClosesAtOnce (indexed_of old w was before) records (indexed_of new v after turns)
-closes-at_once old new p w v was after before turns records IsMeant b c means = record {
+    → ClosesAtOnce (indexed_of old w was before) records (indexed_of new v after work)
+closes-at_once old new p w v was after before work records IsMeant b c means = record {
   labels = map (triple_by b.domains) w.labels;
   net = b.wired.mirrors;
   closing = c.numbers;
@@ -462,7 +465,7 @@ closes-at_once old new p w v was after before turns records IsMeant b c means = 
         λ s. is.1
             (shut.1 (subst (IsShutBy records) (sym f.2) s)),
       );
-  turns = c.turns;
+  work = c.work;
   near = c.near;
 }
 
@@ -472,7 +475,8 @@ pub kept-closed : (old new : HeldReceipts) (xs : List Distrust) (p q : DocumentT
     → is_raised (flags_of q.counts) k ≡ true → is_raised (flags_of p.counts) k ≡ true
 kept-closed old new xs p q w v i j before numbers k e =
     let is = hoard-before old new xs before in
-    let same : pairs_of new.config.seeds new.arrived ≡ pairs_of old.config.seeds old.arrived = ap (λ (h : HeldReceipts). pairs_of h.config.seeds h.arrived) is in
+    let same : pairs_of new.config.seeds new.arrived ≡ pairs_of old.config.seeds old.arrived =
+    ap (λ (h : HeldReceipts). pairs_of h.config.seeds h.arrived) is in
     let fewer = tells new q v j.built j.counts in
     let more = tells old p w i.built i.counts in
     let l : k < length (pairs_of new.config.seeds new.arrived) = omega (arith, within, fewer.size) in
@@ -548,9 +552,9 @@ same-label_index w = record {
 
 -- More room leaves the index as it is.
 indexed-roomier : (h new : HeldReceipts) (p q : DocumentTableView) (w v : LabelIndexView) → IsIndexed h p w
-    → new ≡ record h { capacity = new.capacity } → q.numbers ≡ p.numbers → q.firsts ≡ p.firsts
+    → new ≡ record h { capacity = new.capacity } → q.numbers ≡ p.numbers → q.heads ≡ p.heads
     → q.counts ≡ p.counts → IsRoomierWired w v → IsIndexed new q v
-indexed-roomier h new p q w v i is numbers firsts counts r =
+indexed-roomier h new p q w v i is numbers heads counts r =
     let b = i.built in
     let other : HeldReceipts = record h { capacity = new.capacity } in
     subst (λ x. IsIndexed x q v) (sym is) (record {
@@ -563,42 +567,43 @@ indexed-roomier h new p q w v i is numbers firsts counts r =
         wired = record {
           within = All-same (λ (a : Label). a.domain < length b.domains) v.labels w.labels r.labels b.wired.within;
           mirrors = subst (λ ls. Represents (node_specs_of h.config.seeds h.arrived) (map (triple_by b.domains) ls) (IsShutBy h.records) v.net) (sym r.labels)
-              (subst (Represents (node_specs_of h.config.seeds h.arrived) (map (triple_by b.domains) w.labels) (IsShutBy h.records)) (sym r.net) b.wired.mirrors);
+              (subst (Represents (node_specs_of h.config.seeds h.arrived) (map (triple_by b.domains) w.labels) (IsShutBy h.records))
+              (sym r.net) b.wired.mirrors);
         };
         reached = subst (λ ns. ListsReached v.net ns) (sym r.marked) (subst (λ net. ListsReached net w.marked) (sym r.net) b.reached);
-        pairing = pairing-counts (pairs_of h.config.seeds h.arrived) p q b.pairing numbers firsts
+        pairing = pairing-counts (pairs_of h.config.seeds h.arrived) p q b.pairing numbers heads
             (ap length counts);
       };
-      counts = subst (λ ms. AreCounts q.firsts ms q.counts) (sym r.marked)
-          (subst (λ fs. AreCounts fs w.marked q.counts) (sym firsts)
-          (subst (AreCounts p.firsts w.marked) (sym counts) i.counts));
+      counts = subst (λ ms. AreCounts q.heads ms q.counts) (sym r.marked)
+          (subst (λ fs. AreCounts fs w.marked q.counts) (sym heads)
+          (subst (AreCounts p.heads w.marked) (sym counts) i.counts));
     })
 
 -- The room that was promised is still there after more was reserved.
 pub room-kept : (h new : HeldReceipts) (p q : DocumentTableView) (w v : LabelIndexView) (spare : FreeRoom) → HasRoom h p w spare
-    → new ≡ record h { capacity = new.capacity } → h.capacity ≤ new.capacity → q.firsts ≡ p.firsts
+    → new ≡ record h { capacity = new.capacity } → h.capacity ≤ new.capacity → q.heads ≡ p.heads
     → p.capacity ≤ q.capacity → IsRoomierWired w v → HasRoom new q v spare
-room-kept h new p q w v spare r is held firsts pairs wired = record {
+room-kept h new p q w v spare r is held heads pairs wired = record {
   held = omega (arith, r.held, held, ap (λ (x : HeldReceipts). length x.arrived) is);
-  pairs = omega (arith, r.pairs, pairs, ap length firsts);
+  pairs = omega (arith, r.pairs, pairs, ap length heads);
   nodes = omega (arith, r.nodes, wired.nodes);
   edges = omega (arith, r.edges, wired.edges);
-  few = omega (arith, r.few, ap length firsts);
+  few = omega (arith, r.few, ap length heads);
 }
 
 -- What reserving did, where the new room is known.
 pub reserves-from : (h new : HeldReceipts) (p q : DocumentTableView) (w v : LabelIndexView) (spare more : FreeRoom)
     → IsIndexedClosure h p w spare → new ≡ record h { capacity = new.capacity } → q.numbers ≡ p.numbers
-    → q.firsts ≡ p.firsts → q.counts ≡ p.counts → IsRoomierWired w v → HasRoom new q v more
+    → q.heads ≡ p.heads → q.counts ≡ p.counts → IsRoomierWired w v → HasRoom new q v more
     → spare.receipts ≤ more.receipts → spare.offers ≤ more.offers
     → Reserves h new p q w v spare more
-reserves-from h new p q w v spare more k is numbers firsts counts r room receipts offers = record {
+reserves-from h new p q w v spare more k is numbers heads counts r room receipts offers = record {
   meaning = ap meaning_of is;
   arrived = ap (λ (x : HeldReceipts). x.arrived) is;
   net = r.net;
   marked = r.marked;
   kept = record {
-    indexed = indexed-roomier h new p q w v k.indexed is numbers firsts counts r;
+    indexed = indexed-roomier h new p q w v k.indexed is numbers heads counts r;
     room = room;
   };
   roomier = record { receipts = receipts; offers = offers };
@@ -607,19 +612,19 @@ reserves-from h new p q w v spare more k is numbers firsts counts r room receipt
 -- A refusal leaves the room that was there.
 pub reserves-kept : (h new : HeldReceipts) (p q : DocumentTableView) (w v : LabelIndexView) (spare : FreeRoom)
     → IsIndexedClosure h p w spare → new ≡ record h { capacity = new.capacity } → h.capacity ≤ new.capacity
-    → q.numbers ≡ p.numbers → q.firsts ≡ p.firsts → q.counts ≡ p.counts → p.capacity ≤ q.capacity
+    → q.numbers ≡ p.numbers → q.heads ≡ p.heads → q.counts ≡ p.counts → p.capacity ≤ q.capacity
     → IsRoomierWired w v → Reserves h new p q w v spare spare
-reserves-kept h new p q w v spare k is held numbers firsts counts pairs r =
-    reserves-from h new p q w v spare spare k is numbers firsts counts r
-    (room-kept h new p q w v spare k.room is held firsts pairs r) (omega arith) (omega arith)
+reserves-kept h new p q w v spare k is held numbers heads counts pairs r =
+    reserves-from h new p q w v spare spare k is numbers heads counts r
+    (room-kept h new p q w v spare k.room is held heads pairs r) (omega arith) (omega arith)
 
 -- A refusal after what is held and the documents got room leaves all else as it was.
 pub reserves-pairs : (h new : HeldReceipts) (p q : DocumentTableView) (w : LabelIndexView) (spare : FreeRoom) → IsIndexedClosure h p w spare
     → new ≡ record h { capacity = new.capacity } → h.capacity ≤ new.capacity → q.numbers ≡ p.numbers
-    → q.firsts ≡ p.firsts → q.counts ≡ p.counts → p.capacity ≤ q.capacity
+    → q.heads ≡ p.heads → q.counts ≡ p.counts → p.capacity ≤ q.capacity
     → Reserves h new p q w w spare spare
-reserves-pairs h new p q w spare k is held numbers firsts counts pairs = reserves-kept h new p q w w
-    spare k is held numbers firsts counts pairs (same-label_index w)
+reserves-pairs h new p q w spare k is held numbers heads counts pairs = reserves-kept h new p q w w
+    spare k is held numbers heads counts pairs (same-label_index w)
 
 -- ---- what the index is
 
@@ -652,31 +657,31 @@ index-parts h p w b =
     get_or_seed (s ∷ seeds) (suc n) l = get_or_seed seeds n (omega (arith, l))
 
 -- What is built is an index in the caller's words.
-pub index-of_built : (h : HeldReceipts) (p : DocumentTableView) (w : LabelIndexView) (spare : FreeRoom) (turns : ℕ)
-    → IsBuilt h p w → length h.arrived ≡ length h.held → IsIndexOf (indexed_of h w spare turns)
-index-of_built h p w spare turns b once =
+pub index-of_built : (h : HeldReceipts) (p : DocumentTableView) (w : LabelIndexView) (spare : FreeRoom) (work : ℕ)
+    → IsBuilt h p w → length h.arrived ≡ length h.held → IsIndexOf (indexed_of h w spare work)
+index-of_built h p w spare work b once =
     let parts = index-parts h p w b in
     record { labels = map (triple_by b.domains) w.labels; net = b.wired.mirrors; held = b.same; once = once; seeds = parts.0; receipts = parts.1 }
 
 -- All that a closure keeps is an index in the caller's words.
-pub index-of_kept : (h : HeldReceipts) (p : DocumentTableView) (w : LabelIndexView) (spare : FreeRoom) (turns : ℕ)
-    → IsIndexedClosure h p w spare → length h.arrived ≡ length h.held → IsIndexOf (indexed_of h w spare turns)
-index-of_kept h p w spare turns k once = index-of_built h p w spare turns k.indexed.built once
+pub index-of_kept : (h : HeldReceipts) (p : DocumentTableView) (w : LabelIndexView) (spare : FreeRoom) (work : ℕ)
+    → IsIndexedClosure h p w spare → length h.arrived ≡ length h.held → IsIndexOf (indexed_of h w spare work)
+index-of_kept h p w spare work k once = index-of_built h p w spare work k.indexed.built once
 
 -- A close of all labels of distrusted keys is the work of the records that are held besides.
 pub work-of : (old new : HeldReceipts) (more : List Distrust) (p q : DocumentTableView) (w v : LabelIndexView) (spare : FreeRoom)
-    (before turns : ℕ) → IsBefore old more new → IsBuilt old p w → IsBuilt new q v
-    → length new.arrived ≡ length new.held → Closes w (IsDistrusted new) v turns
-    → IsWorkOf (indexed_of old w spare before) more turns
-work-of old new more p q w v spare before turns was b built once c = record {
-  after = indexed_of new v spare turns;
-  is = index-of_built new q v spare turns built once;
+    (before work : ℕ) → IsBefore old more new → IsBuilt old p w → IsBuilt new q v
+    → length new.arrived ≡ length new.held → Closes w (IsDistrusted new) v work
+    → IsWorkOf (indexed_of old w spare before) more work
+work-of old new more p q w v spare before work was b built once c = record {
+  after = indexed_of new v spare work;
+  is = index-of_built new q v spare work built once;
   meaning = ap meaning_of (hoard-before old new more was);
   arrived = was.arrived;
-  closes = closes-at_once old new p w v spare spare before turns new.records (IsDistrusted new) b c
+  closes = closes-at_once old new p w v spare spare before work new.records (IsDistrusted new) b c
       (λ domains d. distrusted-shut new domains
       (subst (λ (k : Configuration). AreDomains k domains) (sym was.config) d));
-  turns = refl;
+  work = refl;
 }
 
 -- all records were held, where nothing has changed
@@ -713,15 +718,15 @@ same-work old new meaning arrived net marked records count is =
         closing = c.closing;
         within = c.within;
         exactly = c.exactly;
-        turns = subst (λ (ns : List ℕ). ClosesIn old.wired.net c.closing
+        work = subst (λ (ns : List ℕ). ClosesIn old.wired.net c.closing
             (visits_of old.wired.net ns) (visits_of is.after.wired.net is.after.wired.marked)
-            is.after.turns) marked
+            is.after.work) marked
             (subst (λ (n : Net). ClosesIn n c.closing (visits_of n new.wired.marked)
-            (visits_of is.after.wired.net is.after.wired.marked) is.after.turns) net c.turns);
+            (visits_of is.after.wired.net is.after.wired.marked) is.after.work) net c.work);
         near = subst (λ (n : Net). (reach : ℕ → Bool) → HasReachOf n c.closing reach
-            → is.after.turns ≤ 2 * edges_at n reach) net c.near;
+            → is.after.work ≤ 2 * edges_at n reach) net c.near;
       };
-      turns = is.turns;
+      work = is.work;
     }
 
 -- ---- configured documents
@@ -755,14 +760,15 @@ wired-seed h seeds s w a b c d node triples wired room has rooted is offers doma
     (subst (λ (ts : List Triple). IsLabelIndexOf domains h.records (spots ++ record { rooted = true; offers = ts; awaits = None } ∷ []) d) is third)
 
 -- The index is right for one more configured document.
-pub seeded-more : (h : HeldReceipts) (seeds : List Seed) (s : Seed) (p a q : DocumentTableView) (w d : LabelIndexView) (first : ℕ) → h.arrived ≡ [] → IsSeeded h seeds p w
+pub seeded-more : (h : HeldReceipts) (seeds : List Seed) (s : Seed) (p a q : DocumentTableView) (w d : LabelIndexView) (first : ℕ)
+    → h.arrived ≡ [] → IsSeeded h seeds p w
     → IsDocumentTable (pairs_of seeds h.arrived ++ pair_of_seed s ∷ []) q → a.counts ≡ p.counts
-    → a.firsts ≡ p.firsts → q.counts ≡ a.counts ++ 0 ∷ [] → q.firsts ≡ a.firsts ++ first ∷ []
-    → length a.firsts + 1 ≤ a.capacity → q.capacity ≡ a.capacity
+    → a.heads ≡ p.heads → q.counts ≡ a.counts ++ 0 ∷ [] → q.heads ≡ a.heads ++ first ∷ []
+    → length a.heads + 1 ≤ a.capacity → q.capacity ≡ a.capacity
     → ((domains : List (List ℕ)) → AreDomains h.config domains
     → IsLabelIndexOf domains h.records (map seed_node (seeds ++ s ∷ [])) d) → ListsReached d.net d.marked
     → IsSeeded h (seeds ++ s ∷ []) q d
-seeded-more h seeds s p a q w d first none g pairing f1 f2 counts firsts room capacity wired
+seeded-more h seeds s p a q w d first none g pairing f1 f2 counts heads room capacity wired
     reached =
     let pairs : pairs_of seeds h.arrived ++ pair_of_seed s ∷ [] ≡ pairs_of (seeds ++ s ∷ []) h.arrived =
     ap (λ rs. (map pair_of_seed seeds ++ map pair_of rs) ++ pair_of_seed s ∷ []) none
@@ -775,8 +781,8 @@ seeded-more h seeds s p a q w d first none g pairing f1 f2 counts firsts room ca
       pairing = subst (λ ps. IsDocumentTable ps q) pairs pairing;
       lowered = λ n. ap (λ ks. count_at ks n) (counts ∙ ap (λ ks. ks ++ 0 ∷ []) f1)
           ∙ count_at-push p.counts n ∙ g.lowered n;
-      room = omega (arith, ap length firsts, length_push a.firsts first, room, capacity);
-      firsts = omega (arith, ap length firsts, length_push a.firsts first, ap length f2, g.firsts, length_push seeds s);
+      room = omega (arith, ap length heads, length_push a.heads first, room, capacity);
+      heads = omega (arith, ap length heads, length_push a.heads first, ap length f2, g.heads, length_push seeds s);
       wired = wired;
       reached = reached;
     }
@@ -810,30 +816,30 @@ built-seeded h domains p w seeds valid held arrived are is g =
 -- a closure keeps, with no room yet.
 pub kept-seeded : (h : HeldReceipts) (p q : DocumentTableView) (w : LabelIndexView) (nodes : List ℕ) (seeds : List Seed) → IsBuilt h p w
     → IsSeeded h seeds p w → h.arrived ≡ [] → length seeds ≤ 4096
-    → q.numbers ≡ p.numbers → q.firsts ≡ p.firsts → q.capacity ≡ p.capacity → nodes ≡ w.marked
-    → AddsNodes p.firsts nodes p.counts q.counts
+    → q.numbers ≡ p.numbers → q.heads ≡ p.heads → q.capacity ≡ p.capacity → nodes ≡ w.marked
+    → AddsNodes p.heads nodes p.counts q.counts
     → IsIndexedClosure h q w (record { receipts = 0; offers = 0 })
-kept-seeded h p q w nodes seeds b g none few numbers firsts capacity is adds =
-    let right : AddsNodes q.firsts w.marked p.counts q.counts = subst
-    (λ fs. AddsNodes fs w.marked p.counts q.counts) (sym firsts)
-    (subst (λ ns. AddsNodes p.firsts ns p.counts q.counts) is adds) in
+kept-seeded h p q w nodes seeds b g none few numbers heads capacity is adds =
+    let right : AddsNodes q.heads w.marked p.counts q.counts = subst
+    (λ fs. AddsNodes fs w.marked p.counts q.counts) (sym heads)
+    (subst (λ ns. AddsNodes p.heads ns p.counts q.counts) is adds) in
     record {
       indexed = record {
-        built = built-counts h p q w b numbers firsts adds.size;
-        counts = counts-from_zero q.firsts w.marked p.counts q.counts g.lowered right;
+        built = built-counts h p q w b numbers heads adds.size;
+        counts = counts-from_zero q.heads w.marked p.counts q.counts g.lowered right;
       };
       room = record {
         held = omega (arith, ap length none);
-        pairs = omega (arith, ap length firsts, capacity, g.room);
+        pairs = omega (arith, ap length heads, capacity, g.room);
         nodes = omega arith;
         edges = omega arith;
-        few = omega (arith, ap length firsts, g.firsts, few);
+        few = omega (arith, ap length heads, g.heads, few);
       };
     }
 
 -- The number of nodes fits 32 bits.
 pub pairs-few : (h : HeldReceipts) (p : DocumentTableView) → IsDocumentTable (pairs_of h.config.seeds h.arrived) p
-    → length h.config.seeds ≤ 4096 → length h.arrived ≤ 65536 → length p.firsts < 2 ^ 32
+    → length h.config.seeds ≤ 4096 → length h.arrived ≤ 65536 → length p.heads < 2 ^ 32
 pairs-few h p pairing seeds arrived =
     omega (
       arith,

@@ -129,7 +129,8 @@ module _ (domains : List (List ℕ)) (rising : IsStrictlySortedBy domain_cmp dom
 
   module _ (records : List Distrust) (spots : List (NodeSpec Triple)) (old new : LabelIndexView) where
     -- When a node is added, the label index mirrors a bare spot more.
-    pub label_index-node : (node : ℕ) → IsLabelIndexOf domains records spots old → HasNode old new node → IsLabelIndexOf domains records (spots ++ bare_node ∷ []) new
+    pub label_index-node : (node : ℕ) → IsLabelIndexOf domains records spots old → HasNode old new node
+        → IsLabelIndexOf domains records (spots ++ bare_node ∷ []) new
     label_index-node node h n = record {
       within = All-same (λ (x : Label). x.domain < length domains) new.labels old.labels n.labels h.within;
       mirrors = subst (λ ls. Represents (spots ++ bare_node ∷ []) (map (triple_by domains) ls) (IsShutBy records) new.net) (sym n.labels)
@@ -232,7 +233,8 @@ module _ (c : Configuration) (records : List Distrust) (old new : LabelIndexView
 
 -- offers come one after another
 
-module _ (domains : List (List ℕ)) (records : List Distrust) (spots : List (NodeSpec Triple)) (spot : NodeSpec Triple) (triples : List Triple) (w : LabelIndexView) where
+module _ (domains : List (List ℕ)) (records : List Distrust) (spots : List (NodeSpec Triple)) (spot : NodeSpec Triple)
+    (triples : List Triple) (w : LabelIndexView) where
   -- Equal offers are mirrored alike.
   other-offers : (before after : List Triple) → before ≡ after
       → IsLabelIndexOf domains records (spots ++ record spot { offers = before } ∷ []) w

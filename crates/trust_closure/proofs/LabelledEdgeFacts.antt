@@ -64,7 +64,8 @@ arrow-has {A = A} of node (other ∷ spots) zero spot label at has =
     let here : Contains (of other) label = subst (λ s. Contains (of s) label) (sym same) has in
     let e : node + 0 ≡ node = omega arith in
     Contains-append_left (map (labelled_edge_at node) (of other)) (labelled_edges_from of (node + 1) spots) (labelled_edge_at (node + 0) label)
-    (subst (λ n. Contains (map (labelled_edge_at node) (of other)) (labelled_edge_at n label)) (sym e) (contains_map (labelled_edge_at node) (of other) label here))
+    (subst (λ n. Contains (map (labelled_edge_at node) (of other)) (labelled_edge_at n label)) (sym e)
+    (contains_map (labelled_edge_at node) (of other) label here))
 arrow-has of node (other ∷ spots) (suc place) spot label at has =
     let e : (node + 1) + place ≡ node + suc place = omega arith in
     Contains-append_right (map (labelled_edge_at node) (of other)) (labelled_edges_from of (node + 1) spots) (labelled_edge_at (node + suc place) label)
@@ -84,4 +85,5 @@ arrows-push of node (other ∷ spots) spot =
     ap (λ rest. map (labelled_edge_at node) (of other) ++ rest)
     (arrows-push of (node + 1) spots spot
     ∙ ap (λ n. labelled_edges_from of (node + 1) spots ++ map (labelled_edge_at n) (of spot)) e)
-    ∙ sym (append_assoc (map (labelled_edge_at node) (of other)) (labelled_edges_from of (node + 1) spots) (map (labelled_edge_at (node + suc (length spots))) (of spot)))
+    ∙ sym (append_assoc (map (labelled_edge_at node) (of other)) (labelled_edges_from of (node + 1) spots)
+    (map (labelled_edge_at (node + suc (length spots))) (of spot)))

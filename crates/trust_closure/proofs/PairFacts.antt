@@ -317,13 +317,13 @@ module _ (pairs : List Pair) (q : Pair) where
 
 -- After one more node each pair still has its first number.
 pub pairing-more : (pairs : List Pair) (old new : DocumentTableView) (q : Pair) (number first : ℕ)
-    → IsDocumentTable pairs old → IsBundle q.document → number ≡ length old.firsts
-    → PutsFirst pairs q number old.numbers new.numbers first → new.firsts ≡ old.firsts ++ first ∷ []
+    → IsDocumentTable pairs old → IsBundle q.document → number ≡ length old.heads
+    → PutsFirst pairs q number old.numbers new.numbers first → new.heads ≡ old.heads ++ first ∷ []
     → new.counts ≡ old.counts ++ 0 ∷ [] → IsDocumentTable (pairs ++ q ∷ []) new
-pairing-more pairs old new q number first h form e puts firsts counts =
+pairing-more pairs old new q number first h form e puts heads counts =
     let m = has-more pairs q old h form number first new.numbers (e ∙ h.sizes) puts in
     record {
-      sizes = omega (arith, ap length firsts, length_push old.firsts first, length_push pairs q, h.sizes);
+      sizes = omega (arith, ap length heads, length_push old.heads first, length_push pairs q, h.sizes);
       counted = omega (
         arith,
         ap length counts,
@@ -336,7 +336,7 @@ pairing-more pairs old new q number first h form e puts firsts counts =
       few = m.few;
       rising = m.rising;
       first = λ node k at.
-          elim (slice_get-push_cases old.firsts first node k (subst (λ fs. slice_get fs node ≡ Some k) firsts at)) [
+          elim (slice_get-push_cases old.heads first node k (subst (λ fs. slice_get fs node ≡ Some k) heads at)) [
             | inl a ↦
                 let before = h.first node k a.1 in
                 let l : k < length pairs = All-contains (λ n. n < length pairs) old.numbers k h.within before.0 in

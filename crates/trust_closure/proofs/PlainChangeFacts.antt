@@ -55,7 +55,7 @@ module _ (h new : HeldReceipts) (p q : DocumentTableView) (offers : List Triple)
     (arrivals : (place : ℕ) (r : Receipt) → slice_get h.arrived place ≡ Some r → slice_get new.arrived place ≡ Some r)
     (release : (r : Receipt) → IsReleased (meaning_of h) r → IsReleased (meaning_of new) r)
     (i : HasPlainFlags h p offers released) (j : HasPlainFlags new q offers others)
-    (firsts : (node number : ℕ) → slice_get p.firsts node ≡ Some number → slice_get q.firsts node ≡ Some number)
+    (heads : (node number : ℕ) → slice_get p.heads node ≡ Some number → slice_get q.heads node ≡ Some number)
     (sizes : length p.counts ≤ length q.counts) where
   -- An accepted node stays so.
   had-carry : (node : ℕ) → IsAcceptedNode (length h.config.seeds) released node → IsAcceptedNode (length new.config.seeds) others node
@@ -76,8 +76,8 @@ module _ (h new : HeldReceipts) (p q : DocumentTableView) (offers : List Triple)
       → is_raised (flags_of q.counts) k ≡ true
   kept-carry k e =
       let f = (i.flags k).0 e in
-      let at = firsts f.node k f.first in
-      (j.flags k).1 record { node = f.node; below = slice_get_within q.firsts f.node k at; had = had-carry f.node f.had; first = at }
+      let at = heads f.node k f.first in
+      (j.flags k).1 record { node = f.node; below = slice_get_within q.heads f.node k at; had = had-carry f.node f.had; first = at }
 
   -- A number keeps its pair.
   pairs-carry : (n : ℕ) (x : Pair) → slice_get (pairs_of h.config.seeds h.arrived) n ≡ Some x → slice_get (pairs_of new.config.seeds new.arrived) n ≡ Some x
@@ -116,33 +116,33 @@ module _ (h new : HeldReceipts) (p q : DocumentTableView) (offers : List Triple)
 -- Flags that are computed anew for the receipts and for the documents settle the closure.
 pub settled-from : (h : HeldReceipts) (p q : DocumentTableView) (offers : List Triple) (old released : List Bool) → IsSet h p offers old
     → length released ≡ length old → AreReleased (meaning_of h) h.arrived released
-    → q.numbers ≡ p.numbers → q.firsts ≡ p.firsts → length q.counts ≡ length p.counts
+    → q.numbers ≡ p.numbers → q.heads ≡ p.heads → length q.counts ≡ length p.counts
     → ((number : ℕ) → (is_raised (flags_of q.counts) number ≡ true) ↔ IsFirstAccepted
-    (length h.config.seeds) released p.firsts (length p.firsts) number)
+    (length h.config.seeds) released p.heads (length p.heads) number)
     → HasPlainFlags h q offers released
-settled-from h p q offers old released s size are numbers firsts flags raised = record {
+settled-from h p q offers old released s size are numbers heads flags raised = record {
   set = record {
     valid = s.valid;
     once = s.once;
     same = s.same;
     offers = s.offers;
-    pairing = pairing-counts (pairs_of h.config.seeds h.arrived) p q s.pairing numbers firsts flags;
+    pairing = pairing-counts (pairs_of h.config.seeds h.arrived) p q s.pairing numbers heads flags;
     size = size ∙ s.size;
   };
   settled = are;
   flags = λ n. subst (λ (fs : List ℕ). (is_raised (flags_of q.counts) n ≡ true) ↔ IsFirstAccepted
-      (length h.config.seeds) released fs (length fs) n) (sym firsts) (raised n);
+      (length h.config.seeds) released fs (length fs) n) (sym heads) (raised n);
 }
 
 -- Each node's first number has a count.
-pub firsts-within : (h : HeldReceipts) (p : DocumentTableView) (offers : List Triple) (released : List Bool)
-    → IsSet h p offers released → All (λ f. f < length p.counts) p.firsts
-firsts-within h p offers released s k d l =
-    let f = s.pairing.first k (get_or p.firsts k d) (slice_get-get_or p.firsts k d l) in
+pub heads-within : (h : HeldReceipts) (p : DocumentTableView) (offers : List Triple) (released : List Bool)
+    → IsSet h p offers released → All (λ f. f < length p.counts) p.heads
+heads-within h p offers released s k d l =
+    let f = s.pairing.first k (get_or p.heads k d) (slice_get-get_or p.heads k d l) in
     omega (
       arith,
       All-contains (λ n. n < length (pairs_of h.config.seeds h.arrived)) p.numbers
-          (get_or p.firsts k d) s.pairing.within f.0,
+          (get_or p.heads k d) s.pairing.within f.0,
       s.pairing.counted,
     )
 
@@ -237,71 +237,71 @@ settled-roomier h new p q offers released i is r =
         same = i.set.same;
         offers = i.set.offers;
         pairing = pairing-counts (pairs_of h.config.seeds h.arrived) p q i.set.pairing r.numbers
-            r.firsts (ap length r.counts);
+            r.heads (ap length r.counts);
         size = i.set.size;
       };
       settled = i.settled;
       flags = λ n.
           subst (λ fs. (is_raised (flags_of q.counts) n ≡ true) ↔ IsFirstAccepted (length h.config.seeds)
-          released fs (length fs) n) (sym r.firsts)
+          released fs (length fs) n) (sym r.heads)
           (subst (λ ks. (is_raised (flags_of ks) n ≡ true) ↔ IsFirstAccepted (length h.config.seeds)
-          released p.firsts (length p.firsts) n) (sym r.counts) (i.flags n));
+          released p.heads (length p.heads) n) (sym r.counts) (i.flags n));
     })
 
 -- ---- what is gained and lost
 
 -- Each node's first number has a count, also where as many other counts stand for these.
-pub firsts-lowered : (h : HeldReceipts) (p low : DocumentTableView) (offers : List Triple) (released : List Bool)
-    → IsSet h p offers released → low.firsts ≡ p.firsts → length low.counts ≡ length p.counts
-    → All (λ f. f < length low.counts) low.firsts
-firsts-lowered h p low offers released s firsts flags =
-    subst (λ (fs : List ℕ). All (λ f. f < length low.counts) fs) (sym firsts)
-    (subst (λ (n : ℕ). All (λ f. f < n) p.firsts) (sym flags)
-    (firsts-within h p offers released s))
+pub heads-lowered : (h : HeldReceipts) (p low : DocumentTableView) (offers : List Triple) (released : List Bool)
+    → IsSet h p offers released → low.heads ≡ p.heads → length low.counts ≡ length p.counts
+    → All (λ f. f < length low.counts) low.heads
+heads-lowered h p low offers released s heads flags =
+    subst (λ (fs : List ℕ). All (λ f. f < length low.counts) fs) (sym heads)
+    (subst (λ (n : ℕ). All (λ f. f < n) p.heads) (sym flags)
+    (heads-within h p offers released s))
 
 -- What the flags say, for equal numbers of configured documents, flags of receipts and first
 -- numbers.
 pub raised-as : (flags : List Bool) (a b : ℕ) (rs ss : List Bool) (fs gs : List ℕ) → a ≡ b → rs ≡ ss → fs ≡ gs
     → ((n : ℕ) → (is_raised flags n ≡ true) ↔ IsFirstAccepted a rs fs (length fs) n) → (n : ℕ)
     → (is_raised flags n ≡ true) ↔ IsFirstAccepted b ss gs (length gs) n
-raised-as flags a b rs ss fs gs seeds released firsts raised n =
+raised-as flags a b rs ss fs gs seeds released heads raised n =
     subst (λ (k : ℕ). (is_raised flags n ≡ true) ↔ IsFirstAccepted k ss gs (length gs) n) seeds
     (subst (λ (bs : List Bool). (is_raised flags n ≡ true) ↔ IsFirstAccepted a bs gs (length gs) n) released
-    (subst (λ (ns : List ℕ). (is_raised flags n ≡ true) ↔ IsFirstAccepted a rs ns (length ns) n) firsts (raised n)))
+    (subst (λ (ns : List ℕ). (is_raised flags n ≡ true) ↔ IsFirstAccepted a rs ns (length ns) n) heads (raised n)))
 
 -- With one more receipt no fewer flags are raised, and the rise is what is gained.
 pub gain-added : (h new : HeldReceipts) (p q : DocumentTableView) (offers : List Triple) (released others : List Bool) (r : Receipt)
     (first : ℕ) → HasPlainFlags h p offers released → IsReceipt r → new ≡ with_arrival h r
     → HasPlainFlags new q offers others
-    → q.firsts ≡ p.firsts ++ first ∷ [] → length q.counts ≡ length p.counts + 1
+    → q.heads ≡ p.heads ++ first ∷ [] → length q.counts ≡ length p.counts + 1
     → (raised_count (flags_of p.counts) ≤ raised_count (flags_of q.counts))
     × ((n : ℕ) → raised_count (flags_of q.counts) ≡ raised_count (flags_of p.counts) + n
     → IsGain (meaning_of h) (meaning_of new) n)
 gain-added h new p q offers released others r first i form is j list size =
     let config : h.config ≡ new.config = sym (ap (λ (x : HeldReceipts). x.config) is) in
-    let firsts : (node number : ℕ) → slice_get p.firsts node ≡ Some number → slice_get q.firsts node ≡ Some number =
-    λ node number at. ap (λ fs. slice_get fs node) list ∙ slice_get-more p.firsts (first ∷ []) node number at in
+    let heads : (node number : ℕ) → slice_get p.heads node ≡ Some number → slice_get q.heads node ≡ Some number =
+    λ node number at. ap (λ fs. slice_get fs node) list ∙ slice_get-more p.heads (first ∷ []) node number at in
     let sizes : length p.counts ≤ length q.counts = omega (arith, size) in (
-      few-carry h new p q offers released others config (arrivals-more h new r is) (release-more h new r i.set.valid form i.set.same is) i j firsts sizes,
-      gain-carry h new p q offers released others config (arrivals-more h new r is) (release-more h new r i.set.valid form i.set.same is) i j firsts sizes,
+      few-carry h new p q offers released others config (arrivals-more h new r is) (release-more h new r i.set.valid form i.set.same is) i j heads sizes,
+      gain-carry h new p q offers released others config (arrivals-more h new r is) (release-more h new r i.set.valid form i.set.same is) i j heads sizes,
     )
 
 -- With more records of distrust no more flags are raised, and the fall is what is lost.
 pub loss-fallen : (old new : HeldReceipts) (xs : List Distrust) (p q : DocumentTableView) (offers : List Triple)
     (released others : List Bool) → HasPlainFlags old p offers released → IsBefore old xs new
     → HasPlainFlags new q offers others
-    → q.firsts ≡ p.firsts → length q.counts ≡ length p.counts
+    → q.heads ≡ p.heads → length q.counts ≡ length p.counts
     → (raised_count (flags_of q.counts) ≤ raised_count (flags_of p.counts))
     × ((n : ℕ) → raised_count (flags_of p.counts) ≡ raised_count (flags_of q.counts) + n
     → IsGain (meaning_of new) (meaning_of old) n)
 loss-fallen old new xs p q offers released others i before j list size =
     let arrivals : (place : ℕ) (r : Receipt) → slice_get new.arrived place ≡ Some r → slice_get old.arrived place ≡ Some r =
     λ place r at. ap (λ rs. slice_get rs place) (sym before.arrived) ∙ at in
-    let firsts : (node number : ℕ) → slice_get q.firsts node ≡ Some number → slice_get p.firsts node ≡ Some number =
+    let heads : (node number : ℕ) → slice_get q.heads node ≡ Some number → slice_get p.heads node ≡ Some number =
     λ node number at. ap (λ fs. slice_get fs node) (sym list) ∙ at in
     let sizes : length q.counts ≤ length p.counts = omega (arith, size) in (
       few-carry new old q p offers others released before.config arrivals
-          (release-fewer old new xs before) j i firsts sizes,
+          (release-fewer old new xs before) j i heads sizes,
       gain-carry new old q p offers others released before.config arrivals
-          (release-fewer old new xs before) j i firsts sizes,
+          (release-fewer old new xs before) j i heads sizes,
     )

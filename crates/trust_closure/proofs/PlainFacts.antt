@@ -173,38 +173,38 @@ quiet-more records seed_offers arrived released k r at not quiet place s below t
 -- ---- flags of documents
 
 -- Before the first node nothing is accepted.
-pub first-none : (seeds : ℕ) (released : List Bool) (firsts : List ℕ) (number : ℕ) → IsFirstAccepted seeds released firsts 0 number → ⊥
-first-none seeds released firsts number f = omega (arith, f.below)
+pub first-none : (seeds : ℕ) (released : List Bool) (heads : List ℕ) (number : ℕ) → IsFirstAccepted seeds released heads 0 number → ⊥
+first-none seeds released heads number f = omega (arith, f.below)
 
-module _ (seeds : ℕ) (released : List Bool) (firsts : List ℕ) (k : ℕ) where
+module _ (seeds : ℕ) (released : List Bool) (heads : List ℕ) (k : ℕ) where
   -- What was accepted before a node is so after it.
-  pub first-later : (number : ℕ) → IsFirstAccepted seeds released firsts k number → IsFirstAccepted seeds released firsts (k + 1) number
+  pub first-later : (number : ℕ) → IsFirstAccepted seeds released heads k number → IsFirstAccepted seeds released heads (k + 1) number
   first-later number f = record { node = f.node; below = omega (arith, f.below); had = f.had; first = f.first }
 
   -- A node that is not accepted adds nothing.
   pub first-skip : (IsAcceptedNode seeds released k → ⊥) → (number : ℕ)
-      → IsFirstAccepted seeds released firsts (k + 1) number → IsFirstAccepted seeds released firsts k number
+      → IsFirstAccepted seeds released heads (k + 1) number → IsFirstAccepted seeds released heads k number
   first-skip not number f = elim (cases_lt f.node k) [
     | inl l ↦ record { node = f.node; below = l; had = f.had; first = f.first }
     | inr l ↦ let e : f.node ≡ k = omega (arith, l, f.below) in absurd (not (subst (IsAcceptedNode seeds released) e f.had))
   ]
 
   -- An accepted node raises the flag of its document.
-  pub first-more : (nodes : List ℕ) → nodes ≡ k ∷ [] → IsAcceptedNode seeds released k → (old new : List Bool) → Raises firsts nodes old new
-      → ((number : ℕ) → (is_raised old number ≡ true) ↔ IsFirstAccepted seeds released firsts k number)
-      → (number : ℕ) → (is_raised new number ≡ true) ↔ IsFirstAccepted seeds released firsts (k + 1) number
+  pub first-more : (nodes : List ℕ) → nodes ≡ k ∷ [] → IsAcceptedNode seeds released k → (old new : List Bool) → Raises heads nodes old new
+      → ((number : ℕ) → (is_raised old number ≡ true) ↔ IsFirstAccepted seeds released heads k number)
+      → (number : ℕ) → (is_raised new number ≡ true) ↔ IsFirstAccepted seeds released heads (k + 1) number
   first-more nodes is had old new raises before number = (
     λ e. elim ((raises.each number).0 e) [
       | inl a ↦ first-later number ((before number).0 a)
       | inr f ↦
           let at : f.0 ≡ k = only f.0 (subst (λ ns. Contains ns f.0) is f.1) in
-          record { node = k; below = omega arith; had = had; first = subst (λ n. slice_get firsts n ≡ Some number) at f.2 }
+          record { node = k; below = omega arith; had = had; first = subst (λ n. slice_get heads n ≡ Some number) at f.2 }
     ],
     λ f. (raises.each number).1 (elim (cases_lt f.node k) [
       | inl l ↦ inl ((before number).1 record { node = f.node; below = l; had = f.had; first = f.first })
       | inr l ↦
           let e : f.node ≡ k = omega (arith, l, f.below) in
-          inr (k, subst (λ ns. Contains ns k) (sym is) (contains_first k []), subst (λ n. slice_get firsts n ≡ Some number) e f.first)
+          inr (k, subst (λ ns. Contains ns k) (sym is) (contains_first k []), subst (λ n. slice_get heads n ≡ Some number) e f.first)
     ]),
   )
     where
@@ -264,10 +264,10 @@ module _ (h : HeldReceipts) (p : DocumentTableView) (seed_offers : List Triple) 
     listed = λ n e. let f = (i.flags n).0 e in (i.set.pairing.first f.node n f.first).0;
     all = λ q a.
         let r = member-had q a in
-        let l : r.node < length p.firsts = omega (arith, slice_get_within (pairs_of h.config.seeds h.arrived) r.node q r.at, i.set.pairing.sizes) in
-        let at = slice_get-get_or p.firsts r.node 0 l in
-        let f = i.set.pairing.first r.node (get_or p.firsts r.node 0) at in
-        (get_or p.firsts r.node 0, (i.flags (get_or p.firsts r.node 0)).1 record { node = r.node; below = l; had = r.had; first = at }, f.1 ∙ r.at);
+        let l : r.node < length p.heads = omega (arith, slice_get_within (pairs_of h.config.seeds h.arrived) r.node q r.at, i.set.pairing.sizes) in
+        let at = slice_get-get_or p.heads r.node 0 l in
+        let f = i.set.pairing.first r.node (get_or p.heads r.node 0) at in
+        (get_or p.heads r.node 0, (i.flags (get_or p.heads r.node 0)).1 record { node = r.node; below = l; had = r.had; first = at }, f.1 ∙ r.at);
     once = λ one other q. pairing-once (pairs_of h.config.seeds h.arrived) p i.set.pairing one other q;
   }
 

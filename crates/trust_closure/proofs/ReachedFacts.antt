@@ -77,7 +77,8 @@ module _ (seeds : List Seed) (arrivals : List Receipt) where
       → slice_get (pairs_of seeds arrivals) n ≡ Some p → spot.offers ≡ offers_of p
   offers-of_node n spot p e f =
       elim (node-cases n spot e) [
-        | inl a ↦ ap (λ (s : NodeSpec Triple). s.offers) (sym a.is) ∙ ap offers_of (same_Some (pair_of_seed a.seed) p (sym (pair-of_seed_node n a.seed a.at) ∙ f))
+        | inl a ↦ ap (λ (s : NodeSpec Triple). s.offers) (sym a.is)
+            ∙ ap offers_of (same_Some (pair_of_seed a.seed) p (sym (pair-of_seed_node n a.seed a.at) ∙ f))
         | inr a ↦
             ap (λ (s : NodeSpec Triple). s.offers) (sym a.is)
             ∙ ap offers_of (same_Some (pair_of a.receipt) p

@@ -95,11 +95,11 @@ module _ (net : Net) (old closing fallen : List ℕ) (kept : ℕ) (marked : List
   again n c = (t.fell n).1 ((t.again n).0 c).0
 
   -- Each document had as many of the marked nodes as of those that stayed and of those that fell.
-  pub nodes-before : (firsts : List ℕ) (n : ℕ)
-      → nodes_with firsts old n ≡ nodes_with firsts (take kept marked) n + nodes_with firsts fallen
+  pub nodes-before : (heads : List ℕ) (n : ℕ)
+      → nodes_with heads old n ≡ nodes_with heads (take kept marked) n + nodes_with heads fallen
       n
-  nodes-before firsts n =
-      let f : ℕ → ℕ = λ node. cond (first_of_node firsts node == n) 1 0 in
+  nodes-before heads n =
+      let f : ℕ → ℕ = λ node. cond (first_of_node heads node == n) 1 0 in
       omega (
         arith,
         no_more f old (take kept marked ++ fallen) (different-from_pairs old r.once) stands,
@@ -109,16 +109,16 @@ module _ (net : Net) (old closing fallen : List ℕ) (kept : ℕ) (marked : List
 
   -- Each document has as many of the marked nodes as of those that stayed and of those marked
   -- again.
-  pub nodes-now : (firsts : List ℕ) (n : ℕ)
-      → nodes_with firsts marked n ≡ nodes_with firsts (take kept marked) n + nodes_with firsts
+  pub nodes-now : (heads : List ℕ) (n : ℕ)
+      → nodes_with heads marked n ≡ nodes_with heads (take kept marked) n + nodes_with heads
       (drop kept marked) n
-  nodes-now firsts n = ap (λ ns. nodes_with firsts ns n) (sym (take-append-drop kept marked))
-      ∙ nodes_with-append firsts (take kept marked) (drop kept marked) n
+  nodes-now heads n = ap (λ ns. nodes_with heads ns n) (sym (take-append-drop kept marked))
+      ∙ nodes_with-append heads (take kept marked) (drop kept marked) n
 
   -- no more are marked again than fell
-  pub nodes-again : (firsts : List ℕ) (n : ℕ)
-      → nodes_with firsts (drop kept marked) n ≤ nodes_with firsts fallen n
-  nodes-again firsts n = no_more (λ node. cond (first_of_node firsts node == n) 1 0)
+  pub nodes-again : (heads : List ℕ) (n : ℕ)
+      → nodes_with heads (drop kept marked) n ≤ nodes_with heads fallen n
+  nodes-again heads n = no_more (λ node. cond (first_of_node heads node == n) 1 0)
       (drop kept marked) fallen (different-back (take kept marked) (drop kept marked) different)
       again
 

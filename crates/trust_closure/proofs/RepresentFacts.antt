@@ -45,7 +45,8 @@ AreNamed-append (x ∷ xs) ys a b = (a.0, AreNamed-append xs ys a.1 b)
 pub AreNamed-arrows : {A : Type 0} (of : NodeSpec A → List A) (node : ℕ) (spots : List (NodeSpec A)) → AreNamed (labelled_edges_from of node spots)
 AreNamed-arrows of node [] = tt
 AreNamed-arrows of node (spot ∷ spots) =
-    AreNamed-append (map (labelled_edge_at node) (of spot)) (labelled_edges_from of (node + 1) spots) (AreNamed-map node (of spot)) (AreNamed-arrows of (node + 1) spots)
+    AreNamed-append (map (labelled_edge_at node) (of spot)) (labelled_edges_from of (node + 1) spots)
+    (AreNamed-map node (of spot)) (AreNamed-arrows of (node + 1) spots)
 
 -- More labels leave the arrows of offer edges as they are.
 offers-named : {A : Type 0} (labels more : List A) (edges : List Edge) → AreNamed (map (offer_edge labels) edges)

@@ -42,10 +42,10 @@ offers-more seeds s offers more are is t = (
 pub sown-more : (h : HeldReceipts) (seeds : List Seed) (s : Seed) (p a q : DocumentTableView) (offers more all : List Triple) (first : ℕ)
     → h.arrived ≡ [] → IsSown h seeds p offers
     → IsDocumentTable (pairs_of seeds h.arrived ++ pair_of_seed s ∷ []) q → a.counts ≡ p.counts
-    → a.firsts ≡ p.firsts → q.counts ≡ a.counts ++ 0 ∷ [] → q.firsts ≡ a.firsts ++ first ∷ []
-    → length a.firsts + 1 ≤ a.capacity → q.capacity ≡ a.capacity
+    → a.heads ≡ p.heads → q.counts ≡ a.counts ++ 0 ∷ [] → q.heads ≡ a.heads ++ first ∷ []
+    → length a.heads + 1 ≤ a.capacity → q.capacity ≡ a.capacity
     → more ≡ offers_of (pair_of_seed s) → all ≡ offers ++ more → IsSown h (seeds ++ s ∷ []) q all
-sown-more h seeds s p a q offers more all first none g pairing f1 f2 counts firsts room capacity is
+sown-more h seeds s p a q offers more all first none g pairing f1 f2 counts heads room capacity is
     whole =
     let pairs : pairs_of seeds h.arrived ++ pair_of_seed s ∷ [] ≡ pairs_of (seeds ++ s ∷ []) h.arrived =
     ap (λ rs. (map pair_of_seed seeds ++ map pair_of rs) ++ pair_of_seed s ∷ []) none
@@ -58,8 +58,8 @@ sown-more h seeds s p a q offers more all first none g pairing f1 f2 counts firs
       pairing = subst (λ ps. IsDocumentTable ps q) pairs pairing;
       lowered = λ n. ap (λ ks. count_at ks n) (counts ∙ ap (λ ks. ks ++ 0 ∷ []) f1)
           ∙ count_at-push p.counts n ∙ g.lowered n;
-      room = omega (arith, ap length firsts, length_push a.firsts first, room, capacity);
-      firsts = omega (arith, ap length firsts, length_push a.firsts first, ap length f2, g.firsts, length_push seeds s);
+      room = omega (arith, ap length heads, length_push a.heads first, room, capacity);
+      heads = omega (arith, ap length heads, length_push a.heads first, ap length f2, g.heads, length_push seeds s);
       offers = subst (AreSeedOffers (seeds ++ s ∷ [])) (sym whole) (offers-more seeds s offers more g.offers is);
     }
 

@@ -14,9 +14,9 @@ use Rattle.closure_core.specs.declared.error.TakeError.{TakeError}
 use Rattle.closure_core.specs.declared.outcome.Distrusted.{Distrusted}
 use Rattle.closure_core.specs.declared.outcome.Distrusted.TheVariants.{New, Already}
 
--- All labels of the keys that these records distrust are closed at once, in so many turns, each of
--- which looked at one edge. It lies at a label that those lead to, and at most two turns looked at
--- it.
+-- All labels of the keys that these records distrust are closed at once, with so much work: so
+-- many times an edge was looked at. It lies at a label that those lead to, and was looked at twice
+-- at most.
 pub record ClosesAtOnce (old : Indexed) (records : List Distrust) (new : Indexed) : Type 0 where
   pub labels : List Triple
   pub net : IsNetOf old.state.meaning.config.seeds old.arrived old.state.meaning.records labels
@@ -25,21 +25,21 @@ pub record ClosesAtOnce (old : Indexed) (records : List Distrust) (new : Indexed
   pub within : All (λ number. number < length labels) closing
   pub exactly : (number : ℕ) (label : Triple) → slice_get labels number ≡ Some label
       → Contains closing number ↔ IsShutBy records label
-  pub turns : ClosesIn old.wired.net closing (visits_of old.wired.net old.wired.marked)
-      (visits_of new.wired.net new.wired.marked) new.turns
+  pub work : ClosesIn old.wired.net closing (visits_of old.wired.net old.wired.marked)
+      (visits_of new.wired.net new.wired.marked) new.work
   pub near : (reach : ℕ → Bool) → HasReachOf old.wired.net closing reach
-      → new.turns ≤ 2 * edges_at old.wired.net reach
+      → new.work ≤ 2 * edges_at old.wired.net reach
 
 -- A record that is new has the labels of its key closed, and no other record is any work.
 abbrev pub Worked : Indexed → Distrust → Indexed → Distrusted → Type 0
 Worked old x new (New lost) = ClosesAtOnce old (x ∷ []) new
-Worked old x new Already = new.turns ≡ old.turns
+Worked old x new Already = new.work ≡ old.work
 
 abbrev pub Works : Indexed → Distrust → Indexed → Result Distrusted TakeError → Type 0
-Works old x new result = MatchResult result (Worked old x new) (λ why. new.turns ≡ old.turns)
+Works old x new result = MatchResult result (Worked old x new) (λ why. new.work ≡ old.work)
 
 -- Where these records are held besides, all labels of distrusted keys are closed at once, and that
--- takes so many turns.
+-- is so much work.
 pub record IsWorkOf (old : Indexed) (records : List Distrust) (count : ℕ) : Type 0 where
   pub after : Indexed
   pub is : IsIndexOf after
@@ -48,7 +48,7 @@ pub record IsWorkOf (old : Indexed) (records : List Distrust) (count : ℕ) : Ty
   }
   pub arrived : after.arrived ≡ old.arrived
   pub closes : ClosesAtOnce old after.state.meaning.records after
-  pub turns : after.turns ≡ count
+  pub work : after.work ≡ count
 
 -- All these records were held before.
 abbrev pub AreOld : Meaning → List Distrust → Type 0
@@ -56,9 +56,9 @@ AreOld m records = (x : Distrust) → Contains records x → Contains m.records 
 
 -- No record was new and nothing was closed, or all labels of distrusted keys were, at once.
 abbrev pub WorksOnce : Indexed → List Distrust → Indexed → Type 0
-WorksOnce old records new = (AreOld old.state.meaning records × (new.turns ≡ old.turns))
-    ⊎ IsWorkOf old records new.turns
+WorksOnce old records new = (AreOld old.state.meaning records × (new.work ≡ old.work))
+    ⊎ IsWorkOf old records new.work
 
 abbrev pub MergesOnce : Indexed → Meaning → Indexed → Result ℕ TakeError → Type 0
 MergesOnce old other new result =
-    MatchResult result (λ taken. WorksOnce old other.records new) (λ why. new.turns ≡ old.turns)
+    MatchResult result (λ taken. WorksOnce old other.records new) (λ why. new.work ≡ old.work)

@@ -10,8 +10,8 @@ pub use closure_core::laws::{larger_and_smaller, least, one_list, one_number};
 /// edge at most twice.
 pub fn each_edge_twice()
     ensures distrust { (old new : Indexed) (records : List Distrust) → ClosesAtOnce old records new
-        → new.turns ≤ 2 * (length old.wired.net.offers + length old.wired.net.waits) }
-    ensures merge { (old : Indexed) (records : List Distrust) (turns : ℕ)
-        → IsWorkOf old records turns
-        → turns ≤ 2 * (length old.wired.net.offers + length old.wired.net.waits) }
+        → new.work ≤ 2 * (length old.wired.net.offers + length old.wired.net.waits) }
+    ensures merge { (old : Indexed) (records : List Distrust) (work : ℕ)
+        → IsWorkOf old records work
+        → work ≤ 2 * (length old.wired.net.offers + length old.wired.net.waits) }
 {}

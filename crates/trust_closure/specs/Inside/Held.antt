@@ -105,7 +105,7 @@ abbrev pub AddsOrRefuses : Meaning → Distrust → Meaning → Result Insertion
 AddsOrRefuses old x new result = MatchResult result (AddsRecord old x new)
     (λ why. RefusesDistrust old x why × (new ≡ old))
 
--- what is told of an addition
+-- what is returned for an addition
 abbrev pub addition_result : Insertion → Result Insertion TakeError
 addition_result Added = Ok Added
 addition_result There = Ok There

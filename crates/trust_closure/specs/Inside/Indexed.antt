@@ -43,19 +43,19 @@ pub record IsBuilt (h : HeldReceipts) (p : DocumentTableView) (w : LabelIndexVie
 -- Besides, the count of each document is how many of the marked nodes have it.
 pub record IsIndexed (h : HeldReceipts) (p : DocumentTableView) (w : LabelIndexView) : Type 0 where
   pub built : IsBuilt h p w
-  pub counts : AreCounts p.firsts w.marked p.counts
+  pub counts : AreCounts p.heads w.marked p.counts
 
--- The counts are still those of the nodes that were marked before the last close. It told what
+-- The counts are still those of the nodes that were marked before the last close. It says what
 -- fell.
 pub record WasCounted (p : DocumentTableView) (i : Index) : Type 0 where
   pub net : Net
   pub marked : List ℕ
   pub closing : List ℕ
   pub reached : ListsReached net marked
-  pub within : All (λ node. node < length p.firsts) marked
+  pub within : All (λ node. node < length p.heads) marked
   pub fell : TellsFallen net closing i.last.fallen i.last.kept i.marked
   pub many : length i.last.fallen + i.last.kept ≡ length marked
-  pub counts : AreCounts p.firsts marked p.counts
+  pub counts : AreCounts p.heads marked p.counts
 
 -- The new hoard has these records besides.
 pub record IsBefore (old : HeldReceipts) (more : List Distrust) (new : HeldReceipts) : Type 0 where
@@ -80,10 +80,10 @@ pub record IsDistrusted (h : HeldReceipts) (label : Label) : Type 0 where
 pub record HasRoom (h : HeldReceipts) (p : DocumentTableView) (w : LabelIndexView)
     (room : FreeRoom) : Type 0 where
   pub held : length h.arrived + room.receipts ≤ h.capacity
-  pub pairs : length p.firsts + room.receipts ≤ p.capacity
+  pub pairs : length p.heads + room.receipts ≤ p.capacity
   pub nodes : room.receipts ≤ w.nodes
   pub edges : room.receipts + room.offers ≤ w.edges
-  pub few : length p.firsts + room.receipts < 2 ^ 32
+  pub few : length p.heads + room.receipts < 2 ^ 32
 
 -- What one closure keeps, beside the room.
 pub record IsIndexedClosure (h : HeldReceipts) (p : DocumentTableView) (w : LabelIndexView)
@@ -113,14 +113,14 @@ pub record Indexed : Type 0 where
   pub state : HeldAndRoom
   pub arrived : List Receipt
   pub wired : LabelIndexView
-  pub turns : ℕ
+  pub work : ℕ
 
 abbrev pub indexed_of : HeldReceipts → LabelIndexView → FreeRoom → ℕ → Indexed
-indexed_of h w s turns = record {
+indexed_of h w s work = record {
   state = closure_state h s;
   arrived = h.arrived;
   wired = w;
-  turns = turns;
+  work = work;
 }
 
 -- The index has one node for each configured document, which is marked, and one for each receipt,
@@ -144,8 +144,8 @@ pub record IsSeeded (h : HeldReceipts) (seeds : List Seed) (p : DocumentTableVie
     (w : LabelIndexView) : Type 0 where
   pub pairing : IsDocumentTable (pairs_of seeds h.arrived) p
   pub lowered : (number : ℕ) → count_at p.counts number ≡ 0
-  pub room : length p.firsts ≤ p.capacity
-  pub firsts : length p.firsts ≡ length seeds
+  pub room : length p.heads ≤ p.capacity
+  pub heads : length p.heads ≡ length seeds
   pub wired : (domains : List (List ℕ)) → AreDomains h.config domains
       → IsLabelIndexOf domains h.records (map seed_node seeds) w
   pub reached : ListsReached w.net w.marked

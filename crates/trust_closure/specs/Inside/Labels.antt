@@ -147,9 +147,9 @@ pub record HasClosed (net : Net) (labels : List Label) (IsMeant : Label → Type
       → (slice_index_or flags number false ≡ true) ↔ ((is_closed net number ≡ true) ⊎ IsMeant label)
   pub net_is : after ≡ record net { closed = flags }
 
--- The labels that are meant are closed from now on, all at once, in so many turns, each of which
--- looked at one edge. That edge lies at a label that those lead to, and at most two turns looked at
--- it. The last close tells what fell.
+-- The labels that are meant are closed from now on, all at once, with so much work: so many
+-- times an edge was looked at. It lies at a label that those lead to, and was looked at twice at
+-- most. The last close says what fell.
 pub record Closes (old : LabelIndexView) (IsMeant : Label
     → Type 0) (new : LabelIndexView) (count : ℕ)
     : Type 0 where
@@ -159,7 +159,7 @@ pub record Closes (old : LabelIndexView) (IsMeant : Label
   pub edges : new.edges ≡ old.edges
   pub numbers : List ℕ
   pub are : AreNumbersOf old.labels IsMeant numbers
-  pub turns : ClosesIn old.net numbers (visits_of old.net old.marked)
+  pub work : ClosesIn old.net numbers (visits_of old.net old.marked)
       (visits_of new.net new.marked) count
   pub near : (reach : ℕ → Bool) → HasReachOf old.net numbers reach
       → count ≤ 2 * edges_at old.net reach

@@ -30,7 +30,7 @@ pair_at pairs number = slice_index_or pairs number no_documents
 -- document, and how many nodes there is room for in all
 pub record DocumentTableView : Type 0 where
   pub numbers : List ℕ
-  pub firsts : List ℕ
+  pub heads : List ℕ
   pub counts : List ℕ
   pub capacity : ℕ
 
@@ -42,13 +42,13 @@ AreRising pairs numbers = AllPairs (λ i j. pair_cmp (pair_at pairs i) (pair_at 
 -- The numbers are those of different pairs, in order; and each pair has the number of the first
 -- that is equal.
 pub record IsDocumentTable (pairs : List Pair) (p : DocumentTableView) : Type 0 where
-  pub sizes : length p.firsts ≡ length pairs
+  pub sizes : length p.heads ≡ length pairs
   pub counted : length p.counts ≡ length pairs
   pub forms : All (λ q. IsBundle q.document) pairs
   pub within : All (λ n. n < length pairs) p.numbers
   pub few : length p.numbers ≤ length pairs
   pub rising : AreRising pairs p.numbers
-  pub first : (node number : ℕ) → slice_get p.firsts node ≡ Some number
+  pub first : (node number : ℕ) → slice_get p.heads node ≡ Some number
       → Contains p.numbers number × (slice_get pairs number ≡ slice_get pairs node)
 
 -- The pair has this number: one among those in order that has it, or, where none has, the number

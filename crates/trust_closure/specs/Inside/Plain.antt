@@ -60,12 +60,12 @@ IsAcceptedNode seeds released node = (node < seeds)
     ⊎ ((place : ℕ) × (node ≡ seeds + place) × (is_raised released place ≡ true))
 
 -- The number is that of the first node with the document of such a node before this one.
-pub record IsFirstAccepted (seeds : ℕ) (released : List Bool) (firsts : List ℕ)
+pub record IsFirstAccepted (seeds : ℕ) (released : List Bool) (heads : List ℕ)
     (bound number : ℕ) : Type 0 where
   pub node : ℕ
   pub below : node < bound
   pub had : IsAcceptedNode seeds released node
-  pub first : slice_get firsts node ≡ Some number
+  pub first : slice_get heads node ≡ Some number
 
 -- What is held, and what the configured documents offer; each different document has its number,
 -- and each receipt a flag.
@@ -84,7 +84,7 @@ pub record HasPlainFlags (h : HeldReceipts) (p : DocumentTableView) (seed_offers
   pub set : IsSet h p seed_offers released
   pub settled : AreReleased (meaning_of h) h.arrived released
   pub flags : (number : ℕ) → (is_raised (flags_of p.counts) number ≡ true)
-      ↔ IsFirstAccepted (length h.config.seeds) released p.firsts (length p.firsts) number
+      ↔ IsFirstAccepted (length h.config.seeds) released p.heads (length p.heads) number
 
 -- The flags are still those of what was held before these records were.
 pub record WasSettled (new : HeldReceipts) (p : DocumentTableView) (seed_offers : List Triple)
@@ -98,9 +98,9 @@ pub record WasSettled (new : HeldReceipts) (p : DocumentTableView) (seed_offers 
 pub record HasFreeRoom (h : HeldReceipts) (p : DocumentTableView)
     (flags capacity spare : ℕ) : Type 0 where
   pub held : length h.arrived + spare ≤ h.capacity
-  pub pairs : length p.firsts + spare ≤ p.capacity
+  pub pairs : length p.heads + spare ≤ p.capacity
   pub released : flags + spare ≤ capacity
-  pub few : length p.firsts + spare < 2 ^ 32
+  pub few : length p.heads + spare < 2 ^ 32
 
 -- What one closure keeps, beside the room.
 pub record IsPlainClosure (h : HeldReceipts) (p : DocumentTableView) (seed_offers : List Triple)
@@ -118,7 +118,7 @@ plain_state h spare = record {
 -- Nothing but the capacity has changed.
 pub record IsRoomierTable (old new : DocumentTableView) : Type 0 where
   pub numbers : new.numbers ≡ old.numbers
-  pub firsts : new.firsts ≡ old.firsts
+  pub heads : new.heads ≡ old.heads
   pub counts : new.counts ≡ old.counts
 
 -- The first of the configured documents have their numbers, with counts of 0, and their offers.
@@ -126,6 +126,6 @@ pub record IsSown (h : HeldReceipts) (seeds : List Seed) (p : DocumentTableView)
     (seed_offers : List Triple) : Type 0 where
   pub pairing : IsDocumentTable (pairs_of seeds h.arrived) p
   pub lowered : (number : ℕ) → count_at p.counts number ≡ 0
-  pub room : length p.firsts ≤ p.capacity
-  pub firsts : length p.firsts ≡ length seeds
+  pub room : length p.heads ≤ p.capacity
+  pub heads : length p.heads ≡ length seeds
   pub offers : AreSeedOffers seeds seed_offers

@@ -33,7 +33,7 @@ pub struct IndexedClosure {
     spare: FreeRoom,
 
     /// How many edges the last close looked at.
-    turns: usize,
+    work: usize,
 }
 
 impl Model for IndexedClosure {
@@ -41,7 +41,7 @@ impl Model for IndexedClosure {
 
     ghost Value = { Indexed };
 
-    ghost view = { λ c. indexed_of c.held c.label_index c.spare c.turns };
+    ghost view = { λ c. indexed_of c.held c.label_index c.spare c.work };
 
     ghost invariant = { λ c. IsIndexedClosure c.held c.pairs c.label_index c.spare };
 }
@@ -56,7 +56,7 @@ impl IndexedClosure {
     /// Memory ran out.
     pub fn new(alloc: Global, config: &Config) -> Result<Self, NoMemory>
         ensures empty { IfOk result (λ c. c.state.meaning ≡ empty_of config.now) }
-        ensures turns { IfOk result (λ c. c.turns ≡ 0) }
+        ensures work { IfOk result (λ c. c.work ≡ 0) }
     {
         let held = Held::new(alloc, config)?;
         let mut pairs = Pairs::new(alloc);
@@ -78,7 +78,7 @@ impl IndexedClosure {
                 receipts: 0,
                 offers: 0,
             },
-            turns: 0,
+            work: 0,
         })
     }
 
@@ -88,7 +88,7 @@ impl IndexedClosure {
     pub fn take(&mut self, receipt: Receipt) -> Result<Taken, Refused>
         ensures takes { Takes self.old.state receipt self.new.state result }
         ensures grows { GrowsAtItsEnd self.old receipt self.new result }
-        ensures turns { self.new.turns ≡ self.old.turns }
+        ensures same_work { self.new.work ≡ self.old.work }
     {
         take_into(
             &mut self.held,
@@ -114,7 +114,7 @@ impl IndexedClosure {
     }
 
     /// Distrusts a key in a domain: it vouches for nothing there any more. It takes no memory. All
-    /// labels of the key are closed at once, and [`turns`](IndexedClosure::turns) says how many
+    /// labels of the key are closed at once, and [`work`](IndexedClosure::work) says how many
     /// edges that looked at.
     pub fn distrust(&mut self, domain: &TrustDomain, key: KeyId) -> Result<Distrusted, TakeError>
         ensures meaning { TakesDistrust self.old.state.meaning
@@ -126,7 +126,7 @@ impl IndexedClosure {
             &mut self.held,
             &mut self.pairs,
             &mut self.label_index,
-            &mut self.turns,
+            &mut self.work,
             domain,
             key,
         )
@@ -143,7 +143,7 @@ impl IndexedClosure {
         ensures arrived { self.new.arrived ≡ self.old.arrived }
         ensures net { self.new.wired.net ≡ self.old.wired.net }
         ensures marked { self.new.wired.marked ≡ self.old.wired.marked }
-        ensures turns { self.new.turns ≡ self.old.turns }
+        ensures same_work { self.new.work ≡ self.old.work }
     {
         reserve(
             &mut self.held,
@@ -158,10 +158,10 @@ impl IndexedClosure {
     /// How many edges the last `distrust` or `merge` that held a new record of distrust looked at.
     /// It is 0 where there was none yet, or no label of the distrusted keys was open. An edge that
     /// was looked at twice counts twice.
-    pub fn turns(&self) -> usize
-        ensures { result ≡ self.now.turns }
+    pub fn work(&self) -> usize
+        ensures { result ≡ self.now.work }
     {
-        self.turns
+        self.work
     }
 
     /// The index.
@@ -247,7 +247,7 @@ impl Mergeable for IndexedClosure {
 
     ghost state = { λ c. c.state };
 
-    ghost turns = { λ c. c.turns };
+    ghost work_done = { λ c. c.work };
 
     ghost IsWork = { IsWorkOf };
 
@@ -264,7 +264,7 @@ impl Mergeable for IndexedClosure {
             &mut self.held,
             &mut self.pairs,
             &mut self.label_index,
-            &mut self.turns,
+            &mut self.work,
             records,
         );
     }

@@ -37,8 +37,8 @@ pub(crate) fn add(
     requires indexed { IsIndexed held.old pairs.old label_index.old }
     requires absent { IsAbsent (meaning_of held.old) receipt place }
     requires held_room { length held.old.arrived < held.old.capacity }
-    requires pairs_room { length pairs.old.firsts < pairs.old.capacity }
-    requires few { length pairs.old.firsts < 2 ^ 32 }
+    requires pairs_room { length pairs.old.heads < pairs.old.capacity }
+    requires few { length pairs.old.heads < 2 ^ 32 }
     requires nodes { 0 < label_index.old.nodes }
     requires edges { length (offers_of (pair_of receipt)) < label_index.old.edges }
     ensures indexed { IsIndexed held.new pairs.new label_index.new }
@@ -50,7 +50,7 @@ pub(crate) fn add(
     ensures gain { IsGain (meaning_of held.old) (meaning_of held.new) result }
     ensures front { take (length label_index.old.marked) label_index.new.marked
         ≡ label_index.old.marked }
-    ensures firsts { length pairs.new.firsts ≡ length pairs.old.firsts + 1 }
+    ensures heads { length pairs.new.heads ≡ length pairs.old.heads + 1 }
     ensures pairs_room { pairs.new.capacity ≡ pairs.old.capacity }
     ensures nodes { label_index.old.nodes ≡ label_index.new.nodes + 1 }
     ensures edges { label_index.old.edges
@@ -73,8 +73,8 @@ fn place_receipt(
     requires built { IsBuilt held.old pairs.old label_index.old }
     requires absent { IsAbsent (meaning_of held.old) receipt place }
     requires held_room { length held.old.arrived < held.old.capacity }
-    requires pairs_room { length pairs.old.firsts < pairs.old.capacity }
-    requires few { length pairs.old.firsts < 2 ^ 32 }
+    requires pairs_room { length pairs.old.heads < pairs.old.capacity }
+    requires few { length pairs.old.heads < 2 ^ 32 }
     requires nodes { 0 < label_index.old.nodes }
     requires edges { length (offers_of (pair_of receipt)) < label_index.old.edges }
     ensures built { IsBuilt held.new pairs.new label_index.new }
@@ -83,7 +83,7 @@ fn place_receipt(
           arrived = held.old.arrived ++ receipt ∷ [];
           held = with_receipt receipt held.old.held;
         } }
-    ensures firsts { (first : ℕ) × (pairs.new.firsts ≡ pairs.old.firsts ++ first ∷ []) }
+    ensures heads { (first : ℕ) × (pairs.new.heads ≡ pairs.old.heads ++ first ∷ []) }
     ensures counts { pairs.new.counts ≡ pairs.old.counts ++ 0 ∷ [] }
     ensures front { take (length label_index.old.marked) label_index.new.marked
         ≡ label_index.old.marked }
@@ -104,11 +104,11 @@ fn place_receipt(
 struct Fall {
     /// How many documents of domains were accepted and are not now.
     lost: usize,
-    /// How many edges the close looked at.
-    turns: usize,
+    /// How many times the close looked at an edge.
+    work: usize,
 }
 
-/// Distrusts a key in a domain, and notes the turns where the record is new. It takes no memory:
+/// Distrusts a key in a domain, and notes the work where the record is new. It takes no memory:
 /// the labels of the key are closed at once, and of the counts only those of documents whose nodes
 /// fell are looked at.
 ///
@@ -118,7 +118,7 @@ pub(crate) fn lose(
     held: &mut Held,
     pairs: &mut Pairs,
     label_index: &mut LabelIndex,
-    turns: &mut usize,
+    work: &mut usize,
     domain: &TrustDomain,
     key: KeyId,
 ) -> Result<Distrusted, TakeError>
@@ -126,12 +126,12 @@ pub(crate) fn lose(
     ensures indexed { IsIndexed held.new pairs.new label_index.new }
     ensures meaning { TakesDistrust (meaning_of held.old)
         (record { domain = domain.now; key = key }) (meaning_of held.new) result }
-    ensures work { (spare : FreeRoom) → Works (indexed_of held.old label_index.old spare turns.old)
+    ensures work { (spare : FreeRoom) → Works (indexed_of held.old label_index.old spare work.old)
         (record { domain = domain.now; key = key })
-        (indexed_of held.new label_index.new spare turns.new) result }
+        (indexed_of held.new label_index.new spare work.new) result }
     ensures arrived { held.new.arrived ≡ held.old.arrived }
     ensures capacity { held.new.capacity ≡ held.old.capacity }
-    ensures firsts { pairs.new.firsts ≡ pairs.old.firsts }
+    ensures heads { pairs.new.heads ≡ pairs.old.heads }
     ensures pairs_room { pairs.new.capacity ≡ pairs.old.capacity }
     ensures nodes { label_index.new.nodes ≡ label_index.old.nodes }
     ensures edges { label_index.new.edges ≡ label_index.old.edges }
@@ -139,7 +139,7 @@ pub(crate) fn lose(
     match held.add_record(domain, key)? {
         Insertion::Added => {
             let fall = close(held, pairs, label_index, domain, key);
-            *turns = fall.turns;
+            *work = fall.work;
             Ok(Distrusted::New { lost: fall.lost })
         }
         Insertion::There => Ok(Distrusted::Already),
@@ -163,30 +163,30 @@ fn close(
         → IsBefore old (record { domain = domain.now; key = key } ∷ []) held.now
         → IsIndexed old pairs.old label_index.old
         → IsGain (meaning_of held.now) (meaning_of old) result.lost }
-    ensures work { (old : HeldReceipts) (spare : FreeRoom) (turns : ℕ)
+    ensures work { (old : HeldReceipts) (spare : FreeRoom) (work : ℕ)
         → IsBefore old (record { domain = domain.now; key = key } ∷ []) held.now
         → IsIndexed old pairs.old label_index.old
-        → ClosesAtOnce (indexed_of old label_index.old spare turns)
+        → ClosesAtOnce (indexed_of old label_index.old spare work)
         (record { domain = domain.now; key = key } ∷ [])
-        (indexed_of held.now label_index.new spare result.turns) }
-    ensures firsts { pairs.new.firsts ≡ pairs.old.firsts }
+        (indexed_of held.now label_index.new spare result.work) }
+    ensures heads { pairs.new.heads ≡ pairs.old.heads }
     ensures pairs_room { pairs.new.capacity ≡ pairs.old.capacity }
     ensures nodes { label_index.new.nodes ≡ label_index.old.nodes }
     ensures edges { label_index.new.edges ≡ label_index.old.edges }
 {
     let number = domain_number(held.config(), domain);
-    let turns = label_index.close_key(number, key);
+    let work = label_index.close_key(number, key);
     let lost = recount(pairs, label_index.reach());
-    Fall { lost, turns }
+    Fall { lost, work }
 }
 
 /// Distrusts keys in domains of the configuration, as many as there may be. It takes no memory.
-/// Where one of the records is new, all their labels are closed at once, and the turns are noted.
+/// Where one of the records is new, all their labels are closed at once, and the work is noted.
 pub(crate) fn lose_all(
     held: &mut Held,
     pairs: &mut Pairs,
     label_index: &mut LabelIndex,
-    turns: &mut usize,
+    work: &mut usize,
     records: Distrusts<'_>,
 )
     requires indexed { IsIndexed held.old pairs.old label_index.old }
@@ -195,17 +195,17 @@ pub(crate) fn lose_all(
     ensures meaning { meaning_of held.new ≡ record (meaning_of held.old)
         { records = with_items distrust_cmp records.entry (meaning_of held.old).records } }
     ensures work { (spare : FreeRoom) → WorksOnce
-        (indexed_of held.old label_index.old spare turns.old)
-        records.entry (indexed_of held.new label_index.new spare turns.new) }
+        (indexed_of held.old label_index.old spare work.old)
+        records.entry (indexed_of held.new label_index.new spare work.new) }
     ensures arrived { held.new.arrived ≡ held.old.arrived }
     ensures capacity { held.new.capacity ≡ held.old.capacity }
-    ensures firsts { pairs.new.firsts ≡ pairs.old.firsts }
+    ensures heads { pairs.new.heads ≡ pairs.old.heads }
     ensures pairs_room { pairs.new.capacity ≡ pairs.old.capacity }
     ensures nodes { label_index.new.nodes ≡ label_index.old.nodes }
     ensures edges { label_index.new.edges ≡ label_index.old.edges }
 {
     if hold_all(held, records) {
-        *turns = close_all(held, pairs, label_index);
+        *work = close_all(held, pairs, label_index);
     }
 }
 
@@ -213,17 +213,17 @@ pub(crate) fn lose_all(
 fn close_all(held: &Held, pairs: &mut Pairs, label_index: &mut LabelIndex) -> usize
     requires before { (more : List Distrust) × WasIndexed held.now more pairs.old label_index.old }
     ensures indexed { IsIndexed held.now pairs.new label_index.new }
-    ensures work { (old : HeldReceipts) (more : List Distrust) (spare : FreeRoom) (turns : ℕ)
+    ensures work { (old : HeldReceipts) (more : List Distrust) (spare : FreeRoom) (work : ℕ)
         → IsBefore old more held.now
         → IsIndexed old pairs.old label_index.old
-        → IsWorkOf (indexed_of old label_index.old spare turns) more result }
-    ensures firsts { pairs.new.firsts ≡ pairs.old.firsts }
+        → IsWorkOf (indexed_of old label_index.old spare work) more result }
+    ensures heads { pairs.new.heads ≡ pairs.old.heads }
     ensures pairs_room { pairs.new.capacity ≡ pairs.old.capacity }
     ensures nodes { label_index.new.nodes ≡ label_index.old.nodes }
     ensures edges { label_index.new.edges ≡ label_index.old.edges }
 {
     let _valid = held.config();
-    let turns = label_index.close_where(held);
+    let work = label_index.close_where(held);
     recount(pairs, label_index.reach());
-    turns
+    work
 }

@@ -13,25 +13,25 @@ use wait_index::{NodeNo, Reach};
 /// and returns how many documents were accepted and are not now. It looks at no other node.
 pub(crate) fn recount(pairs: &mut Pairs, reach: &Reach) -> usize
     requires before { WasCounted pairs.old reach.now }
-    requires firsts { All (λ f. f < length pairs.old.counts) pairs.old.firsts }
-    requires few { length pairs.old.firsts < 2 ^ 32 }
+    requires heads { All (λ f. f < length pairs.old.counts) pairs.old.heads }
+    requires few { length pairs.old.heads < 2 ^ 32 }
     ensures numbers { pairs.new.numbers ≡ pairs.old.numbers }
-    ensures firsts { pairs.new.firsts ≡ pairs.old.firsts }
+    ensures heads { pairs.new.heads ≡ pairs.old.heads }
     ensures size { length pairs.new.counts ≡ length pairs.old.counts }
-    ensures counts { AreCounts pairs.new.firsts reach.now.marked pairs.new.counts }
+    ensures counts { AreCounts pairs.new.heads reach.now.marked pairs.new.counts }
     ensures count { raised_count (flags_of pairs.old.counts)
         ≡ raised_count (flags_of pairs.new.counts) + result }
     ensures capacity { pairs.new.capacity ≡ pairs.old.capacity }
 {
     let marked = reach.marked();
     let fell = pairs.lower(reach.fallen());
-    let again = behind(marked, reach.kept());
+    let again = nodes_after(marked, reach.kept());
     let back = pairs.raise(again);
     fell - back
 }
 
 /// The nodes after this many first ones.
-fn behind(nodes: &[NodeNo], count: usize) -> &[NodeNo]
+fn nodes_after(nodes: &[NodeNo], count: usize) -> &[NodeNo]
     requires { count ≤ length nodes.now }
     ensures { result.now ≡ drop count nodes.now }
 {

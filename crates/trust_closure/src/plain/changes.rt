@@ -96,9 +96,9 @@ pub(crate) fn add(
     requires settled { HasPlainFlags held.old pairs.old seed_offers.now released.old.items }
     requires absent { IsAbsent (meaning_of held.old) receipt place }
     requires held_room { length held.old.arrived < held.old.capacity }
-    requires pairs_room { length pairs.old.firsts < pairs.old.capacity }
+    requires pairs_room { length pairs.old.heads < pairs.old.capacity }
     requires released_room { length released.old.items < vec_capacity released.old }
-    requires few { length pairs.old.firsts < 2 ^ 32 }
+    requires few { length pairs.old.heads < 2 ^ 32 }
     ensures settled { HasPlainFlags held.new pairs.new seed_offers.now released.new.items }
     ensures held { held.new
         ≡ record held.old {
@@ -106,7 +106,7 @@ pub(crate) fn add(
           held = with_receipt receipt held.old.held;
         } }
     ensures gain { IsGain (meaning_of held.old) (meaning_of held.new) result }
-    ensures firsts { length pairs.new.firsts ≡ length pairs.old.firsts + 1 }
+    ensures heads { length pairs.new.heads ≡ length pairs.old.heads + 1 }
     ensures capacity { pairs.new.capacity ≡ pairs.old.capacity }
     ensures size { length released.new.items ≡ length released.old.items + 1 }
     ensures released_capacity { vec_capacity released.new ≡ vec_capacity released.old }
@@ -131,9 +131,9 @@ fn place_receipt(
     requires settled { HasPlainFlags held.old pairs.old seed_offers.now released.old.items }
     requires absent { IsAbsent (meaning_of held.old) receipt place }
     requires held_room { length held.old.arrived < held.old.capacity }
-    requires pairs_room { length pairs.old.firsts < pairs.old.capacity }
+    requires pairs_room { length pairs.old.heads < pairs.old.capacity }
     requires released_room { length released.old.items < vec_capacity released.old }
-    requires few { length pairs.old.firsts < 2 ^ 32 }
+    requires few { length pairs.old.heads < 2 ^ 32 }
     ensures set { IsSet held.new pairs.new seed_offers.now released.new.items }
     ensures sound { AreSound (meaning_of held.new) held.new.arrived released.new.items }
     ensures held { held.new
@@ -141,7 +141,7 @@ fn place_receipt(
           arrived = held.old.arrived ++ receipt ∷ [];
           held = with_receipt receipt held.old.held;
         } }
-    ensures firsts { (first : ℕ) × (pairs.new.firsts ≡ pairs.old.firsts ++ first ∷ []) }
+    ensures heads { (first : ℕ) × (pairs.new.heads ≡ pairs.old.heads ++ first ∷ []) }
     ensures counts { pairs.new.counts ≡ pairs.old.counts ++ 0 ∷ [] }
     ensures capacity { pairs.new.capacity ≡ pairs.old.capacity }
     ensures released { released.new.items ≡ released.old.items ++ false ∷ [] }
@@ -172,7 +172,7 @@ pub(crate) fn lose(
         (record { domain = domain.now; key = key }) (meaning_of held.new) result }
     ensures arrived { held.new.arrived ≡ held.old.arrived }
     ensures held_capacity { held.new.capacity ≡ held.old.capacity }
-    ensures firsts { pairs.new.firsts ≡ pairs.old.firsts }
+    ensures heads { pairs.new.heads ≡ pairs.old.heads }
     ensures capacity { pairs.new.capacity ≡ pairs.old.capacity }
     ensures size { length released.new.items ≡ length released.old.items }
     ensures released_capacity { vec_capacity released.new ≡ vec_capacity released.old }
@@ -202,7 +202,7 @@ pub(crate) fn lose_all(
         { records = with_items distrust_cmp records.entry (meaning_of held.old).records } }
     ensures arrived { held.new.arrived ≡ held.old.arrived }
     ensures held_capacity { held.new.capacity ≡ held.old.capacity }
-    ensures firsts { pairs.new.firsts ≡ pairs.old.firsts }
+    ensures heads { pairs.new.heads ≡ pairs.old.heads }
     ensures capacity { pairs.new.capacity ≡ pairs.old.capacity }
     ensures size { length released.new.items ≡ length released.old.items }
     ensures released_capacity { vec_capacity released.new ≡ vec_capacity released.old }
@@ -219,7 +219,7 @@ fn fall(held: &Held, pairs: &mut Pairs, seed_offers: &[Triple], released: &mut V
     ensures loss { (old : HeldReceipts) (more : List Distrust) → IsBefore old more held.now
         → HasPlainFlags old pairs.old seed_offers.now released.old.items
         → IsGain (meaning_of held.now) (meaning_of old) result }
-    ensures firsts { pairs.new.firsts ≡ pairs.old.firsts }
+    ensures heads { pairs.new.heads ≡ pairs.old.heads }
     ensures capacity { pairs.new.capacity ≡ pairs.old.capacity }
     ensures size { length released.new.items ≡ length released.old.items }
     ensures released_capacity { vec_capacity released.new ≡ vec_capacity released.old }
@@ -263,8 +263,8 @@ fn grow(
 ) -> Result<(), AllocError>
     requires spare { HasFreeRoom held.old pairs.old (length released.old.items)
         (vec_capacity released.old) spare.old }
-    requires counts { length pairs.old.counts ≡ length pairs.old.firsts }
-    requires numbers { length pairs.old.numbers ≤ length pairs.old.firsts }
+    requires counts { length pairs.old.counts ≡ length pairs.old.heads }
+    requires numbers { length pairs.old.numbers ≤ length pairs.old.heads }
     ensures spare { HasFreeRoom held.new pairs.new (length released.new.items)
         (vec_capacity released.new) spare.new }
     ensures held { held.new ≡ record held.old { capacity = held.new.capacity } }

@@ -146,7 +146,7 @@ impl Mergeable for PlainClosure {
     ghost state = { λ c. c };
 
     // It has no edges, so no close looks at one.
-    ghost turns = { λ c. 0 };
+    ghost work_done = { λ c. 0 };
 
     ghost IsWork = { λ c records count. count ≡ 0 };
 

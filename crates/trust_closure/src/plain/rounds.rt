@@ -120,16 +120,16 @@ fn has_triple(triples: &[Triple], sought: &Triple) -> bool
 /// Adds one for each accepted document to its count, and returns how many different ones those
 /// are. All counts were 0.
 pub(crate) fn count_accepted(pairs: &mut Pairs, seeds: usize, released: &[bool]) -> usize
-    requires size { length pairs.old.firsts ≡ seeds + length released.now }
-    requires counted { length pairs.old.counts ≡ length pairs.old.firsts }
-    requires firsts { All (λ f. f < length pairs.old.counts) pairs.old.firsts }
+    requires size { length pairs.old.heads ≡ seeds + length released.now }
+    requires counted { length pairs.old.counts ≡ length pairs.old.heads }
+    requires heads { All (λ f. f < length pairs.old.counts) pairs.old.heads }
     requires lowered { (number : ℕ) → count_at pairs.old.counts number ≡ 0 }
-    requires few { length pairs.old.firsts < 2 ^ 32 }
+    requires few { length pairs.old.heads < 2 ^ 32 }
     ensures numbers { pairs.new.numbers ≡ pairs.old.numbers }
-    ensures firsts { pairs.new.firsts ≡ pairs.old.firsts }
+    ensures heads { pairs.new.heads ≡ pairs.old.heads }
     ensures size { length pairs.new.counts ≡ length pairs.old.counts }
     ensures raised { (number : ℕ) → (is_raised (flags_of pairs.new.counts) number ≡ true)
-        ↔ IsFirstAccepted seeds released.now pairs.old.firsts (length pairs.old.firsts) number }
+        ↔ IsFirstAccepted seeds released.now pairs.old.heads (length pairs.old.heads) number }
     ensures count { raised_count (flags_of pairs.new.counts) ≡ result }
     ensures capacity { pairs.new.capacity ≡ pairs.old.capacity }
 {

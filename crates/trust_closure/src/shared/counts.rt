@@ -8,17 +8,17 @@ use wait_index::NodeNo;
 
 /// Adds one for each of the nodes to the count of its document, and returns how many counts were 0
 /// and are not now.
-pub(crate) fn raise_all(counts: &mut [u32], firsts: &[u32], nodes: &[NodeNo]) -> usize
-    requires nodes { All (λ n. n < length firsts.now) nodes.now }
-    requires firsts { All (λ f. f < length counts.old) firsts.now }
+pub(crate) fn raise_all(counts: &mut [u32], heads: &[u32], nodes: &[NodeNo]) -> usize
+    requires nodes { All (λ n. n < length heads.now) nodes.now }
+    requires heads { All (λ f. f < length counts.old) heads.now }
     requires few { (number : ℕ) → count_at counts.old number + length nodes.now < 2 ^ 32 }
-    ensures adds { AddsNodes firsts.now nodes.now counts.old counts.new }
+    ensures adds { AddsNodes heads.now nodes.now counts.old counts.new }
     ensures count { raised_count (flags_of counts.new) ≡ raised_count (flags_of counts.old)
         + result }
 {
     let mut count = 0;
     for node in nodes {
-        count += raise(counts, firsts[node.index()] as usize);
+        count += raise(counts, heads[node.index()] as usize);
     }
     count
 }
@@ -41,18 +41,18 @@ fn raise(counts: &mut [u32], number: usize) -> usize
 
 /// Takes one for each of the nodes off the count of its document, and returns how many counts were
 /// not 0 and are now.
-pub(crate) fn lower_all(counts: &mut [u32], firsts: &[u32], nodes: &[NodeNo]) -> usize
-    requires nodes { All (λ n. n < length firsts.now) nodes.now }
-    requires firsts { All (λ f. f < length counts.old) firsts.now }
+pub(crate) fn lower_all(counts: &mut [u32], heads: &[u32], nodes: &[NodeNo]) -> usize
+    requires nodes { All (λ n. n < length heads.now) nodes.now }
+    requires heads { All (λ f. f < length counts.old) heads.now }
     requires counted { (number : ℕ)
-        → nodes_with firsts.now nodes.now number ≤ count_at counts.old number }
-    ensures takes { AddsNodes firsts.now nodes.now counts.new counts.old }
+        → nodes_with heads.now nodes.now number ≤ count_at counts.old number }
+    ensures takes { AddsNodes heads.now nodes.now counts.new counts.old }
     ensures count { raised_count (flags_of counts.old) ≡ raised_count (flags_of counts.new)
         + result }
 {
     let mut count = 0;
     for node in nodes {
-        count += lower(counts, firsts[node.index()] as usize);
+        count += lower(counts, heads[node.index()] as usize);
     }
     count
 }

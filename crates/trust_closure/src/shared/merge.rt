@@ -27,7 +27,7 @@ pub(crate) trait Mergeable {
 
     // How many edges the last close looked at, and that it would be this many if these records were
     // held besides.
-    ghost turns: { Self → ℕ };
+    ghost work_done: { Self → ℕ };
 
     ghost IsWork: { Self → List Distrust → ℕ → Type 0 };
 
@@ -38,7 +38,7 @@ pub(crate) trait Mergeable {
     /// As [`crate::Closure::take`].
     fn take_one(&mut self, receipt: Receipt) -> Result<Taken, Refused>
         ensures takes { Takes (state self.old) receipt (state self.new) result }
-        ensures turns { turns self.new ≡ turns self.old };
+        ensures same_work { work_done self.new ≡ work_done self.old };
 
     /// Distrusts keys in domains of the configuration, as many as there may be.
     fn distrust_all(&mut self, records: Distrusts<'_>)
@@ -47,7 +47,8 @@ pub(crate) trait Mergeable {
             { records = with_items distrust_cmp records.entry (state self.old).meaning.records } }
         ensures room { (state self.new).room ≡ (state self.old).room }
         ensures work { (AreOld (state self.old).meaning records.entry
-            × (turns self.new ≡ turns self.old)) ⊎ IsWork self.old records.entry (turns self.new) };
+            × (work_done self.new ≡ work_done self.old))
+            ⊎ IsWork self.old records.entry (work_done self.new) };
 
     /// As [`crate::Closure::try_reserve`].
     fn make_room(&mut self, receipts: usize, offers: usize) -> Result<(), NoMemory>
@@ -59,7 +60,7 @@ pub(crate) trait Mergeable {
             (state self.old).room → IsOk result }
         ensures work { (records : List Distrust) (count : ℕ) → IsWork self.new records count
             → IsWork self.old records count }
-        ensures turns { turns self.new ≡ turns self.old };
+        ensures same_work { work_done self.new ≡ work_done self.old };
 }
 
 /// Takes all receipts and all records of distrust of another closure, or none, and returns how many
@@ -72,9 +73,9 @@ pub(crate) fn merge_into<C: Mergeable>(closure: &mut C, other: &C) -> Result<usi
         result }
     ensures work { MatchResult result
         (λ count. (AreOld (C.state closure.old).meaning (C.state other.now).meaning.records
-        × (C.turns closure.new ≡ C.turns closure.old))
-        ⊎ C.IsWork closure.old (C.state other.now).meaning.records (C.turns closure.new))
-        (λ why. C.turns closure.new ≡ C.turns closure.old) }
+        × (C.work_done closure.new ≡ C.work_done closure.old))
+        ⊎ C.IsWork closure.old (C.state other.now).meaning.records (C.work_done closure.new))
+        (λ why. C.work_done closure.new ≡ C.work_done closure.old) }
 {
     let share = plan_merge(closure.held(), other.held())?;
     let count = share.copies.len();
@@ -113,7 +114,7 @@ fn take_all<C: Mergeable>(closure: &mut C, receipts: Vec<Receipt>)
         { held = with_items receipt_cmp receipts.items (C.state closure.old).meaning.held } }
     ensures room { HasSpentOn (C.state closure.old).room receipts.items
         (C.state closure.new).room }
-    ensures turns { C.turns closure.new ≡ C.turns closure.old }
+    ensures same_work { C.work_done closure.new ≡ C.work_done closure.old }
 {
     for receipt in receipts {
         let _valid = closure.held().config();

@@ -23,13 +23,13 @@ use std::marker::Model;
 use wait_index::NodeNo;
 
 /// The documents of domains that the nodes have, each different one once in their order, by the
-/// number of its first node; that number for each node; and for each node a count, which says of a
-/// first one how many marked nodes have its document. A document is accepted where its count is not
-/// 0.
+/// number of its first node, its head; the head for each node; and for each node a count, which
+/// says of a head how many marked nodes have its document. A document is accepted where its count
+/// is not 0.
 #[derive(Drop)]
 pub(crate) struct Pairs {
     order: Order,
-    firsts: Vec<u32>,
+    heads: Vec<u32>,
     counts: Vec<u32>,
 }
 
@@ -41,9 +41,9 @@ impl Model for Pairs {
 
     ghost view = { λ p. record {
       numbers = p.order.items;
-      firsts = p.firsts.items;
+      heads = p.heads.items;
       counts = p.counts.items;
-      capacity = min p.order.capacity (min (vec_capacity p.firsts) (vec_capacity p.counts));
+      capacity = min p.order.capacity (min (vec_capacity p.heads) (vec_capacity p.counts));
     } };
 }
 
@@ -116,36 +116,36 @@ fn compare_documents(a: &Document, b: &Document) -> Ordering
 impl Pairs {
     /// No nodes, without room.
     pub(crate) fn new(alloc: Global) -> Self
-        ensures { result ≡ record { numbers = []; firsts = []; counts = []; capacity = 0 } }
+        ensures { result ≡ record { numbers = []; heads = []; counts = []; capacity = 0 } }
     {
         Pairs {
             order: Order::new(alloc),
-            firsts: Vec::new(alloc),
+            heads: Vec::new(alloc),
             counts: Vec::new(alloc),
         }
     }
 
     /// How many nodes there are.
     pub(crate) fn len(&self) -> usize
-        ensures { result ≡ length self.now.firsts }
+        ensures { result ≡ length self.now.heads }
     {
-        self.firsts.len()
+        self.heads.len()
     }
 
     /// Makes room for this many more nodes, if there are then fewer than 2^32.
     pub(crate) fn try_reserve(&mut self, nodes: usize) -> Result<(), AllocError>
-        requires counts { length self.old.counts ≡ length self.old.firsts }
-        requires numbers { length self.old.numbers ≤ length self.old.firsts }
+        requires counts { length self.old.counts ≡ length self.old.heads }
+        requires numbers { length self.old.numbers ≤ length self.old.heads }
         ensures numbers { self.new.numbers ≡ self.old.numbers }
-        ensures firsts { self.new.firsts ≡ self.old.firsts }
+        ensures heads { self.new.heads ≡ self.old.heads }
         ensures counts { self.new.counts ≡ self.old.counts }
         ensures capacity { self.old.capacity ≤ self.new.capacity }
-        ensures ok { OnOk result (length self.new.firsts + nodes ≤ self.new.capacity) }
-        ensures few { OnOk result (length self.new.firsts + nodes < 2 ^ 32) }
+        ensures ok { OnOk result (length self.new.heads + nodes ≤ self.new.capacity) }
+        ensures few { OnOk result (length self.new.heads + nodes < 2 ^ 32) }
     {
-        let more = (self.firsts.len() - self.order.len()).saturating_add(nodes);
+        let more = (self.heads.len() - self.order.len()).saturating_add(nodes);
         self.order.try_reserve(more)?;
-        self.firsts.try_reserve(nodes)?;
+        self.heads.try_reserve(nodes)?;
         self.counts.try_reserve(nodes)?;
         // That there are so few stands on this call.
         let _few = self.order.len();
@@ -162,12 +162,12 @@ impl Pairs {
         document: &Document,
     )
         requires pairing { IsDocumentTable (pairs_of seeds.now receipts.now) self.old }
-        requires room { length self.old.firsts < self.old.capacity }
-        requires few { length self.old.firsts < 2 ^ 32 }
+        requires room { length self.old.heads < self.old.capacity }
+        requires few { length self.old.heads < 2 ^ 32 }
         ensures pairing { IsDocumentTable
             (pairs_of seeds.now receipts.now ++ document_of domain.now document.now ∷ []) self.new }
         ensures counts { self.new.counts ≡ self.old.counts ++ 0 ∷ [] }
-        ensures firsts { (first : ℕ) × (self.new.firsts ≡ self.old.firsts ++ first ∷ []) }
+        ensures heads { (first : ℕ) × (self.new.heads ≡ self.old.heads ++ first ∷ []) }
         ensures capacity { self.new.capacity ≡ self.old.capacity }
     {
         let _form = document.canonical();
@@ -177,49 +177,49 @@ impl Pairs {
             domain,
             document,
         };
-        let number = self.firsts.len() as u32;
+        let number = self.heads.len() as u32;
         let first = first_number(&mut self.order, &sought, number);
-        self.firsts.push_reserved(first);
+        self.heads.push_reserved(first);
         self.counts.push_reserved(0);
     }
 
     /// Adds one for each of these nodes to the count of its document, and returns how many
     /// documents are accepted now and were not before.
     pub(crate) fn raise(&mut self, nodes: &[NodeNo]) -> usize
-        requires nodes { All (λ n. n < length self.old.firsts) nodes.now }
-        requires firsts { All (λ f. f < length self.old.counts) self.old.firsts }
+        requires nodes { All (λ n. n < length self.old.heads) nodes.now }
+        requires heads { All (λ f. f < length self.old.counts) self.old.heads }
         requires few { (number : ℕ) → count_at self.old.counts number + length nodes.now < 2 ^ 32 }
         ensures numbers { self.new.numbers ≡ self.old.numbers }
-        ensures firsts { self.new.firsts ≡ self.old.firsts }
-        ensures adds { AddsNodes self.old.firsts nodes.now self.old.counts self.new.counts }
+        ensures heads { self.new.heads ≡ self.old.heads }
+        ensures adds { AddsNodes self.old.heads nodes.now self.old.counts self.new.counts }
         ensures count { raised_count (flags_of self.new.counts)
             ≡ raised_count (flags_of self.old.counts) + result }
         ensures capacity { self.new.capacity ≡ self.old.capacity }
     {
-        raise_all(&mut self.counts, &self.firsts, nodes)
+        raise_all(&mut self.counts, &self.heads, nodes)
     }
 
     /// Takes one for each of these nodes off the count of its document, and returns how many
     /// documents were accepted and are not now.
     pub(crate) fn lower(&mut self, nodes: &[NodeNo]) -> usize
-        requires nodes { All (λ n. n < length self.old.firsts) nodes.now }
-        requires firsts { All (λ f. f < length self.old.counts) self.old.firsts }
+        requires nodes { All (λ n. n < length self.old.heads) nodes.now }
+        requires heads { All (λ f. f < length self.old.counts) self.old.heads }
         requires counted { (number : ℕ)
-            → nodes_with self.old.firsts nodes.now number ≤ count_at self.old.counts number }
+            → nodes_with self.old.heads nodes.now number ≤ count_at self.old.counts number }
         ensures numbers { self.new.numbers ≡ self.old.numbers }
-        ensures firsts { self.new.firsts ≡ self.old.firsts }
-        ensures takes { AddsNodes self.old.firsts nodes.now self.new.counts self.old.counts }
+        ensures heads { self.new.heads ≡ self.old.heads }
+        ensures takes { AddsNodes self.old.heads nodes.now self.new.counts self.old.counts }
         ensures count { raised_count (flags_of self.old.counts)
             ≡ raised_count (flags_of self.new.counts) + result }
         ensures capacity { self.new.capacity ≡ self.old.capacity }
     {
-        lower_all(&mut self.counts, &self.firsts, nodes)
+        lower_all(&mut self.counts, &self.heads, nodes)
     }
 
     /// Sets all counts to 0, and returns how many documents were accepted.
     pub(crate) fn clear(&mut self) -> usize
         ensures numbers { self.new.numbers ≡ self.old.numbers }
-        ensures firsts { self.new.firsts ≡ self.old.firsts }
+        ensures heads { self.new.heads ≡ self.old.heads }
         ensures size { length self.new.counts ≡ length self.old.counts }
         ensures cleared { (number : ℕ) → count_at self.new.counts number ≡ 0 }
         ensures count { result ≡ raised_count (flags_of self.old.counts) }

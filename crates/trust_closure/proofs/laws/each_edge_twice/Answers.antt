@@ -7,9 +7,9 @@ use Rattle.trust_closure.specs.Inside.Indexed.{Indexed}
 use Rattle.trust_closure.specs.Work.{ClosesAtOnce}
 use Rattle.trust_closure.proofs.laws.each_edge_twice.Goals as goal
 
--- The turns are at most twice the edges, since all labels together are such a set.
+-- The work are at most twice the edges, since all labels together are such a set.
 twice : (old new : Indexed) (records : List Distrust) → ClosesAtOnce old records new
-    → new.turns ≤ 2 * (length old.wired.net.offers + length old.wired.net.waits)
+    → new.work ≤ 2 * (length old.wired.net.offers + length old.wired.net.waits)
 twice old new records is =
     let all : ℕ → Bool = λ label. true in
     omega (
@@ -23,5 +23,5 @@ pub returns-clause-distrust : goal.returns-clause-distrust
 returns-clause-distrust c = twice
 
 pub returns-clause-merge : goal.returns-clause-merge
-returns-clause-merge c old records turns is =
-    omega (arith, twice old is.after is.after.state.meaning.records is.closes, is.turns)
+returns-clause-merge c old records work is =
+    omega (arith, twice old is.after is.after.state.meaning.records is.closes, is.work)

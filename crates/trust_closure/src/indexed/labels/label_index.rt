@@ -123,8 +123,8 @@ impl LabelIndex {
         self.reach.add_wait(number, node);
     }
 
-    /// Closes the labels of a key in a domain, of whatever document, all at once, and returns the
-    /// turns, each of which looked at one edge. It takes no memory.
+    /// Closes the labels of a key in a domain, of whatever document, all at once, and returns how
+    /// many times it looked at an edge. It takes no memory.
     pub(crate) fn close_key(&mut self, domain: u32, key: KeyId) -> usize
         ensures closes { Closes self.old (IsOfKey domain key) self.new result }
         ensures reached { ListsReached self.new.net self.new.marked }
@@ -135,8 +135,8 @@ impl LabelIndex {
         self.reach.close_labels(&self.closing)
     }
 
-    /// Closes the labels that are meant, all at once, and returns the turns, each of which looked
-    /// at one edge. It takes no memory.
+    /// Closes the labels that are meant, all at once, and returns how many times it looked
+    /// at an edge. It takes no memory.
     pub(crate) fn close_where<T: LabelTest>(&mut self, test: &T) -> usize
         ensures closes { Closes self.old (T.IsMeant test.now) self.new result }
         ensures reached { ListsReached self.new.net self.new.marked }

@@ -6,21 +6,21 @@ use Rattle.trust_closure.proofs.indexed.changes.reserve.Goals as goal
 pub returns-in_err-try_reserve-clause-reserves : goal.returns-in_err-try_reserve-clause-reserves
 returns-in_err-try_reserve-clause-reserves c =
     reserves-pairs c.args.held.now c.args.held.now c.args.pairs.now c.try_reserve.new.self c.args.label_index.now
-    c.args.spare.now c.requires refl (omega arith) c.try_reserve.ensures.numbers c.try_reserve.ensures.firsts
+    c.args.spare.now c.requires refl (omega arith) c.try_reserve.ensures.numbers c.try_reserve.ensures.heads
     c.try_reserve.ensures.counts c.try_reserve.ensures.capacity
 
 pub returns-in_err-try_reserve-2-clause-reserves : goal.returns-in_err-try_reserve-2-clause-reserves
 returns-in_err-try_reserve-2-clause-reserves c =
     reserves-pairs c.args.held.now c.try_reserve-2.new.self c.args.pairs.now c.try_reserve.new.self c.args.label_index.now
     c.args.spare.now c.requires c.try_reserve-2.ensures.same c.try_reserve-2.ensures.capacity
-    c.try_reserve.ensures.numbers c.try_reserve.ensures.firsts c.try_reserve.ensures.counts
+    c.try_reserve.ensures.numbers c.try_reserve.ensures.heads c.try_reserve.ensures.counts
     c.try_reserve.ensures.capacity
 
 pub returns-in_err-try_reserve-3-clause-reserves : goal.returns-in_err-try_reserve-3-clause-reserves
 returns-in_err-try_reserve-3-clause-reserves c =
     reserves-kept c.args.held.now c.try_reserve-2.new.self c.args.pairs.now c.try_reserve.new.self c.args.label_index.now
     c.try_reserve-3.new.self c.args.spare.now c.requires c.try_reserve-2.ensures.same c.try_reserve-2.ensures.capacity
-    c.try_reserve.ensures.numbers c.try_reserve.ensures.firsts c.try_reserve.ensures.counts
+    c.try_reserve.ensures.numbers c.try_reserve.ensures.heads c.try_reserve.ensures.counts
     c.try_reserve.ensures.capacity c.try_reserve-3.ensures.roomier
 
 pub returns-clause-reserves : goal.returns-clause-reserves
@@ -29,7 +29,7 @@ returns-clause-reserves c =
     c.try_reserve-3.new.self c.args.spare.now
     (record { receipts = c.max-receipts.result; offers = c.max-offers.result }) c.requires
     c.try_reserve-2.ensures.same
-    c.try_reserve.ensures.numbers c.try_reserve.ensures.firsts c.try_reserve.ensures.counts
+    c.try_reserve.ensures.numbers c.try_reserve.ensures.heads c.try_reserve.ensures.counts
     c.try_reserve-3.ensures.roomier
     (record {
       held = c.in_ok-try_reserve-2.ensures.ok;

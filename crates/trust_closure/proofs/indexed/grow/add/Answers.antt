@@ -8,7 +8,7 @@ use Rattle.closure_core.specs.Inside.Nodes.{flags_of, count_at}
 use Rattle.trust_closure.specs.Inside.NodeCounts.{AddsNodes}
 use Rattle.trust_closure.specs.Inside.Indexed.{IsIndexed}
 use Rattle.trust_closure.proofs.NodeCountFacts.{counts-more, count_at-push, nodes_with-few}
-use Rattle.trust_closure.proofs.IndexFacts.{marked-within, marked-few, firsts-within, built-counts, gain-more}
+use Rattle.trust_closure.proofs.IndexFacts.{marked-within, marked-few, heads-within, built-counts, gain-more}
 use Rattle.trust_closure.proofs.indexed.grow.add.Goals as goal
 
 pub raise-requires-clause-nodes : goal.raise-requires-clause-nodes
@@ -18,11 +18,11 @@ raise-requires-clause-nodes c =
     let count = length c.marked-count.result.now in
     let nodes = c.marked.result.now in
     let all = marked-within c.place_receipt.new.held p w c.place_receipt.ensures.built in
-    let whole : All (λ n. n < length p.firsts) nodes = subst (All (λ n. n < length p.firsts)) (sym (c.marked.ensures.nodes ∙ c.reach-2.ensures.marked)) all in
-    subst (All (λ n. n < length p.firsts)) (sym (take_rest nodes count)) (All-drop (λ n. n < length p.firsts) count nodes whole)
+    let whole : All (λ n. n < length p.heads) nodes = subst (All (λ n. n < length p.heads)) (sym (c.marked.ensures.nodes ∙ c.reach-2.ensures.marked)) all in
+    subst (All (λ n. n < length p.heads)) (sym (take_rest nodes count)) (All-drop (λ n. n < length p.heads) count nodes whole)
 
-pub raise-requires-clause-firsts : goal.raise-requires-clause-firsts
-raise-requires-clause-firsts c = firsts-within c.place_receipt.new.held c.place_receipt.new.pairs c.place_receipt.new.label_index c.place_receipt.ensures.built
+pub raise-requires-clause-heads : goal.raise-requires-clause-heads
+raise-requires-clause-heads c = heads-within c.place_receipt.new.held c.place_receipt.new.pairs c.place_receipt.new.label_index c.place_receipt.ensures.built
 
 -- there are no more nodes than configured documents and receipts
 pub raise-requires-clause-few : goal.raise-requires-clause-few
@@ -39,7 +39,7 @@ raise-requires-clause-few c n =
       arith,
       at,
       c.requires.indexed.counts n,
-      nodes_with-few p.firsts before.marked n,
+      nodes_with-few p.heads before.marked n,
       ap length c.place_receipt.ensures.front,
       length-take (length before.marked) w.marked,
       ap length (take_rest nodes count),
@@ -62,20 +62,20 @@ returns-clause-indexed c =
     let marked : nodes ≡ w.marked = c.marked.ensures.nodes ∙ c.reach-2.ensures.marked in
     let size : count ≡ length c.args.label_index.now.marked = ap length (c.marked-count.ensures.nodes ∙ c.reach.ensures.marked) in
     let rest : take (length nodes - count) (drop count nodes) ≡ drop count w.marked = take_rest nodes count ∙ ap (drop count) marked in
-    let adds : AddsNodes q.firsts (drop count w.marked) (c.args.pairs.now.counts ++ 0 ∷ [])
+    let adds : AddsNodes q.heads (drop count w.marked) (c.args.pairs.now.counts ++ 0 ∷ [])
     q.counts =
-    subst (λ (ks : List ℕ). AddsNodes q.firsts (drop count w.marked) ks q.counts)
+    subst (λ (ks : List ℕ). AddsNodes q.heads (drop count w.marked) ks q.counts)
     c.place_receipt.ensures.counts
     (subst (λ (fs : List ℕ). AddsNodes fs (drop count w.marked) p.counts q.counts)
-    (sym c.raise.ensures.firsts)
-    (subst (λ (ns : List ℕ). AddsNodes p.firsts ns p.counts q.counts) rest c.raise.ensures.adds))
+    (sym c.raise.ensures.heads)
+    (subst (λ (ns : List ℕ). AddsNodes p.heads ns p.counts q.counts) rest c.raise.ensures.adds))
     in
     let indexed : IsIndexed h q w = record {
       built = built-counts h p q w c.place_receipt.ensures.built c.raise.ensures.numbers
-          c.raise.ensures.firsts c.raise.ensures.adds.size;
-      counts = counts-more c.args.pairs.now.firsts q.firsts c.args.label_index.now.marked w.marked
-          c.args.pairs.now.counts q.counts c.place_receipt.ensures.firsts.0 count
-          (c.raise.ensures.firsts ∙ c.place_receipt.ensures.firsts.1)
+          c.raise.ensures.heads c.raise.ensures.adds.size;
+      counts = counts-more c.args.pairs.now.heads q.heads c.args.label_index.now.marked w.marked
+          c.args.pairs.now.counts q.counts c.place_receipt.ensures.heads.0 count
+          (c.raise.ensures.heads ∙ c.place_receipt.ensures.heads.1)
           (ap (λ n. take n w.marked) size ∙ c.place_receipt.ensures.front)
           (marked-within c.args.held.now c.args.pairs.now c.args.label_index.now c.requires.indexed.built)
           c.requires.indexed.counts adds;
@@ -93,20 +93,20 @@ returns-clause-gain c =
     let marked : nodes ≡ w.marked = c.marked.ensures.nodes ∙ c.reach-2.ensures.marked in
     let size : count ≡ length c.args.label_index.now.marked = ap length (c.marked-count.ensures.nodes ∙ c.reach.ensures.marked) in
     let rest : take (length nodes - count) (drop count nodes) ≡ drop count w.marked = take_rest nodes count ∙ ap (drop count) marked in
-    let adds : AddsNodes q.firsts (drop count w.marked) (c.args.pairs.now.counts ++ 0 ∷ [])
+    let adds : AddsNodes q.heads (drop count w.marked) (c.args.pairs.now.counts ++ 0 ∷ [])
     q.counts =
-    subst (λ (ks : List ℕ). AddsNodes q.firsts (drop count w.marked) ks q.counts)
+    subst (λ (ks : List ℕ). AddsNodes q.heads (drop count w.marked) ks q.counts)
     c.place_receipt.ensures.counts
     (subst (λ (fs : List ℕ). AddsNodes fs (drop count w.marked) p.counts q.counts)
-    (sym c.raise.ensures.firsts)
-    (subst (λ (ns : List ℕ). AddsNodes p.firsts ns p.counts q.counts) rest c.raise.ensures.adds))
+    (sym c.raise.ensures.heads)
+    (subst (λ (ns : List ℕ). AddsNodes p.heads ns p.counts q.counts) rest c.raise.ensures.adds))
     in
     let indexed : IsIndexed h q w = record {
       built = built-counts h p q w c.place_receipt.ensures.built c.raise.ensures.numbers
-          c.raise.ensures.firsts c.raise.ensures.adds.size;
-      counts = counts-more c.args.pairs.now.firsts q.firsts c.args.label_index.now.marked w.marked
-          c.args.pairs.now.counts q.counts c.place_receipt.ensures.firsts.0 count
-          (c.raise.ensures.firsts ∙ c.place_receipt.ensures.firsts.1)
+          c.raise.ensures.heads c.raise.ensures.adds.size;
+      counts = counts-more c.args.pairs.now.heads q.heads c.args.label_index.now.marked w.marked
+          c.args.pairs.now.counts q.counts c.place_receipt.ensures.heads.0 count
+          (c.raise.ensures.heads ∙ c.place_receipt.ensures.heads.1)
           (ap (λ n. take n w.marked) size ∙ c.place_receipt.ensures.front)
           (marked-within c.args.held.now c.args.pairs.now c.args.label_index.now c.requires.indexed.built)
           c.requires.indexed.counts adds;

@@ -4,7 +4,7 @@ use Rattle.fed_config.specs.Configuration.{Configuration, AreDomains}
 use Rattle.trust_closure.specs.Inside.Labels.{Closes}
 use Rattle.trust_closure.specs.Inside.NodeCounts.{AreCounts}
 use Rattle.trust_closure.specs.Inside.Indexed.{IsBuilt, IsDistrusted, WasIndexed}
-use Rattle.trust_closure.proofs.IndexFacts.{firsts-within, pairs-few, distrusted-shut, shuts-all, built-closed, was-counted, work-of}
+use Rattle.trust_closure.proofs.IndexFacts.{heads-within, pairs-few, distrusted-shut, shuts-all, built-closed, was-counted, work-of}
 use Rattle.trust_closure.proofs.indexed.grow.close_all.Goals as goal
 
 pub recount-requires-clause-before : goal.recount-requires-clause-before
@@ -14,14 +14,14 @@ recount-requires-clause-before c =
     let b : WasIndexed h more c.args.pairs.now c.args.label_index.now = c.requires.before.1 in
     let p = c.args.pairs.now in
     let w = c.args.label_index.now in
-    let v = c.close_where-turns.new.self in
-    let turns : ℕ = c.close_where-turns.result in
-    let closes : Closes w (IsDistrusted h) v turns = c.close_where-turns.ensures.closes in
-    was-counted b.old p w v c.reach.result.now (IsDistrusted h) turns b.indexed closes
+    let v = c.close_where-work.new.self in
+    let work : ℕ = c.close_where-work.result in
+    let closes : Closes w (IsDistrusted h) v work = c.close_where-work.ensures.closes in
+    was-counted b.old p w v c.reach.result.now (IsDistrusted h) work b.indexed closes
     c.reach.ensures.marked c.reach.ensures.last
 
-pub recount-requires-clause-firsts : goal.recount-requires-clause-firsts
-recount-requires-clause-firsts c = let b = c.requires.before.1 in firsts-within b.old
+pub recount-requires-clause-heads : goal.recount-requires-clause-heads
+recount-requires-clause-heads c = let b = c.requires.before.1 in heads-within b.old
     c.args.pairs.now c.args.label_index.now b.indexed.built
 
 pub recount-requires-clause-few : goal.recount-requires-clause-few
@@ -49,20 +49,20 @@ returns-clause-indexed c =
     let b : WasIndexed h more c.args.pairs.now c.args.label_index.now = c.requires.before.1 in
     let p = c.args.pairs.now in
     let w = c.args.label_index.now in
-    let v = c.close_where-turns.new.self in
-    let turns : ℕ = c.close_where-turns.result in
-    let closes : Closes w (IsDistrusted h) v turns = c.close_where-turns.ensures.closes in
+    let v = c.close_where-work.new.self in
+    let work : ℕ = c.close_where-work.result in
+    let closes : Closes w (IsDistrusted h) v work = c.close_where-work.ensures.closes in
     let q = c.recount.new.pairs in
-    let built : IsBuilt h q v = built-closed b.old h more p q w v (IsDistrusted h) turns
+    let built : IsBuilt h q v = built-closed b.old h more p q w v (IsDistrusted h) work
     b.indexed.built b.before c.config-valid.ensures.valid
     (λ domains d. shuts-all domains b.old.records h.records more (IsDistrusted h) b.before.records
     (distrusted-shut h domains (subst (λ (k : Configuration). AreDomains k domains)
     (sym b.before.config) d)))
-    closes c.close_where-turns.ensures.reached c.recount.ensures.numbers c.recount.ensures.firsts
+    closes c.close_where-work.ensures.reached c.recount.ensures.numbers c.recount.ensures.heads
     c.recount.ensures.size in
     record {
       built = built;
-      counts = subst (λ (ns : List ℕ). AreCounts q.firsts ns q.counts)
+      counts = subst (λ (ns : List ℕ). AreCounts q.heads ns q.counts)
           c.reach.ensures.marked c.recount.ensures.counts;
     }
 
@@ -73,16 +73,16 @@ returns-clause-work c old before spare count was is =
     let b : WasIndexed h more c.args.pairs.now c.args.label_index.now = c.requires.before.1 in
     let p = c.args.pairs.now in
     let w = c.args.label_index.now in
-    let v = c.close_where-turns.new.self in
-    let turns : ℕ = c.close_where-turns.result in
-    let closes : Closes w (IsDistrusted h) v turns = c.close_where-turns.ensures.closes in
+    let v = c.close_where-work.new.self in
+    let work : ℕ = c.close_where-work.result in
+    let closes : Closes w (IsDistrusted h) v work = c.close_where-work.ensures.closes in
     let q = c.recount.new.pairs in
-    let built : IsBuilt h q v = built-closed b.old h more p q w v (IsDistrusted h) turns
+    let built : IsBuilt h q v = built-closed b.old h more p q w v (IsDistrusted h) work
     b.indexed.built b.before c.config-valid.ensures.valid
     (λ domains d. shuts-all domains b.old.records h.records more (IsDistrusted h) b.before.records
     (distrusted-shut h domains (subst (λ (k : Configuration). AreDomains k domains)
     (sym b.before.config) d)))
-    closes c.close_where-turns.ensures.reached c.recount.ensures.numbers c.recount.ensures.firsts
+    closes c.close_where-work.ensures.reached c.recount.ensures.numbers c.recount.ensures.heads
     c.recount.ensures.size in
-    work-of old h before p q w v spare count turns was is.built built c.config-valid.ensures.size
+    work-of old h before p q w v spare count work was is.built built c.config-valid.ensures.size
     closes

@@ -94,4 +94,4 @@ returns-in-Added-clause-work c spare =
     c.in-Added.is c.in_ok-add_record.ensures.meaning in
     let before = before-added c.args.held.now c.add_record.new.self x added
     c.in_ok-add_record.ensures.arrived in
-    c.close-fall.ensures.work c.args.held.now spare c.args.turns.now before c.requires.indexed
+    c.close-fall.ensures.work c.args.held.now spare c.args.work.now before c.requires.indexed

@@ -18,9 +18,9 @@ lower-fell-requires-clause-nodes c =
     c.marked-marked.ensures.nodes in
     let once = subst (λ (ns : List ℕ). AllPairs ◌≢◌ ns) marked
     c.marked-marked.ensures.reached.once in
-    subst (All (λ n. n < length c.args.pairs.now.firsts)) (sym c.fallen.ensures)
+    subst (All (λ n. n < length c.args.pairs.now.heads)) (sym c.fallen.ensures)
     (fallen-within b.net b.marked b.closing last.fallen last.kept c.args.reach.now.marked
-    b.reached b.fell once (λ n. n < length c.args.pairs.now.firsts) b.within)
+    b.reached b.fell once (λ n. n < length c.args.pairs.now.heads) b.within)
 
 pub lower-fell-requires-clause-counted : goal.lower-fell-requires-clause-counted
 lower-fell-requires-clause-counted c =
@@ -30,17 +30,17 @@ lower-fell-requires-clause-counted c =
     c.marked-marked.ensures.nodes in
     let once = subst (λ (ns : List ℕ). AllPairs ◌≢◌ ns) marked
     c.marked-marked.ensures.reached.once in
-    λ n. subst (λ (ns : List ℕ). nodes_with c.args.pairs.now.firsts ns n ≤ count_at
+    λ n. subst (λ (ns : List ℕ). nodes_with c.args.pairs.now.heads ns n ≤ count_at
     c.args.pairs.now.counts n) (sym c.fallen.ensures)
     (omega (
       arith,
       b.counts n,
       nodes-before b.net b.marked b.closing last.fallen last.kept
-          c.args.reach.now.marked b.reached b.fell once c.args.pairs.now.firsts n,
+          c.args.reach.now.marked b.reached b.fell once c.args.pairs.now.heads n,
     ))
 
-pub behind-again-requires : goal.behind-again-requires
-behind-again-requires c =
+pub nodes_after-again-requires : goal.nodes_after-again-requires
+nodes_after-again-requires c =
     let b = c.requires.before in
     let last = c.args.reach.now.last in
     let marked : c.marked-marked.result.now ≡ c.args.reach.now.marked =
@@ -63,14 +63,14 @@ raise-back-requires-clause-nodes c =
     c.marked-marked.ensures.nodes in
     let once = subst (λ (ns : List ℕ). AllPairs ◌≢◌ ns) marked
     c.marked-marked.ensures.reached.once in
-    let nodes : c.behind-again.result.now ≡ drop last.kept c.args.reach.now.marked =
-    c.behind-again.ensures ∙ ap (λ n. drop n c.marked-marked.result.now) c.kept.ensures
+    let nodes : c.nodes_after-again.result.now ≡ drop last.kept c.args.reach.now.marked =
+    c.nodes_after-again.ensures ∙ ap (λ n. drop n c.marked-marked.result.now) c.kept.ensures
     ∙ ap (drop last.kept) marked in
-    subst (All (λ n. n < length c.lower-fell.new.self.firsts)) (sym nodes)
+    subst (All (λ n. n < length c.lower-fell.new.self.heads)) (sym nodes)
     (subst (λ (fs : List ℕ). All (λ n. n < length fs) (drop last.kept c.args.reach.now.marked))
-    (sym c.lower-fell.ensures.firsts)
+    (sym c.lower-fell.ensures.heads)
     (again-within b.net b.marked b.closing last.fallen last.kept c.args.reach.now.marked b.reached
-    b.fell once (λ n. n < length c.args.pairs.now.firsts) b.within))
+    b.fell once (λ n. n < length c.args.pairs.now.heads) b.within))
 
 pub raise-back-requires-clause-few : goal.raise-back-requires-clause-few
 raise-back-requires-clause-few c =
@@ -80,12 +80,12 @@ raise-back-requires-clause-few c =
     c.marked-marked.ensures.nodes in
     let once = subst (λ (ns : List ℕ). AllPairs ◌≢◌ ns) marked
     c.marked-marked.ensures.reached.once in
-    let nodes : c.behind-again.result.now ≡ drop last.kept c.args.reach.now.marked =
-    c.behind-again.ensures ∙ ap (λ n. drop n c.marked-marked.result.now) c.kept.ensures
+    let nodes : c.nodes_after-again.result.now ≡ drop last.kept c.args.reach.now.marked =
+    c.nodes_after-again.ensures ∙ ap (λ n. drop n c.marked-marked.result.now) c.kept.ensures
     ∙ ap (drop last.kept) marked in
-    let takes : AddsNodes c.args.pairs.now.firsts last.fallen c.lower-fell.new.self.counts
+    let takes : AddsNodes c.args.pairs.now.heads last.fallen c.lower-fell.new.self.counts
     c.args.pairs.now.counts =
-    subst (λ (ns : List ℕ). AddsNodes c.args.pairs.now.firsts ns c.lower-fell.new.self.counts
+    subst (λ (ns : List ℕ). AddsNodes c.args.pairs.now.heads ns c.lower-fell.new.self.counts
     c.args.pairs.now.counts) c.fallen.ensures c.lower-fell.ensures.takes in
     λ n. omega (
       arith,
@@ -93,10 +93,10 @@ raise-back-requires-clause-few c =
       takes.each n,
       b.counts n,
       nodes-before b.net b.marked b.closing last.fallen last.kept c.args.reach.now.marked b.reached
-          b.fell once c.args.pairs.now.firsts n,
-      nodes_with-few c.args.pairs.now.firsts (take last.kept c.args.reach.now.marked) n,
+          b.fell once c.args.pairs.now.heads n,
+      nodes_with-few c.args.pairs.now.heads (take last.kept c.args.reach.now.marked) n,
       marked-few b.net b.marked b.closing last.fallen last.kept c.args.reach.now.marked b.reached
-          b.fell once (length c.args.pairs.now.firsts) b.within,
+          b.fell once (length c.args.pairs.now.heads) b.within,
       c.requires.few,
     )
 
@@ -108,18 +108,18 @@ overflow_sub-result c =
     c.marked-marked.ensures.nodes in
     let once = subst (λ (ns : List ℕ). AllPairs ◌≢◌ ns) marked
     c.marked-marked.ensures.reached.once in
-    let nodes : c.behind-again.result.now ≡ drop last.kept c.args.reach.now.marked =
-    c.behind-again.ensures ∙ ap (λ n. drop n c.marked-marked.result.now) c.kept.ensures
+    let nodes : c.nodes_after-again.result.now ≡ drop last.kept c.args.reach.now.marked =
+    c.nodes_after-again.ensures ∙ ap (λ n. drop n c.marked-marked.result.now) c.kept.ensures
     ∙ ap (drop last.kept) marked in
-    let takes : AddsNodes c.args.pairs.now.firsts last.fallen c.lower-fell.new.self.counts
+    let takes : AddsNodes c.args.pairs.now.heads last.fallen c.lower-fell.new.self.counts
     c.args.pairs.now.counts =
-    subst (λ (ns : List ℕ). AddsNodes c.args.pairs.now.firsts ns c.lower-fell.new.self.counts
+    subst (λ (ns : List ℕ). AddsNodes c.args.pairs.now.heads ns c.lower-fell.new.self.counts
     c.args.pairs.now.counts) c.fallen.ensures c.lower-fell.ensures.takes in
-    let adds : AddsNodes c.args.pairs.now.firsts (drop last.kept c.args.reach.now.marked)
+    let adds : AddsNodes c.args.pairs.now.heads (drop last.kept c.args.reach.now.marked)
     c.lower-fell.new.self.counts c.raise-back.new.self.counts =
     subst (λ (fs : List ℕ). AddsNodes fs (drop last.kept c.args.reach.now.marked)
-    c.lower-fell.new.self.counts c.raise-back.new.self.counts) c.lower-fell.ensures.firsts
-    (subst (λ (ns : List ℕ). AddsNodes c.lower-fell.new.self.firsts ns c.lower-fell.new.self.counts
+    c.lower-fell.new.self.counts c.raise-back.new.self.counts) c.lower-fell.ensures.heads
+    (subst (λ (ns : List ℕ). AddsNodes c.lower-fell.new.self.heads ns c.lower-fell.new.self.counts
     c.raise-back.new.self.counts) nodes c.raise-back.ensures.adds) in
     let kept = flags-kept c.raise-back.new.self.counts c.args.pairs.now.counts
     (λ n. omega (
@@ -127,7 +127,7 @@ overflow_sub-result c =
       adds.each n,
       takes.each n,
       nodes-again b.net b.marked b.closing
-          last.fallen last.kept c.args.reach.now.marked b.reached b.fell once c.args.pairs.now.firsts
+          last.fallen last.kept c.args.reach.now.marked b.reached b.fell once c.args.pairs.now.heads
           n,
     )) in
     let less = count-fewer (flags_of c.raise-back.new.self.counts)
@@ -150,31 +150,31 @@ returns-clause-counts c =
     c.marked-marked.ensures.nodes in
     let once = subst (λ (ns : List ℕ). AllPairs ◌≢◌ ns) marked
     c.marked-marked.ensures.reached.once in
-    let nodes : c.behind-again.result.now ≡ drop last.kept c.args.reach.now.marked =
-    c.behind-again.ensures ∙ ap (λ n. drop n c.marked-marked.result.now) c.kept.ensures
+    let nodes : c.nodes_after-again.result.now ≡ drop last.kept c.args.reach.now.marked =
+    c.nodes_after-again.ensures ∙ ap (λ n. drop n c.marked-marked.result.now) c.kept.ensures
     ∙ ap (drop last.kept) marked in
-    let takes : AddsNodes c.args.pairs.now.firsts last.fallen c.lower-fell.new.self.counts
+    let takes : AddsNodes c.args.pairs.now.heads last.fallen c.lower-fell.new.self.counts
     c.args.pairs.now.counts =
-    subst (λ (ns : List ℕ). AddsNodes c.args.pairs.now.firsts ns c.lower-fell.new.self.counts
+    subst (λ (ns : List ℕ). AddsNodes c.args.pairs.now.heads ns c.lower-fell.new.self.counts
     c.args.pairs.now.counts) c.fallen.ensures c.lower-fell.ensures.takes in
-    let adds : AddsNodes c.args.pairs.now.firsts (drop last.kept c.args.reach.now.marked)
+    let adds : AddsNodes c.args.pairs.now.heads (drop last.kept c.args.reach.now.marked)
     c.lower-fell.new.self.counts c.raise-back.new.self.counts =
     subst (λ (fs : List ℕ). AddsNodes fs (drop last.kept c.args.reach.now.marked)
-    c.lower-fell.new.self.counts c.raise-back.new.self.counts) c.lower-fell.ensures.firsts
-    (subst (λ (ns : List ℕ). AddsNodes c.lower-fell.new.self.firsts ns c.lower-fell.new.self.counts
+    c.lower-fell.new.self.counts c.raise-back.new.self.counts) c.lower-fell.ensures.heads
+    (subst (λ (ns : List ℕ). AddsNodes c.lower-fell.new.self.heads ns c.lower-fell.new.self.counts
     c.raise-back.new.self.counts) nodes c.raise-back.ensures.adds) in
     subst (λ (fs : List ℕ). AreCounts fs c.args.reach.now.marked c.raise-back.new.self.counts)
-    (sym (c.raise-back.ensures.firsts ∙ c.lower-fell.ensures.firsts))
+    (sym (c.raise-back.ensures.heads ∙ c.lower-fell.ensures.heads))
     (λ n. omega (
       arith,
       adds.each n,
       takes.each n,
       b.counts n,
       nodes-before b.net b.marked b.closing
-          last.fallen last.kept c.args.reach.now.marked b.reached b.fell once c.args.pairs.now.firsts
+          last.fallen last.kept c.args.reach.now.marked b.reached b.fell once c.args.pairs.now.heads
           n,
       nodes-now b.net b.marked b.closing last.fallen last.kept c.args.reach.now.marked
-          b.reached b.fell once c.args.pairs.now.firsts n,
+          b.reached b.fell once c.args.pairs.now.heads n,
     ))
 
 pub returns-clause-count : goal.returns-clause-count
@@ -185,18 +185,18 @@ returns-clause-count c =
     c.marked-marked.ensures.nodes in
     let once = subst (λ (ns : List ℕ). AllPairs ◌≢◌ ns) marked
     c.marked-marked.ensures.reached.once in
-    let nodes : c.behind-again.result.now ≡ drop last.kept c.args.reach.now.marked =
-    c.behind-again.ensures ∙ ap (λ n. drop n c.marked-marked.result.now) c.kept.ensures
+    let nodes : c.nodes_after-again.result.now ≡ drop last.kept c.args.reach.now.marked =
+    c.nodes_after-again.ensures ∙ ap (λ n. drop n c.marked-marked.result.now) c.kept.ensures
     ∙ ap (drop last.kept) marked in
-    let takes : AddsNodes c.args.pairs.now.firsts last.fallen c.lower-fell.new.self.counts
+    let takes : AddsNodes c.args.pairs.now.heads last.fallen c.lower-fell.new.self.counts
     c.args.pairs.now.counts =
-    subst (λ (ns : List ℕ). AddsNodes c.args.pairs.now.firsts ns c.lower-fell.new.self.counts
+    subst (λ (ns : List ℕ). AddsNodes c.args.pairs.now.heads ns c.lower-fell.new.self.counts
     c.args.pairs.now.counts) c.fallen.ensures c.lower-fell.ensures.takes in
-    let adds : AddsNodes c.args.pairs.now.firsts (drop last.kept c.args.reach.now.marked)
+    let adds : AddsNodes c.args.pairs.now.heads (drop last.kept c.args.reach.now.marked)
     c.lower-fell.new.self.counts c.raise-back.new.self.counts =
     subst (λ (fs : List ℕ). AddsNodes fs (drop last.kept c.args.reach.now.marked)
-    c.lower-fell.new.self.counts c.raise-back.new.self.counts) c.lower-fell.ensures.firsts
-    (subst (λ (ns : List ℕ). AddsNodes c.lower-fell.new.self.firsts ns c.lower-fell.new.self.counts
+    c.lower-fell.new.self.counts c.raise-back.new.self.counts) c.lower-fell.ensures.heads
+    (subst (λ (ns : List ℕ). AddsNodes c.lower-fell.new.self.heads ns c.lower-fell.new.self.counts
     c.raise-back.new.self.counts) nodes c.raise-back.ensures.adds) in
     let kept = flags-kept c.raise-back.new.self.counts c.args.pairs.now.counts
     (λ n. omega (
@@ -204,7 +204,7 @@ returns-clause-count c =
       adds.each n,
       takes.each n,
       nodes-again b.net b.marked b.closing
-          last.fallen last.kept c.args.reach.now.marked b.reached b.fell once c.args.pairs.now.firsts
+          last.fallen last.kept c.args.reach.now.marked b.reached b.fell once c.args.pairs.now.heads
           n,
     )) in
     let less = count-fewer (flags_of c.raise-back.new.self.counts)

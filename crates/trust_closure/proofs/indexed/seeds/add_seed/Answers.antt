@@ -16,7 +16,7 @@ add-requires-clause-pairing c =
     subst (λ (rs : List Receipt). IsDocumentTable (pairs_of c.args.earlier.now rs) c.try_reserve.new.self) (sym c.arrived.ensures)
     (pairing-counts (pairs_of c.args.earlier.now c.args.held.now.arrived) c.args.pairs.now
     c.try_reserve.new.self c.requires.seeded.pairing c.try_reserve.ensures.numbers
-    c.try_reserve.ensures.firsts (ap length c.try_reserve.ensures.counts))
+    c.try_reserve.ensures.heads (ap length c.try_reserve.ensures.counts))
 
 pub offer_triples-requires-clause-domains : goal.offer_triples-requires-clause-domains
 offer_triples-requires-clause-domains c =
@@ -30,9 +30,9 @@ returns c =
     subst (λ (rs : List Receipt). IsDocumentTable (pairs_of c.args.earlier.now rs ++ pair_of_seed c.args.seed.now ∷ [])
     c.add.new.self) c.arrived.ensures c.add.ensures.pairing in
     seeded-more h c.args.earlier.now c.args.seed.now c.args.pairs.now c.try_reserve.new.self c.add.new.self
-    c.args.label_index.now c.offer_triples.new.label_index c.add.ensures.firsts.0 c.requires.arrived c.requires.seeded
-    pairing c.try_reserve.ensures.counts c.try_reserve.ensures.firsts c.add.ensures.counts
-    c.add.ensures.firsts.1 c.in_ok-try_reserve.ensures.ok c.add.ensures.capacity
+    c.args.label_index.now c.offer_triples.new.label_index c.add.ensures.heads.0 c.requires.arrived c.requires.seeded
+    pairing c.try_reserve.ensures.counts c.try_reserve.ensures.heads c.add.ensures.counts
+    c.add.ensures.heads.1 c.in_ok-try_reserve.ensures.ok c.add.ensures.capacity
     (wired-seed h c.args.earlier.now c.args.seed.now c.args.label_index.now c.try_reserve-2.new.self c.add_node-node.new.self
     c.mark.new.self c.offer_triples.new.label_index c.add_node-node.result c.as_slice.result.now
     c.requires.seeded.wired c.try_reserve-2.ensures.roomier c.add_node-node.ensures.node c.mark.ensures.rooted

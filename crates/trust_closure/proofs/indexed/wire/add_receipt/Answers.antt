@@ -17,7 +17,12 @@ await_triple-requires-clause-domain c =
 
 pub await_triple-requires-clause-node : goal.await_triple-requires-clause-node
 await_triple-requires-clause-node c =
-    omega (arith, c.add_node-node.ensures.node.number, ap (λ n. length n.roots) c.add_node-node.ensures.node.net, length_push c.args.label_index.now.net.roots false)
+    omega (
+      arith,
+      c.add_node-node.ensures.node.number,
+      ap (λ n. length n.roots) c.add_node-node.ensures.node.net,
+      length_push c.args.label_index.now.net.roots false,
+    )
 
 pub offer_triples-requires-clause-domains : goal.offer_triples-requires-clause-domains
 offer_triples-requires-clause-domains c =
@@ -48,7 +53,8 @@ returns-clause-wired c domains spots d h =
     let offers = c.offer_triples.ensures.wired domains spots (record { rooted = false; offers = []; awaits = Some c.need.result.now }) d at waits in
     let same : record { rooted = false; offers = [] ++ c.offers.result.now; awaits = Some c.need.result.now } ≡ receipt_node c.args.receipt.now =
     ap (λ (os : List Triple). let s : NodeSpec Triple = record { rooted = false; offers = os; awaits = Some c.need.result.now } in s) c.offers.ensures
-    ∙ ap (λ (t : Triple). let s : NodeSpec Triple = record { rooted = false; offers = offers_of (pair_of c.args.receipt.now); awaits = Some t } in s) c.need.ensures
+    ∙ ap (λ (t : Triple). let s : NodeSpec Triple = record { rooted = false; offers = offers_of (pair_of c.args.receipt.now); awaits = Some t } in
+    s) c.need.ensures
     in
     subst (λ (s : NodeSpec Triple). IsLabelIndexOf domains c.args.held.now.records (spots ++ s ∷ []) c.offer_triples.new.label_index) same offers
 

@@ -3,7 +3,7 @@ use Rattle.std.proofs.Common.{◌∙◌, ◌-◌, length, arith, ap}
 use Rattle.fed_config.specs.Configuration.{Configuration}
 use Rattle.closure_core.specs.Inside.Nodes.{flags_of}
 use Rattle.trust_closure.specs.Inside.Plain.{HasPlainFlags}
-use Rattle.trust_closure.proofs.PlainChangeFacts.{firsts-lowered, raised-as, settled-from, set-closed, loss-fallen}
+use Rattle.trust_closure.proofs.PlainChangeFacts.{heads-lowered, raised-as, settled-from, set-closed, loss-fallen}
 use Rattle.trust_closure.proofs.plain.changes.fall.Goals as goal
 
 pub settle-requires-clause-offers : goal.settle-requires-clause-offers
@@ -22,8 +22,8 @@ settle-requires-clause-same c =
     c.config-valid.ensures.valid c.lower.ensures.size in
     set.same
 
-pub count_accepted-after-requires-clause-firsts : goal.count_accepted-after-requires-clause-firsts
-count_accepted-after-requires-clause-firsts c =
+pub count_accepted-after-requires-clause-heads : goal.count_accepted-after-requires-clause-heads
+count_accepted-after-requires-clause-heads c =
     let new = c.args.held.now in
     let p = c.args.pairs.now in
     let low = c.clear-before.new.self in
@@ -33,7 +33,7 @@ count_accepted-after-requires-clause-firsts c =
     let rel1 = c.lower.new.released.items in
     let set = set-closed b.old new b.more p offers old rel1 b.settled.set b.before
     c.config-valid.ensures.valid c.lower.ensures.size in
-    firsts-lowered new p low offers rel1 set c.clear-before.ensures.firsts
+    heads-lowered new p low offers rel1 set c.clear-before.ensures.heads
     c.clear-before.ensures.size
 
 pub overflow_sub-result : goal.overflow_sub-result
@@ -49,12 +49,12 @@ overflow_sub-result c =
     c.config-valid.ensures.valid c.lower.ensures.size in
     let q = c.count_accepted-after.new.pairs in
     let rel = c.settle.new.released.items in
-    let list = c.count_accepted-after.ensures.firsts ∙ c.clear-before.ensures.firsts in
+    let list = c.count_accepted-after.ensures.heads ∙ c.clear-before.ensures.heads in
     let size = c.count_accepted-after.ensures.size ∙ c.clear-before.ensures.size in
     let raised = raised-as (flags_of q.counts) (length c.seeds.result.now) (length new.config.seeds)
-    c.deref.result.now rel low.firsts p.firsts
+    c.deref.result.now rel low.heads p.heads
     (ap length (c.seeds.ensures ∙ ap (λ (a : Configuration). a.seeds) c.config.ensures.config))
-    c.deref.ensures.value c.clear-before.ensures.firsts c.count_accepted-after.ensures.raised in
+    c.deref.ensures.value c.clear-before.ensures.heads c.count_accepted-after.ensures.raised in
     let settled : HasPlainFlags new q offers rel = settled-from new p q offers rel1 rel set
     c.settle.ensures.size c.settle.ensures.released
     (c.count_accepted-after.ensures.numbers ∙ c.clear-before.ensures.numbers) list size raised in
@@ -75,12 +75,12 @@ returns-clause-settled c =
     c.config-valid.ensures.valid c.lower.ensures.size in
     let q = c.count_accepted-after.new.pairs in
     let rel = c.settle.new.released.items in
-    let list = c.count_accepted-after.ensures.firsts ∙ c.clear-before.ensures.firsts in
+    let list = c.count_accepted-after.ensures.heads ∙ c.clear-before.ensures.heads in
     let size = c.count_accepted-after.ensures.size ∙ c.clear-before.ensures.size in
     let raised = raised-as (flags_of q.counts) (length c.seeds.result.now) (length new.config.seeds)
-    c.deref.result.now rel low.firsts p.firsts
+    c.deref.result.now rel low.heads p.heads
     (ap length (c.seeds.ensures ∙ ap (λ (a : Configuration). a.seeds) c.config.ensures.config))
-    c.deref.ensures.value c.clear-before.ensures.firsts c.count_accepted-after.ensures.raised in
+    c.deref.ensures.value c.clear-before.ensures.heads c.count_accepted-after.ensures.raised in
     let settled : HasPlainFlags new q offers rel = settled-from new p q offers rel1 rel set
     c.settle.ensures.size c.settle.ensures.released
     (c.count_accepted-after.ensures.numbers ∙ c.clear-before.ensures.numbers) list size raised in
@@ -99,12 +99,12 @@ returns-clause-loss c was xs before is =
     c.config-valid.ensures.valid c.lower.ensures.size in
     let q = c.count_accepted-after.new.pairs in
     let rel = c.settle.new.released.items in
-    let list = c.count_accepted-after.ensures.firsts ∙ c.clear-before.ensures.firsts in
+    let list = c.count_accepted-after.ensures.heads ∙ c.clear-before.ensures.heads in
     let size = c.count_accepted-after.ensures.size ∙ c.clear-before.ensures.size in
     let raised = raised-as (flags_of q.counts) (length c.seeds.result.now) (length new.config.seeds)
-    c.deref.result.now rel low.firsts p.firsts
+    c.deref.result.now rel low.heads p.heads
     (ap length (c.seeds.ensures ∙ ap (λ (a : Configuration). a.seeds) c.config.ensures.config))
-    c.deref.ensures.value c.clear-before.ensures.firsts c.count_accepted-after.ensures.raised in
+    c.deref.ensures.value c.clear-before.ensures.heads c.count_accepted-after.ensures.raised in
     let settled : HasPlainFlags new q offers rel = settled-from new p q offers rel1 rel set
     c.settle.ensures.size c.settle.ensures.released
     (c.count_accepted-after.ensures.numbers ∙ c.clear-before.ensures.numbers) list size raised in

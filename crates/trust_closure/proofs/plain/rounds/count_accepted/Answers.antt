@@ -20,13 +20,13 @@ loop-node-init c =
     let low = λ (n : ℕ). zero-lowered c.args.pairs.now.counts n (c.requires.lowered n) in
     record {
       numbers = refl;
-      firsts = refl;
+      heads = refl;
       size = refl;
       few = λ n. omega (arith, c.requires.lowered n);
       raised = λ n. (
         λ e. absurd (both_ways (is_raised (flags_of c.args.pairs.now.counts) n) (low n)
             e),
-        λ f. absurd (first-none c.args.seeds c.args.released.now c.args.pairs.now.firsts n
+        λ f. absurd (first-none c.args.seeds c.args.released.now c.args.pairs.now.heads n
             f),
       );
       count = count-lowered (flags_of c.args.pairs.now.counts) low;
@@ -54,28 +54,28 @@ loop-node-preserved c =
     let i = c.loop-node.invariant in
     let seeds = c.args.seeds in
     let released = c.args.released.now in
-    let firsts = c.args.pairs.now.firsts in
+    let heads = c.args.pairs.now.heads in
     let k = c.loop-node.node in
     elim c.if-is_accepted_node.branch [
       | then-is_accepted_node w ↦
           let q = w.raise-count.new.self in
-          let adds : AddsNodes firsts (k ∷ []) c.loop-node.pairs.counts q.counts =
-          subst (λ (fs : List ℕ). AddsNodes fs (k ∷ []) c.loop-node.pairs.counts q.counts) i.firsts
-          (subst (λ (n : ℕ). AddsNodes c.loop-node.pairs.firsts (n ∷ [])
+          let adds : AddsNodes heads (k ∷ []) c.loop-node.pairs.counts q.counts =
+          subst (λ (fs : List ℕ). AddsNodes fs (k ∷ []) c.loop-node.pairs.counts q.counts) i.heads
+          (subst (λ (n : ℕ). AddsNodes c.loop-node.pairs.heads (n ∷ [])
           c.loop-node.pairs.counts q.counts) w.new.ensures w.raise-count.ensures.adds) in
           record {
             numbers = ap (λ p. p.numbers) w.pairs-is ∙ w.raise-count.ensures.numbers ∙ i.numbers;
-            firsts = ap (λ p. p.firsts) w.pairs-is ∙ w.raise-count.ensures.firsts ∙ i.firsts;
+            heads = ap (λ p. p.heads) w.pairs-is ∙ w.raise-count.ensures.heads ∙ i.heads;
             size = ap (λ p. length p.counts) w.pairs-is ∙ w.raise-count.ensures.adds.size ∙ i.size;
             few = λ n. subst (λ p. count_at p.counts n ≤ k + 1) (sym w.pairs-is)
-                (omega (arith, adds.each n, i.few n, nodes_with-few firsts (k ∷ []) n));
+                (omega (arith, adds.each n, i.few n, nodes_with-few heads (k ∷ []) n));
             raised = λ n. subst (λ p. (is_raised (flags_of p.counts) n ≡ true) ↔ IsFirstAccepted seeds
-                released firsts (k + 1) n) (sym w.pairs-is)
-                (first-more seeds released firsts k (k ∷ []) refl
+                released heads (k + 1) n) (sym w.pairs-is)
+                (first-more seeds released heads k (k ∷ []) refl
                 (c.is_accepted_node.ensures.0 w.if-is_accepted_node.true) (flags_of c.loop-node.pairs.counts)
                 (flags_of q.counts)
-                (flags-raised firsts (k ∷ []) c.loop-node.pairs.counts q.counts
-                (All-cons (λ n. n < length firsts) k []
+                (flags-raised heads (k ∷ []) c.loop-node.pairs.counts q.counts
+                (All-cons (λ n. n < length heads) k []
                 (omega (arith, c.loop-node-test.true, c.len-node-end.ensures))
                 (λ j d l. absurd (omega (arith, l)))) adds)
                 i.raised n);
@@ -91,15 +91,15 @@ loop-node-preserved c =
       | else-is_accepted_node w ↦
           record {
             numbers = ap (λ p. p.numbers) w.pairs-is ∙ i.numbers;
-            firsts = ap (λ p. p.firsts) w.pairs-is ∙ i.firsts;
+            heads = ap (λ p. p.heads) w.pairs-is ∙ i.heads;
             size = ap (λ p. length p.counts) w.pairs-is ∙ i.size;
             few = λ n. subst (λ p. count_at p.counts n ≤ k + 1) (sym w.pairs-is)
                 (omega (arith, i.few n));
             raised = λ n. subst (λ p. (is_raised (flags_of p.counts) n ≡ true) ↔ IsFirstAccepted seeds
-                released firsts (k + 1) n) (sym w.pairs-is) (
-                  λ e. first-later seeds released firsts k n ((i.raised n).0 e),
+                released heads (k + 1) n) (sym w.pairs-is) (
+                  λ e. first-later seeds released heads k n ((i.raised n).0 e),
                   λ f. (i.raised n).1
-                      (first-skip seeds released firsts k
+                      (first-skip seeds released heads k
                       (λ had. both_ways c.is_accepted_node.result w.if-is_accepted_node.false
                       (c.is_accepted_node.ensures.1 had)) n f),
                 );

@@ -9,11 +9,11 @@ use Rattle.trust_closure.proofs.plain.rounds.count_accepted.Given as goal
 abbrev pub invariant-loop-node : goal.invariant-loop-node
 invariant-loop-node l = record {
   numbers : l.pairs.numbers ≡ l.initial.pairs.numbers;
-  firsts : l.pairs.firsts ≡ l.initial.pairs.firsts;
+  heads : l.pairs.heads ≡ l.initial.pairs.heads;
   size : length l.pairs.counts ≡ length l.initial.pairs.counts;
   few : (number : ℕ) → count_at l.pairs.counts number ≤ l.node;
   raised : (number : ℕ) → (is_raised (flags_of l.pairs.counts) number ≡ true) ↔ IsFirstAccepted l.seeds
-      l.released l.initial.pairs.firsts l.node number;
+      l.released l.initial.pairs.heads l.node number;
   count : raised_count (flags_of l.pairs.counts) ≡ l.count;
   capacity : l.pairs.capacity ≡ l.initial.pairs.capacity;
 }

@@ -7,6 +7,6 @@ use Rattle.trust_closure.proofs.shared.counts.lower_all.Given as goal
 
 abbrev pub invariant-loop-node : goal.invariant-loop-node
 invariant-loop-node l = record {
-  takes : AddsNodes l.firsts (take l.node-index l.nodes) l.counts l.initial.counts;
+  takes : AddsNodes l.heads (take l.node-index l.nodes) l.counts l.initial.counts;
   count : raised_count (flags_of l.initial.counts) ≡ raised_count (flags_of l.counts) + l.count;
 }

@@ -7,6 +7,6 @@ use Rattle.trust_closure.proofs.shared.counts.raise_all.Given as goal
 
 abbrev pub invariant-loop-node : goal.invariant-loop-node
 invariant-loop-node l = record {
-  adds : AddsNodes l.firsts (take l.node-index l.nodes) l.initial.counts l.counts;
+  adds : AddsNodes l.heads (take l.node-index l.nodes) l.initial.counts l.counts;
   count : raised_count (flags_of l.counts) ≡ raised_count (flags_of l.initial.counts) + l.count;
 }

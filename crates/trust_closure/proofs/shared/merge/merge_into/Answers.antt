@@ -83,12 +83,12 @@ returns-clause-work g c =
         subst (AreOld (g.C.Mergeable.state start).meaning) own
             (subst (λ (k : Meaning). AreOld k c.distrusts.result) c.make_room.ensures.meaning
             same.0),
-        c.take_all.ensures.turns ∙ same.1 ∙ c.make_room.ensures.turns,
+        c.take_all.ensures.same_work ∙ same.1 ∙ c.make_room.ensures.same_work,
       )
       | inr work ↦ inr (
-          subst (g.C.Mergeable.IsWork start other.records) (sym c.take_all.ensures.turns)
+          subst (g.C.Mergeable.IsWork start other.records) (sym c.take_all.ensures.same_work)
           (subst (λ (xs : List Distrust). g.C.Mergeable.IsWork start xs
-          (g.C.Mergeable.turns c.distrust_all.new.self)) own
-          (c.make_room.ensures.work c.distrusts.result (g.C.Mergeable.turns c.distrust_all.new.self)
+          (g.C.Mergeable.work_done c.distrust_all.new.self)) own
+          (c.make_room.ensures.work c.distrusts.result (g.C.Mergeable.work_done c.distrust_all.new.self)
           work)))
     ]

@@ -14,7 +14,7 @@ loop-receipt-init g c =
     record {
       joining = IsJoining-start (g.C.Mergeable.state c.args.closure.now) (into_iter_items c.into_iter-receipt-iterator.result)
           (subst (FitWithinRoom (g.C.Mergeable.state c.args.closure.now)) (sym given.0) c.requires);
-      turns = refl;
+      same_work = refl;
       size = given.1 ∙ c.args.receipts.ok.0 ∙ sym (ap length given.0);
     }
 
@@ -28,7 +28,7 @@ loop-receipt-preserved g c =
           (into_iter_items c.next.new.self) c.in-Some.receipt c.take_one.result
           c.held.ensures c.config-valid.ensures.valid c.config-valid.ensures.form
           c.loop-receipt.invariant.joining steps c.take_one.ensures.takes;
-      turns = c.take_one.ensures.turns ∙ c.loop-receipt.invariant.turns;
+      same_work = c.take_one.ensures.same_work ∙ c.loop-receipt.invariant.same_work;
       size = omega (arith, c.in-Some.ensures.steps.1, ap length steps, c.loop-receipt.invariant.size);
     }
 
@@ -42,7 +42,7 @@ loop-receipt-preserved-in-Some g c =
           (into_iter_items c.next.new.self) c.in-Some.receipt c.take_one.result
           c.held.ensures c.config-valid.ensures.valid c.config-valid.ensures.form
           c.loop-receipt.invariant.joining steps c.take_one.ensures.takes;
-      turns = c.take_one.ensures.turns ∙ c.loop-receipt.invariant.turns;
+      same_work = c.take_one.ensures.same_work ∙ c.loop-receipt.invariant.same_work;
       size = omega (arith, c.in-Some.ensures.steps.1, ap length steps, c.loop-receipt.invariant.size);
     }
 

@@ -8,6 +8,6 @@ abbrev pub invariant-loop-receipt : goal.invariant-loop-receipt
 invariant-loop-receipt g l = record {
   joining : IsJoining (g.C.Mergeable.state l.initial.closure) (g.C.Mergeable.state l.closure)
       (into_iter_items l.initial.receipt-iterator) (into_iter_items l.receipt-iterator);
-  turns : g.C.Mergeable.turns l.closure ≡ g.C.Mergeable.turns l.initial.closure;
+  same_work : g.C.Mergeable.work_done l.closure ≡ g.C.Mergeable.work_done l.initial.closure;
   size : into_iter_len l.receipt-iterator ≡ length (into_iter_items l.receipt-iterator);
 }

@@ -9,6 +9,6 @@ pub returns-clause-work : goal.returns-clause-work
 returns-clause-work c =
     let x : Distrust = record { domain = c.args.domain.now; key = c.args.key } in
     let after : Indexed = indexed_of c.lose.new.held c.lose.new.label_index c.self.inside.spare
-    c.lose.new.turns in
+    c.lose.new.work in
     subst (λ v. Works v x after c.lose.result) c.self.view_is
     (c.lose.ensures.work c.self.inside.spare)

@@ -7,4 +7,4 @@ use Rattle.trust_closure.proofs.indexed.closure.IndexedClosure.index.Goals as go
 pub returns-clause-is : goal.returns-clause-is
 returns-clause-is c = subst IsIndexOf c.self.view_is
     (index-of_kept c.self.inside.held c.self.inside.pairs c.self.inside.label_index c.self.inside.spare
-    c.self.inside.turns c.self.invariant c.config-config.ensures.size)
+    c.self.inside.work c.self.invariant c.config-config.ensures.size)

@@ -4,7 +4,7 @@ use Rattle.std.specs.List.{All}
 use Rattle.fed_config.specs.declared.seed.Seed.{Seed}
 use Rattle.fed_config.specs.Configuration.{Configuration, HasDomain, AreDomains}
 use Rattle.receipt_core.specs.Acceptance.{Meaning}
-use Rattle.trust_closure.proofs.IndexFacts.{seeds-domains, built-seeded, kept-seeded, marked-within, marked-few, firsts-within}
+use Rattle.trust_closure.proofs.IndexFacts.{seeds-domains, built-seeded, kept-seeded, marked-within, marked-few, heads-within}
 use Rattle.trust_closure.proofs.indexed.closure.IndexedClosure.new.Goals as goal
 
 pub add_seeds-requires-clause-domains : goal.add_seeds-requires-clause-domains
@@ -24,10 +24,10 @@ raise-requires-clause-nodes c =
     (ap (λ (m : Meaning). m.held) c.in_ok-held.ensures.0) c.in_ok-held.ensures.1
     (subst (λ (k : Configuration). AreDomains k c.domains-domains.result.now) c.config.ensures.config
     c.domains-domains.ensures.all) seeds c.in_ok-add_seeds.ensures in
-    subst (All (λ n. n < length p.firsts)) (sym marked) (marked-within h p w built)
+    subst (All (λ n. n < length p.heads)) (sym marked) (marked-within h p w built)
 
-pub raise-requires-clause-firsts : goal.raise-requires-clause-firsts
-raise-requires-clause-firsts c =
+pub raise-requires-clause-heads : goal.raise-requires-clause-heads
+raise-requires-clause-heads c =
     let h = c.in_ok-held.held in
     let p = c.add_seeds.new.pairs in
     let w = c.add_seeds.new.label_index in
@@ -36,7 +36,7 @@ raise-requires-clause-firsts c =
     (ap (λ (m : Meaning). m.held) c.in_ok-held.ensures.0) c.in_ok-held.ensures.1
     (subst (λ (k : Configuration). AreDomains k c.domains-domains.result.now) c.config.ensures.config
     c.domains-domains.ensures.all) seeds c.in_ok-add_seeds.ensures in
-    firsts-within h p w built
+    heads-within h p w built
 
 pub raise-requires-clause-few : goal.raise-requires-clause-few
 raise-requires-clause-few c n =
@@ -79,5 +79,5 @@ invariant_of-result c =
       ap (λ (a : Configuration). length a.seeds) c.config-2.ensures.config,
       ap (λ (a : Configuration). length a.seeds) c.config.ensures.config,
     ))
-    c.raise.ensures.numbers c.raise.ensures.firsts c.raise.ensures.capacity marked
+    c.raise.ensures.numbers c.raise.ensures.heads c.raise.ensures.capacity marked
     c.raise.ensures.adds

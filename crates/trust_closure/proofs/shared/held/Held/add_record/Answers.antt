@@ -4,7 +4,7 @@ use Rattle.receipt_core.specs.Receipt.{IsDigest}
 use Rattle.sorted_order.specs.ArenaView.{in_order}
 use Rattle.closure_core.specs.Inside.Records.{distrust_by}
 use Rattle.trust_closure.specs.Inside.Held.{HeldReceipts, meaning_of, addition_result, AddsOrRefuses, domains_of}
-use Rattle.trust_closure.proofs.ConfigFacts.{place_few, place_below, place_is, hoard_add, told_adds, meaning_with}
+use Rattle.trust_closure.proofs.ConfigFacts.{place_few, place_below, place_is, hoard_add, added_or_refused, meaning_with}
 use Rattle.trust_closure.proofs.shared.held.Held.add_record.Goals as goal
 
 pub record_of-requires : goal.record_of-requires
@@ -44,5 +44,5 @@ returns-clause-meaning c =
     (meaning_with c.self.inside.config (in_order c.self.inside.receipts) c.self.inside.records) d
     (meaning_with c.self.inside.config (in_order c.self.inside.receipts) c.add.new.self)
     (addition_result c.add.result)) same
-    (told_adds c.self.inside.config (in_order c.self.inside.receipts) c.self.inside.records c.add.new.self
+    (added_or_refused c.self.inside.config (in_order c.self.inside.receipts) c.self.inside.records c.add.new.self
     c.record_of.result below c.self.invariant.within c.add.result c.add.ensures)))

@@ -29,7 +29,8 @@ invariant_of-self c =
     subst (λ (h : HeldReceipts). IsMissing (λ s. receipt_cmp s c.args.receipt) h.held c.args.place) (sym c.self.view_is) c.requires.absent.missing in
     let fits : IsFitting c.self.inside.config c.args.receipt =
     subst (λ (h : HeldReceipts). IsFitting h.config c.args.receipt) (sym c.self.view_is) c.requires.absent.fits in
-    let few : length (in_order c.self.inside.receipts) < 65536 = subst (λ (h : HeldReceipts). length h.held < 65536) (sym c.self.view_is) c.requires.absent.few in
+    let few : length (in_order c.self.inside.receipts) < 65536 =
+    subst (λ (h : HeldReceipts). length h.held < 65536) (sym c.self.view_is) c.requires.absent.few in
     let size : length (in_order c.self.inside.receipts) ≡ length c.self.inside.receipts.items =
     length_in_order c.self.inside.receipts c.self.invariant.arranged in
     let gap : IsGap (λ n. compared_at (λ x. bucket_cmp x c.args.receipt) c.self.inside.receipts.items n) c.self.inside.buckets.items c.before-spot.result =
