@@ -1,5 +1,5 @@
 -- Labels in order are found, and one that is missing has a place
-use Rattle.std.proofs.Common.{◌≡◌, ℕ, zero, suc, ◌+◌, ◌-◌, ◌<◌, ◌≤◌, inl, inr, List, [], ◌∷◌, length, get_or, Option}
+use Rattle.std.proofs.Common.{◌≡◌, ℕ, ◌+◌, ◌-◌, ◌<◌, ◌≤◌, inl, inr, List, [], ◌∷◌, length, get_or, Option}
 use Rattle.std.proofs.Common.{Some, None, arith, refl, sym, ap, ◌∙◌, subst}
 use Rattle.std.specs.Prelude.{Contains, slice_get}
 use Rattle.std.specs.declared.cmp.Ordering.{Ordering}
@@ -7,8 +7,7 @@ use Rattle.std.specs.declared.cmp.Ordering.TheVariants.{Less, Equal, Greater}
 use Rattle.std.specs.Cmp.{IsTotalOrder}
 use Rattle.std.specs.Cmp.Lexicographic.{slice_cmp}
 use Rattle.std.specs.Ordering.{nat_cmp, ordering_then, ordering_index, ordering_reverse}
-use Rattle.std.specs.List.{insert, cons_option, All}
-use Rattle.std.proofs.lemmas.List.Elements.{All-tail}
+use Rattle.std.specs.List.{insert, cons_option}
 use Rattle.std.proofs.lemmas.Bool.{cases_lt, cases_order}
 use Rattle.std.proofs.lemmas.Cmp.{nat_cmp_total, nat_list_cmp_total, on_total, then_total, tied_itself}
 use Rattle.std.proofs.lemmas.List.Edits.{length-insert, get_or-insert_below, get_or-insert_at, get_or-insert_above}
@@ -144,12 +143,6 @@ Contains-cons_option_here : {A : Type 0} (o : Option A) (rest : List A) (x : A) 
 Contains-cons_option_here None rest x e = absurd (none-some x e)
 Contains-cons_option_here (Some y) rest x e = subst (λ z. Contains (z ∷ rest) x) (sym (same_Some y x e)) (contains_first x rest)
 
--- A place without an item is past the end.
-slice_get_none : {A : Type 0} (xs : List A) (i : ℕ) → slice_get xs i ≡ None → length xs ≤ i
-slice_get_none [] i e = omega arith
-slice_get_none (x ∷ xs) zero e = absurd (none-some x (sym e))
-slice_get_none (x ∷ xs) (suc i) e = let h = slice_get_none xs i e in omega (arith, h)
-
 -- The item with a listed number is picked.
 pub Contains-picked : {A : Type 0} (items : List A) (numbers : List ℕ) (number : ℕ) (x : A) → Contains numbers number
     → slice_get items number ≡ Some x → Contains (picked items numbers) x
@@ -159,18 +152,6 @@ Contains-picked items (n ∷ numbers) number x c e =
       | inl h ↦ Contains-cons_option_here (slice_get items n) (picked items numbers) x (ap (λ k. slice_get items k) h ∙ e)
       | inr h ↦ Contains-cons_option_later (slice_get items n) (picked items numbers) x (Contains-picked items numbers number x h e)
     ]
-
--- An option that has an item makes the list longer by one.
-length-cons_option_if : {A : Type 0} (o : Option A) (rest : List A) → (o ≡ None → ⊥) → length (cons_option o rest) ≡ suc (length rest)
-length-cons_option_if None rest n = absurd (n refl)
-length-cons_option_if (Some y) rest n = refl
-
--- There is one picked item for each number.
-pub length-picked : {A : Type 0} (items : List A) (numbers : List ℕ) → All (λ n. n < length items) numbers → length (picked items numbers) ≡ length numbers
-length-picked items [] h = refl
-length-picked items (n ∷ numbers) h =
-    length-cons_option_if (slice_get items n) (picked items numbers) (λ e. omega (arith, h 0 0 (omega arith), slice_get_none items n e))
-    ∙ ap suc (length-picked items numbers (All-tail (λ k. k < length items) n numbers h))
 
 -- A label that the search does not find is not there.
 pub missing-not_contained : (stock : ArenaView Label) (place : ℕ) (x : Label) → Arranges stock.order (length stock.items)

@@ -10,7 +10,7 @@ AreUnopened index labels = (label : ℕ) → Contains labels label → IsOpen in
 
 -- The labels are closed from now on, with this much work: so many times an edge was looked at. The
 -- reached nodes are marked, in their old order where no label was open. There is the same room, and
--- no more visits than before. What fell is told.
+-- no more visits than before. The index says what fell.
 pub record ClosesWithWork (old : Index) (labels : List ℕ) (new : Index) (work : ℕ) : Type 0 where
   pub net : new.net ≡ with_all_closed old.net labels
   pub marked : ListsReached new.net new.marked

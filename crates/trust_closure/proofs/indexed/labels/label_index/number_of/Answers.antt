@@ -3,9 +3,10 @@ use Rattle.std.proofs.Common.{length, Some, inl, inr, arith, refl, sym, ap, â—Œâ
 use Rattle.std.specs.Prelude.{slice_get}
 use Rattle.std.proofs.lemmas.Option.{slice_get-get_or}
 use Rattle.sorted_order.specs.ArenaView.{in_order}
+use Rattle.sorted_order.proofs.PickedFacts.{length-picked}
 use Rattle.trust_closure.specs.declared.indexed.labels.label.Label.{Label}
 use Rattle.trust_closure.specs.Inside.Labels.{IsInOrder}
-use Rattle.trust_closure.proofs.LabelOrderFacts.{label-exact, rising-from_in_order, in_order-insert, length-picked, missing-not_contained}
+use Rattle.trust_closure.proofs.LabelOrderFacts.{label-exact, rising-from_in_order, in_order-insert, missing-not_contained}
 use Rattle.trust_closure.proofs.RepresentFacts.{slice_get-push}
 use Rattle.trust_closure.proofs.indexed.labels.label_index.number_of.Goals as goal
 
