@@ -19,7 +19,8 @@ use Rattle.bundle_view.specs.declared.conflict.ConflictKind.{ConflictKind}
 use Rattle.bundle_view.specs.declared.conflict.ConflictKind.TheVariants.{Keys, HintOnly}
 use Rattle.bundle_view.specs.Conflicts.{ConflictGroup, IsConflictGroup, AreConflictGroups, AreConflicts, IsOfKind, group_cmp, OfDomain, report_all}
 use Rattle.bundle_view.specs.Conflicts.{AreAllConflicts, ReportedConflict}
-use Rattle.bundle_view.proofs.RisingListFacts.{contains_first, contains_later, contains_none, contains_cases, same_list}
+use Rattle.closure_core.proofs.ContainsFacts.{contains_first, contains_later, contains_none, contains_cases}
+use Rattle.bundle_view.proofs.RisingListFacts.{same_list}
 use Rattle.bundle_view.proofs.RisingListFacts.{rising_none, rising_one, rising_append, rising_across, rising_first}
 use Rattle.bundle_view.proofs.RisingListFacts.{rising_rest, two_in_one, first_of}
 
@@ -87,7 +88,8 @@ group_below group (x ∷ others) rising ended d e h k =
 -- ---- one property in place of another
 
 -- a conflict among the documents with a property is one among those with an equivalent one
-pub clash_iff : (P Q : Bundle → Type 0) → ((d : Bundle) → P d → Q d) → ((d : Bundle) → Q d → P d) → (c : ConflictGroup) → IsConflictGroup P c → IsConflictGroup Q c
+pub clash_iff : (P Q : Bundle → Type 0) → ((d : Bundle) → P d → Q d) → ((d : Bundle) → Q d → P d) → (c : ConflictGroup)
+    → IsConflictGroup P c → IsConflictGroup Q c
 clash_iff P Q f g c is = record {
   rising = is.rising;
   exactly = λ d. (λ h. let r = (is.exactly d).0 h in (f d r.0, r.1), λ r. (is.exactly d).1 (g d r.0, r.1));
@@ -96,7 +98,8 @@ clash_iff P Q f g c is = record {
 }
 
 -- the same for the list of all conflicts
-pub clashes_iff : (P Q : Bundle → Type 0) → ((d : Bundle) → P d → Q d) → ((d : Bundle) → Q d → P d) → (cs : List ConflictGroup) → AreConflictGroups P cs → AreConflictGroups Q cs
+pub clashes_iff : (P Q : Bundle → Type 0) → ((d : Bundle) → P d → Q d) → ((d : Bundle) → Q d → P d) → (cs : List ConflictGroup)
+    → AreConflictGroups P cs → AreConflictGroups Q cs
 clashes_iff P Q f g cs are = record {
   rising = are.rising;
   sound = λ c h. clash_iff P Q f g c (are.sound c h);

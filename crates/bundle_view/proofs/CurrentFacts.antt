@@ -8,7 +8,7 @@ use Rattle.receipt_core.specs.Acceptance.{Meaning, IsMember}
 use Rattle.closure_core.specs.AcceptedList.{document_cmp, document_of, IsAcceptedList}
 use Rattle.closure_core.specs.Order.{document_total}
 use Rattle.bundle_view.specs.Current.{IsCurrent, IsNoLower}
-use Rattle.bundle_view.proofs.RisingListFacts.{contains_first, contains_later, contains_none, contains_cases}
+use Rattle.closure_core.proofs.ContainsFacts.{contains_first, contains_later, contains_none, contains_cases}
 use Rattle.bundle_view.proofs.RisingListFacts.{not_below_itself, not_both, rising_first, rising_rest, only_one}
 
 -- it is among them, and none is greater

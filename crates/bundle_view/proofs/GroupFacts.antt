@@ -60,7 +60,7 @@ pub so_far_step : (domain : List ℕ) (documents : List Bundle) (start len : ℕ
     → SoFar domain documents (start + len) old more
 so_far_step domain documents start len rest old new more rising e s is a =
     let rising_rest : IsStrictlySortedBy document_cmp rest = rising_parts documents start rest rising e in
-    let behind : drop len rest ≡ drop (start + len) documents = ap (drop len) e ∙ drop-drop len start documents in
+    let left_over : drop len rest ≡ drop (start + len) documents = ap (drop len) e ∙ drop-drop len start documents in
     let size : length rest ≡ length documents - start = ap length e ∙ length-drop start documents in
     record {
       within = let low = s.within in let high = is.within in omega arith;
@@ -71,7 +71,7 @@ so_far_step domain documents start len rest old new more rising e s is a =
       all = λ others are.
           let here : AreConflictGroups (Contains rest) (a.clashes ++ others) =
           group_first rest len a.clashes others rising_rest is a.are
-          (subst (λ (z : List Bundle). AreConflictGroups (Contains z) others) (sym behind) are) in
+          (subst (λ (z : List Bundle). AreConflictGroups (Contains z) others) (sym left_over) are) in
           subst (AreConflictGroups (Contains documents)) (sym (append_assoc s.clashes a.clashes others))
           (s.all (a.clashes ++ others) (subst (λ (z : List Bundle). AreConflictGroups (Contains z) (a.clashes ++ others)) e here));
     }

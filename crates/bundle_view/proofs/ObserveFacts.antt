@@ -1,8 +1,7 @@
--- What an observation rests on: one endpoint of a domain, and that what is vouched for and held is accepted.
+-- What an observation rests on: that what is vouched for and held is accepted.
 use Rattle.std.proofs.Common.{◌≡◌, ℕ, ◌⊎◌, inl, inr, ◌↔◌, List, [], ◌∷◌, ◌++◌, Option, None, Result, Ok, Err}
-use Rattle.std.proofs.Common.{MatchResult, Less, refl, sym, ap, ◌∙◌, subst, arith}
+use Rattle.std.proofs.Common.{MatchResult, refl, sym, ap, ◌∙◌, subst, arith}
 use Rattle.std.specs.List.{Contains, AllByRecursion}
-use Rattle.std.proofs.lemmas.Cmp.{nat_list_cmp_total}
 use Rattle.spiffe_name.specs.SpiffeId.{Id}
 use Rattle.bundle_doc.specs.Bundle.{Bundle, IsDocument}
 use Rattle.bundle_doc.specs.Refusal.{RefusesBytes}
@@ -11,7 +10,7 @@ use Rattle.bundle_doc.specs.declared.error.DocError.{DocError}
 use Rattle.bundle_doc.specs.declared.error.DocError.TheVariants.{TooLong, NotJson, NotObject, NoKeys, BadSequence}
 use Rattle.bundle_doc.specs.declared.error.DocError.TheVariants.{BadRefreshHint, CanonicalTooLong}
 use Rattle.bundle_doc.specs.declared.error.DocError.TheVariants.{NoMemory as NoMemoryToRead}
-use Rattle.fed_config.specs.Configuration.{Configuration, IsConfiguration, relationship_cmp, domain_cmp}
+use Rattle.fed_config.specs.Configuration.{Configuration, IsConfiguration}
 use Rattle.fed_config.specs.declared.relationship.Relationship.{Relationship}
 use Rattle.receipt_core.specs.declared.distrust.Distrust.{Distrust}
 use Rattle.receipt_core.specs.Receipt.{Receipt, IsReceipt, Pair, pair_of, receipt_cmp, with_receipt}
@@ -20,6 +19,7 @@ use Rattle.receipt_core.specs.Sets.{AreSets}
 use Rattle.receipt_core.specs.Acceptance.{IsFitting, Vouches, Meaning, IsMeaning, IsMember, pair_of_seed}
 use Rattle.receipt_core.proofs.LineFacts.{one_receipt}
 use Rattle.receipt_core.proofs.RisingFacts.{AreSets-from_total}
+use Rattle.receipt_core.proofs.SearchFacts.{one_relationship}
 use Rattle.closure_core.specs.declared.error.TakeError.{TakeError}
 use Rattle.closure_core.specs.declared.error.TakeError.TheVariants.{UnknownDomain, WrongEndpoint as OtherEndpoint, Full, NoMemory, ConfigDiffers}
 use Rattle.closure_core.specs.declared.outcome.Taken.{Taken}
@@ -31,12 +31,12 @@ use Rattle.closure_core.proofs.MemberFacts.{leads_more}
 use Rattle.bundle_view.specs.Current.{IsCurrent}
 use Rattle.bundle_view.specs.Observe.{IsEndpointOf, IsVouchedFor, IsObservation, HasObserved, of_document}
 use Rattle.bundle_view.specs.Observe.{RefusesEndpoint, RefusesVerdict, RefusesTaking, RefusesObservation}
-use Rattle.bundle_view.specs.Observe.{HasNotObserved}
+use Rattle.bundle_view.specs.Observe.{HasNotObserved, FetchedBundle}
 use Rattle.bundle_view.specs.Inside.Observing.{IsVoucher, HasKept, HasNotKept}
 use Rattle.bundle_view.specs.declared.observation.Verdict.{Verdict}
 use Rattle.bundle_view.specs.declared.observe_error.ObserveError.{ObserveError}
 use Rattle.bundle_view.specs.declared.observe_error.ObserveError.TheVariants.{NoRelationship, WrongEndpoint, Take}
-use Rattle.bundle_view.proofs.RisingListFacts.{contains_later, contains_cases, not_below_itself, only_one}
+use Rattle.closure_core.proofs.ContainsFacts.{contains_later, contains_cases}
 
 -- ---- a record that is another one is passed over
 
@@ -50,16 +50,6 @@ passed_over all ahead rest first x e other same = (
     | inr later ↦ later
   ],
 )
-
--- ---- one relationship with a domain
-
--- a domain has one relationship at most
-pub one_relationship : (c : Configuration) (domain : List ℕ) (x y : Relationship) → IsConfiguration c
-    → Contains c.relationships x → Contains c.relationships y → x.domain ≡ domain → y.domain ≡ domain → x ≡ y
-one_relationship c domain x y form has_x has_y e f =
-    only_one relationship_cmp c.relationships x y form.rising_relationships has_x has_y
-    (λ less. not_below_itself nat_list_cmp_total y.domain (subst (λ (d : List ℕ). domain_cmp d y.domain ≡ Less) (e ∙ sym f) less))
-    (λ less. not_below_itself nat_list_cmp_total x.domain (subst (λ (d : List ℕ). domain_cmp d x.domain ≡ Less) (f ∙ sym e) less))
 
 -- ---- what is vouched for and held is accepted
 
@@ -99,6 +89,10 @@ accepted_then m p r valid form is fits vouches =
 
 -- ---- the receipt of an observation
 
+-- a bundle by its parts
+abbrev pub fetched_as : List ℕ → List ℕ → Verdict → FetchedBundle
+fetched_as domain bytes verdict = record { domain = domain; bytes = bytes; verdict = verdict }
+
 -- the receipt of an observation, with the id of its voucher
 abbrev observed_of : List ℕ → Verdict → DocId → Bundle → Receipt
 observed_of domain verdict id document = record { domain = domain; endpoint = verdict.endpoint; document = document; voucher = id; key = verdict.key }
@@ -106,7 +100,7 @@ observed_of domain verdict id document = record { domain = domain; endpoint = ve
 -- an authentic verdict and bytes that are a document are an observation with this receipt
 observation : (m : Meaning) (domain bytes : List ℕ) (verdict : Verdict) (id : DocId) (document : Bundle)
     → IsVoucher m domain verdict id → IsDocument bytes document
-    → IsObservation m domain bytes verdict (observed_of domain verdict id document)
+    → IsObservation m (fetched_as domain bytes verdict) (observed_of domain verdict id document)
 observation m domain bytes verdict id document is read = record {
   voucher = is.voucher;
   authentic = is.authentic;
@@ -149,11 +143,11 @@ pub observed : (old new : HeldAndRoom) (domain bytes : List ℕ) (verdict : Verd
     (copy : Receipt) → IsMeaning old.meaning → IsReceipt (observed_of domain verdict id document)
     → IsVoucher old.meaning domain verdict id → IsDocument bytes document
     → HasKept old (observed_of domain verdict id document) new copy
-    → HasObserved old.meaning domain bytes verdict new.meaning copy
+    → HasObserved old.meaning (fetched_as domain bytes verdict) new.meaning copy
 observed old new domain bytes verdict id document copy valid form is read kept =
     let r : Receipt = observed_of domain verdict id document in
     let meaning : new.meaning ≡ holding old.meaning r = meaning_of_took old new r kept.taken valid kept.took in
-    subst (HasObserved old.meaning domain bytes verdict new.meaning) (sym kept.same) record {
+    subst (HasObserved old.meaning (fetched_as domain bytes verdict) new.meaning) (sym kept.same) record {
       observation = observation old.meaning domain bytes verdict id document is read;
       meaning = meaning;
       held = subst (λ (m : Meaning). Contains m.held r) (sym meaning) ((sets.members r r old.meaning.held form valid.receipts).1 (inl refl));
@@ -169,12 +163,12 @@ vouched_for m domain verdict id is = (is.voucher, is.authentic)
 -- where memory ran out after the bytes were read, the observation is refused for that
 pub wants_memory : (m : Meaning) (domain bytes : List ℕ) (verdict : Verdict) (id : DocId) (document : Bundle)
     → IsVoucher m domain verdict id → IsDocument bytes document
-    → RefusesObservation m domain bytes verdict (Take NoMemory)
+    → RefusesObservation m (fetched_as domain bytes verdict) (Take NoMemory)
 wants_memory m domain bytes verdict id document is read = (vouched_for m domain verdict id is, read.short)
 
 -- where the bytes are no document, the observation is refused for that
 pub unread : (m : Meaning) (domain bytes : List ℕ) (verdict : Verdict) (id : DocId) (e : DocError) → IsVoucher m domain verdict id → RefusesBytes bytes e
-    → RefusesObservation m domain bytes verdict (of_document e)
+    → RefusesObservation m (fetched_as domain bytes verdict) (of_document e)
 unread m domain bytes verdict id NoMemoryToRead is refuses = (vouched_for m domain verdict id is, refuses)
 unread m domain bytes verdict id TooLong is refuses = (vouched_for m domain verdict id is, (λ h. cc), refuses)
 unread m domain bytes verdict id NotJson is refuses = (vouched_for m domain verdict id is, (λ h. cc), refuses)
@@ -190,16 +184,15 @@ other_endpoint : (m : Meaning) (domain : List ℕ) (verdict : Verdict) (r : Rece
     → IsOfWrongEndpoint m.config r → ⊥
 other_endpoint m domain verdict r form is e f wrong =
     let same : wrong.relationship ≡ is.relationship =
-    one_relationship m.config domain wrong.relationship is.relationship form wrong.has is.found.0 (wrong.domain ∙ e)
-    is.found.1 in
+    one_relationship m.config wrong.relationship is.relationship form wrong.has is.found.0 (wrong.domain ∙ e ∙ sym is.found.1) in
     wrong.other (ap (λ (x : Relationship). x.endpoint) same ∙ is.endpoint_is ∙ sym f)
 
 -- where the receipt was not taken, the observation is refused for that
 untaken : (m : Meaning) (room : Room) (domain bytes : List ℕ) (verdict : Verdict) (id : DocId) (document : Bundle)
     (e : TakeError) → IsConfiguration m.config → IsVoucher m domain verdict id → IsDocument bytes document
-    → (e ≡ NoMemory) ⊎ RefusesReceipt m room (observed_of domain verdict id document) e → RefusesTaking m domain bytes verdict e
+    → (e ≡ NoMemory) ⊎ RefusesReceipt m room (observed_of domain verdict id document) e → RefusesTaking m (fetched_as domain bytes verdict) e
 untaken m room domain bytes verdict id document e form is read (inl memory) =
-    subst (RefusesTaking m domain bytes verdict) (sym memory) (wants_memory m domain bytes verdict id document is read)
+    subst (RefusesTaking m (fetched_as domain bytes verdict)) (sym memory) (wants_memory m domain bytes verdict id document is read)
 untaken m room domain bytes verdict id document UnknownDomain form is read (inr refuses) =
     refuses is.authentic.endpoint.relationship is.authentic.endpoint.found.0 is.authentic.endpoint.found.1
 untaken m room domain bytes verdict id document OtherEndpoint form is read (inr refuses) =
@@ -212,9 +205,9 @@ untaken m room domain bytes verdict id document ConfigDiffers form is read (inr 
 -- where the receipt was not taken, nothing is observed and nothing lost
 pub not_kept : (old new : HeldAndRoom) (domain bytes : List ℕ) (verdict : Verdict) (id : DocId) (document : Bundle)
     (why : ObserveError) → IsConfiguration old.meaning.config → IsVoucher old.meaning domain verdict id
-    → IsDocument bytes document → HasNotKept old (observed_of domain verdict id document) new why → HasNotObserved old domain bytes verdict new why
+    → IsDocument bytes document → HasNotKept old (observed_of domain verdict id document) new why → HasNotObserved old (fetched_as domain bytes verdict) new why
 not_kept old new domain bytes verdict id document why form is read kept = record {
-  cause = subst (RefusesObservation old.meaning domain bytes verdict) (sym kept.is)
+  cause = subst (RefusesObservation old.meaning (fetched_as domain bytes verdict)) (sym kept.is)
       (untaken old.meaning old.room domain bytes verdict id document kept.error form is read kept.cause);
   unchanged = kept.unchanged;
 }
@@ -256,7 +249,7 @@ concluded : (old new : HeldAndRoom) (domain bytes : List ℕ) (verdict : Verdict
     (result : Result Receipt ObserveError) → IsMeaning old.meaning → IsConfiguration old.meaning.config
     → IsReceipt (observed_of domain verdict id document) → IsVoucher old.meaning domain verdict id → IsDocument bytes document
     → MatchResult result (HasKept old (observed_of domain verdict id document) new) (HasNotKept old (observed_of domain verdict id document) new)
-    → MatchResult result (HasObserved old.meaning domain bytes verdict new.meaning) (HasNotObserved old domain bytes verdict new)
+    → MatchResult result (HasObserved old.meaning (fetched_as domain bytes verdict) new.meaning) (HasNotObserved old (fetched_as domain bytes verdict) new)
 concluded old new domain bytes verdict id document (Ok copy) valid config form is read kept =
     observed old new domain bytes verdict id document copy valid form is read kept
 concluded old new domain bytes verdict id document (Err why) valid config form is read kept =
@@ -267,7 +260,7 @@ pub ended : (old new : HeldAndRoom) (domain bytes : List ℕ) (verdict : Verdict
     (r : Receipt) (result : Result Receipt ObserveError) → r ≡ observed_of domain verdict id document
     → IsMeaning old.meaning → IsConfiguration old.meaning.config → IsReceipt r → IsVoucher old.meaning domain verdict id → IsDocument bytes document
     → MatchResult result (HasKept old r new) (HasNotKept old r new)
-    → MatchResult result (HasObserved old.meaning domain bytes verdict new.meaning) (HasNotObserved old domain bytes verdict new)
+    → MatchResult result (HasObserved old.meaning (fetched_as domain bytes verdict) new.meaning) (HasNotObserved old (fetched_as domain bytes verdict) new)
 ended old new domain bytes verdict id document r result e valid config form is read kept =
     concluded old new domain bytes verdict id document result valid config (subst IsReceipt e form) is read
     (subst (λ (x : Receipt). MatchResult result (HasKept old x new) (HasNotKept old x new)) e kept)

@@ -19,7 +19,8 @@ use Rattle.bundle_view.specs.Inside.Sections.{HasReportHead, AddsSection, HasSec
 use Rattle.bundle_view.specs.Report.{Section, IsSection, IsReport, report_text, head_text, section_text, current_line}
 use Rattle.bundle_view.specs.Report.{accepted_line, conflict_line, distrust_line, records_of, document_text}
 use Rattle.bundle_view.specs.Report.{sequence_text}
-use Rattle.bundle_view.proofs.RisingListFacts.{contains_first, contains_later, same_list, joined}
+use Rattle.closure_core.proofs.ContainsFacts.{contains_first, contains_later}
+use Rattle.bundle_view.proofs.RisingListFacts.{same_list, joined}
 use Rattle.bundle_view.proofs.CurrentFacts.{one_current}
 use Rattle.bundle_view.proofs.ConflictFacts.{one_list, one_domains}
 use Rattle.bundle_view.proofs.GroupFacts.{conflicts_of}

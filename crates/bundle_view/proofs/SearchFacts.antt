@@ -23,7 +23,7 @@ use Rattle.receipt_core.proofs.LineFacts.{one_triple}
 use Rattle.closure_core.specs.Inside.Nodes.{is_raised}
 use Rattle.closure_core.specs.Inside.Flags.{raised_count}
 use Rattle.bundle_view.specs.Inside.Search.{Stride, HasStride, AreFollowed, AreMarked, AreVisited, IsAddedStep, AppendsSteps, FollowsOffers, IsEdgeDue}
-use Rattle.bundle_view.proofs.RisingListFacts.{contains_first, contains_none, contains_cases}
+use Rattle.closure_core.proofs.ContainsFacts.{contains_first, contains_none, contains_cases}
 
 -- ---- places
 
@@ -169,7 +169,7 @@ adds_more waiting offers before most old new s adds is = record {
   ];
 }
 
--- steps that were added in two turns were added in all
+-- steps that were added in two parts were added in all
 pub adds_both : (waiting : List Receipt) (some others all : List Triple) (before : Option ℕ) (most : ℕ)
     (old mid new : List Stride) → ((t : Triple) → Contains some t → Contains all t)
     → ((t : Triple) → Contains others t → Contains all t)

@@ -11,7 +11,7 @@ use Rattle.bundle_view.specs.declared.conflict.ConflictKind.TheVariants.{Keys, H
 use Rattle.bundle_view.specs.Current.{IsNoLower}
 use Rattle.bundle_view.specs.Conflicts.{IsOfKind}
 use Rattle.bundle_view.specs.Report.{current_line, conflict_line, distrust_line, records_of, sequence_text}
-use Rattle.bundle_view.proofs.RisingListFacts.{contains_first, contains_later, contains_none, contains_cases}
+use Rattle.closure_core.proofs.ContainsFacts.{contains_first, contains_later, contains_none, contains_cases}
 
 -- a document from its parts
 abbrev document : List Authority → Option ℕ → Option ℕ → Bundle

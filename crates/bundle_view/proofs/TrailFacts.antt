@@ -11,7 +11,7 @@ use Rattle.receipt_core.specs.Receipt.{Receipt, Pair, pair_of, offers_of}
 use Rattle.receipt_core.specs.Acceptance.{pair_of_seed}
 use Rattle.bundle_view.specs.Inside.Search.{Stride, IsStride, AreStrides, AreFollowed, AreVisited, IsAddedStep, AppendsSteps}
 use Rattle.bundle_view.specs.Inside.Search.{FollowsOffers, IsSearchBegun, IsSearched, IsBackFrom, IsShorter, AreLinkedSteps}
-use Rattle.bundle_view.proofs.RisingListFacts.{contains_first, contains_none}
+use Rattle.closure_core.proofs.ContainsFacts.{contains_first, contains_none}
 use Rattle.bundle_view.proofs.SearchFacts.{more-AreFollowed, wider, old_at}
 
 -- ---- what stands goes on standing

@@ -16,7 +16,8 @@ use Rattle.receipt_core.specs.Order.{distrust_total}
 use Rattle.receipt_core.specs.Acceptance.{Meaning, distrust_of}
 use Rattle.receipt_core.proofs.LineFacts.{one_distrust}
 use Rattle.bundle_view.specs.Inside.Search.{AreTrusted}
-use Rattle.bundle_view.proofs.RisingListFacts.{contains_first, contains_later, contains_none, contains_cases, rising_first, rising_rest, not_both}
+use Rattle.closure_core.proofs.ContainsFacts.{contains_first, contains_later, contains_none, contains_cases}
+use Rattle.bundle_view.proofs.RisingListFacts.{rising_first, rising_rest, not_both}
 
 -- ---- a record is among those that rise
 

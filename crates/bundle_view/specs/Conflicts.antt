@@ -56,7 +56,7 @@ pub record AreConflictGroups (P : Bundle → Type 0) (clashes : List ConflictGro
 abbrev pub AreConflicts : Meaning → List ℕ → List ConflictGroup → Type 0
 AreConflicts m domain clashes = AreConflictGroups (λ d. IsMember m (document_of domain d)) clashes
 
--- ---- as they are told
+-- ---- as they are reported
 
 -- a conflict by the ids of its documents
 pub record ReportedConflict : Type 0 where

@@ -6,7 +6,7 @@ use Rattle.bundle_doc.specs.Bundle.{Bundle, IsDocument, HasKeyId, document_limit
 use Rattle.bundle_doc.specs.Refusal.{RefusesBytes}
 use Rattle.bundle_doc.specs.declared.error.DocError.{DocError}
 use Rattle.bundle_doc.specs.declared.error.DocError.TheVariants.{NoMemory as NoMemoryToRead}
-use Rattle.fed_config.specs.Configuration.{Configuration, IsRelationshipOf}
+use Rattle.fed_config.specs.Configuration.{Configuration, IsConfiguration, IsRelationshipOf}
 use Rattle.fed_config.specs.declared.relationship.Relationship.{Relationship}
 use Rattle.receipt_core.specs.declared.distrust.Distrust.{Distrust}
 use Rattle.receipt_core.specs.Receipt.{Receipt, pair_of, with_receipt}
@@ -14,6 +14,7 @@ use Rattle.receipt_core.specs.Acceptance.{Meaning, IsMember}
 use Rattle.closure_core.specs.declared.error.TakeError.{TakeError}
 use Rattle.closure_core.specs.declared.error.TakeError.TheVariants.{Full, NoMemory}
 use Rattle.closure_core.specs.Refusals.{IsOneTooMany}
+use Rattle.closure_core.specs.AcceptedList.{IsAcceptedList}
 use Rattle.closure_core.specs.Changes.{HeldAndRoom, IsUnchanged}
 use Rattle.bundle_view.specs.Conflicts.{id_in}
 use Rattle.bundle_view.specs.Current.{IsCurrent}
@@ -24,6 +25,12 @@ use Rattle.bundle_view.specs.declared.observe_error.ObserveError.TheVariants.{Wr
 use Rattle.bundle_view.specs.declared.observe_error.ObserveError.TheVariants.{NoVoucherBundle}
 use Rattle.bundle_view.specs.declared.observe_error.ObserveError.TheVariants.{KeyNotInCurrent}
 use Rattle.bundle_view.specs.declared.observe_error.ObserveError.TheVariants.{Document, Take}
+
+-- these bytes, as a document of the domain, and the verdict on the endpoint that served them
+pub record FetchedBundle : Type 0 where
+  pub domain : List ℕ
+  pub bytes : List ℕ
+  pub verdict : Verdict
 
 -- ---- the verdict
 
@@ -79,18 +86,17 @@ receipt_of domain verdict voucher document =
 
 -- It says: this document of the domain, which the bytes give, was served by this endpoint, which
 -- showed this key of the current document of its trust domain.
-pub record IsObservation (m : Meaning) (domain bytes : List ℕ) (verdict : Verdict)
-    (r : Receipt) : Type 0 where
+pub record IsObservation (m : Meaning) (fetched : FetchedBundle) (r : Receipt) : Type 0 where
   pub voucher : Bundle
-  pub authentic : IsAuthentic m domain verdict voucher
+  pub authentic : IsAuthentic m fetched.domain fetched.verdict voucher
   pub document : Bundle
-  pub read : IsDocument bytes document
-  pub is : r ≡ receipt_of domain verdict voucher document
+  pub read : IsDocument fetched.bytes document
+  pub is : r ≡ receipt_of fetched.domain fetched.verdict voucher document
 
 -- The receipt, whose voucher is the current document of before, is held, and its document accepted.
-pub record HasObserved (old : Meaning) (domain bytes : List ℕ) (verdict : Verdict) (new : Meaning)
+pub record HasObserved (old : Meaning) (fetched : FetchedBundle) (new : Meaning)
     (r : Receipt) : Type 0 where
-  pub observation : IsObservation old domain bytes verdict r
+  pub observation : IsObservation old fetched r
   pub meaning : new ≡ record old { held = with_receipt r old.held }
   pub held : Contains new.held r
   pub accepted : IsMember new (pair_of r)
@@ -112,26 +118,36 @@ RefusesVerdict m domain verdict e = RefusesEndpoint m.config domain verdict.endp
 
 -- The receipt is new, and 65,536 are held; or memory was wanted, for the tree of all bytes that are
 -- within the limit.
-abbrev pub RefusesTaking : Meaning → List ℕ → List ℕ → Verdict → TakeError → Type 0
-RefusesTaking m domain bytes verdict Full = (r : Receipt) × IsObservation m domain bytes verdict r
-    × IsOneTooMany m r
-RefusesTaking m domain bytes verdict NoMemory = IsVouchedFor m domain verdict
-    × (length bytes ≤ document_limit)
-RefusesTaking m domain bytes verdict e = ⊥
+abbrev pub RefusesTaking : Meaning → FetchedBundle → TakeError → Type 0
+RefusesTaking m fetched Full = (r : Receipt) × IsObservation m fetched r × IsOneTooMany m r
+RefusesTaking m fetched NoMemory = IsVouchedFor m fetched.domain fetched.verdict
+    × (length fetched.bytes ≤ document_limit)
+RefusesTaking m fetched e = ⊥
 
 -- want of memory is the same wherever it is met
 abbrev pub of_document : DocError → ObserveError
 of_document NoMemoryToRead = Take NoMemory
 of_document e = Document e
 
-abbrev pub RefusesObservation : Meaning → List ℕ → List ℕ → Verdict → ObserveError → Type 0
-RefusesObservation m domain bytes verdict (Document e) = IsVouchedFor m domain verdict
-    × (e ≡ NoMemoryToRead → ⊥) × RefusesBytes bytes e
-RefusesObservation m domain bytes verdict (Take e) = RefusesTaking m domain bytes verdict e
-RefusesObservation m domain bytes verdict e = RefusesVerdict m domain verdict e
+abbrev pub RefusesObservation : Meaning → FetchedBundle → ObserveError → Type 0
+RefusesObservation m fetched (Document e) = IsVouchedFor m fetched.domain fetched.verdict
+    × (e ≡ NoMemoryToRead → ⊥) × RefusesBytes fetched.bytes e
+RefusesObservation m fetched (Take e) = RefusesTaking m fetched e
+RefusesObservation m fetched e = RefusesVerdict m fetched.domain fetched.verdict e
 
 -- Nothing is observed, and nothing lost.
-pub record HasNotObserved (old : HeldAndRoom) (domain bytes : List ℕ) (verdict : Verdict)
-    (new : HeldAndRoom) (why : ObserveError) : Type 0 where
-  pub cause : RefusesObservation old.meaning domain bytes verdict why
+pub record HasNotObserved (old : HeldAndRoom) (fetched : FetchedBundle) (new : HeldAndRoom)
+    (why : ObserveError) : Type 0 where
+  pub cause : RefusesObservation old.meaning fetched why
   pub unchanged : IsUnchanged old new
+
+-- ---- one observation
+
+-- What an observation is asked of: a meaning whose configuration has its form, and a bundle. These
+-- are the accepted documents of the trust domain of the endpoint.
+pub record ObserveCall : Type 0 where
+  pub meaning : Meaning
+  pub fetched : FetchedBundle
+  pub documents : List Bundle
+  pub form : IsConfiguration meaning.config
+  pub list : IsAcceptedList meaning fetched.verdict.endpoint.domain documents

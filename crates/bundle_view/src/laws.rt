@@ -13,11 +13,9 @@ ghost use Rattle.bundle_view.specs.Conflicts.{ConflictGroup, AreConflicts, Repor
 ghost use Rattle.bundle_view.specs.Conflicts.{AreAllConflicts};
 ghost use Rattle.bundle_view.specs.Report.{IsReport};
 ghost use Rattle.closure_core.specs.declared.error.TakeError.TheVariants.{Full, NoMemory};
-ghost use Rattle.bundle_view.specs.Observe.{IsObservation, RefusesObservation};
-ghost use Rattle.bundle_view.specs.declared.observation.Verdict.{Verdict};
+ghost use Rattle.bundle_view.specs.Observe.{ObserveCall, IsObservation, RefusesObservation};
 ghost use Rattle.bundle_view.specs.declared.observe_error.ObserveError.{ObserveError};
 ghost use Rattle.bundle_view.specs.declared.observe_error.ObserveError.TheVariants.{Take};
-ghost use Rattle.fed_config.specs.Configuration.{Configuration, IsConfiguration};
 
 pub use poll_log::laws::one_log;
 
@@ -65,18 +63,15 @@ pub fn explanations()
 /// for which they are refused, beside lack of memory. A receipt that exists is refused only because
 /// of what the store holds.
 pub fn one_observation()
-    ensures receipt { (m : Meaning) (domain bytes : List ℕ) (verdict : Verdict)
-        (documents : List Bundle) (r s : Receipt) → IsConfiguration m.config
-        → IsAcceptedList m verdict.endpoint.domain documents
-        → IsObservation m domain bytes verdict r → IsObservation m domain bytes verdict s → r ≡ s }
-    ensures cause { (m : Meaning) (domain bytes : List ℕ) (verdict : Verdict)
-        (documents : List Bundle) (d e : ObserveError) → IsConfiguration m.config
-        → IsAcceptedList m verdict.endpoint.domain documents
-        → RefusesObservation m domain bytes verdict d → RefusesObservation m domain bytes verdict e
+    ensures receipt { (call : ObserveCall) (r s : Receipt)
+        → IsObservation call.meaning call.fetched r → IsObservation call.meaning call.fetched s
+        → r ≡ s }
+    ensures cause { (call : ObserveCall) (d e : ObserveError)
+        → RefusesObservation call.meaning call.fetched d
+        → RefusesObservation call.meaning call.fetched e
         → (d ≡ Take NoMemory → ⊥) → (e ≡ Take NoMemory → ⊥) → d ≡ e }
-    ensures store { (m : Meaning) (domain bytes : List ℕ) (verdict : Verdict)
-        (documents : List Bundle) (r : Receipt) (e : ObserveError) → IsConfiguration m.config
-        → IsAcceptedList m verdict.endpoint.domain documents
-        → IsObservation m domain bytes verdict r → RefusesObservation m domain bytes verdict e
+    ensures store { (call : ObserveCall) (r : Receipt) (e : ObserveError)
+        → IsObservation call.meaning call.fetched r
+        → RefusesObservation call.meaning call.fetched e
         → (e ≡ Take Full → ⊥) → (e ≡ Take NoMemory → ⊥) → ⊥ }
 {}

@@ -57,9 +57,11 @@ pub fn observe<C: Closure>(
     verdict: &Verdict,
 ) -> Result<Receipt, ObserveError>
     ensures { MatchResult result
-        (HasObserved (C.state closure.old).meaning domain.now bytes.now verdict.now
+        (HasObserved (C.state closure.old).meaning
+        (record { domain = domain.now; bytes = bytes.now; verdict = verdict.now })
         (C.state closure.new).meaning)
-        (HasNotObserved (C.state closure.old) domain.now bytes.now verdict.now
+        (HasNotObserved (C.state closure.old)
+        (record { domain = domain.now; bytes = bytes.now; verdict = verdict.now })
         (C.state closure.new)) }
 {
     let voucher = find_voucher(closure, domain, verdict)?;

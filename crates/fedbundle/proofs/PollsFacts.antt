@@ -13,7 +13,7 @@ use Rattle.poll_log.specs.Polling.{Standing, IsPollDue, IsNext, IsNextAfter, pol
 use Rattle.poll_log.specs.declared.error.PollError.{PollError}
 use Rattle.poll_log.specs.declared.error.PollError.TheVariants.{PastRange}
 use Rattle.bundle_view.proofs.GroupFacts.{taken_more}
-use Rattle.bundle_view.proofs.RisingListFacts.{contains_none, contains_cases}
+use Rattle.closure_core.proofs.ContainsFacts.{contains_none, contains_cases}
 use Rattle.fedbundle.specs.Polls.{PollView, ArePollLines, IsPollLine, seconds_text}
 use Rattle.fedbundle.specs.Inside.PollSteps.{AddsNext, AddsPollLine}
 

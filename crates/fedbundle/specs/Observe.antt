@@ -1,7 +1,7 @@
 -- What a run of `observe` does.
 use Rattle.std.specs.Prelude.{◌≡◌, ℕ, ◌⊎◌, List, Result, Ok, Err}
 use Rattle.receipt_core.specs.Receipt.{Receipt}
-use Rattle.bundle_view.specs.Observe.{HasObserved, HasNotObserved}
+use Rattle.bundle_view.specs.Observe.{FetchedBundle, HasObserved, HasNotObserved}
 use Rattle.bundle_view.specs.declared.observation.Verdict.{Verdict}
 use Rattle.bundle_view.specs.declared.observe_error.ObserveError.{ObserveError}
 use Rattle.fedbundle.specs.CommandRun.{CommandRun, StateRun, Reads, PrintsText, WritesNothing}
@@ -15,6 +15,10 @@ pub record Fetched : Type 0 where
   pub domain : List ℕ
   pub verdict : Verdict
 
+abbrev pub fetched_bundle : Fetched → List ℕ → FetchedBundle
+fetched_bundle fetched bytes =
+    record { domain = fetched.domain; bytes = bytes; verdict = fetched.verdict }
+
 abbrev pub IsAsHeld : StateRun → Type 0
 IsAsHeld state = state.new.meaning ≡ state.old.meaning
 
@@ -23,8 +27,8 @@ pub record ObservesAs (run : CommandRun) (state : StateRun) (fetched : Fetched)
     (receipt : Receipt) : Type 0 where
   pub bytes : List ℕ
   pub read : Reads run.source bytes
-  pub observed : HasObserved state.old.meaning fetched.domain bytes fetched.verdict
-      state.new.meaning receipt
+  pub observed : HasObserved state.old.meaning (fetched_bundle fetched bytes) state.new.meaning
+      receipt
 
 -- They were, and the receipt's line was written and nothing else.
 pub record PrintsObservation (run : CommandRun) (state : StateRun)
@@ -44,7 +48,7 @@ pub record RefusesBundle (run : CommandRun) (state : StateRun) (fetched : Fetche
     (why : ObserveError) : Type 0 where
   pub bytes : List ℕ
   pub read : Reads run.source bytes
-  pub refused : HasNotObserved state.old fetched.domain bytes fetched.verdict state.new why
+  pub refused : HasNotObserved state.old (fetched_bundle fetched bytes) state.new why
   pub unwritten : WritesNothing run.sink
 
 -- Nothing was observed, or the line of what was observed was not made.
