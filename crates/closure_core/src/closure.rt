@@ -2,6 +2,7 @@
 //! contracts speak in the words of `specs/` alone; each change is one relation by cases on the
 //! result.
 ghost use Rattle.std.specs.Prelude.{◌≡◌, ℕ, ◌≤◌, ◌↔◌, IsTrue, IsOk, OnOk, IfOk, length};
+ghost use Rattle.std.specs.Prelude.{Contains};
 
 use crate::error::TakeError;
 use crate::lent::{Accepted, Distrusts, Receipts};
@@ -110,6 +111,16 @@ pub trait Closure: Drop {
     /// The records of distrust, rising by key id and then by domain.
     fn distrusts(&self) -> Distrusts<'_>
         ensures { result ≡ (state self.now).meaning.records };
+
+    /// Whether the receipt is held. It is looked up, so its work grows with the logarithm of how
+    /// many are.
+    fn holds(&self, receipt: &Receipt) -> bool
+        ensures { IsTrue result ↔ Contains (state self.now).meaning.held receipt.now };
+
+    /// Whether the key is distrusted in the domain. It is looked up, as a receipt is.
+    fn is_distrusted(&self, domain: &TrustDomain, key: KeyId) -> bool
+        ensures { IsTrue result ↔ Contains (state self.now).meaning.records
+            (record { domain = domain.now; key = key }) };
 
     /// How many receipts are held.
     fn receipt_count(&self) -> usize

@@ -114,6 +114,14 @@ impl Closure for PlainClosure {
         self.held.distrusts()
     }
 
+    fn holds(&self, receipt: &Receipt) -> bool {
+        self.held.holds(receipt)
+    }
+
+    fn is_distrusted(&self, domain: &TrustDomain, key: KeyId) -> bool {
+        self.held.is_distrusted(domain, key)
+    }
+
     fn receipt_count(&self) -> usize {
         let _config = self.held.config();
         self.held.arrived().len()
