@@ -1,10 +1,9 @@
 -- What is welcome is taken.
 use Rattle.std.proofs.Common.{◌≡◌, ℕ, zero, suc, ◌+◌, ◌<◌, ◌≤◌, List, [], ◌∷◌, length, get_or, take, drop, refl, sym, ap, ◌∙◌, subst, arith}
-use Rattle.std.specs.Prelude.{Result, Ok, Err}
-use Rattle.std.proofs.lemmas.List.Sums.{sum_by-cons}
+use Rattle.std.specs.Prelude.{Contains, Result, Ok, Err, ◌-◌}
 use Rattle.receipt_core.specs.declared.distrust.Distrust.{Distrust}
 use Rattle.receipt_core.specs.Receipt.{Receipt, IsReceipt, receipt_cmp, distrust_cmp, offers_of, pair_of}
-use Rattle.receipt_core.specs.Rising.{with_items}
+use Rattle.receipt_core.specs.Rising.{with_item, with_items}
 use Rattle.receipt_core.specs.Sets.{AreSets, Always}
 use Rattle.receipt_core.specs.Acceptance.{Meaning, IsMeaning}
 use Rattle.closure_core.specs.Changes.{HeldAndRoom as ClosureState, Takes, TakesDistrust, TakesOk, Distrusts}
@@ -19,6 +18,8 @@ use Rattle.closure_core.specs.declared.outcome.Distrusted.TheVariants.{New as Di
 use Rattle.replica_core.specs.Absorbing.{with_entry, AreWelcome, IsWelcome, of_receipts, of_records, room_for}
 use Rattle.replica_core.specs.declared.entry.Entry.TheVariants.{Record, Receipt as AReceipt}
 use Rattle.replica_core.proofs.JudgeFacts.{take-next, with_items-push}
+use Rattle.replica_core.proofs.PlaceFacts.{with_items-grows}
+use Rattle.replica_core.proofs.RoomFacts.{offers-new, offers-grow}
 
 -- What is left from a place on is the item there and what is left after it.
 drop-suc : {X : Type 0} (xs : List X) (i : ℕ) (x : X) → i < length xs → get_or xs i x ≡ x → drop i xs ≡ x ∷ drop (suc i) xs
@@ -89,40 +90,15 @@ IsDistrusting-next start now new all i x result sets is so l e room h =
 
 -- ---- one receipt
 
--- It is held, and has taken no more room than its own.
-record IsTaken (now : ClosureState) (r : Receipt) (new : ClosureState) : Type 0 where
-  pub meaning : new.meaning ≡ with_entry (AReceipt r) now.meaning
-  pub receipts : now.room.receipts ≤ new.room.receipts + 1
-  pub offers : now.room.offers ≤ new.room.offers + length (offers_of (pair_of r))
-
--- After a receipt was taken, or was held, it is held and has taken its own room at most.
-takes-held : (now new : ClosureState) (r : Receipt) (taken : Taken) → AreSets IsReceipt receipt_cmp
-    → IsMeaning now.meaning → TakesOk now r new taken → IsTaken now r new
-takes-held now new r (TakenNew count) sets is h = record { meaning = h.meaning; receipts = h.receipts; offers = h.offers }
-takes-held now new r TakenAlready sets is h =
-    let stays : IsTaken now r now = record {
-      meaning = λ i. record now.meaning { held = sym (sets.present r now.meaning.held is.rising h.held) i };
-      receipts = omega arith;
-      offers = omega arith;
-    } in
-    subst (λ (s : ClosureState). IsTaken now r s) (sym h.same) stays
-
--- A welcome receipt that has room is not refused.
+-- A welcome receipt that has room, where it is not held, is not refused.
 takes-refused : (now : ClosureState) (r : Receipt) (why : TakeError) → IsWelcome now.meaning (AReceipt r)
-    → 0 < now.room.receipts → length (offers_of (pair_of r)) ≤ now.room.offers
+    → ((Contains now.meaning.held r → ⊥) → (0 < now.room.receipts) × (length (offers_of (pair_of r)) ≤ now.room.offers))
     → RefusesReceipt now.meaning now.room r why → ⊥
-takes-refused now r UnknownDomain welcome some ample h = welcome UnknownDomain (λ e. absurd (cc)) h
-takes-refused now r WrongEndpoint welcome some ample h = welcome WrongEndpoint (λ e. absurd (cc)) h
-takes-refused now r Full welcome some ample h = welcome Full (λ e. absurd (cc)) h
-takes-refused now r NoTakeMemory welcome some ample h = h.beyond some ample
-takes-refused now r OtherConfig welcome some ample h = h
-
--- A welcome receipt that has room is held after the call.
-taken : (now new : ClosureState) (r : Receipt) (result : Result Taken Refused) → AreSets IsReceipt receipt_cmp
-    → IsMeaning now.meaning → IsWelcome now.meaning (AReceipt r) → 0 < now.room.receipts
-    → length (offers_of (pair_of r)) ≤ now.room.offers → Takes now r new result → IsTaken now r new
-taken now new r (Ok done) sets is welcome some ample h = takes-held now new r done sets is h
-taken now new r (Err refused) sets is welcome some ample h = absurd (takes-refused now r refused.why welcome some ample h.cause)
+takes-refused now r UnknownDomain welcome ample h = welcome UnknownDomain (λ e. absurd (cc)) h
+takes-refused now r WrongEndpoint welcome ample h = welcome WrongEndpoint (λ e. absurd (cc)) h
+takes-refused now r Full welcome ample h = welcome Full (λ e. absurd (cc)) h
+takes-refused now r NoTakeMemory welcome ample h = let has = ample h.unheld in h.beyond has.0 has.1
+takes-refused now r OtherConfig welcome ample h = h
 
 -- ---- receipts in turn
 
@@ -131,41 +107,65 @@ pub record IsJoining (start now : ClosureState) (all rest : List Receipt) : Type
   pub meaning : record now.meaning { held = with_items receipt_cmp rest now.meaning.held }
       ≡ record start.meaning { held = with_items receipt_cmp all start.meaning.held }
   pub welcome : AreWelcome now.meaning (of_receipts rest)
-  pub room : IsRoomier (room_for rest) now.room
+  pub room : IsRoomier (room_for now.meaning rest) now.room
 
 -- Before the first receipt all are left: the loop's beginning.
 pub IsJoining-start : (start : ClosureState) (all : List Receipt) → AreWelcome start.meaning (of_receipts all)
-    → IsRoomier (room_for all) start.room → IsJoining start start all all
+    → IsRoomier (room_for start.meaning all) start.room → IsJoining start start all all
 IsJoining-start start all welcome room = record { meaning = refl; welcome = welcome; room = room }
 
--- The offers of a list are those of its first receipt and of the later ones.
-offers-first : (r : Receipt) (later : List Receipt) → offers_count (r ∷ later) ≡ length (offers_of (pair_of r)) + offers_count later
-offers-first r later = sum_by-cons (λ s. length (offers_of (pair_of s))) r later
+-- After a receipt was taken it is held, and the later ones have room.
+joined-taken : (start now new : ClosureState) (all later : List Receipt) (r : Receipt) (taken : Taken)
+    → AreSets IsReceipt receipt_cmp → IsMeaning now.meaning → IsReceipt r → IsJoining start now all (r ∷ later)
+    → TakesOk now r new taken → IsJoining start new all later
+joined-taken start now new all later r (TakenNew count) sets is form so h =
+    let receipts = so.room.receipts in
+    let offers = so.room.offers in
+    let less = h.receipts in
+    let fewer = h.offers in
+    let held : new.meaning.held ≡ with_item receipt_cmp r now.meaning.held = ap (λ (m : Meaning). m.held) h.meaning in
+    let longer = sets.longer r now.meaning.held form is.receipts h.unheld in
+    let more = offers-new sets r now.meaning.held form is.receipts h.unheld in
+    record {
+      meaning = ap (λ (m : Meaning). record m { held = with_items receipt_cmp later m.held }) h.meaning ∙ so.meaning;
+      welcome = subst (λ (m : Meaning). AreWelcome m (of_receipts later)) (sym h.meaning) so.welcome.1;
+      room = subst (λ (m : Meaning). IsRoomier (room_for m later) new.room) (sym h.meaning)
+          record { receipts = omega (arith, receipts, less, longer); offers = omega (arith, offers, fewer, more) };
+    }
+joined-taken start now new all later r TakenAlready sets is form so h =
+    let same : with_item receipt_cmp r now.meaning.held ≡ now.meaning.held = sets.present r now.meaning.held is.rising h.held in
+    subst (λ (s : ClosureState). IsJoining start s all later) (sym h.same)
+    record {
+      meaning = (λ i. record now.meaning { held = with_items receipt_cmp later (sym same i) }) ∙ so.meaning;
+      welcome = subst (λ (set : List Receipt). AreWelcome (record now.meaning { held = set }) (of_receipts later)) same so.welcome.1;
+      room = subst (λ (set : List Receipt). IsRoomier (record {
+        receipts = length (with_items receipt_cmp later set) - length now.meaning.held;
+        offers = offers_count (with_items receipt_cmp later set) - offers_count now.meaning.held;
+      }) now.room) same so.room;
+    }
 
 -- When the first of those left is held, the later ones are left.
 joined-first : (start now new : ClosureState) (all later : List Receipt) (r : Receipt) (result : Result Taken Refused)
-    → AreSets IsReceipt receipt_cmp → IsMeaning now.meaning → IsJoining start now all (r ∷ later)
+    → AreSets IsReceipt receipt_cmp → IsMeaning now.meaning → IsReceipt r → IsJoining start now all (r ∷ later)
     → Takes now r new result → IsJoining start new all later
-joined-first start now new all later r result sets is so h =
+joined-first start now new all later r (Ok done) sets is form so h = joined-taken start now new all later r done sets is form so h
+joined-first start now new all later r (Err refused) sets is form so h =
+    absurd (takes-refused now r refused.why so.welcome.0 (λ unheld.
     let receipts = so.room.receipts in
     let offers = so.room.offers in
-    let first = offers-first r later in
-    let held = taken now new r result sets is so.welcome.0 (omega (arith, receipts)) (omega (arith, offers, first)) h in
-    let less = held.receipts in
-    let fewer = held.offers in
-    record {
-      meaning = ap (λ (m : Meaning). record m { held = with_items receipt_cmp later m.held }) held.meaning ∙ so.meaning;
-      welcome = subst (λ (m : Meaning). AreWelcome m (of_receipts later)) (sym held.meaning) so.welcome.1;
-      room = record { receipts = omega (arith, receipts, less); offers = omega (arith, offers, first, fewer) };
-    }
+    let longer = sets.longer r now.meaning.held form is.receipts unheld in
+    let more = offers-new sets r now.meaning.held form is.receipts unheld in
+    let grown = with_items-grows receipt_cmp later (with_item receipt_cmp r now.meaning.held) in
+    let wider = offers-grow later (with_item receipt_cmp r now.meaning.held) in
+    (omega (arith, receipts, longer, grown), omega (arith, offers, more, wider))) h.cause)
 
 -- The step of the loop over receipts.
 pub IsJoining-next : (start now new : ClosureState) (all rest later : List Receipt) (r : Receipt)
-    (result : Result Taken Refused) → AreSets IsReceipt receipt_cmp → IsMeaning now.meaning
+    (result : Result Taken Refused) → AreSets IsReceipt receipt_cmp → IsMeaning now.meaning → IsReceipt r
     → IsJoining start now all rest
     → rest ≡ r ∷ later → Takes now r new result → IsJoining start new all later
-IsJoining-next start now new all rest later r result sets is so e h =
-    joined-first start now new all later r result sets is (subst (IsJoining start now all) e so) h
+IsJoining-next start now new all rest later r result sets is form so e h =
+    joined-first start now new all later r result sets is form (subst (IsJoining start now all) e so) h
 
 -- Where none is left, all are held.
 pub IsJoining-end : (start now : ClosureState) (all rest : List Receipt) → IsJoining start now all rest → rest ≡ []

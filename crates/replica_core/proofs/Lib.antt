@@ -17,7 +17,9 @@ mod QuestionFacts
 mod IdFacts
 mod ReplyFacts
 mod PlaceFacts
+mod EarlierFacts
 mod JudgeFacts
+mod RoomFacts
 mod JoiningFacts
 mod AbsorbFacts
 mod GatheringFacts

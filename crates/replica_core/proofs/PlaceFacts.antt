@@ -15,48 +15,9 @@ use Rattle.receipt_core.specs.Sets.{AreSets, Always}
 use Rattle.replica_core.specs.Inside.Places.{HasPlaces, HasNoPlace, HasPlace}
 use Rattle.replica_core.proofs.ContainsFacts.{contains-here, contains-later, contains-cases, contains-none, each-from, any-from, filter-from, filter-to}
 
--- ---- whether it is among items
-
--- It is among all exactly if it is among the rest.
-pub record IsSought {X : Type 0} (all rest : List X) (x : X) : Type 0 where
-  pub within : Contains rest x → Contains all x
-  pub left : Contains all x → Contains rest x
-
--- To pass another item by changes nothing of the search.
-pub IsSought-next : {X : Type 0} (all rest later : List X) (y x : X) → IsSought all rest x → rest ≡ y ∷ later → y ≢ x → IsSought all later x
-IsSought-next {X} all rest later y x sought e other = record {
-  within = λ h. sought.within (subst (λ (xs : List X). Contains xs x) (sym e) (contains-later y later x h));
-  left = λ h. elim (contains-cases y later x (subst (λ (xs : List X). Contains xs x) e (sought.left h))) [
-    | inl same ↦ absurd (other (sym same))
-    | inr more ↦ more
-  ];
-}
-
--- An item that equals the one that is sought shows that it is there.
-pub IsSought-found : {X : Type 0} (all rest later : List X) (y x : X) → IsSought all rest x → rest ≡ y ∷ later → y ≡ x → Contains all x
-IsSought-found {X} all rest later y x sought e same =
-    sought.within (subst (λ (xs : List X). Contains xs x) (sym e) (subst (Contains (y ∷ later)) same (contains-here y later)))
-
--- Where nothing is left, the item that is sought is not there.
-pub IsSought-end : {X : Type 0} (all rest : List X) (x : X) → IsSought all rest x → rest ≡ [] → Contains all x → ⊥
-IsSought-end {X} all rest x sought e h = contains-none x (subst (λ (xs : List X). Contains xs x) e (sought.left h))
-
 -- What a test denies does not hold.
 pub refuted : (b : Bool) (Q : Type 0) → b ≡ false → IsTrue b ↔ Q → Q → ⊥
 refuted b Q e iff q = let t = iff.1 q in let f : false ≡ true = sym e ∙ t in absurd (cc)
-
--- A receipt that is held is among those of its bucket.
-pub bucket-has : (all held : List Receipt) (r : Receipt) (id : List ℕ) → id ≡ receipt_id_of r
-    → all ≡ receipts_in (slice_index_or id 0 0) held → Contains held r → Contains all r
-bucket-has all held r id i e has =
-    let first = slice_index_or id 0 0 in
-    subst (λ (xs : List Receipt). Contains xs r) (sym e)
-    (filter-to (is_in_bucket first) held r has (eq-eqb (slice_index_or (receipt_id_of r) 0 0) first (ap (λ t. slice_index_or t 0 0) (sym i))))
-
--- A receipt that is among those of its bucket is held.
-pub bucket-only : (all held : List Receipt) (r : Receipt) (id : List ℕ) → all ≡ receipts_in (slice_index_or id 0 0) held → Contains all r → Contains held r
-bucket-only all held r id e has =
-    (filter-from (is_in_bucket (slice_index_or id 0 0)) held r (subst (λ (xs : List Receipt). Contains xs r) e has)).0
 
 -- ---- whether it is among those before it, or held
 

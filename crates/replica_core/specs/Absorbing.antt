@@ -1,9 +1,10 @@
 -- How an answer of another replica is taken: all of it, or nothing.
-use Rattle.std.specs.Prelude.{◌≡◌, ◌≢◌, ℕ, ◌+◌, ◌^◌, ◌≤◌, ◌⊎◌, List, [], ◌∷◌, ◌++◌}
-use Rattle.std.specs.Prelude.{length, map, fold}
+use Rattle.std.specs.Prelude.{◌≡◌, ◌≢◌, ℕ, ◌+◌, ◌-◌, ◌^◌, ◌≤◌, ◌⊎◌, List, [], ◌∷◌, ◌++◌}
+use Rattle.std.specs.Prelude.{Contains, length, map, fold}
 use Rattle.fed_config.specs.Configuration.{config_id_of}
 use Rattle.receipt_core.specs.declared.distrust.Distrust.{Distrust}
-use Rattle.receipt_core.specs.Receipt.{Receipt, with_distrust, with_receipt}
+use Rattle.receipt_core.specs.Receipt.{Receipt, receipt_cmp, with_distrust, with_receipt}
+use Rattle.receipt_core.specs.Rising.{with_items}
 use Rattle.receipt_core.specs.Acceptance.{Meaning}
 use Rattle.closure_core.specs.Refusals.{offers_count, Room, IsRoomier, RefusesDistrust}
 use Rattle.closure_core.specs.Refusals.{RefusesReceipt}
@@ -15,10 +16,8 @@ use Rattle.replica_core.specs.Session.{Reply, state_of}
 use Rattle.replica_core.specs.declared.entry.Entry.{Entry}
 use Rattle.replica_core.specs.declared.entry.Entry.TheVariants.{Record, Receipt as AReceipt}
 use Rattle.replica_core.specs.declared.error.SyncError.{SyncError}
-use Rattle.replica_core.specs.declared.error.SyncError.TheVariants.{BadHeader, ConfigDiffers}
-use Rattle.replica_core.specs.declared.error.SyncError.TheVariants.{VersionDiffers, NotCanonical}
-use Rattle.replica_core.specs.declared.error.SyncError.TheVariants.{NotRising, BadCount, Truncated}
-use Rattle.replica_core.specs.declared.error.SyncError.TheVariants.{Refused, Io, NoMemory}
+use Rattle.replica_core.specs.declared.error.SyncError.TheVariants.{ConfigDiffers, Refused}
+use Rattle.replica_core.specs.declared.error.SyncError.TheVariants.{NoMemory}
 
 -- ---- a receipt or a record alone
 
@@ -84,15 +83,28 @@ pub record HasAbsorbed (old : Meaning) (reply : Reply) (new : Meaning) (count : 
   pub meaning : new ≡ meaning_of_state old.config (joined (state_of old) reply.content)
   pub more : length new.held ≡ length old.held + count
 
--- the room that the receipts and their offers may take
-abbrev pub room_for : List Receipt → Room
-room_for receipts = record { receipts = length receipts; offers = offers_count receipts }
+-- the room that these receipts take where not all are held: that of those that are not, each
+-- counted once, and of their offers
+abbrev pub room_for : Meaning → List Receipt → Room
+room_for m receipts = record {
+  receipts = length (with_items receipt_cmp receipts m.held) - length m.held;
+  offers = offers_count (with_items receipt_cmp receipts m.held) - offers_count m.held;
+}
 
--- All of it is welcome, and there was not room for it already.
+-- one of the receipts is not held
+abbrev pub BringsNew : Meaning → List Receipt → Type 0
+BringsNew m receipts = (r : Receipt) × Contains receipts r × (Contains m.held r → ⊥)
+
+-- One of the receipts is not held, and there was not room already for all that are not.
+pub record IsBeyondRoom (old : ClosureState) (receipts : List Receipt) : Type 0 where
+  pub some : BringsNew old.meaning receipts
+  pub beyond : IsRoomier (room_for old.meaning receipts) old.room → ⊥
+
+-- All of it is welcome, and something of it wants room that there was not.
 pub record WantsRoom (old : ClosureState) (reply : Reply) : Type 0 where
   pub of_config : IsReplyOfConfig old.meaning reply
   pub welcome : AreWelcome old.meaning (entries_of reply.content)
-  pub beyond : IsRoomier (room_for reply.content.held) old.room → ⊥
+  pub beyond : IsBeyondRoom old reply.content.held
 
 -- It has more lines than memory holds: their numbers are no numbers of 64 bits.
 pub record IsTooLong (old : ClosureState) (reply : Reply) : Type 0 where
@@ -104,16 +116,10 @@ pub record RefusesOne (m : Meaning) (reply : Reply) (number : ℕ) (why : TakeEr
   pub first : IsFirstRefused m (entries_of reply.content) number why
 
 abbrev pub RefusesReply : ClosureState → Reply → SyncError → Type 0
-RefusesReply old reply BadHeader = ⊥
 RefusesReply old reply ConfigDiffers = IsReplyOfConfig old.meaning reply → ⊥
-RefusesReply old reply VersionDiffers = ⊥
-RefusesReply old reply (NotCanonical n) = ⊥
-RefusesReply old reply (NotRising n) = ⊥
-RefusesReply old reply BadCount = ⊥
-RefusesReply old reply Truncated = ⊥
 RefusesReply old reply (Refused n why) = RefusesOne old.meaning reply n why
-RefusesReply old reply Io = ⊥
 RefusesReply old reply NoMemory = WantsRoom old reply ⊎ IsTooLong old reply
+RefusesReply old reply _ = ⊥
 
 -- Nothing of it is held that was not.
 pub record HasRefusedReply (old : ClosureState) (reply : Reply) (new : Meaning)

@@ -1,22 +1,28 @@
 //! What a replica takes of an answer.
 ghost use Rattle.std.specs.Prelude.{◌≡◌, ◌+◌, ◌^◌, ◌<◌, ◌≤◌, ◌↔◌, IsTrue, MatchOption, MatchResult};
+ghost use Rattle.std.specs.Prelude.{OnOk};
 ghost use Rattle.std.specs.Prelude.{length};
-ghost use Rattle.closure_core.specs.Refusals.{IsRoomier, offers_count};
+ghost use Rattle.closure_core.specs.Refusals.{IsRoomier};
 ghost use Rattle.replica_core.specs.State.{joined, meaning_of_state};
 ghost use Rattle.replica_core.specs.Session.{state_of};
 ghost use Rattle.replica_core.specs.Absorbing.{AreWelcome, HasAbsorbed, HasRefusedReply};
-ghost use Rattle.replica_core.specs.Absorbing.{IsFirstRefused, entries_of, room_for};
+ghost use Rattle.replica_core.specs.Absorbing.{IsFirstRefused, entries_of, room_for, IsBeyondRoom};
+ghost use Rattle.replica_core.specs.Inside.Places.{CountsNew};
 
+use crate::earlier::Earlier;
 use crate::error::SyncError;
 use crate::give::Give;
 use crate::joining::{distrust_all, take_all};
 use crate::judging::{first_receipt, first_record};
+use crate::places::is_receipt_among;
 use closure_core::{Closure, TakeError};
 use receipt_core::Receipt;
-use std::alloc::AllocError;
+use std::alloc::{AllocError, Global};
 
-/// Takes all of an answer, or nothing, and returns how many receipts were not held. Its work is
-/// that of its takes; where its lines may pass a limit, each is also compared with those before it.
+/// Takes all of an answer, or nothing, and returns how many receipts were not held. Besides its
+/// takes it looks each receipt up among those held and those before it, and each record where the
+/// records may pass their limit: for n lines of the order of n log n comparisons, or each line with
+/// all before it once there is no memory for their numbers.
 ///
 /// # Errors
 /// What is held stays. Of these the first that holds:
@@ -24,8 +30,8 @@ use std::alloc::AllocError;
 /// - [`SyncError::Refused`]: a record or a receipt is not of the configuration, or is one too many.
 ///   Lines are counted from 1, the answer's first line: records come before receipts, and of
 ///   several lines the first is reported,
-/// - [`SyncError::NoMemory`]: memory ran out. Never where all receipts and their offers are within
-///   [`Closure::room`].
+/// - [`SyncError::NoMemory`]: memory ran out. Never where the receipts that are not held, each
+///   counted once, and their offers are within [`Closure::room`]; so never where none is new.
 pub fn absorb<C: Closure>(closure: &mut C, give: Give) -> Result<usize, SyncError>
     ensures { MatchResult result
         (HasAbsorbed (C.state closure.old).meaning give (C.state closure.new).meaning)
@@ -50,10 +56,11 @@ fn try_number(give: &mut Give) -> Result<(), AllocError>
         (λ _. length (entries_of give.old.content) + 2 < 2 ^ 64)
         (λ _. 2 ^ 64 ≤ length (entries_of give.old.content) + 2) }
 {
-    if !are_numbered(give) {
-        give.receipts.try_reserve(usize::MAX)?;
+    if are_numbered(give) {
+        Ok(())
+    } else {
+        ask_too_much(give)
     }
-    Ok(())
 }
 
 // Whether the lines have numbers of 64 bits.
@@ -73,49 +80,80 @@ fn first_refused<C: Closure>(closure: &C, give: &Give) -> Option<(u64, TakeError
         (AreWelcome (C.state closure.now).meaning (entries_of give.now.content))
         (λ p. IsFirstRefused (C.state closure.now).meaning (entries_of give.now.content) p.0 p.1) }
 {
+    let alloc = *give.receipts.allocator();
     let records = give.distrusts().len() as u64;
-    match first_record(closure, give.distrusts()) {
+    match first_record(alloc, closure, give.distrusts()) {
         Some(first) => Some(first),
-        None => match first_receipt(closure, give.receipts()) {
+        None => match first_receipt(alloc, closure, give.receipts()) {
             Some((number, why)) => Some((records + number, why)),
             None => None,
         },
     }
 }
 
-// Makes room for all of the receipts and their offers. Where the offers have no number of 64 bits,
-// it asks for a growth that is always refused.
+// Makes room for the receipts that are not held, and their offers. Where these offers have no
+// number of 64 bits, it asks for a growth that is always refused.
 fn make_room<C: Closure>(closure: &mut C, give: &mut Give) -> Result<(), AllocError>
     ensures same { give.new ≡ give.old }
     ensures meaning { (C.state closure.new).meaning ≡ (C.state closure.old).meaning }
     ensures room { MatchResult result
-        (λ _. IsRoomier (room_for give.old.content.held) (C.state closure.new).room)
-        (λ _. IsRoomier (room_for give.old.content.held) (C.state closure.old).room → ⊥) }
+        (λ _. IsRoomier (room_for (C.state closure.old).meaning give.old.content.held)
+        (C.state closure.new).room)
+        (λ _. IsBeyondRoom (C.state closure.old) give.old.content.held) }
 {
-    let _room = closure.room();
-    match offers_of_all(give.receipts()) {
-        Some(offers) => closure.try_reserve(give.receipts.len(), offers),
-        None => give.receipts.try_reserve(usize::MAX),
+    let _room = offers_room(closure);
+    let alloc = *give.receipts.allocator();
+    match new_receipts(alloc, closure, give.receipts()) {
+        Some((receipts, offers)) => closure.try_reserve(receipts, offers),
+        None => ask_too_much(give),
     }
 }
 
-// How many offers the receipts have together, if that is a number of 64 bits.
-fn offers_of_all(receipts: &[Receipt]) -> Option<usize>
-    ensures { MatchOption result (2 ^ 64 ≤ offers_count receipts.now)
-        (λ offers. offers_count receipts.now ≡ offers) }
+// For how many offers there is room.
+fn offers_room<C: Closure>(closure: &C) -> usize
+    ensures { result ≡ (C.state closure.now).room.offers }
 {
+    closure.room().1
+}
+
+// Asks for a growth that is always refused.
+fn ask_too_much(give: &mut Give) -> Result<(), AllocError>
+    ensures same { give.new ≡ give.old }
+    ensures refused { OnOk result ⊥ }
+{
+    give.receipts.try_reserve(usize::MAX)
+}
+
+// How many receipts are not held, each counted once, and how many offers these have together, if
+// that is a number of 64 bits.
+fn new_receipts<C: Closure>(
+    alloc: Global,
+    closure: &C,
+    receipts: &[Receipt],
+) -> Option<(usize, usize)>
+    ensures { CountsNew (C.state closure.now).meaning receipts.now result }
+{
+    receipt_core::laws::sets();
+    let _valid = closure.config();
+    let mut before = Earlier::new(alloc, receipts);
+    let mut count: usize = 0;
     let mut offers: usize = 0;
     for receipt in receipts {
-        offers = offers.checked_add(receipt.offers().len())?;
+        let _form = receipt.domain();
+        if !is_receipt_among(closure, &mut before, receipt) {
+            count += 1;
+            offers = offers.checked_add(receipt.offers().len())?;
+        }
     }
-    Some(offers)
+    Some((count, offers))
 }
 
 // Takes all of what is welcome, for which there is room, and returns how many receipts were not
 // held.
 fn take_whole<C: Closure>(closure: &mut C, give: Give) -> usize
     requires welcome { AreWelcome (C.state closure.old).meaning (entries_of give.content) }
-    requires room { IsRoomier (room_for give.content.held) (C.state closure.old).room }
+    requires room { IsRoomier (room_for (C.state closure.old).meaning give.content.held)
+        (C.state closure.old).room }
     ensures meaning { (C.state closure.new).meaning
         ≡ meaning_of_state (C.state closure.old).meaning.config
         (joined (state_of (C.state closure.old).meaning) give.content) }

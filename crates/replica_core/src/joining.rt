@@ -24,10 +24,11 @@ pub(crate) fn distrust_all<C: Closure>(closure: &mut C, records: &[Distrust])
     }
 }
 
-/// Takes all of these, which are welcome, and for which there is room.
+/// Takes all of these, which are welcome, and of which there is room for those that are not held.
 pub(crate) fn take_all<C: Closure>(closure: &mut C, receipts: Vec<Receipt>)
     requires welcome { AreWelcome (C.state closure.old).meaning (of_receipts receipts.items) }
-    requires room { IsRoomier (room_for receipts.items) (C.state closure.old).room }
+    requires room { IsRoomier (room_for (C.state closure.old).meaning receipts.items)
+        (C.state closure.old).room }
     ensures { (C.state closure.new).meaning
         ≡ record (C.state closure.old).meaning
         { held = with_items receipt_cmp receipts.items (C.state closure.old).meaning.held } }
@@ -35,6 +36,7 @@ pub(crate) fn take_all<C: Closure>(closure: &mut C, receipts: Vec<Receipt>)
     receipt_core::laws::sets();
     for receipt in receipts {
         let _valid = closure.config();
+        let _form = receipt.domain();
         // It is welcome, and there is room, so it is never refused.
         let _ = closure.take(receipt);
     }

@@ -7,10 +7,12 @@ ghost use Rattle.receipt_core.specs.Acceptance.{IsFitting};
 ghost use Rattle.closure_core.specs.Refusals.{RefusesFit};
 ghost use Rattle.replica_core.specs.Absorbing.{AreWelcome, IsFirstRefused, of_records, of_receipts};
 
+use crate::earlier::Earlier;
 use crate::places::{place_for_receipt, place_for_record};
 use closure_core::{Closure, TakeError};
 use fed_config::Config;
 use receipt_core::{Distrust, Receipt};
+use std::alloc::Global;
 
 /// The most records of distrust that are held.
 const MOST_RECORDS: usize = 4_096;
@@ -21,6 +23,7 @@ const MOST_RECEIPTS: usize = 65_536;
 /// Which of the records is the first that is not welcome, where the first has number 2, and why it
 /// is not.
 pub(crate) fn first_record<C: Closure>(
+    alloc: Global,
     closure: &C,
     records: &[Distrust],
 ) -> Option<(u64, TakeError)>
@@ -32,13 +35,14 @@ pub(crate) fn first_record<C: Closure>(
     let config = closure.config();
     let _form = config.domains();
     let mut free = MOST_RECORDS - closure.distrusts().count();
+    let mut before = Earlier::new(alloc, records);
     let mut place: usize = 0;
     for record in records {
         if config.domain_no(&record.domain).is_none() {
             return Some((place as u64 + 2, TakeError::UnknownDomain));
         }
         let left = records.len() - place;
-        match place_for_record(closure, &records[..place], free, left, record) {
+        match place_for_record(closure, &mut before, free, left, record) {
             Some(more) => free = more,
             None => return Some((place as u64 + 2, TakeError::Full)),
         }
@@ -50,6 +54,7 @@ pub(crate) fn first_record<C: Closure>(
 /// Which of the receipts is the first that is not welcome, where the first has number 2, and why it
 /// is not. Records make no difference.
 pub(crate) fn first_receipt<C: Closure>(
+    alloc: Global,
     closure: &C,
     receipts: &[Receipt],
 ) -> Option<(u64, TakeError)>
@@ -64,13 +69,14 @@ pub(crate) fn first_receipt<C: Closure>(
     let config = closure.config();
     let _form = config.domains();
     let mut free = MOST_RECEIPTS - closure.receipt_count();
+    let mut before = Earlier::new(alloc, receipts);
     let mut place: usize = 0;
     for receipt in receipts {
         if let Err(why) = fit(config, receipt) {
             return Some((place as u64 + 2, why));
         }
         let left = receipts.len() - place;
-        match place_for_receipt(closure, &receipts[..place], free, left, receipt) {
+        match place_for_receipt(closure, &mut before, free, left, receipt) {
             Some(more) => free = more,
             None => return Some((place as u64 + 2, TakeError::Full)),
         }

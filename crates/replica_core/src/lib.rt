@@ -9,6 +9,7 @@
 mod absorbing;
 mod answering;
 mod asking;
+mod earlier;
 mod entry;
 mod error;
 mod event;

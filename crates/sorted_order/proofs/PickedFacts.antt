@@ -103,16 +103,20 @@ same_picked items (n ∷ ns) item all =
 more_numbers : {T : Type 0} (items : List T) (ns : List ℕ) (item : T) → AreNumbers items ns → AreNumbers (items ++ item ∷ []) ns
 more_numbers items ns item all = λ k d h. let w = all k d h in omega (arith, w, length-append items (item ∷ []))
 
+-- A number that is inserted at a place puts its item there.
+pub picked-put : {T : Type 0} (items : List T) (ns : List ℕ) (at n : ℕ) (item : T) → AreNumbers items ns → slice_get items n ≡ Some item
+    → picked items (insert ns at n) ≡ insert (picked items ns) at item
+picked-put items ns at n item all e =
+    filter_map-append (slice_get items) (take at ns) (n ∷ drop at ns)
+    ∙ ap (λ rest. picked items (take at ns) ++ rest) (picked_more items n (drop at ns) item e)
+    ∙ ap (λ rest. picked items (take at ns) ++ item ∷ rest) (drop-picked items ns at all)
+    ∙ ap (λ front. front ++ item ∷ drop at (picked items ns)) (take-picked items ns at all)
+
 -- A new item, whose number is inserted at a place, comes to that place in the caller's order.
 pub picked-insert : {T : Type 0} (items : List T) (ns : List ℕ) (at : ℕ) (item : T) → AreNumbers items ns
     → picked (items ++ item ∷ []) (insert ns at (length items)) ≡ insert (picked items ns) at item
 picked-insert items ns at item all =
-    let more = items ++ item ∷ [] in
-    let wide = more_numbers items ns item all in
-    filter_map-append (slice_get more) (take at ns) (length items ∷ drop at ns)
-    ∙ ap (λ rest. picked more (take at ns) ++ rest) (picked_more more (length items) (drop at ns) item (get_last items item))
-    ∙ ap (λ rest. picked more (take at ns) ++ item ∷ rest) (drop-picked more ns at wide)
-    ∙ ap (λ front. front ++ item ∷ drop at (picked more ns)) (take-picked more ns at wide)
+    picked-put (items ++ item ∷ []) ns at (length items) item (more_numbers items ns item all) (get_last items item)
     ∙ ap (λ xs. insert xs at item) (same_picked items ns item all)
 
 -- ---- how the numbers stand, and how their items do
@@ -254,7 +258,7 @@ pub not_equal_at : {T : Type 0} (compared : T → Ordering) (item : T) (o : Orde
 not_equal_at compared item o b e f h = λ equal. not_equal_of o (sym f ∙ h) (e ∙ equal)
 
 -- What is found first among the numbers is found first among the items.
-found_of_items : {T : Type 0} (compared : T → Ordering) (items : List T) (ns : List ℕ) (place : ℕ)
+pub found_of_items : {T : Type 0} (compared : T → Ordering) (items : List T) (ns : List ℕ) (place : ℕ)
     → AreNumbers items ns
     → IsFound (λ n. compared_at compared items n) ns place
     → IsFound compared (picked items ns) place
@@ -267,7 +271,7 @@ found_of_items compared items ns place all found = record {
 }
 
 -- What is missing among the numbers is missing among the items.
-missing_of_items : {T : Type 0} (compared : T
+pub missing_of_items : {T : Type 0} (compared : T
     → Ordering) (items : List T) (ns : List ℕ) (place : ℕ) → AreNumbers items ns
     → IsMissing (λ n. compared_at compared items n) ns place
     → IsMissing compared (picked items ns) place
@@ -327,13 +331,6 @@ next_within limit old new None e all = rw e.1 (λ k d h. absurd (omega arith))
 next_within limit old new (Some n) e all =
     let here : All (λ m. m < limit) (n ∷ new) = subst (λ (xs : List ℕ). All (λ m. m < limit) xs) e all in
     λ k d h. here (suc k) d (omega arith)
-
--- The later numbers are still those of items.
-pub drop_numbers : {T : Type 0} (items : List T) (ns : List ℕ) (k : ℕ) → AreNumbers items ns → AreNumbers items (drop k ns)
-drop_numbers items [] zero all = all
-drop_numbers items [] (suc k) all = all
-drop_numbers items (n ∷ ns) zero all = all
-drop_numbers items (n ∷ ns) (suc k) all = drop_numbers items ns k (rest_of items n ns all)
 
 -- To lend the next number's item is to lend the next of the items left.
 pub lend_next : {T : Type 0} (items : List T) (old new : List ℕ) (n : ℕ) (x : T) (left : List T) → picked items old ≡ left → old ≡ n ∷ new

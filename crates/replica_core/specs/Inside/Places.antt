@@ -1,7 +1,11 @@
 -- Places for more receipts and records.
-use Rattle.std.specs.Prelude.{◌+◌, ◌-◌, ◌<◌, Contains, List, length, ℕ, ◌≡◌, ◌≤◌, ◌⊎◌}
+use Rattle.std.specs.Prelude.{◌+◌, ◌-◌, ◌^◌, ◌<◌, Contains, List, length, ℕ, ◌≡◌, ◌≤◌, ◌⊎◌}
+use Rattle.std.specs.Prelude.{Option, Some, None}
 use Rattle.std.specs.declared.cmp.Ordering.{Ordering}
+use Rattle.receipt_core.specs.Receipt.{Receipt}
 use Rattle.receipt_core.specs.Rising.{with_item}
+use Rattle.receipt_core.specs.Acceptance.{Meaning}
+use Rattle.replica_core.specs.Absorbing.{room_for, BringsNew}
 
 -- Of the places so many are free, where so many are held already and so many items are left:
 -- exactly so many, or at least so many and enough for all that are left.
@@ -19,3 +23,11 @@ pub record HasPlace {X : Type 0} (cmp : X → X → Ordering) (limit : ℕ) (set
     (left more : ℕ) : Type 0 where
   pub place : Contains set item ⊎ (length set < limit)
   pub after : HasPlaces limit (length (with_item cmp item set)) more (left - 1)
+
+-- What is counted of receipts: those that are not held, each once, and their offers, which are none
+-- where all are held; or these have more offers than a number of 64 bits says.
+abbrev pub CountsNew : Meaning → List Receipt → Option (ℕ × ℕ) → Type 0
+CountsNew m receipts None = BringsNew m receipts × (2 ^ 64 ≤ (room_for m receipts).offers)
+CountsNew m receipts (Some counted) =
+    (room_for m receipts ≡ record { receipts = counted.0; offers = counted.1 })
+    × (((counted.0 ≡ 0) × (counted.1 ≡ 0)) ⊎ BringsNew m receipts)

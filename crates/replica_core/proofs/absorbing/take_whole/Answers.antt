@@ -4,7 +4,8 @@ use Rattle.receipt_core.specs.declared.distrust.Distrust.{Distrust}
 use Rattle.receipt_core.specs.Receipt.{Receipt, receipt_cmp, distrust_cmp}
 use Rattle.receipt_core.specs.Rising.{with_items}
 use Rattle.receipt_core.specs.Acceptance.{Meaning}
-use Rattle.replica_core.specs.Absorbing.{AreWelcome, of_receipts, of_records}
+use Rattle.closure_core.specs.Refusals.{Room, IsRoomier}
+use Rattle.replica_core.specs.Absorbing.{AreWelcome, of_receipts, of_records, room_for}
 use Rattle.replica_core.specs.Session.{Reply}
 use Rattle.replica_core.proofs.AbsorbFacts.{welcome-front, receipts-welcome}
 use Rattle.replica_core.proofs.PlaceFacts.{with_items-grows}
@@ -27,6 +28,16 @@ take_all-requires-clause-welcome g c =
     (subst (λ (xs : List Distrust). AreWelcome (record m { records = with_items distrust_cmp xs m.records })
     (of_receipts content.held)) (sym c.distrusts.ensures)
     (receipts-welcome m content.records content.held c.requires.welcome)))
+
+pub take_all-requires-clause-room : goal.take_all-requires-clause-room
+take_all-requires-clause-room g c =
+    let m = (g.C.Closure.state c.args.closure.now).meaning in
+    let content = c.args.give.content in
+    let held : c.give.inside.receipts.items ≡ content.held = ap (λ (r : Reply). r.content.held) c.give.view_is in
+    let now = g.C.Closure.state c.distrust_all.new.closure in
+    subst (λ (rs : List Receipt). IsRoomier (room_for now.meaning rs) now.room) (sym held)
+    (subst (λ (k : Meaning). IsRoomier (room_for k content.held) now.room) (sym c.distrust_all.ensures.meaning)
+    (subst (λ (r : Room). IsRoomier (room_for m content.held) r) (sym c.distrust_all.ensures.room) c.requires.room))
 
 pub overflow_sub-result : goal.overflow_sub-result
 overflow_sub-result g c =

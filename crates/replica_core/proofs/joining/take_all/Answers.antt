@@ -15,7 +15,7 @@ loop-receipt-init g c =
     record {
       joining = IsJoining-start start (into_iter_items c.into_iter-receipt-iterator.result)
           (subst (λ (rs : List Receipt). AreWelcome start.meaning (of_receipts rs)) (sym given.0) c.requires.welcome)
-          (subst (λ (rs : List Receipt). IsRoomier (room_for rs) start.room) (sym given.0) c.requires.room);
+          (subst (λ (rs : List Receipt). IsRoomier (room_for start.meaning rs) start.room) (sym given.0) c.requires.room);
       size = given.1 ∙ c.args.receipts.ok.0 ∙ sym (ap length given.0);
     }
 
@@ -26,7 +26,7 @@ loop-receipt-preserved g c =
       joining = IsJoining-next (g.C.Closure.state c.args.closure.now) (g.C.Closure.state c.loop-receipt.closure) (g.C.Closure.state c.take.new.self)
           (into_iter_items c.into_iter-receipt-iterator.result) (into_iter_items c.loop-receipt.receipt-iterator)
           (into_iter_items c.next.new.self) c.in-Some.receipt c.take.result
-          c.sets.ensures.receipts c.config-valid.ensures.valid c.loop-receipt.invariant.joining steps c.take.ensures;
+          c.sets.ensures.receipts c.config-valid.ensures.valid c.domain-form.ensures.form c.loop-receipt.invariant.joining steps c.take.ensures;
       size = omega (arith, c.in-Some.ensures.steps.1, ap length steps, c.loop-receipt.invariant.size);
     }
 
@@ -37,7 +37,7 @@ loop-receipt-preserved-in-Some g c =
       joining = IsJoining-next (g.C.Closure.state c.args.closure.now) (g.C.Closure.state c.loop-receipt.closure) (g.C.Closure.state c.take.new.self)
           (into_iter_items c.into_iter-receipt-iterator.result) (into_iter_items c.loop-receipt.receipt-iterator)
           (into_iter_items c.next.new.self) c.in-Some.receipt c.take.result
-          c.sets.ensures.receipts c.config-valid.ensures.valid c.loop-receipt.invariant.joining steps c.take.ensures;
+          c.sets.ensures.receipts c.config-valid.ensures.valid c.domain-form.ensures.form c.loop-receipt.invariant.joining steps c.take.ensures;
       size = omega (arith, c.in-Some.ensures.steps.1, ap length steps, c.loop-receipt.invariant.size);
     }
 

@@ -11,6 +11,7 @@ invariant-loop-record g l =
     let m = (g.C.Closure.state l.closure).meaning in
     record {
       place : l.place ≡ l.record-index;
+      front : l.before ≡ record { items = l.records; count = l.record-index };
       places : HasPlaces 4096 (length (with_items distrust_cmp (take l.record-index l.records) m.records)) l.free (length l.records - l.record-index);
       welcome : AreWelcome m (of_records (take l.record-index l.records));
     }

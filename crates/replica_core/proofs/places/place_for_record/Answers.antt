@@ -1,34 +1,35 @@
 -- The item has a place, takes none, or there is none.
 use Rattle.receipt_core.specs.Receipt.{distrust_cmp}
 use Rattle.receipt_core.specs.Rising.{with_items}
+use Rattle.replica_core.specs.Inside.Earlier.{passed}
 use Rattle.replica_core.proofs.PlaceFacts.{always, place-ample, place-held, place-new, place-none, refuted}
 use Rattle.replica_core.proofs.places.place_for_record.Goals as goal
 
-pub returns-then-left-free : goal.returns-then-left-free
-returns-then-left-free g c =
-    let set = with_items distrust_cmp c.args.before.now (g.C.Closure.state c.args.closure.now).meaning.records in
+pub returns-then-left-free-clause-place : goal.returns-then-left-free-clause-place
+returns-then-left-free-clause-place g c =
+    let set = with_items distrust_cmp (passed c.args.before.now) (g.C.Closure.state c.args.closure.now).meaning.records in
     place-ample distrust_cmp 4096 set c.args.distrust.now c.args.free c.args.left c.requires.left c.requires.places c.if-left-free.true
 
-pub returns-then-is_record_among : goal.returns-then-is_record_among
-returns-then-is_record_among g c =
+pub returns-then-is_record_among-clause-place : goal.returns-then-is_record_among-clause-place
+returns-then-is_record_among-clause-place g c =
     let held = (g.C.Closure.state c.args.closure.now).meaning.records in
-    let set = with_items distrust_cmp c.args.before.now held in
-    let has = c.is_record_among.ensures.0 c.if-is_record_among.true in
+    let set = with_items distrust_cmp (passed c.args.before.now) held in
+    let has = c.is_record_among.ensures.among.0 c.if-is_record_among.true in
     place-held distrust_cmp 4096 set c.args.distrust.now c.args.free c.args.left c.requires.places has
     (c.sets.ensures.records.present c.args.distrust.now set
-    (c.sets.ensures.records.all_rise c.args.before.now held c.config-valid.ensures.valid.records_rising) has)
+    (c.sets.ensures.records.all_rise (passed c.args.before.now) held c.config-valid.ensures.valid.records_rising) has)
 
-pub returns-then-free-eq0 : goal.returns-then-free-eq0
-returns-then-free-eq0 g c =
-    let set = with_items distrust_cmp c.args.before.now (g.C.Closure.state c.args.closure.now).meaning.records in
+pub returns-then-free-eq0-clause-place : goal.returns-then-free-eq0-clause-place
+returns-then-free-eq0-clause-place g c =
+    let set = with_items distrust_cmp (passed c.args.before.now) (g.C.Closure.state c.args.closure.now).meaning.records in
     place-none 4096 set c.args.distrust.now c.args.free c.args.left c.requires.places c.if-left-free.false
-    c.if-free-eq0.true (refuted c.is_record_among.result _ c.if-is_record_among.false c.is_record_among.ensures)
+    c.if-free-eq0.true (refuted c.is_record_among.result _ c.if-is_record_among.false c.is_record_among.ensures.among)
 
-pub returns-else-free-eq0 : goal.returns-else-free-eq0
-returns-else-free-eq0 g c =
+pub returns-else-free-eq0-clause-place : goal.returns-else-free-eq0-clause-place
+returns-else-free-eq0-clause-place g c =
     let held = (g.C.Closure.state c.args.closure.now).meaning.records in
-    let set = with_items distrust_cmp c.args.before.now held in
+    let set = with_items distrust_cmp (passed c.args.before.now) held in
     place-new distrust_cmp 4096 set c.args.distrust.now c.args.free c.args.left c.requires.places c.if-left-free.false c.if-free-eq0.false
     (c.sets.ensures.records.longer c.args.distrust.now set tt
-    (c.sets.ensures.records.all_keep c.args.before.now held (always c.args.before.now) (always held))
-    (refuted c.is_record_among.result _ c.if-is_record_among.false c.is_record_among.ensures))
+    (c.sets.ensures.records.all_keep (passed c.args.before.now) held (always (passed c.args.before.now)) (always held))
+    (refuted c.is_record_among.result _ c.if-is_record_among.false c.is_record_among.ensures.among))
