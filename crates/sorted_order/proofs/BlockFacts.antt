@@ -7,7 +7,7 @@ use Rattle.std.proofs.lemmas.List.{drop_at, get_or_append_left, get_or-append-ad
 use Rattle.std.proofs.lemmas.Option.{slice_get-get_or}
 use Rattle.std.proofs.lemmas.List.Edits.{insert-append_left, insert-append_right}
 use Rattle.std.specs.List.{concat, insert}
-use Rattle.sorted_order.specs.Blocks.{AreHalfFull, AreFilled, block_at, length_before, put, halved, IsSpot, IsLeft}
+use Rattle.sorted_order.specs.Inside.Blocks.{AreHalfFull, AreFilled, block_at, length_before, put, halved, IsSpot, IsLeft}
 
 -- Replacing a block by the longer one is `put`, as the definition has it.
 pub put_is : (bs : List (List ℕ)) (i w n : ℕ) → slice_set bs i (insert (block_at bs i) w n) ≡ put bs i w n

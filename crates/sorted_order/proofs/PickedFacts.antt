@@ -12,7 +12,8 @@ use Rattle.std.proofs.lemmas.Option.{slice_get-get_or}
 use Rattle.std.specs.List.{All, cons_option, filter, insert}
 use Rattle.std.specs.declared.cmp.Ordering.{Ordering}
 use Rattle.std.specs.declared.cmp.Ordering.TheVariants.{Equal}
-use Rattle.sorted_order.specs.Sought.{IsRising, IsGap, IsFound, IsFirstFound, IsMissing, is_equal}
+use Rattle.sorted_order.specs.Sought.{IsRising, IsGap, IsFound, IsMissing, is_equal}
+use Rattle.sorted_order.specs.Inside.Seeking.{IsFirstFound}
 use Rattle.sorted_order.specs.ArenaView.{ArenaView, picked, in_order, Arranges, compared_if, compared_at, IsNumber, FindsNumber}
 
 -- each number is that of an item

@@ -9,8 +9,9 @@ use Rattle.std.specs.declared.cmp.Ordering.{Ordering}
 use Rattle.std.specs.declared.cmp.Ordering.TheVariants.{Less, Equal, Greater}
 use Rattle.std.specs.List.{All, concat, filter}
 use Rattle.std.specs.Ordering.{ordering_index}
-use Rattle.sorted_order.specs.Blocks.{AreFilled, block_at, length_before, IsBoundary, IsEdgeBlock}
-use Rattle.sorted_order.specs.Sought.{IsRising, IsGap, IsFound, IsFirstFound, IsMissing, is_equal, past}
+use Rattle.sorted_order.specs.Inside.Blocks.{AreFilled, block_at, length_before, IsBoundary, IsEdgeBlock}
+use Rattle.sorted_order.specs.Sought.{IsRising, IsGap, IsFound, IsMissing, is_equal}
+use Rattle.sorted_order.specs.Inside.Seeking.{IsFirstFound, past}
 use Rattle.sorted_order.proofs.BlockFacts.{before_next, before_all, before_within, filled_at, concat-at}
 
 -- What holds of all numbers holds of those of a block.

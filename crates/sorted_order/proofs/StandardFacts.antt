@@ -3,8 +3,9 @@ use Rattle.std.proofs.Common.{◌≡◌, ℕ, zero, suc, ◌<◌, ◌≤◌, ◌
 use Rattle.std.specs.declared.cmp.Ordering.TheVariants.{Less, Equal}
 use Rattle.std.specs.List.{filter, sum}
 use Rattle.std.specs.Ordering.{nat_cmp}
-use Rattle.sorted_order.specs.Blocks.{AreFilled, AreSums, capacity_of, length_before, put}
-use Rattle.sorted_order.specs.Sought.{IsRising, IsFound, is_equal, past}
+use Rattle.sorted_order.specs.Inside.Blocks.{AreFilled, AreSums, capacity_of, length_before, put}
+use Rattle.sorted_order.specs.Sought.{IsRising, IsFound, is_equal}
+use Rattle.sorted_order.specs.Inside.Seeking.{past}
 use Rattle.sorted_order.specs.ArenaView.{in_order, Arranges}
 
 -- Without blocks there is no room.

@@ -8,7 +8,7 @@ use Rattle.std.proofs.lemmas.List.Edits.{length-insert}
 use Rattle.std.proofs.lemmas.List.Sums.{sum_by_more}
 use Rattle.std.proofs.Math.ListN.{drop_of_length-le}
 use Rattle.std.specs.List.{concat, insert, sum}
-use Rattle.sorted_order.specs.Blocks.{AreSums, block_at, length_before, put, IsSpot}
+use Rattle.sorted_order.specs.Inside.Blocks.{AreSums, block_at, length_before, put, IsSpot}
 use Rattle.sorted_order.proofs.BlockFacts.{before_all, before_within, length-put}
 
 -- ---- what the sums up to a place add up to

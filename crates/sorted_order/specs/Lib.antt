@@ -1,4 +1,6 @@
+-- What a caller cites stands in the first three; `Inside` has the blocks in which the numbers lie,
+-- and what the order's own searches answer.
 pub mod Sequence
 pub mod Sought
-pub mod Blocks
 pub mod ArenaView
+pub mod Inside

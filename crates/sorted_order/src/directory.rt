@@ -3,8 +3,9 @@
 ghost use Rattle.std.specs.Prelude.{◌≡◌, ℕ, ◌+◌, ◌-◌, ◌*◌, ◌^◌, ◌<◌, ◌≤◌, length, vec_capacity};
 ghost use Rattle.std.specs.Prelude.{OnOk};
 ghost use Rattle.std.specs.List.{concat, insert};
-ghost use Rattle.sorted_order.specs.Blocks.{AreFilled, AreSums, block_at, put, halved, IsSpot};
-ghost use Rattle.sorted_order.specs.Blocks.{capacity_of};
+ghost use Rattle.sorted_order.specs.Inside.Blocks.{AreFilled, AreSums, block_at, put, halved};
+ghost use Rattle.sorted_order.specs.Inside.Blocks.{IsSpot};
+ghost use Rattle.sorted_order.specs.Inside.Blocks.{capacity_of};
 
 use crate::block::{BLOCK, Block, HALF};
 use crate::sums::{GROUP, add_groups, count_one, group_at, sum_up};

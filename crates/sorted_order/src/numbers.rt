@@ -2,7 +2,7 @@
 ghost use Rattle.std.specs.Prelude.{◌≡◌, ℕ, ◌+◌, ◌<◌, ◌≤◌, ◌∷◌, ◌++◌, length, take, drop};
 ghost use Rattle.std.specs.List.{concat};
 ghost use Rattle.std.specs.Iterator.{YieldsFirst, item_count};
-ghost use Rattle.sorted_order.specs.Blocks.{AreFilled, AreHalfFull, AreSums};
+ghost use Rattle.sorted_order.specs.Inside.Blocks.{AreFilled, AreHalfFull, AreSums};
 
 use crate::block::Block;
 use crate::directory::locate;
@@ -19,7 +19,7 @@ pub struct Numbers<'a> {
 impl<'a> Model for Numbers<'a> {
     ghost use Rattle.std.specs.Prelude.{ℕ, List, ◌++◌, take};
     ghost use Rattle.std.specs.List.{concat};
-    ghost use Rattle.sorted_order.specs.Blocks.{IsLeft};
+    ghost use Rattle.sorted_order.specs.Inside.Blocks.{IsLeft};
 
     ghost Value = { List ℕ };
 

@@ -8,7 +8,8 @@
 ghost use Rattle.std.specs.Prelude.{◌≡◌, ℕ, ◌+◌, ◌-◌, ◌*◌, ◌^◌, ◌<◌, ◌≤◌, [], length, take, drop};
 ghost use Rattle.std.specs.Prelude.{slice_get, slice_index, min, IsOk, OnOk};
 ghost use Rattle.std.specs.List.{All, filter, insert};
-ghost use Rattle.sorted_order.specs.Sought.{IsRising, IsGap, FindsFirst, Finds, is_equal};
+ghost use Rattle.sorted_order.specs.Sought.{IsRising, IsGap, Finds, is_equal};
+ghost use Rattle.sorted_order.specs.Inside.Seeking.{FindsFirst};
 
 use crate::block::{Block, HALF};
 use crate::directory::{add_blocks, locate, put_number};
@@ -45,7 +46,7 @@ impl Model for Order {
     ghost use Rattle.std.specs.Prelude.{length, vec_capacity};
     ghost use Rattle.std.specs.List.{concat};
     ghost use Rattle.sorted_order.specs.Sequence.{Sequence};
-    ghost use Rattle.sorted_order.specs.Blocks.{AreKept, capacity_of};
+    ghost use Rattle.sorted_order.specs.Inside.Blocks.{AreKept, capacity_of};
 
     ghost Value = { Sequence };
 

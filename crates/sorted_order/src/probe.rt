@@ -80,7 +80,7 @@ impl<'a, P: Probe> Past<'a, P> {
 }
 
 impl<'a, P: Probe> Probe for Past<'a, P> {
-    ghost use Rattle.sorted_order.specs.Sought.{past};
+    ghost use Rattle.sorted_order.specs.Inside.Seeking.{past};
 
     ghost compared = { λ it number. past (P.compared it.probe.now number) };
 

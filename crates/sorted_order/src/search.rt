@@ -2,9 +2,10 @@
 //! the place in it.
 ghost use Rattle.std.specs.Prelude.{◌≡◌, ℕ, ◌+◌, ◌-◌, ◌^◌, ◌<◌, ◌≤◌, length, slice_get};
 ghost use Rattle.std.specs.List.{All, concat};
-ghost use Rattle.sorted_order.specs.Blocks.{AreFilled, block_at, length_before, IsSpot, IsBoundary};
-ghost use Rattle.sorted_order.specs.Blocks.{IsEdgeBlock};
-ghost use Rattle.sorted_order.specs.Sought.{FindsAt};
+ghost use Rattle.sorted_order.specs.Inside.Blocks.{AreFilled, block_at, length_before, IsSpot};
+ghost use Rattle.sorted_order.specs.Inside.Blocks.{IsBoundary};
+ghost use Rattle.sorted_order.specs.Inside.Blocks.{IsEdgeBlock};
+ghost use Rattle.sorted_order.specs.Inside.Seeking.{FindsAt};
 
 use crate::block::Block;
 use crate::probe::Probe;

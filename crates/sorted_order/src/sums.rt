@@ -3,7 +3,7 @@
 ghost use Rattle.std.specs.Prelude.{◌≡◌, ℕ, ◌+◌, ◌*◌, ◌/◌, ◌^◌, ◌<◌, ◌≤◌, length, take};
 ghost use Rattle.std.specs.Prelude.{slice_index, slice_set, OnOk};
 ghost use Rattle.std.specs.List.{concat, sum};
-ghost use Rattle.sorted_order.specs.Blocks.{AreSums, length_before};
+ghost use Rattle.sorted_order.specs.Inside.Blocks.{AreSums, length_before};
 
 use crate::block::Block;
 use std::alloc::AllocError;

@@ -1,7 +1,7 @@
 use Rattle.std.proofs.Common.{◌≡◌, ◌+◌, ◌<◌, [], suc, length, arith, inl, inr, ◌∙◌, ap}
 use Rattle.std.proofs.lemmas.Bool.{cases_lt}
 use Rattle.std.proofs.lemmas.List.{get_or_read}
-use Rattle.sorted_order.specs.Blocks.{block_at}
+use Rattle.sorted_order.specs.Inside.Blocks.{block_at}
 use Rattle.sorted_order.proofs.BlockFacts.{before_next, before_all}
 use Rattle.sorted_order.proofs.directory.locate_among.Goals as goal
 

@@ -1,5 +1,5 @@
 use Rattle.std.proofs.Common.{◌≡◌, ◌+◌, ◌-◌, ◌<◌, length}
-use Rattle.sorted_order.specs.Blocks.{length_before}
+use Rattle.sorted_order.specs.Inside.Blocks.{length_before}
 use Rattle.sorted_order.proofs.directory.locate_among.Given as goal
 
 abbrev pub invariant-loop-within : goal.invariant-loop-within

@@ -1,6 +1,6 @@
 use Rattle.std.proofs.Common.{◌≡◌, ◌+◌, ◌-◌, ◌/◌, ◌<◌, [], length, arith, ◌∙◌, ap, sym, subst, slice_index}
 use Rattle.std.proofs.lemmas.List.{get_or_read}
-use Rattle.sorted_order.specs.Blocks.{block_at}
+use Rattle.sorted_order.specs.Inside.Blocks.{block_at}
 use Rattle.sorted_order.proofs.BlockFacts.{filled_at}
 use Rattle.sorted_order.proofs.SearchFacts.{All-block}
 use Rattle.sorted_order.proofs.search.edge_block.Goals as goal

@@ -2,7 +2,7 @@ use Rattle.std.proofs.Common.{◌≡◌, ◌+◌, ◌<◌, [], length, arith, �
 use Rattle.std.proofs.lemmas.List.{get_or_read}
 use Rattle.std.proofs.lemmas.Option.{slice_get_past}
 use Rattle.std.specs.List.{concat}
-use Rattle.sorted_order.specs.Blocks.{block_at, length_before}
+use Rattle.sorted_order.specs.Inside.Blocks.{block_at, length_before}
 use Rattle.sorted_order.proofs.BlockFacts.{first_here, first_next, first_past, filled_at, block_length}
 use Rattle.sorted_order.proofs.search.first_from.Goals as goal
 

@@ -1,6 +1,6 @@
 use Rattle.std.proofs.Common.{◌≡◌, ◌+◌, ◌<◌, [], suc, length, arith, ◌∙◌, ap}
 use Rattle.std.proofs.lemmas.List.{get_or_read}
-use Rattle.sorted_order.specs.Blocks.{block_at}
+use Rattle.sorted_order.specs.Inside.Blocks.{block_at}
 use Rattle.sorted_order.proofs.BlockFacts.{before_next, before_within}
 use Rattle.sorted_order.proofs.sums.length_of.Goals as goal
 

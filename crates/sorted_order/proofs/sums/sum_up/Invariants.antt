@@ -1,6 +1,6 @@
 use Rattle.std.proofs.Common.{◌≡◌, ℕ, ◌*◌, ◌≤◌, length, take, drop}
 use Rattle.std.specs.List.{sum}
-use Rattle.sorted_order.specs.Blocks.{length_before}
+use Rattle.sorted_order.specs.Inside.Blocks.{length_before}
 use Rattle.sorted_order.proofs.sums.sum_up.Given as goal
 
 abbrev pub invariant-loop-group : goal.invariant-loop-group

@@ -1,6 +1,6 @@
 use Rattle.std.proofs.Common.{◌≡◌, [], ◌∙◌}
 use Rattle.std.proofs.lemmas.List.{get_or_read}
-use Rattle.sorted_order.specs.Blocks.{block_at}
+use Rattle.sorted_order.specs.Inside.Blocks.{block_at}
 use Rattle.sorted_order.proofs.BlockFacts.{left_from, left_view}
 use Rattle.sorted_order.proofs.numbers.Numbers.new.Goals as goal
 

@@ -1,6 +1,6 @@
 use Rattle.std.proofs.Common.{◌≡◌, ◌+◌, ◌-◌, ◌<◌, [], arith, ◌∙◌, ap, sym, slice_index}
 use Rattle.std.proofs.lemmas.List.{get_or_read}
-use Rattle.sorted_order.specs.Blocks.{block_at, IsSpot}
+use Rattle.sorted_order.specs.Inside.Blocks.{block_at, IsSpot}
 use Rattle.sorted_order.specs.Sequence.{Sequence}
 use Rattle.sorted_order.proofs.BlockFacts.{concat-at}
 use Rattle.sorted_order.proofs.order.Order.get.Goals as goal

@@ -1,5 +1,6 @@
 use Rattle.std.proofs.Common.{◌∙◌, ℕ, sym}
-use Rattle.sorted_order.specs.Sought.{IsGap, past}
+use Rattle.sorted_order.specs.Sought.{IsGap}
+use Rattle.sorted_order.specs.Inside.Seeking.{past}
 use Rattle.sorted_order.proofs.SearchFacts.{past_rises, matching_is}
 use Rattle.sorted_order.proofs.order.Order.matching.Goals as goal
 
