@@ -138,7 +138,7 @@ no_line format config bytes tail whole none =
     cc
 
 -- A stream that begins with that line is not refused for it.
-refused_first : (format : Format) (config : Configuration) (bytes tail : List ℕ) (e : SyncError) → e ≢ Io → e ≢ NoMemory
+pub refused_first : (format : Format) (config : Configuration) (bytes tail : List ℕ) (e : SyncError) → e ≢ Io → e ≢ NoMemory
     → bytes ≡ ended (header_line format config) ++ tail → RefusesFirst config (Some bytes) e → ⊥
 refused_first format config bytes tail BadHeader calm ample whole h = bad_first format config bytes tail BadHeader whole h
 refused_first format config bytes tail ConfigDiffers calm ample whole h = bad_first format config bytes tail ConfigDiffers whole h
@@ -193,14 +193,14 @@ bad_line format m k rest e ample tail h = by_rest h.after h.is
     by_rest (Some left) is = good_place format m k rest h.text left e ample tail is.0 is.1 h.cause
 
 -- The last line is none of what is held.
-count_apart : (format : Format) (m : Meaning) (text : List ℕ) (ys later : List (List ℕ)) (k : Meaning) → IsMeaning k
+pub count_apart : (format : Format) (m : Meaning) (text : List ℕ) (ys later : List (List ℕ)) (k : Meaning) → IsMeaning k
     → text ≡ count_line format k → held_lines m ≡ ys ++ text ∷ later → ⊥
 count_apart format m text ys later k valid is e =
     let count = is_count format k valid in
     no_count text count.rest (is ∙ count.begins) (all_back IsThird ys (text ∷ later) (subst (AllByRecursion IsThird) e (third_held m.records m.held))).0
 
 -- The last line has no line feed in it.
-plain_count : (format : Format) (m : Meaning) → IsMeaning m → HasNoFeed (count_line format m)
+pub plain_count : (format : Format) (m : Meaning) → IsMeaning m → HasNoFeed (count_line format m)
 plain_count format m valid =
     fed (count_line format m) (feedless_count format (length m.held) (length m.records) (omega (arith, valid.few)) (omega (arith, valid.few_records)))
 
@@ -255,14 +255,14 @@ front_text format config m same =
     ∙ ap (λ c. ended (header_line format c) ++ behind format m) same
 
 -- The beginning of a snapshot is its first line and the lines of what is held.
-begun_front : (format : Format) (config : Configuration) (k : Meaning) (rest : List ℕ) → k.config ≡ config
+pub begun_front : (format : Format) (config : Configuration) (k : Meaning) (rest : List ℕ) → k.config ≡ config
     → begun_text format k ++ rest ≡ ended (header_line format config) ++ (text_of_lines (held_lines k) ++ rest)
 begun_front format config k rest same =
     append_assoc (ended (header_line format k.config)) (text_of_lines (held_lines k)) rest
     ∙ ap (λ c. ended (header_line format c) ++ (text_of_lines (held_lines k) ++ rest)) same
 
 -- Snapshots of two formats differ in their first lines.
-one_format : (config : Configuration) (f g : Format) (rest other : List ℕ)
+pub one_format : (config : Configuration) (f g : Format) (rest other : List ℕ)
     → ended (header_line f config) ++ rest ≡ ended (header_line g config) ++ other → f ≡ g
 one_format config First First rest other e = refl
 one_format config First Second rest other e = absurd (formats_apart (digits_of config) rest other e)

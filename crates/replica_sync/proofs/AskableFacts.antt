@@ -1,6 +1,6 @@
 -- A stream begins with one question at most, and one that begins with a question has no fault
 -- there.
-use Rattle.std.proofs.Common.{◌≡◌, ◌≢◌, ℕ, ◌<◌, ◌⊎◌, inl, inr, List, ◌++◌, length, Option, None, Some, refl, ap, ◌∙◌, subst, arith}
+use Rattle.std.proofs.Common.{◌≡◌, ◌≢◌, ℕ, inl, inr, List, ◌++◌, Option, None, Some, refl, ap, ◌∙◌, subst, arith}
 use Rattle.std.specs.Io.KnownBytes.{Consumes}
 use Rattle.fed_config.specs.Configuration.{Configuration}
 use Rattle.byte_lines.specs.Lines.{HasNoFeed}
@@ -10,7 +10,7 @@ use Rattle.replica_core.specs.declared.error.SyncError.{SyncError}
 use Rattle.replica_core.specs.declared.error.SyncError.TheVariants.{BadHeader, ConfigDiffers, VersionDiffers, NotCanonical, NotRising, BadCount, Truncated}
 use Rattle.replica_core.specs.declared.error.SyncError.TheVariants.{Refused, Io, NoMemory}
 use Rattle.replica_sync.specs.Messages.{Asked, asked_of, asked_text, question_text}
-use Rattle.replica_sync.specs.FirstLines.{HasBadFirstLine, IsAskedLine, HasOtherDigest, HasDigestOf, RefusesAsked}
+use Rattle.replica_sync.specs.FirstLines.{HasBadFirstLine, IsAskedLine, HasOtherDigest, HasDigestOf, RefusesAsked, RefusesFirstLine}
 use Rattle.replica_sync.specs.Questions.{IsAskable, RefusesQuestion}
 use Rattle.replica_sync.proofs.FeedlessFacts.{is-first, no-first, plain-asked, same-line}
 use Rattle.replica_sync.proofs.FirstLineFacts.{one-asked}
@@ -51,10 +51,9 @@ one-question bytes p q (Some left) (Some rest) is valid e f =
 
 -- A fault of the first line is one of the line with which the stream begins.
 pub first-cause : (refuses : List ℕ → SyncError → Type 0) (bytes text after : List ℕ) (new : Option (List ℕ))
-    (e : SyncError) → HasNoFeed text → bytes ≡ ended text ++ after → HasBadFirstLine refuses (Some bytes) new e
-    → ((e ≡ BadHeader) × (8388608 < length text)) ⊎ refuses text e
+    (e : SyncError) → HasNoFeed text → bytes ≡ ended text ++ after → HasBadFirstLine refuses (Some bytes) new e → RefusesFirstLine refuses text e
 first-cause refuses bytes text after new e plain is h =
-    subst (λ t. ((e ≡ BadHeader) × (8388608 < length t)) ⊎ refuses t e) (is-first bytes text after h.text new plain is h.is).0 h.cause
+    subst (λ t. RefusesFirstLine refuses t e) (is-first bytes text after h.text new plain is h.is).0 h.cause
 
 -- A digest that is the configuration's is not another one's.
 pub no-other : (config : Option Configuration) (digest other : List ℕ) → HasDigestOf config digest → other ≡ digest → HasOtherDigest config other → ⊥
@@ -63,21 +62,21 @@ no-other (Some config) digest other own e h = h (e ∙ own)
 
 -- The line of a question of this configuration has no fault.
 no-bad-question : (config : Option Configuration) (q : Question) (e : SyncError) → IsAskable q → HasDigestOf config q.config → e ≢ NoMemory
-    → ((e ≡ BadHeader) × (8388608 < length (asked_text (asked_of q)))) ⊎ RefusesAsked config (asked_text (asked_of q)) e → ⊥
+    → RefusesFirstLine (RefusesAsked config) (asked_text (asked_of q)) e → ⊥
 no-bad-question config q e is own ample (inl long) = let more = long.1 in let short = is.short in omega (arith, more, short)
-no-bad-question config q BadHeader is own ample (inr none) = none (asked_of q) (asked-line q is)
+no-bad-question config q BadHeader is own ample (inr none) = none.1 (asked_of q) (asked-line q is)
 no-bad-question config q ConfigDiffers is own ample (inr h) =
-    let same = one-asked (asked_text (asked_of q)) h.asked (asked_of q) h.line (asked-line q is) in
-    no-other config q.config h.asked.question.config own (ap (λ (a : Asked). a.question.config) same) h.other
+    let same = one-asked (asked_text (asked_of q)) h.1.asked (asked_of q) h.1.line (asked-line q is) in
+    no-other config q.config h.1.asked.question.config own (ap (λ (a : Asked). a.question.config) same) h.1.other
 no-bad-question config q VersionDiffers is own ample (inr h) =
-    let same = one-asked (asked_text (asked_of q)) h.asked (asked_of q) h.line (asked-line q is) in
-    h.unsupported (ap (λ (a : Asked). a.format) same, ap (λ (a : Asked). a.buckets) same)
-no-bad-question config q (NotCanonical n) is own ample (inr h) = h
-no-bad-question config q (NotRising n) is own ample (inr h) = h
-no-bad-question config q BadCount is own ample (inr h) = h
-no-bad-question config q Truncated is own ample (inr h) = h
-no-bad-question config q (Refused n why) is own ample (inr h) = h
-no-bad-question config q Io is own ample (inr h) = h
+    let same = one-asked (asked_text (asked_of q)) h.1.asked (asked_of q) h.1.line (asked-line q is) in
+    h.1.unsupported (ap (λ (a : Asked). a.format) same, ap (λ (a : Asked). a.buckets) same)
+no-bad-question config q (NotCanonical n) is own ample (inr h) = h.1
+no-bad-question config q (NotRising n) is own ample (inr h) = h.1
+no-bad-question config q BadCount is own ample (inr h) = h.1
+no-bad-question config q Truncated is own ample (inr h) = h.1
+no-bad-question config q (Refused n why) is own ample (inr h) = h.1
+no-bad-question config q Io is own ample (inr h) = h.1
 no-bad-question config q NoMemory is own ample (inr h) = ample refl
 
 module _ (config : Option Configuration) (bytes : List ℕ) (q : Question) (left : List ℕ) (is : IsAskable q)

@@ -1,6 +1,6 @@
 -- The first line of each configuration is one, with the digits of its digest, and has no line feed.
 use Rattle.std.proofs.Common.{◌≡◌, ℕ, zero, suc, ◌+◌, ◌*◌, ◌/◌, ◌%◌, ◌<◌, ◌≤◌, ◌==◌, ◌&&◌, Bool, true, not, inl, inr, List, [], ◌∷◌, ◌++◌, length, codes}
-use Rattle.std.proofs.Common.{decimal, slice_index, refl, subst, arith, length-append}
+use Rattle.std.proofs.Common.{decimal, slice_index, refl, ap, subst, arith, length-append}
 use Rattle.std.proofs.lemmas.Bool.{and_parts, cases_lt}
 use Rattle.std.proofs.lemmas.Fmt.{length-decimal-le}
 use Rattle.std.proofs.lemmas.List.Elements.{All-from_recursion}
@@ -89,14 +89,19 @@ first_length : (digits number : List ℕ) → length (header_of digits number) �
 unfolding header_of
 first_length digits number = simp length-append (omega arith)
 
+-- A first line is not too long.
+pub short_header : (text digits : List ℕ) (version : ℕ) → IsHeader text digits version → length text ≤ 8388608
+short_header text digits version is =
+    let same = ap length is.spelt in
+    let whole = first_length digits (decimal version) in
+    let size = is.form.size in
+    let few = is.few in
+    let number : length (decimal version) ≤ 20 = length-decimal-le 20 version (omega arith) (omega (arith, few)) few in
+    omega (arith, same, whole, size, number)
+
 -- The first line of a configuration is not too long.
 pub short_first : (format : Format) (c : Configuration) → length (header_line format c) ≤ 8388608
-short_first format c =
-    let whole = first_length (digits_of c) (decimal (version_of format)) in
-    let size = (config_digits c).size in
-    let few = few_versions format in
-    let number : length (decimal (version_of format)) ≤ 1 = length-decimal-le 1 (version_of format) (omega arith) few (omega (arith, few)) in
-    omega (arith, whole, size, number)
+short_first format c = short_header (header_line format c) (digits_of c) (version_of format) (is_first_line format c)
 
 -- the test that a text has no line feed, which computes
 abbrev is_feedless : List ℕ → Bool

@@ -1,7 +1,8 @@
 -- A stream begins with one answer at most, and one that begins with a whole answer has no fault
 -- before its end.
-use Rattle.std.proofs.Common.{◌≡◌, ◌≢◌, ℕ, ◌+◌, ◌<◌, ◌≤◌, ◌^◌, ◌⊎◌, inl, inr, List, [], ◌∷◌, ◌++◌, codes, decimal, length, length-append, map, fold, Option}
+use Rattle.std.proofs.Common.{◌≡◌, ◌≢◌, ℕ, ◌+◌, ◌<◌, ◌≤◌, ◌^◌, inl, inr, List, [], ◌∷◌, ◌++◌, codes, decimal, length, length-append, map, fold, Option}
 use Rattle.std.proofs.Common.{None, Some, refl, ap, sym, ◌∙◌, subst, arith, append_assoc, append-nil}
+use Rattle.std.proofs.lemmas.Bool.{cases_lt}
 use Rattle.std.proofs.lemmas.Fmt.{length-decimal-le}
 use Rattle.std.proofs.lemmas.List.{append_cancel_left, length-map}
 use Rattle.std.specs.Io.KnownBytes.{Consumes}
@@ -29,9 +30,10 @@ use Rattle.replica_core.proofs.RisingListFacts.{all_back, rising_head, rising_ta
 use Rattle.replica_sync.proofs.HeldFacts.{text_cmp}
 use Rattle.replica_sync.proofs.OneFacts.{held_back, lines_back}
 use Rattle.replica_sync.specs.Messages.{GiveHeader, distrusts_part, reply_text, told_of, told_text}
-use Rattle.replica_sync.specs.FirstLines.{Expected, HasBadFirstLine, IsAbout, HasDigestOf, IsRecordCount, IsGiveHeader, IsToldLine, RefusesTold, config_of}
-use Rattle.replica_sync.specs.Answers.{AnswerBegins, IsAnswer, IsBegun, IsContent, HasBadNext, RefusesGive, RefusesHead, RefusesNextEntry, Wants, content_lines}
-use Rattle.replica_sync.specs.Answers.{refused_text}
+use Rattle.replica_sync.specs.FirstLines.{Expected, HasBadFirstLine, IsAbout, HasDigestOf, IsRecordCount, IsGiveHeader, IsToldLine, RefusesFirstLine, RefusesTold}
+use Rattle.replica_sync.specs.FirstLines.{config_of}
+use Rattle.replica_sync.specs.Answers.{AnswerBegins, Heads, IsAnswer, IsBegun, IsContent, HasBadNext, RefusesGive, RefusesHead, RefusesNextEntry}
+use Rattle.replica_sync.specs.Answers.{Wants, content_lines, refused_text}
 use Rattle.replica_sync.proofs.AskableFacts.{first-cause, no-other}
 use Rattle.replica_sync.proofs.ContentFacts.{text_of_content}
 use Rattle.replica_sync.proofs.FeedlessFacts.{no-first, plain-told, same-line}
@@ -77,25 +79,41 @@ short-told t is =
     let buckets = short-number t.buckets is.buckets in
     omega (arith, whole, bucket, config, count, part, format, buckets)
 
--- The first line of an answer that is wanted has no fault.
-no-bad-told : (expected : Option Expected) (r : Reply) (e : SyncError) → IsAnswer r → IsAbout expected r.bucket
-    → HasDigestOf (config_of expected) r.config → e ≢ NoMemory
-    → ((e ≡ BadHeader) × (8388608 < length (told_text (told_of r)))) ⊎ RefusesTold expected (told_text (told_of r)) e → ⊥
-no-bad-told expected r e is about own ample (inl long) = let more = long.1 in let short = short-told (told_of r) is.told in omega (arith, more, short)
-no-bad-told expected r BadHeader is about own ample (inr none) = none (told_of r) (record { line = told-line r is; about = about })
-no-bad-told expected r ConfigDiffers is about own ample (inr h) =
-    let same = one-told (told_text (told_of r)) h.told (told_of r) h.tells.line (told-line r is) in
-    no-other (config_of expected) r.config h.told.config own (ap (λ (t : GiveHeader). t.config) same) h.other
-no-bad-told expected r VersionDiffers is about own ample (inr h) =
-    let same = one-told (told_text (told_of r)) h.told (told_of r) h.tells.line (told-line r is) in
-    h.unsupported (ap (λ (t : GiveHeader). t.format) same, ap (λ (t : GiveHeader). t.buckets) same)
-no-bad-told expected r (NotCanonical n) is about own ample (inr h) = h
-no-bad-told expected r (NotRising n) is about own ample (inr h) = h
-no-bad-told expected r BadCount is about own ample (inr h) = h
-no-bad-told expected r Truncated is about own ample (inr h) = h
-no-bad-told expected r (Refused n why) is about own ample (inr h) = h
-no-bad-told expected r Io is about own ample (inr h) = h
-no-bad-told expected r NoMemory is about own ample (inr h) = ample refl
+-- The first line of an answer says that it is one with so many receipts and records.
+heads-reply : (expected : Option Expected) (r : Reply) → IsAnswer r → IsAbout expected r.bucket → HasDigestOf (config_of expected) r.config
+    → Heads expected (told_text (told_of r)) (length r.content.held) (length r.content.records)
+heads-reply expected r is about own = record {
+  told = told_of r;
+  tells = record { line = told-line r is; about = about };
+  own = own;
+  supported = (refl, refl);
+  receipts = refl;
+  records = refl;
+}
+
+-- A first line that is read has no fault.
+pub no-bad-head : (expected : Option Expected) (text : List ℕ) (count distrusts : ℕ) (e : SyncError) → Heads expected text count distrusts
+    → e ≢ NoMemory → RefusesFirstLine (RefusesTold expected) text e → ⊥
+no-bad-head expected text count distrusts e is ample (inl long) =
+    let more = long.1 in
+    let line = is.tells.line in
+    let short = short-told is.told line.is in
+    let same = ap length line.spelt in
+    omega (arith, more, short, same)
+no-bad-head expected text count distrusts BadHeader is ample (inr none) = none.1 is.told is.tells
+no-bad-head expected text count distrusts ConfigDiffers is ample (inr h) =
+    let same = one-told text h.1.told is.told h.1.tells.line is.tells.line in
+    no-other (config_of expected) is.told.config h.1.told.config is.own (ap (λ (t : GiveHeader). t.config) same) h.1.other
+no-bad-head expected text count distrusts VersionDiffers is ample (inr h) =
+    let same = one-told text h.1.told is.told h.1.tells.line is.tells.line in
+    h.1.unsupported (ap (λ (t : GiveHeader). t.format) same ∙ is.supported.0, ap (λ (t : GiveHeader). t.buckets) same ∙ is.supported.1)
+no-bad-head expected text count distrusts (NotCanonical n) is ample (inr h) = h.1
+no-bad-head expected text count distrusts (NotRising n) is ample (inr h) = h.1
+no-bad-head expected text count distrusts BadCount is ample (inr h) = h.1
+no-bad-head expected text count distrusts Truncated is ample (inr h) = h.1
+no-bad-head expected text count distrusts (Refused n why) is ample (inr h) = h.1
+no-bad-head expected text count distrusts Io is ample (inr h) = h.1
+no-bad-head expected text count distrusts NoMemory is ample (inr h) = ample refl
 
 -- ---- the lines after it
 
@@ -119,7 +137,7 @@ feedless-content content is =
     (subst (AllByRecursion Feedless) (append-nil (map line content.held)) (feedless-all IsReceipt line feedless_line content.held [] is.receipts tt))
 
 -- There is one line for each record and each receipt.
-count-lines : (content : State) → length (content_lines content) ≡ length content.records + length content.held
+pub count-lines : (content : State) → length (content_lines content) ≡ length content.records + length content.held
 count-lines content =
     let both = length-append (map distrust_line content.records) (map line content.held) in
     let records = length-map content.records distrust_line in
@@ -127,7 +145,7 @@ count-lines content =
     omega (arith, both, records, receipts)
 
 -- Two contents with which a text begins, and what follows them, have the same lines.
-same-lines : (m k : State) (rest after : List ℕ) → IsContent m → IsContent k
+pub same-lines : (m k : State) (rest after : List ℕ) → IsContent m → IsContent k
     → text_of_lines (content_lines m) ++ rest ≡ text_of_lines (content_lines k) ++ after
     → content_lines m ++ (lines_of rest).whole ≡ content_lines k ++ (lines_of after).whole
 same-lines m k rest after is valid e =
@@ -137,7 +155,7 @@ same-lines m k rest after is valid e =
 -- ---- one answer
 
 -- Two fronts of one length of a list are equal, and so are the rests.
-same-front : (xs ys us vs : List (List ℕ)) → length xs ≡ length ys → xs ++ us ≡ ys ++ vs → (xs ≡ ys) × (us ≡ vs)
+pub same-front : (xs ys us vs : List (List ℕ)) → length xs ≡ length ys → xs ++ us ≡ ys ++ vs → (xs ≡ ys) × (us ≡ vs)
 same-front [] [] us vs n e = (refl, e)
 same-front [] (y ∷ ys) us vs n e = absurd (omega (arith, n))
 same-front (x ∷ xs) [] us vs n e = absurd (omega (arith, n))
@@ -148,7 +166,7 @@ same-front (x ∷ xs) (y ∷ ys) us vs n e =
     ((λ i. head i ∷ later.0 i), later.1)
 
 -- Equal options have equal items.
-some-once : (m n : ℕ) → Some m ≡ Some n → m ≡ n
+pub some-once : (m n : ℕ) → Some m ≡ Some n → m ≡ n
 some-once m n e = cc
 
 -- Both are one answer, and the same follows them.
@@ -192,7 +210,7 @@ one-reply bytes a b (Some left) (Some rest) is valid e f =
 -- ---- the line after a beginning
 
 -- after the fewer lines stands one more of the others
-record HasFurther (xs us ys : List (List ℕ)) : Type 0 where
+pub record HasFurther (xs us ys : List (List ℕ)) : Type 0 where
   pub text : List ℕ
   pub later : List (List ℕ)
   pub behind : List (List ℕ)
@@ -200,7 +218,7 @@ record HasFurther (xs us ys : List (List ℕ)) : Type 0 where
   pub rest : us ≡ text ∷ behind
 
 -- Where fewer lines and more begin one list, one more line stands after the fewer.
-further : (xs us ys vs : List (List ℕ)) → xs ++ us ≡ ys ++ vs → length xs < length ys → HasFurther xs us ys
+pub further : (xs us ys vs : List (List ℕ)) → xs ++ us ≡ ys ++ vs → length xs < length ys → HasFurther xs us ys
 further [] us [] vs e less = absurd (omega (arith, less))
 further [] us (y ∷ ys) vs e less = record { text = y; later = ys; behind = ys ++ vs; whole = refl; rest = e }
 further (x ∷ xs) us [] vs e less = absurd (omega (arith, less))
@@ -225,32 +243,61 @@ stands-at P f (x ∷ xs) us (y ∷ ys) vs text h e less =
     let tail : map f xs ++ us ≡ ys ++ text ∷ vs = cc in
     stands-at P f xs us ys vs text h.1 tail (omega (arith, less))
 
+-- Of two beginnings of an answer, the one with fewer lines has fewer records where a record is wanted after it.
+more-records : (count distrusts : ℕ) (whole content : State) → IsBegun count distrusts whole → length content.records < distrusts
+    → length (content_lines content) < length (content_lines whole) → length content.records < length whole.records
+more-records count distrusts whole content larger wants less =
+    elim (cases_lt (length content.records) (length whole.records)) [
+      | inl more ↦ more
+      | inr same ↦
+          let none = ap length (larger.order (omega (arith, same, wants))) in
+          let few = count-lines content in
+          let many = count-lines whole in
+          absurd (omega (arith, same, none, few, many, less))
+    ]
+
+-- Where a receipt is wanted after it, the other one has as many records as it, and more receipts.
+more-receipts : (count distrusts : ℕ) (whole content : State) → IsBegun count distrusts whole → length content.records ≡ distrusts
+    → length (content_lines content) < length (content_lines whole)
+    → (length whole.records ≡ length content.records) × (length content.held < length whole.held)
+more-receipts count distrusts whole content larger wants less =
+    let few = count-lines content in
+    let many = count-lines whole in
+    let records = larger.records in
+    elim (cases_lt (length whole.records) (length content.records)) [
+      | inl fewer ↦ let none = ap length (larger.order (omega (arith, fewer, wants))) in absurd (omega (arith, fewer, none, few, many, less))
+      | inr more ↦ let same : length whole.records ≡ length content.records = omega (arith, more, records, wants) in
+          (same, omega (arith, same, few, many, less))
+    ]
+
 -- A line at a place where records, or receipts, are wanted is one of these.
 entry-at : (wanted : Wanted) (count distrusts : ℕ) (whole content : State) (text : List ℕ) (later : List (List ℕ))
-    → IsContent whole → IsBegun count distrusts content → count ≡ length whole.held → distrusts ≡ length whole.records
+    → IsBegun count distrusts whole → IsBegun count distrusts content → length (content_lines content) < length (content_lines whole)
     → Wants count distrusts content wanted → content_lines whole ≡ content_lines content ++ text ∷ later → (entry : Entry) × IsEntry wanted text entry
-entry-at Records count distrusts whole content text later is begun receipts records wants e =
+entry-at Records count distrusts whole content text later larger begun less wants e =
     let none : content_lines content ≡ map distrust_line content.records =
     ap (λ held. map distrust_line content.records ++ map line held) (begun.order wants)
     ∙ append-nil (map distrust_line content.records) in
     let few = length-map content.records distrust_line in
+    let more = more-records count distrusts whole content larger wants less in
     let at = stands-at IsDistrust distrust_line whole.records (map line whole.held) (map distrust_line content.records)
-    later text is.records (e ∙ ap (λ ls. ls ++ text ∷ later) none) (omega (arith, few, records, wants)) in
+    later text larger.valid.records (e ∙ ap (λ ls. ls ++ text ∷ later) none) (omega (arith, few, more)) in
     (Record at.it, record { is = at.is; spelt = at.spelt })
-entry-at Receipts count distrusts whole content text later is begun receipts records wants e =
-    let all = wants.0 in
-    let more = wants.1 in
+entry-at Receipts count distrusts whole content text later larger begun less wants e =
+    let more = more-receipts count distrusts whole content larger wants.0 less in
+    let same = more.0 in
+    let longer = more.1 in
     let many = length-map whole.records distrust_line in
     let many_too = length-map content.records distrust_line in
     let behind =
     (same-front (map distrust_line whole.records) (map distrust_line content.records) (map line whole.held)
-    (map line content.held ++ text ∷ later) (omega (arith, many, many_too, all, records))
+    (map line content.held ++ text ∷ later) (omega (arith, many, many_too, same))
     (e ∙ append_assoc (map distrust_line content.records) (map line content.held) (text ∷ later))).1 in
     let few = length-map content.held line in
-    let at = stands-at IsReceipt line whole.held [] (map line content.held) later text is.receipts
-    (append-nil (map line whole.held) ∙ behind) (omega (arith, few, receipts, more)) in
+    let at = stands-at IsReceipt line whole.held [] (map line content.held) later text larger.valid.receipts
+    (append-nil (map line whole.held) ∙ behind) (omega (arith, few, longer)) in
     (AReceipt at.it, record { is = at.is; spelt = at.spelt })
-entry-at Either count distrusts whole content text later is begun receipts records wants e = absurd wants
+entry-at Either count distrusts whole content text later larger begun less wants e = absurd wants
 
 -- Each line is above the empty text, which stands for no line before.
 above-nothing : (entry : Entry) → IsAbove [] (entry_line entry)
@@ -297,27 +344,50 @@ fewer count distrusts whole content Receipts begun receipts records wants =
     omega (arith, few, many, all, more, receipts, records)
 fewer count distrusts whole content Either begun receipts records wants = absurd wants
 
-module _ (whole content : State) (count distrusts : ℕ) (rest after : List ℕ) (valid : IsContent whole)
-    (rising : IsStrictlySortedBy text_cmp (content_lines whole))
-    (part : IsPart whole content count distrusts rest after) where
+-- Two beginnings of an answer, each with what follows it in one stream; where a line is wanted after the content, the whole has more lines.
+pub record IsShorter (whole content : State) (count distrusts : ℕ) (rest after : List ℕ) : Type 0 where
+  pub begun : IsBegun count distrusts content
+  pub larger : IsBegun count distrusts whole
+  pub lines : content_lines content ++ (lines_of rest).whole ≡ content_lines whole ++ (lines_of after).whole
+  pub more : (wanted : Wanted) → Wants count distrusts content wanted → length (content_lines content) < length (content_lines whole)
+
+-- a beginning of a whole answer is such a one
+shorter-part : (whole content : State) (count distrusts : ℕ) (rest after : List ℕ) → IsContent whole
+    → IsStrictlySortedBy text_cmp (content_lines whole) → IsPart whole content count distrusts rest after → IsShorter whole content count distrusts rest after
+shorter-part whole content count distrusts rest after valid rising part =
+    let receipts = part.receipts in
+    let records = part.records in
+    record {
+      begun = part.begun;
+      larger = record {
+        valid = valid;
+        records = omega (arith, records);
+        receipts = omega (arith, receipts);
+        order = λ less. absurd (omega (arith, less, records));
+        rising = rising;
+      };
+      lines = part.lines;
+      more = λ wanted wants. fewer count distrusts whole content wanted part.begun receipts records wants;
+    }
+
+module _ (whole content : State) (count distrusts : ℕ) (rest after : List ℕ) (part : IsShorter whole content count distrusts rest after) where
   -- Another line of the whole stands after the beginning.
   next-line : (wanted : Wanted) → Wants count distrusts content wanted → HasFurther (content_lines content) (lines_of rest).whole (content_lines whole)
   next-line wanted wants =
-      further (content_lines content) (lines_of rest).whole (content_lines whole) (lines_of after).whole part.lines
-      (fewer count distrusts whole content wanted part.begun part.receipts part.records wants)
+      further (content_lines content) (lines_of rest).whole (content_lines whole) (lines_of after).whole part.lines (part.more wanted wants)
 
   -- That line is the one that is wanted.
   good-line : (wanted : Wanted) (text : List ℕ) (later : List (List ℕ)) → Wants count distrusts content wanted
       → content_lines whole ≡ content_lines content ++ text ∷ later → IsGood whole content wanted text
   good-line wanted text later wants lines =
-      let found = entry-at wanted count distrusts whole content text later valid part.begun part.receipts part.records wants lines in
+      let found = entry-at wanted count distrusts whole content text later part.larger part.begun (part.more wanted wants) wants lines in
       record {
         entry = found.0;
         next = record {
           is = found.1;
           above = last-above [] text (content_lines content) later
               (subst (IsAbove []) (sym found.1.spelt) (above-nothing found.0))
-              (subst (IsStrictlySortedBy text_cmp) lines rising);
+              (subst (IsStrictlySortedBy text_cmp) lines part.larger.rising);
         };
         later = later;
         lines = lines;
@@ -348,7 +418,7 @@ module _ (whole content : State) (count distrusts : ℕ) (rest after : List ℕ)
     no-bad-next new h = welcome h.wanted h.text (good-next h.wanted h.text new h.wants h.is) h.cause
 
   -- Nothing is wrong with what comes next, unless the source or memory fails.
-  no-next-fault : (refuses : Wanted → List ℕ → List ℕ → SyncError → Type 0) (new : Option (List ℕ)) (e : SyncError)
+  pub no-next-fault : (refuses : Wanted → List ℕ → List ℕ → SyncError → Type 0) (new : Option (List ℕ)) (e : SyncError)
       → ((wanted : Wanted) (text : List ℕ) → IsGood whole content wanted text → refuses wanted (last_of (content_lines content)) text e → ⊥)
       → e ≢ Io → e ≢ NoMemory → RefusesNextEntry refuses count distrusts content (Some rest) new e → ⊥
   no-next-fault refuses new BadHeader welcome calm ample h = h
@@ -370,7 +440,7 @@ module _ (expected : Option Expected) (bytes : List ℕ) (r : Reply) (after : Li
   -- The stream has no fault of its first line.
   bad-first : (new : Option (List ℕ)) (e : SyncError) → e ≢ NoMemory → HasBadFirstLine (RefusesTold expected) (Some bytes) new e → ⊥
   bad-first new e ample h =
-      no-bad-told expected r e is about own ample
+      no-bad-head expected (told_text (told_of r)) (length r.content.held) (length r.content.records) e (heads-reply expected r is about own) ample
       (first-cause (RefusesTold expected) bytes (told_text (told_of r)) _ new e (plain-told (told_of r) is.told) (in-lines bytes r after begins) h)
 
   -- The first line is read, unless the source or memory fails.
@@ -411,10 +481,11 @@ module _ (expected : Option Expected) (bytes : List ℕ) (r : Reply) (after : Li
       → RefusesNextEntry refuses count distrusts content left new e → ⊥
   no-fault-behind refuses count distrusts content None new e welcome calm ample b h = b.text
   no-fault-behind refuses count distrusts content (Some rest) new e welcome calm ample b h =
-      no-next-fault r.content content count distrusts rest after is.valid is.rising (is-part count distrusts content rest b) refuses new e welcome calm ample h
+      no-next-fault r.content content count distrusts rest after
+      (shorter-part r.content content count distrusts rest after is.valid is.rising (is-part count distrusts content rest b)) refuses new e welcome calm ample h
 
 -- the text of a good line has no fault of its own
-no-text-fault : (whole content : State) (wanted : Wanted) (text : List ℕ) (e : SyncError) → e ≢ NoMemory
+pub no-text-fault : (whole content : State) (wanted : Wanted) (text : List ℕ) (e : SyncError) → e ≢ NoMemory
     → IsGood whole content wanted text → refused_text content wanted (last_of (content_lines content)) text e → ⊥
 no-text-fault whole content wanted text BadHeader ample good h = h
 no-text-fault whole content wanted text ConfigDiffers ample good h = h

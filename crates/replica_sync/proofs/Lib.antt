@@ -30,4 +30,7 @@ mod SessionFacts
 mod OwnMessageFacts
 mod UnderstandingFacts
 mod WorldFacts
+mod BringsFacts
+mod FaultFacts
+mod SnapshotFaultFacts
 mod StandardFacts

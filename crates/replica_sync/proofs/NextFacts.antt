@@ -100,7 +100,7 @@ same_entry (AReceipt r) (Record y) p q e = absurd (apart y r q p (sym e))
 same_entry (AReceipt r) (AReceipt s) p q e = ap AReceipt (one_line r s p q e)
 
 -- A line says one entry.
-one_entry : (format : Format) (text : List ℕ) (a b : Entry) → IsEntry (wanted_of format) text a → IsEntry (wanted_of format) text b → a ≡ b
+pub one_entry : (format : Format) (text : List ℕ) (a b : Entry) → IsEntry (wanted_of format) text a → IsEntry (wanted_of format) text b → a ≡ b
 one_entry format text a b p q = same_entry a b (wider format a p.is) (wider format b q.is) (sym p.spelt ∙ q.spelt)
 
 -- A good line has no fault at its place.

@@ -1,6 +1,6 @@
 -- What a replica asks, a line can ask; and what it answers to such a question is an answer.
-use Rattle.std.proofs.Common.{◌≡◌, ℕ, ◌+◌, ◌*◌, ◌<◌, ◌≤◌, ◌^◌, Bool, true, false, cond, List, [], ◌∷◌, ◌++◌, codes, decimal, length, length-append, map, Some}
-use Rattle.std.proofs.Common.{refl, subst, arith}
+use Rattle.std.proofs.Common.{◌≡◌, ℕ, ◌+◌, ◌*◌, ◌<◌, ◌≤◌, Bool, true, false, cond, List, [], ◌∷◌, ◌++◌, codes, decimal, length, length-append, map}
+use Rattle.std.proofs.Common.{refl, arith}
 use Rattle.std.specs.Prelude.{filter}
 use Rattle.std.specs.List.{AllByRecursion, join_by}
 use Rattle.std.specs.List.Sorted.{IsStrictlySortedBy}
@@ -22,8 +22,8 @@ use Rattle.receipt_core.specs.Acceptance.{IsFitting, Meaning, IsMeaning}
 use Rattle.receipt_core.proofs.HexFacts.{length-encode_lower}
 use Rattle.receipt_core.proofs.LineFacts.{distrust_order, record_first}
 use Rattle.receipt_core.proofs.RisingFacts.{with_items-all, with_items-rising}
-use Rattle.replica_core.specs.State.{State, id_cmp, ids_held, is_of_bucket, is_named, receipts_lacking}
-use Rattle.replica_core.specs.Session.{Question, Reply, IsQuestion, question_of, reply_of, state_of}
+use Rattle.replica_core.specs.State.{State, id_cmp, ids_held, is_of_bucket, receipts_lacking}
+use Rattle.replica_core.specs.Session.{Question, question_of, reply_of, state_of}
 use Rattle.replica_core.proofs.BucketFacts.{digest-bytes}
 use Rattle.replica_core.proofs.RisingListFacts.{rising_nil}
 use Rattle.replica_sync.specs.Messages.{asked_of, asked_text, quoted}

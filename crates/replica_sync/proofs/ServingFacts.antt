@@ -1,5 +1,5 @@
 -- Questions that are read, and sessions that are served.
-use Rattle.std.proofs.Common.{◌≡◌, ℕ, ◌+◌, ◌⊎◌, inl, inr, List, [], ◌∷◌, ◌++◌, length, Option, ap, sym, ◌∙◌, subst, arith, length-append, append-nil}
+use Rattle.std.proofs.Common.{◌≡◌, ℕ, ◌+◌, ◌≤◌, ◌⊎◌, inl, inr, List, [], ◌∷◌, ◌++◌, length, Option, ap, sym, ◌∙◌, subst, arith, length-append, append-nil}
 use Rattle.std.specs.List.{AllByRecursion, flat_map}
 use Rattle.std.specs.Io.KnownBytes.{Appends, Consumes}
 use Rattle.std.proofs.KnownBytes.{Appends-trans, Consumes-trans}
@@ -23,9 +23,10 @@ use Rattle.replica_sync.proofs.WrittenPieceFacts.{begins-second}
 -- ---- one question
 
 -- A first line that asks nothing is why no question is read.
-pub refused-line : (old new : Option (List ℕ)) (text : List ℕ) (e : SyncError) → HasLine old new text → IsNoneAsked text e → RefusesHaveLine old new e
-refused-line old new text e is (inl none) = subst (RefusesHaveLine old new) (sym none.0) (record { text = text; is = is; cause = inr none.1 })
-refused-line old new text e is (inr memory) = subst (RefusesHaveLine old new) (sym memory) tt
+pub refused-line : (old new : Option (List ℕ)) (text : List ℕ) (e : SyncError) → HasLine old new text → length text ≤ 8388608
+    → IsNoneAsked text e → RefusesHaveLine old new e
+refused-line old new text e is short (inl none) = subst (RefusesHaveLine old new) (sym none.0) (record { text = text; is = is; cause = inr (short, none.1) })
+refused-line old new text e is short (inr memory) = subst (RefusesHaveLine old new) (sym memory) tt
 
 -- Why no line of a question is read is why the next question is not answered.
 pub refused-further : (config : Configuration) (old new : Option (List ℕ)) (e : SyncError) → RefusesHaveLine old new e → RefusesFurther config old e
@@ -45,14 +46,14 @@ pub unsupported-further : (config : Configuration) (old new : Option (List ℕ))
     → HasAsked old new a → RefusesVersionedHave config a e → RefusesFurther config old e
 unsupported-further config old new a BadHeader h r = absurd r
 unsupported-further config old new a ConfigDiffers h r =
-    (new, record { text = h.text; is = h.is; cause = inr (record { asked = asking_by a; line = h.line; other = r }) })
+    (new, record { text = h.text; is = h.is; cause = inr (h.short, record { asked = asking_by a; line = h.line; other = r }) })
 unsupported-further config old new a VersionDiffers h r = (
   new,
   record {
     text = h.text;
     is = h.is;
     cause =
-        inr (record { asked = asking_by a; line = h.line; own = r.0; unsupported = r.1 });
+        inr (h.short, record { asked = asking_by a; line = h.line; own = r.0; unsupported = r.1 });
   },
 )
 unsupported-further config old new a (NotCanonical n) h r = r

@@ -3,10 +3,10 @@
 use Rattle.std.proofs.Common.{◌≡◌, [], ◌∷◌, Some, None, codes, refl}
 use Rattle.std.specs.Fmt.{digits}
 use Rattle.hex.specs.Hex.{encode_with}
-use Rattle.replica_core.specs.Session.{Question, Reply}
+use Rattle.replica_core.specs.Session.{Question}
 use Rattle.replica_sync.specs.declared.format.Format.TheVariants.{First, Second}
 use Rattle.replica_sync.specs.Snapshots.{header_of, count_of}
-use Rattle.replica_sync.specs.Messages.{Asked, asked_text, GiveHeader, told_text, question_text, reply_text}
+use Rattle.replica_sync.specs.Messages.{asked_text, told_text, question_text, reply_text}
 
 -- ---- snapshots
 

@@ -1,15 +1,14 @@
 -- What a pull writes is served without a fault, and what is written to it is read without one.
-use Rattle.std.proofs.Common.{◌≡◌, ◌≢◌, ℕ, ◌+◌, ◌<◌, ◌≤◌, ◌⊎◌, inl, inr, Bool, true, false, cond, ◌&&◌, nat_le, leb-true, List, [], ◌∷◌, ◌++◌, length, map}
+use Rattle.std.proofs.Common.{◌≡◌, ◌≢◌, ℕ, ◌+◌, ◌<◌, ◌≤◌, ◌⊎◌, inl, inr, Bool, true, false, cond, nat_le, leb-true, List, [], ◌∷◌, ◌++◌, length, map}
 use Rattle.std.proofs.Common.{Option, Some, refl, ap, sym, ◌∙◌, subst, arith}
-use Rattle.std.proofs.Common.{append_assoc, length-append}
+use Rattle.std.proofs.Common.{length-append}
 use Rattle.std.specs.Prelude.{IfErr, Result, Ok, Err, filter}
 use Rattle.std.specs.List.{AllByRecursion, flat_map}
 use Rattle.std.specs.List.Sorted.{IsStrictlySortedBy}
 use Rattle.std.specs.Cmp.{IsTotalOrder}
 use Rattle.std.specs.declared.cmp.Ordering.{Ordering}
 use Rattle.std.proofs.lemmas.Bool.{and_parts}
-use Rattle.std.specs.Io.KnownBytes.{Appends, Consumes}
-use Rattle.std.proofs.lemmas.Grind.{flat_map-append}
+use Rattle.std.specs.Io.KnownBytes.{Appends}
 use Rattle.std.proofs.lemmas.List.{length-map}
 use Rattle.std.proofs.lemmas.List.Folds.{flat_map-map}
 use Rattle.fed_config.specs.Configuration.{Configuration, HasDomain, IsConfiguration, config_id_of}
@@ -22,7 +21,7 @@ use Rattle.receipt_core.proofs.RisingFacts.{Has, IsExactOn, all_from_has, each_h
 use Rattle.receipt_core.proofs.RisingFacts.{with_items-new, with_items-rising}
 use Rattle.closure_core.specs.declared.error.TakeError.{TakeError}
 use Rattle.replica_core.specs.State.{State, is_within_limits, joined, meaning_of_state}
-use Rattle.replica_core.specs.Session.{Question, Reply, question_of, reply_of, state_of}
+use Rattle.replica_core.specs.Session.{Question, Reply, reply_of, state_of}
 use Rattle.replica_core.specs.declared.error.SyncError.{SyncError}
 use Rattle.replica_core.specs.declared.error.SyncError.TheVariants.{BadHeader, ConfigDiffers, VersionDiffers, NotCanonical, NotRising, BadCount, Truncated}
 use Rattle.replica_core.specs.declared.error.SyncError.TheVariants.{Refused, Io, NoMemory}
@@ -58,7 +57,8 @@ in-turn c bucket state (r ∷ replies) later rising valid few next =
     let place : bucket + length (r ∷ replies) ≡ bucket + 1 + length replies = omega arith in (
       refl,
       (
-        own-question c state bucket (meaning-within c state (after_replies state (r ∷ replies)) (within-after state (r ∷ replies)) rising valid) (omega (arith, few)),
+        own-question c state bucket
+            (meaning-within c state (after_replies state (r ∷ replies)) (within-after state (r ∷ replies)) rising valid) (omega (arith, few)),
         in-turn c (bucket + 1) (joined state r.content) replies later (rising-joined state r.content rising) valid
             (omega (arith, few)) (subst (λ (b : ℕ). AskInTurn c b later) place next),
       ),
@@ -217,7 +217,7 @@ filter-has p [] a h = h
 filter-has p (x ∷ xs) a h = filter-kept (p x) x xs (filter p xs) a (filter-has p xs a) h
 
 -- what is held after answers of the other was held by one of both
-receipt-of-either : (state : State) (k : Meaning) (qs : List Question) (r : Receipt)
+pub receipt-of-either : (state : State) (k : Meaning) (qs : List Question) (r : Receipt)
     → Has (after_replies state (all-replies k qs)).held r → Has state.held r ⊎ Has k.held r
 receipt-of-either state k [] r h = inl h
 receipt-of-either state k (q ∷ qs) r h =
@@ -229,7 +229,7 @@ receipt-of-either state k (q ∷ qs) r h =
       | inr there ↦ inr there
     ]
 
-record-of-either : (state : State) (k : Meaning) (qs : List Question) (x : Distrust)
+pub record-of-either : (state : State) (k : Meaning) (qs : List Question) (x : Distrust)
     → Has (after_replies state (all-replies k qs)).records x → Has state.records x ⊎ Has k.records x
 record-of-either state k [] x h = inl h
 record-of-either state k (q ∷ qs) x h =

@@ -1,7 +1,7 @@
 -- What a pull holds is what its replica holds in a world where the same was asked, answered and taken.
-use Rattle.std.proofs.Common.{◌≡◌, ◌≢◌, ◌∙◌, ℕ, zero, suc, ◌+◌, ◌-◌, ◌*◌, ◌<◌, ◌≤◌, ◌&&◌, Bool, true, false, cond, List, [], ◌∷◌, ◌++◌, length, map, take, inl}
+use Rattle.std.proofs.Common.{◌≡◌, ◌≢◌, ◌∙◌, ℕ, ◌+◌, ◌-◌, ◌*◌, ◌<◌, ◌≤◌, Bool, true, cond, List, [], ◌∷◌, ◌++◌, length, map, take, inl}
 use Rattle.std.proofs.Common.{inr, refl, sym, ap, subst}
-use Rattle.std.proofs.Common.{arith, le-leb, eq-eqb, ne_eqb, append-nil, append_assoc, length-append, Option, None, Some, nat_le, ◌==◌}
+use Rattle.std.proofs.Common.{arith, le-leb, eq-eqb, ne_eqb, append-nil, append_assoc, length-append, Option, None, Some, nat_le}
 use Rattle.std.specs.Prelude.{slice_get}
 use Rattle.std.proofs.lemmas.Bool.{and_from, cases_lt}
 use Rattle.std.specs.List.{AllByRecursion}
@@ -17,7 +17,6 @@ use Rattle.replica_core.specs.State.{State, first_of, ids_held, is_within_limits
 use Rattle.replica_core.specs.Session.{Question, Reply, reply_of, state_of}
 use Rattle.replica_core.specs.World.{Message, Rules, World, answer, apply, at_replica, gained, happens, is_replica, question, replies, rules_of, run_from}
 use Rattle.replica_core.specs.World.{sends, takes_part, takes_whole, where_so, with_state}
-use Rattle.replica_core.specs.declared.event.Event.{Event}
 use Rattle.replica_core.specs.declared.event.Event.TheVariants.{Ask, Answer, Absorb, Part}
 use Rattle.replica_core.proofs.ContainsFacts.{get-new}
 use Rattle.replica_core.specs.declared.error.SyncError.{SyncError}
@@ -195,13 +194,28 @@ module _ (rules : Rules) (i j : ℕ) (l : i < rules.replicas) (n : j < rules.rep
 -- ---- a whole pull
 
 -- the answers that a pull got are those to its questions
-answers-of : (c : Configuration) (k : Meaning) (bucket : ℕ) (state : State) (replies : List Reply) (later : List Question)
+pub answers-of : (c : Configuration) (k : Meaning) (bucket : ℕ) (state : State) (replies : List Reply) (later : List Question)
     (others : List Reply) → replies ++ others ≡ all-replies k (questions_of c bucket state replies ++ later) → AnswersOf c k bucket state replies
 answers-of c k bucket state [] later others e = tt
 answers-of c k bucket state (r ∷ replies) later others e =
     let head : r ≡ reply_of k (question_in c state bucket) = cc in
     let tail : replies ++ others ≡ all-replies k (questions_of c (bucket + 1) (joined state r.content) replies ++ later) = cc in
     (head, answers-of c k (bucket + 1) (joined state r.content) replies later others tail)
+
+-- the answers of a whole pull are those that the other side gives to its questions
+pub replies-given : (m k held : Meaning) (asked told rest : List ℕ) (count : ℕ) → IsMeaning m → IsMeaning k → IsMeaning held
+    → config_id_of m.config ≡ config_id_of k.config → ServesAll k (Some asked) (Some []) (Some told) count
+    → (pulls : PullsAll m (Some (told ++ rest)) (Some []) held (Some asked)) → pulls.replies ≡ all-replies k (all-asked m pulls.replies ++ [])
+replies-given m k held asked told rest count valid other kept same all pulls =
+    let questions = all-asked m pulls.replies ++ [] in
+    let asks = whole-asked m held (Some (told ++ rest)) asked valid kept pulls in
+    let text = told-is m k asked told count questions same asks all in
+    let many = length-map questions (reply_of k) in
+    let both = length-append (all-asked m pulls.replies) [] in
+    let each = length-asked m.config 0 (state_of m) pulls.replies in
+    both-replies m.config (told ++ rest) pulls.replies (all-replies k questions) pulls.left (Some rest) pulls.session.each
+    (replies-in-turn m.config k 0 questions other (sym same) asks.each) (omega (arith, many, both, each)) pulls.session.text
+    (ap (λ (t : List ℕ). t ++ rest) text)
 
 -- What a pull holds is what its replica holds after whole exchanges about all buckets.
 pub pull-in-world : (m k held : Meaning) (n i j : ℕ) (w : World) (asked told rest : List ℕ) (count : ℕ) → i < n → j < n → i ≢ j
@@ -211,16 +225,7 @@ pub pull-in-world : (m k held : Meaning) (n i j : ℕ) (w : World) (asked told r
     → (run_from (rules_of m.config n) w (whole_exchanges i j 256 0 (length w.sent))).now i ≡ state_of held
 pull-in-world m k held n i j w asked told rest count l h apart here there valid other kept same all pulls =
     let replies = pulls.replies in
-    let questions = all-asked m replies ++ [] in
-    let asks = whole-asked m held (Some (told ++ rest)) asked valid kept pulls in
-    let text = told-is m k asked told count questions same asks all in
-    let many = length-map questions (reply_of k) in
-    let both = length-append (all-asked m replies) [] in
-    let each = length-asked m.config 0 (state_of m) replies in
-    let equal : replies ≡ all-replies k questions =
-    both-replies m.config (told ++ rest) replies (all-replies k questions) pulls.left (Some rest) pulls.session.each
-    (replies-in-turn m.config k 0 questions other (sym same) asks.each) (omega (arith, many, both, each)) pulls.session.text
-    (ap (λ (t : List ℕ). t ++ rest) text) in
+    let equal = replies-given m k held asked told rest count valid other kept same all pulls in
     let all_of_it = pulls.all in
     let final : IsMeaning (meaning_of_state m.config (after_replies (state_of m) replies)) = subst IsMeaning pulls.meaning kept in
     let run = run-all (rules_of m.config n) i j l h (λ e. apart (sym e)) m.config k replies w (state_of m) (length w.sent) 0

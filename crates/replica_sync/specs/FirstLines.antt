@@ -1,5 +1,5 @@
 -- The first lines of messages, and what is wrong with those that are none.
-use Rattle.std.specs.Prelude.{◌≡◌, ◌≢◌, ℕ, ◌<◌, ◌^◌, ◌⊎◌, List, length, ⊤, Option, Some, None}
+use Rattle.std.specs.Prelude.{◌≡◌, ◌≢◌, ℕ, ◌<◌, ◌≤◌, ◌^◌, ◌⊎◌, List, length, ⊤, Option, Some, None}
 use Rattle.std.specs.List.{AllByRecursion}
 use Rattle.fed_config.specs.Configuration.{Configuration, config_id_of}
 use Rattle.byte_lines.specs.Lines.{HasLine}
@@ -136,9 +136,14 @@ RefusesTold expected text NoMemory = Unit {0}
 
 -- ---- in a stream
 
--- The stream's first line has a fault; one that is too long is none of a message. It is used up.
+-- The line is too long, so it is none of a message, or else it has this fault.
+abbrev pub RefusesFirstLine : (List ℕ → SyncError → Type 0) → List ℕ → SyncError → Type 0
+RefusesFirstLine refuses text e = ((e ≡ BadHeader) × (line_limit < length text))
+    ⊎ ((length text ≤ line_limit) × refuses text e)
+
+-- The stream's first line has this fault. It is used up.
 pub record HasBadFirstLine (refuses : List ℕ → SyncError → Type 0) (old new : Option (List ℕ))
     (e : SyncError) : Type 0 where
   pub text : List ℕ
   pub is : HasLine old new text
-  pub cause : ((e ≡ BadHeader) × (line_limit < length text)) ⊎ refuses text e
+  pub cause : RefusesFirstLine refuses text e

@@ -1,8 +1,9 @@
 -- A session in which a replica asks about each bucket and takes what is answered.
 use Rattle.std.specs.Prelude.{◌≡◌, ℕ, ◌+◌, ◌<◌, ◌⊎◌, List, [], ◌∷◌, ◌++◌, length, flat_map, fold}
-use Rattle.std.specs.Prelude.{Option, Some, Result, Ok, Err, Bool, false}
+use Rattle.std.specs.Prelude.{Option, Some, Result, Ok, Err, Bool, false, Contains}
 use Rattle.std.specs.Io.KnownBytes.{Appends, Consumes}
 use Rattle.fed_config.specs.Configuration.{Configuration, config_id_of}
+use Rattle.receipt_core.specs.Receipt.{Receipt, receipt_id_of}
 use Rattle.receipt_core.specs.Acceptance.{Meaning}
 use Rattle.replica_core.specs.State.{State, no_state, joined, meaning_of_state}
 use Rattle.replica_core.specs.Session.{Question, Reply, question_of, state_of}
@@ -114,6 +115,11 @@ pub record PullsUpTo (old : Meaning) (stream before : Option (List ℕ)) (new : 
       (flat_map question_text
       (questions_of old.config 0 (state_of old) replies
       ++ question_in old.config (after_replies (state_of old) replies) (length replies) ∷ []))
+
+-- no two receipts that are held have one id
+abbrev pub HasDistinctIds : State → Type 0
+HasDistinctIds state = (r s : Receipt) → Contains state.held r → Contains state.held s
+    → receipt_id_of r ≡ receipt_id_of s → r ≡ s
 
 -- so many receipts are held that were not
 abbrev pub HasGained : Meaning → Meaning → ℕ → Type 0

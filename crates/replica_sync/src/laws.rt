@@ -6,7 +6,7 @@ ghost use Rattle.std.specs.Io.KnownBytes.{Consumes};
 ghost use Rattle.fed_config.specs.Configuration.{Configuration, IsConfiguration, config_id_of};
 ghost use Rattle.receipt_core.specs.Acceptance.{Meaning, IsMeaning};
 ghost use Rattle.closure_core.specs.declared.error.TakeError.{TakeError};
-ghost use Rattle.replica_core.specs.Convergence.{AreEvents, Settles};
+ghost use Rattle.replica_core.specs.Convergence.{AreEvents, HasAll, Settles};
 ghost use Rattle.replica_core.specs.Session.{Question, Reply, question_of, reply_of, state_of};
 ghost use Rattle.replica_core.specs.State.{is_within_limits, joined, meaning_of_state};
 ghost use Rattle.replica_core.specs.World.{World, WorldRun, rules_of, rules_in, run_from};
@@ -19,7 +19,7 @@ ghost use Rattle.replica_sync.specs.FirstLines.{HasDigestOf};
 ghost use Rattle.replica_sync.specs.Questions.{IsAskable, RefusesQuestion, ServesAll, ServesUpTo};
 ghost use Rattle.replica_sync.specs.Answers.{IsAnswer, RefusesGive};
 ghost use Rattle.replica_sync.specs.Events.{EndsCut, whole_exchanges};
-ghost use Rattle.replica_sync.specs.Pulling.{Pulls, PullsAll, PullsUpTo};
+ghost use Rattle.replica_sync.specs.Pulling.{HasDistinctIds, Pulls, PullsAll, PullsUpTo};
 ghost use Rattle.replica_sync.specs.Snapshots.{IsSnapshot, RefusesSnapshot, snapshot_text};
 ghost use Rattle.replica_sync.specs.declared.format.Format.TheVariants.{Second};
 ghost use Rattle.replica_sync.specs.declared.pulling.PullFault.{PullFault};
@@ -32,12 +32,16 @@ pub use replica_core::laws::{agreement, effects, exchange, persistence, provenan
 ///
 /// - `one`: of two sets whose text it is, both are the same.
 /// - `read`: it has no fault where it is the text of a set.
+/// - `one_cause`: where it is none, it has one fault.
 pub fn snapshots()
     ensures one { (config : Configuration) (bytes : List ℕ) (m n : Meaning)
         → IsSnapshot config (Some bytes) m → IsSnapshot config (Some bytes) n → m ≡ n }
     ensures read { (config : Configuration) (bytes : List ℕ) (m : Meaning) (e : SyncError)
         → IsConfiguration config → e ≢ Io → e ≢ NoMemory
         → IsSnapshot config (Some bytes) m → RefusesSnapshot config (Some bytes) e → ⊥ }
+    ensures one_cause { (config : Configuration) (bytes : List ℕ) (d e : SyncError)
+        → IsConfiguration config → d ≢ Io → d ≢ NoMemory → e ≢ Io → e ≢ NoMemory
+        → RefusesSnapshot config (Some bytes) d → RefusesSnapshot config (Some bytes) e → d ≡ e }
 {}
 
 /// What a stream asks is one, and a question that a line can ask is read. Only a source that fails,
@@ -46,6 +50,7 @@ pub fn snapshots()
 /// - `one`: of two questions that it begins with, both are the same, and so is what follows them.
 /// - `read`: where it begins with a question, of the configuration if one is wanted, it has no
 ///   fault there.
+/// - `one_cause`: where it begins with none, it has one fault there.
 pub fn questions()
     ensures one { (bytes : List ℕ) (p q : Question) (left rest : Option (List ℕ))
         → IsAskable p → IsAskable q
@@ -57,6 +62,10 @@ pub fn questions()
         → IsAskable q → HasDigestOf config q.config → e ≢ Io → e ≢ NoMemory
         → Consumes (Some bytes) left (question_text q) → RefusesQuestion config (Some bytes) new e
         → ⊥ }
+    ensures one_cause { (config : Option Configuration) (bytes : List ℕ)
+        (new since : Option (List ℕ)) (d e : SyncError) → d ≢ Io → d ≢ NoMemory → e ≢ Io
+        → e ≢ NoMemory → RefusesQuestion config (Some bytes) new d
+        → RefusesQuestion config (Some bytes) since e → d ≡ e }
 {}
 
 /// What a stream answers is one, and an answer that is there to its last byte is read. Only a
@@ -64,6 +73,7 @@ pub fn questions()
 ///
 /// - `one`: of two answers that it begins with, both are the same, and so is what follows them.
 /// - `read`: where it begins with a whole answer, it has no fault before that answer's end.
+/// - `one_cause`: where it begins with none, it has one fault.
 pub fn answers()
     ensures one { (bytes : List ℕ) (a b : Reply) (left rest : Option (List ℕ))
         → IsAnswer a → IsAnswer b
@@ -72,6 +82,9 @@ pub fn answers()
     ensures read { (bytes : List ℕ) (a : Reply) (left new : Option (List ℕ)) (e : SyncError)
         → IsAnswer a → e ≢ Io → e ≢ NoMemory
         → Consumes (Some bytes) left (reply_text a) → RefusesGive (Some bytes) new e → ⊥ }
+    ensures one_cause { (bytes : List ℕ) (new since : Option (List ℕ)) (d e : SyncError)
+        → d ≢ Io → d ≢ NoMemory → e ≢ Io → e ≢ NoMemory
+        → RefusesGive (Some bytes) new d → RefusesGive (Some bytes) since e → d ≡ e }
 {}
 
 /// No session is both carried out and ended by a fault of its stream, and what it does is
@@ -116,6 +129,10 @@ pub fn sessions()
 ///   says is refused.
 /// - `taken`: nor is anything refused where the configuration is the same, and both together hold
 ///   65,536 receipts and 4,096 records at most. So nothing but a device or memory ends it early.
+/// - `brings`: a pull that was carried out brings all that the other side held: of each bucket each
+///   receipt, or one with its id is held, and each record.
+/// - `joins`: where no two receipts of both have one id, what is held then is what both held
+///   together, and nothing else.
 pub fn understanding()
     ensures asks { (m : Meaning) (bucket : ℕ) → IsMeaning m → bucket < 256
         → IsAskable (question_of m bucket) }
@@ -139,6 +156,19 @@ pub fn understanding()
         → ServesAll k (Some asked) (Some []) (Some told) count
         → PullsUpTo m (Some (told ++ rest)) (Some []) held (Some asked) e
         → e ≢ Io → e ≢ NoMemory → ⊥ }
+    ensures brings { (m k held : Meaning) (asked told rest : List ℕ) (count bucket : ℕ)
+        → IsMeaning m → IsMeaning k → IsMeaning held
+        → config_id_of m.config ≡ config_id_of k.config
+        → ServesAll k (Some asked) (Some []) (Some told) count
+        → PullsAll m (Some (told ++ rest)) (Some []) held (Some asked)
+        → HasAll bucket (state_of k) (state_of held) }
+    ensures joins { (m k held : Meaning) (asked told rest : List ℕ) (count : ℕ)
+        → IsMeaning m → IsMeaning k → IsMeaning held
+        → config_id_of m.config ≡ config_id_of k.config
+        → ServesAll k (Some asked) (Some []) (Some told) count
+        → PullsAll m (Some (told ++ rest)) (Some []) held (Some asked)
+        → HasDistinctIds (joined (state_of m) (state_of k))
+        → state_of held ≡ joined (state_of m) (state_of k) }
 {}
 
 /// Of replicas that each took, in quiet, the whole answers of all others about all buckets, the

@@ -1,5 +1,6 @@
 use Rattle.replica_sync.proofs.OwnMessageFacts.{answer-given, askable-question}
 use Rattle.replica_sync.proofs.UnderstandingFacts.{answered-pulled, answered-taken, pull-served}
+use Rattle.replica_sync.proofs.BringsFacts.{all-brought, both-held}
 use Rattle.replica_sync.proofs.laws.understanding.Goals as goal
 
 pub returns-clause-asks : goal.returns-clause-asks
@@ -16,3 +17,10 @@ returns-clause-pulled c = answered-pulled
 
 pub returns-clause-taken : goal.returns-clause-taken
 returns-clause-taken c = answered-taken
+
+pub returns-clause-brings : goal.returns-clause-brings
+returns-clause-brings c m k held asked told rest count bucket valid other kept same all pulls =
+    all-brought m k held asked told rest count valid other kept same all pulls bucket
+
+pub returns-clause-joins : goal.returns-clause-joins
+returns-clause-joins c = both-held
