@@ -2,6 +2,7 @@
 -- of the run has its answers.
 use Rattle.std.specs.Prelude.{◌≡◌, ℕ, ◌⊎◌, Result, Ok, Err}
 use Rattle.replica_core.specs.declared.error.SyncError.TheVariants.{Io as StreamFailed}
+use Rattle.replica_sync.specs.SessionRun.{session_run}
 use Rattle.replica_sync.specs.Pulling.{Pulls}
 use Rattle.replica_sync.specs.declared.pulling.PullFault.{PullFault}
 use Rattle.fedbundle.specs.CommandRun.{CommandRun, DeviceRun, StateRun, PrintsText, WritesNothing}
@@ -12,8 +13,8 @@ use Rattle.fedbundle.specs.declared.error.CommandError.TheVariants.{Pull, Io}
 
 -- What the answers have is held, as the call of `pull` says by cases on how the session ended.
 abbrev pub HasPulled : CommandRun → DeviceRun → StateRun → Result ℕ PullFault → Type 0
-HasPulled run peer state ended = Pulls state.old.meaning run.source.before peer.before
-    state.new.meaning peer.after ended
+HasPulled run peer state ended = Pulls
+    (session_run run.source.before peer.before peer.after) state.old.meaning state.new.meaning ended
 
 -- All buckets were asked about, and how many receipts were not held was written and nothing else.
 pub record PrintsPull (run : CommandRun) (peer : DeviceRun) (state : StateRun) : Type 0 where

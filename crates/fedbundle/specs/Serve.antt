@@ -1,6 +1,7 @@
 -- What a run of `serve` does in one session.
 use Rattle.std.specs.Prelude.{◌≡◌, ℕ, ◌⊎◌, List, codes, Result, Ok, Err}
 use Rattle.receipt_core.specs.Acceptance.{Meaning}
+use Rattle.replica_sync.specs.SessionRun.{session_run}
 use Rattle.replica_sync.specs.Questions.{Serves}
 use Rattle.replica_core.specs.declared.error.SyncError.{SyncError}
 use Rattle.replica_core.specs.declared.error.SyncError.TheVariants.{Io as StreamFailed}
@@ -15,7 +16,8 @@ served_text n = counted (codes "served ") n
 -- The questions of the source are answered on the sink, as `serve_one` says by cases on how the
 -- session ended.
 abbrev pub HasServed : CommandRun → Meaning → Result ℕ SyncError → Type 0
-HasServed run m ended = Serves m run.source.before run.sink.before run.sink.after ended
+HasServed run m ended = Serves
+    (session_run run.source.before run.sink.before run.sink.after) m ended
 
 -- By the answer: every question is answered, and this is their number; or those before this fault.
 -- There is no other error.

@@ -16,6 +16,7 @@ use Rattle.replica_core.specs.State.{State, bucket_of_id, id_cmp, ids_held, is_n
 use Rattle.replica_core.specs.Session.{Reply, reply_of, state_of}
 use Rattle.replica_core.proofs.BucketFacts.{bucket-small}
 use Rattle.replica_core.proofs.ContainsFacts.{any-from, each-from, each-to, filter-from, filter-to, map-from}
+use Rattle.replica_sync.specs.SessionRun.{known_run}
 use Rattle.replica_sync.specs.Pulling.{HasDistinctIds, PullsAll, after_replies, question_in}
 use Rattle.replica_sync.specs.Questions.{ServesAll}
 use Rattle.replica_sync.proofs.UnderstandingFacts.{all-asked, receipt-of-either, record-of-either}
@@ -114,8 +115,8 @@ records-brought c k bucket state (a ∷ replies) x valid rising final given some
 -- ---- a whole pull
 
 module _ (m k held : Meaning) (asked told rest : List ℕ) (count : ℕ) (valid : IsMeaning m) (other : IsMeaning k) (kept : IsMeaning held)
-    (same : config_id_of m.config ≡ config_id_of k.config) (all : ServesAll k (Some asked) (Some []) (Some told) count)
-    (pulls : PullsAll m (Some (told ++ rest)) (Some []) held (Some asked)) where
+    (same : config_id_of m.config ≡ config_id_of k.config) (all : ServesAll (known_run asked told) k count)
+    (pulls : PullsAll (known_run (told ++ rest) asked) m held) where
   abbrev final : State
   final = after_replies (state_of m) pulls.replies
 

@@ -20,6 +20,7 @@ use Rattle.replica_core.specs.Session.{Question, Reply, question_of, state_of}
 use Rattle.replica_core.specs.declared.error.SyncError.{SyncError}
 use Rattle.replica_core.specs.declared.error.SyncError.TheVariants.{BadHeader, ConfigDiffers, VersionDiffers, NotCanonical, NotRising, BadCount, Truncated}
 use Rattle.replica_core.specs.declared.error.SyncError.TheVariants.{Refused, Io, NoMemory}
+use Rattle.replica_sync.specs.SessionRun.{session_run}
 use Rattle.replica_sync.proofs.SnapshotFacts.{consumes_both}
 use Rattle.replica_sync.specs.Messages.{question_text, reply_text}
 use Rattle.replica_sync.specs.Questions.{IsWritten}
@@ -164,7 +165,7 @@ stops_at : (old : Meaning) (stream before : Option (List ℕ)) (bucket : ℕ) (n
     → (so_far : AskedUpTo old stream before bucket now left after read)
     → StopsReply (meaning_of_state old.config (after_replies (state_of old) so_far.replies)) (length so_far.replies) (line_count so_far.replies + 1) left new e
     → IsWritten e after after_then (question_text (question_in old.config (after_replies (state_of old) so_far.replies) (length so_far.replies)))
-    → PullsUpTo old stream before new after_then e
+    → PullsUpTo (session_run stream before after_then) old new e
 stops_at old stream before bucket now left after read new after_then e few so_far stops asks =
     let replies = so_far.replies in
     let number = so_far.number in
@@ -186,7 +187,7 @@ pub asked_stops : (old : Meaning) (stream before : Option (List ℕ)) (bucket : 
     → bucket < 256
     → AskedUpTo old stream before bucket now left after read → StopsReply now bucket (read + 1) left new e
     → IsWritten e after after_then (question_text (question_of now bucket))
-    → PullsUpTo old stream before new after_then e
+    → PullsUpTo (session_run stream before after_then) old new e
 asked_stops old stream before bucket now left after read new after_then e few so_far stops asks =
     stops_at old stream before bucket now left after read new after_then e few so_far
     (subst (λ (m : Meaning). StopsReply m (length so_far.replies) (line_count so_far.replies + 1) left new e) so_far.meaning
@@ -226,12 +227,12 @@ longer_after state (reply ∷ replies) =
 
 -- No fewer receipts are held after a session that was carried out.
 all_grows : (old : Meaning) (stream before : Option (List ℕ)) (new : Meaning) (after : Option (List ℕ))
-    → PullsAll old stream before new after → length old.held ≤ length new.held
+    → PullsAll (session_run stream before after) old new → length old.held ≤ length new.held
 all_grows old stream before new after all = subst (λ (m : Meaning). length old.held ≤ length m.held) (sym all.meaning) (longer_after (state_of old) all.replies)
 
 -- No fewer receipts are held after a session that a fault ended.
 part_grows : (old : Meaning) (stream before : Option (List ℕ)) (new : Meaning) (after : Option (List ℕ)) (e : SyncError)
-    → PullsUpTo old stream before new after e → length old.held ≤ length new.held
+    → PullsUpTo (session_run stream before after) old new e → length old.held ≤ length new.held
 part_grows old stream before new after e part =
     let first = longer_after (state_of old) part.replies in
     let others = longer_with_items receipt_cmp part.content.held (after_replies (state_of old) part.replies).held in
@@ -239,8 +240,8 @@ part_grows old stream before new after e part =
 
 -- No fewer receipts are held after a session, so the difference that it reports does not underflow.
 pub grows : (r : Result (Unit {0}) SyncError) (old : Meaning) (stream before : Option (List ℕ)) (new : Meaning)
-    (after : Option (List ℕ)) → OnOk r (PullsAll old stream before new after)
-    → IfErr r (PullsUpTo old stream before new after)
+    (after : Option (List ℕ)) → OnOk r (PullsAll (session_run stream before after) old new)
+    → IfErr r (PullsUpTo (session_run stream before after) old new)
     → length old.held ≤ length new.held
 grows (Ok done) old stream before new after all part = all_grows old stream before new after all
 grows (Err e) old stream before new after all part = part_grows old stream before new after e part

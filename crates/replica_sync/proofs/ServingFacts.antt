@@ -13,6 +13,7 @@ use Rattle.replica_core.specs.Session.{Question, reply_of}
 use Rattle.replica_core.specs.declared.error.SyncError.{SyncError}
 use Rattle.replica_core.specs.declared.error.SyncError.TheVariants.{BadHeader, ConfigDiffers, VersionDiffers, NotCanonical, NotRising, BadCount, Truncated}
 use Rattle.replica_core.specs.declared.error.SyncError.TheVariants.{Refused, Io, NoMemory}
+use Rattle.replica_sync.specs.SessionRun.{session_run}
 use Rattle.replica_sync.specs.Messages.{question_text, reply_text}
 use Rattle.replica_sync.specs.Questions.{Asks, IsQuestionOf, IsWritten, RefusesFurther, ServesUpTo, replies_text}
 use Rattle.replica_sync.specs.Inside.Asking.{HasAsked, IsNoneAsked, RefusesHaveLine, RefusesVersionedHave, asking_by}
@@ -125,16 +126,16 @@ is-written NoMemory old new text all = begins-whole old new text all
 served-fault : (m : Meaning) (stream next old new : Option (List ℕ)) (e : SyncError) (questions : List Question)
     → Asks m.config stream questions next → AppendsBeginning old new (replies_text m questions)
     → (e ≡ Io) ⊎ (e ≡ NoMemory)
-    → ServesUpTo m stream old new e
+    → ServesUpTo (session_run stream old new) m e
 served-fault m stream next old new e questions asks begun (inl io) =
-    subst (ServesUpTo m stream old new) (sym io) (record { questions = questions; left = next; asks = asks; cause = tt; written = begun })
+    subst (ServesUpTo (session_run stream old new) m) (sym io) (record { questions = questions; left = next; asks = asks; cause = tt; written = begun })
 served-fault m stream next old new e questions asks begun (inr memory) =
-    subst (ServesUpTo m stream old new) (sym memory) (record { questions = questions; left = next; asks = asks; cause = tt; written = begun })
+    subst (ServesUpTo (session_run stream old new) m) (sym memory) (record { questions = questions; left = next; asks = asks; cause = tt; written = begun })
 
 -- The exit of the loop: the next question was not read, or not answered to its end.
 pub served-up-to : (m : Meaning) (stream left next old now new : Option (List ℕ)) (count : ℕ) (e : SyncError)
     → Served m stream left old now count → FailsReading m left now new e ⊎ FailsWriting m left next now new e
-    → ServesUpTo m stream old new e
+    → ServesUpTo (session_run stream old new) m e
 served-up-to m stream left next old now new count e s (inl fails) = record {
   questions = s.questions;
   left = left;

@@ -1,6 +1,7 @@
 -- A session's stream is read to its end, or has a fault, and never both.
 use Rattle.std.proofs.Common.{◌≡◌, ◌≢◌, ℕ, ◌+◌, ◌<◌, inl, inr, List, [], ◌∷◌, ◌++◌, length, length-append, Option, None, ◌⊎◌}
 use Rattle.std.proofs.Common.{Some, refl, ap, sym, ◌∙◌, subst, arith, append_assoc}
+use Rattle.std.specs.Prelude.{IfSome}
 use Rattle.std.specs.Io.KnownBytes.{Consumes}
 use Rattle.std.specs.List.{AllByRecursion, flat_map}
 use Rattle.fed_config.specs.Configuration.{Configuration, IsConfiguration}
@@ -10,6 +11,7 @@ use Rattle.closure_core.specs.declared.error.TakeError.{TakeError}
 use Rattle.closure_core.specs.declared.error.TakeError.TheVariants.{NoMemory as NoTakeMemory}
 use Rattle.replica_core.specs.State.{State, joined, meaning_of_state}
 use Rattle.replica_core.specs.Session.{Question, Reply, state_of}
+use Rattle.replica_sync.specs.SessionRun.{ReadSame, SessionRun}
 use Rattle.replica_sync.specs.Snapshots.{ended, last_of}
 use Rattle.replica_sync.specs.declared.entry_line.Wanted.{Wanted}
 use Rattle.replica_core.specs.declared.error.SyncError.{SyncError}
@@ -96,11 +98,21 @@ unserved config bytes questions others None e is valid whole begins calm ample h
 unserved config bytes questions others (Some left) e is valid whole begins calm ample h =
     no-fault-of-asked config questions others left e is valid (sym whole ∙ begins) calm ample h
 
+-- What a stream has is the text, in the words of the bytes that are known of it.
+whole-text : (stream : Option (List ℕ)) (bytes text : List ℕ) → stream ≡ Some bytes → IfSome stream (λ b. b ≡ text) → bytes ≡ text
+whole-text stream bytes text same h = let P : Option (List ℕ) → Type 0 = λ s. IfSome s (λ b. b ≡ text) in subst P same h
+
+-- The same, of what it begins with.
+known-text : (stream left : Option (List ℕ)) (bytes text : List ℕ) → stream ≡ Some bytes → Consumes stream left text → Consumes (Some bytes) left text
+known-text stream left bytes text same h = subst (λ (s : Option (List ℕ)). Consumes s left text) same h
+
 -- The clause `served`: a stream that can be served to its end has no fault.
-pub served-or-not : (m : Meaning) (bytes : List ℕ) (old new before after : Option (List ℕ)) (count : ℕ) (e : SyncError)
-    → e ≢ Io → e ≢ NoMemory → ServesAll m (Some bytes) old new count → ServesUpTo m (Some bytes) before after e → ⊥
-served-or-not m bytes old new before after count e calm ample all part =
-    unserved m.config bytes all.questions part.questions part.left e all.each part.asks.each all.text part.asks.text calm ample part.cause
+pub served-or-not : (m : Meaning) (one other : SessionRun) (count : ℕ) (e : SyncError) → ReadSame one other
+    → e ≢ Io → e ≢ NoMemory → ServesAll one m count → ServesUpTo other m e → ⊥
+served-or-not m one other count e same calm ample all part =
+    unserved m.config same.0 all.questions part.questions part.left e all.each part.asks.each
+    (whole-text one.source same.0 (asked_texts all.questions) same.1 all.text)
+    (known-text other.source part.left same.0 (asked_texts part.questions) same.2 part.asks.text) calm ample part.cause
 
 -- Two lists of questions with one text are one list.
 pub same-questions : (config : Configuration) (questions others : List Question)
@@ -116,10 +128,12 @@ same-questions config (q ∷ questions) (o ∷ others) is valid w =
     (λ i. same.question i ∷ later i)
 
 -- The clause `served_once`: the questions of a stream have one number.
-pub served-once : (m : Meaning) (bytes : List ℕ) (old new before after : Option (List ℕ)) (count number : ℕ)
-    → ServesAll m (Some bytes) old new count → ServesAll m (Some bytes) before after number → count ≡ number
-served-once m bytes old new before after count number all other =
-    all.number ∙ ap length (same-questions m.config all.questions other.questions all.each other.each (sym all.text ∙ other.text)) ∙ sym other.number
+pub served-once : (m : Meaning) (one other : SessionRun) (count number : ℕ) → ReadSame one other
+    → ServesAll one m count → ServesAll other m number → count ≡ number
+served-once m one other count number same all again =
+    let first = whole-text one.source same.0 (asked_texts all.questions) same.1 all.text in
+    let second = whole-text other.source same.0 (asked_texts again.questions) same.2 again.text in
+    all.number ∙ ap length (same-questions m.config all.questions again.questions all.each again.each (sym first ∙ second)) ∙ sym again.number
 
 -- ---- answers
 
@@ -247,30 +261,27 @@ unpulled config from state bytes first content replies others (Some rest) (Some 
     no-fault-of-told config from state 0 (length others) first content replies others rest left e is valid few at (sym whole ∙ begins) calm ample fine h
 
 -- where a stream begins with all answers, a pull has no fault that is excluded here
-all-or-part : (old : Meaning) (bytes : List ℕ) (before after since then : Option (List ℕ)) (new now : Meaning)
-    (e : SyncError) → e ≢ Io → e ≢ NoMemory → (all : PullsAll old (Some bytes) before new after)
-    → (part : PullsUpTo old (Some bytes) since now then e)
+all-or-part : (old new now : Meaning) (one other : SessionRun) (e : SyncError) → ReadSame one other → e ≢ Io → e ≢ NoMemory
+    → (all : PullsAll one old new) → (part : PullsUpTo other old now e)
     → IsSpelling e ⊎ HoldsAnswers old.config (state_of old) (after_replies (state_of old) part.replies) all.replies part.replies → ⊥
-all-or-part old bytes before after since then new now e calm ample all part fine =
+all-or-part old new now one other e same calm ample all part fine =
     let many = all.all in
     let few = part.few in
-    unpulled old.config (state_of old) (after_replies (state_of old) part.replies) bytes (line_count part.replies + 1) part.content
+    unpulled old.config (state_of old) (after_replies (state_of old) part.replies) same.0 (line_count part.replies + 1) part.content
     all.replies part.replies all.left part.left e all.session.each part.session.each (omega (arith, many, few))
-    all.session.text part.session.text calm ample fine part.cause
+    (known-text one.source all.left same.0 (told_texts all.replies) same.1 all.session.text)
+    (known-text other.source part.left same.0 (told_texts part.replies) same.2 part.session.text) calm ample fine part.cause
 
 -- The clause `pulled`: a stream of all answers has no fault but that what a line says is refused.
-pub pulled-or-not : (old : Meaning) (bytes : List ℕ) (before after since then : Option (List ℕ)) (new now : Meaning)
-    (e : SyncError) → e ≢ Io → e ≢ NoMemory → ((n : ℕ) (why : TakeError) → e ≢ Refused n why)
-    → PullsAll old (Some bytes) before new after → PullsUpTo old (Some bytes) since now then e → ⊥
-pulled-or-not old bytes before after since then new now e calm ample spelt all part =
-    all-or-part old bytes before after since then new now e calm ample all part (inl spelt)
+pub pulled-or-not : (old new now : Meaning) (one other : SessionRun) (e : SyncError) → ReadSame one other → e ≢ Io → e ≢ NoMemory
+    → ((n : ℕ) (why : TakeError) → e ≢ Refused n why) → PullsAll one old new → PullsUpTo other old now e → ⊥
+pulled-or-not old new now one other e same calm ample spelt all part = all-or-part old new now one other e same calm ample all part (inl spelt)
 
 -- Where what the answers bring can be held, nothing of it is refused.
-pub taken-or-not : (old : Meaning) (bytes : List ℕ) (before after since then : Option (List ℕ)) (new now : Meaning)
-    (e : SyncError) → IsConfiguration old.config → IsMeaning old → IsMeaning new → e ≢ Io → e ≢ NoMemory
-    → PullsAll old (Some bytes) before new after → PullsUpTo old (Some bytes) since now then e → ⊥
-taken-or-not old bytes before after since then new now e configured valid held calm ample all part =
-    all-or-part old bytes before after since then new now e calm ample all part
+pub taken-or-not : (old new now : Meaning) (one other : SessionRun) (e : SyncError) → ReadSame one other → IsConfiguration old.config
+    → IsMeaning old → IsMeaning new → e ≢ Io → e ≢ NoMemory → PullsAll one old new → PullsUpTo other old now e → ⊥
+taken-or-not old new now one other e same configured valid held calm ample all part =
+    all-or-part old new now one other e same calm ample all part
     (inr (record { configured = configured; rising = rising-meaning old valid; valid = subst IsMeaning all.meaning held; at = refl }))
 
 -- Two lists of as many answers with which a stream begins are one list.
@@ -297,10 +308,10 @@ both-replies config bytes replies others (Some rest) (Some left) is valid many w
     same-replies config 0 replies others rest left is valid many (sym whole ∙ other)
 
 -- The clause `pulled_once`: what is held after the session is one meaning.
-pub pulled-once : (old : Meaning) (bytes : List ℕ) (before after since then : Option (List ℕ)) (new now : Meaning)
-    → PullsAll old (Some bytes) before new after → PullsAll old (Some bytes) since now then → new ≡ now
-pulled-once old bytes before after since then new now all other =
-    let many : length all.replies ≡ length other.replies = all.all ∙ sym other.all in
-    let same = both-replies old.config bytes all.replies other.replies all.left other.left all.session.each
-    other.session.each many all.session.text other.session.text in
-    all.meaning ∙ ap (λ (rs : List Reply). meaning_of_state old.config (after_replies (state_of old) rs)) same ∙ sym other.meaning
+pub pulled-once : (old new now : Meaning) (one other : SessionRun) → ReadSame one other → PullsAll one old new → PullsAll other old now → new ≡ now
+pulled-once old new now one other same all again =
+    let many : length all.replies ≡ length again.replies = all.all ∙ sym again.all in
+    let replies = both-replies old.config same.0 all.replies again.replies all.left again.left all.session.each again.session.each many
+    (known-text one.source all.left same.0 (told_texts all.replies) same.1 all.session.text)
+    (known-text other.source again.left same.0 (told_texts again.replies) same.2 again.session.text) in
+    all.meaning ∙ ap (λ (rs : List Reply). meaning_of_state old.config (after_replies (state_of old) rs)) replies ∙ sym again.meaning

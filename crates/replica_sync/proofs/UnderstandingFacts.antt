@@ -25,6 +25,7 @@ use Rattle.replica_core.specs.Session.{Question, Reply, reply_of, state_of}
 use Rattle.replica_core.specs.declared.error.SyncError.{SyncError}
 use Rattle.replica_core.specs.declared.error.SyncError.TheVariants.{BadHeader, ConfigDiffers, VersionDiffers, NotCanonical, NotRising, BadCount, Truncated}
 use Rattle.replica_core.specs.declared.error.SyncError.TheVariants.{Refused, Io, NoMemory}
+use Rattle.replica_sync.specs.SessionRun.{known_run, session_run}
 use Rattle.replica_sync.specs.declared.pulling.PullFault.{PullFault}
 use Rattle.replica_sync.specs.Messages.{question_text, reply_text}
 use Rattle.replica_sync.specs.Questions.{IsQuestionOf, IsWritten, ServesAll, ServesUpTo, replies_text}
@@ -89,7 +90,7 @@ pub record HasAskedInTurn (m : Meaning) (asked : List ℕ) (questions : List Que
   pub text : asked ≡ flat_map question_text questions
 
 pub whole-asked : (m held : Meaning) (stream : Option (List ℕ)) (asked : List ℕ) → IsMeaning m → IsMeaning held
-    → (all : PullsAll m stream (Some []) held (Some asked)) → HasAskedInTurn m asked (all-asked m all.replies ++ [])
+    → (all : PullsAll (session_run stream (Some []) (Some asked)) m held) → HasAskedInTurn m asked (all-asked m all.replies ++ [])
 whole-asked m held stream asked valid kept all =
     let many = all.all in
     record {
@@ -115,7 +116,7 @@ written-whole Io old new text calm ample h = absurd (calm refl)
 written-whole NoMemory old new text calm ample h = absurd (ample refl)
 
 pub part-asked : (m held : Meaning) (stream : Option (List ℕ)) (asked : List ℕ) (e : SyncError) → IsMeaning m → IsMeaning held
-    → e ≢ Io → e ≢ NoMemory → (part : PullsUpTo m stream (Some []) held (Some asked) e)
+    → e ≢ Io → e ≢ NoMemory → (part : PullsUpTo (session_run stream (Some []) (Some asked)) m held e)
     → HasAskedInTurn m asked (all-asked m part.replies ++ last-asked m part.replies)
 part-asked m held stream asked e valid kept calm ample part =
     let few = part.few in
@@ -134,7 +135,7 @@ part-asked m held stream asked e valid kept calm ample part =
 -- the questions of a pull are served without a fault
 asked-served : (m k : Meaning) (asked : List ℕ) (questions : List Question) (before after : Option (List ℕ)) (e : SyncError)
     → config_id_of m.config ≡ config_id_of k.config → HasAskedInTurn m asked questions
-    → e ≢ Io → e ≢ NoMemory → ServesUpTo k (Some asked) before after e → ⊥
+    → e ≢ Io → e ≢ NoMemory → ServesUpTo (session_run (Some asked) before after) k e → ⊥
 asked-served m k asked questions before after e same asks calm ample part =
     unserved k.config asked questions part.questions part.left e (each-own m.config k.config 0 questions same asks.each)
     part.asks.each asks.text part.asks.text calm ample part.cause
@@ -142,8 +143,8 @@ asked-served m k asked questions before after e same asks calm ample part =
 -- A session that serves what a pull wrote has no fault.
 pub pull-served : (m k held : Meaning) (stream : Option (List ℕ)) (asked : List ℕ) (result : Result ℕ PullFault)
     (before after : Option (List ℕ)) (e : SyncError) → IsMeaning m → IsMeaning held → config_id_of m.config ≡ config_id_of k.config
-    → IfErr result (λ fault. (fault.why ≢ Io) × (fault.why ≢ NoMemory)) → Pulls m stream (Some []) held (Some asked) result
-    → e ≢ Io → e ≢ NoMemory → ServesUpTo k (Some asked) before after e → ⊥
+    → IfErr result (λ fault. (fault.why ≢ Io) × (fault.why ≢ NoMemory)) → Pulls (session_run stream (Some []) (Some asked)) m held result
+    → e ≢ Io → e ≢ NoMemory → ServesUpTo (session_run (Some asked) before after) k e → ⊥
 pull-served m k held stream asked (Ok count) before after e valid kept same fine pulls calm ample part =
     asked-served m k asked (all-asked m pulls.0.replies ++ []) before after e same
     (whole-asked m held stream asked valid kept pulls.0) calm ample part
@@ -168,7 +169,7 @@ replies-in-turn c k bucket (q ∷ qs) valid same h = (
 -- What was answered to the questions that a pull wrote, are the texts of the answers to them.
 pub told-is : (m k : Meaning) (asked told : List ℕ) (count : ℕ) (questions : List Question)
     → config_id_of m.config ≡ config_id_of k.config → HasAskedInTurn m asked questions
-    → ServesAll k (Some asked) (Some []) (Some told) count → told ≡ flat_map reply_text (all-replies k questions)
+    → ServesAll (known_run asked told) k count → told ≡ flat_map reply_text (all-replies k questions)
 told-is m k asked told count questions same asks all =
     let one = same-questions k.config questions all.questions (each-own m.config k.config 0 questions same asks.each) all.each
     (sym asks.text ∙ all.text) in
@@ -180,7 +181,7 @@ length-asked c bucket state (r ∷ rs) = let later = length-asked c (bucket + 1)
 
 answered-or-not : (m k held : Meaning) (asked told rest : List ℕ) (count : ℕ) (e : SyncError)
     → IsMeaning m → IsMeaning k → IsMeaning held → config_id_of m.config ≡ config_id_of k.config
-    → ServesAll k (Some asked) (Some []) (Some told) count → (part : PullsUpTo m (Some (told ++ rest)) (Some []) held (Some asked) e)
+    → ServesAll (known_run asked told) k count → (part : PullsUpTo (known_run (told ++ rest) asked) m held e)
     → e ≢ Io → e ≢ NoMemory
     → IsSpelling e ⊎ HoldsAnswers m.config (state_of m) (after_replies (state_of m) part.replies)
     (all-replies k (all-asked m part.replies ++ last-asked m part.replies)) part.replies → ⊥
@@ -201,7 +202,7 @@ answered-or-not m k held asked told rest count e valid other kept same all part 
 -- A pull that reads what is answered to its questions has no fault, but that what a line says is refused.
 pub answered-pulled : (m k held : Meaning) (asked told rest : List ℕ) (count : ℕ) (e : SyncError)
     → IsMeaning m → IsMeaning k → IsMeaning held → config_id_of m.config ≡ config_id_of k.config
-    → ServesAll k (Some asked) (Some []) (Some told) count → PullsUpTo m (Some (told ++ rest)) (Some []) held (Some asked) e
+    → ServesAll (known_run asked told) k count → PullsUpTo (known_run (told ++ rest) asked) m held e
     → e ≢ Io → e ≢ NoMemory → ((n : ℕ) (why : TakeError) → e ≢ Refused n why) → ⊥
 answered-pulled m k held asked told rest count e valid other kept same all part calm ample spelt =
     answered-or-not m k held asked told rest count e valid other kept same all part calm ample (inl spelt)
@@ -317,7 +318,7 @@ module _ (m k : Meaning) (valid : IsMeaning m) (other : IsMeaning k) (same : m.c
 pub answered-taken : (m k held : Meaning) (asked told rest : List ℕ) (count : ℕ) (e : SyncError)
     → IsConfiguration m.config → IsMeaning m → IsMeaning k → IsMeaning held → m.config ≡ k.config
     → is_within_limits (joined (state_of m) (state_of k)) ≡ true
-    → ServesAll k (Some asked) (Some []) (Some told) count → PullsUpTo m (Some (told ++ rest)) (Some []) held (Some asked) e
+    → ServesAll (known_run asked told) k count → PullsUpTo (known_run (told ++ rest) asked) m held e
     → e ≢ Io → e ≢ NoMemory → ⊥
 answered-taken m k held asked told rest count e configured valid other kept same room all part calm ample =
     answered-or-not m k held asked told rest count e valid other kept (ap config_id_of same) all part calm ample

@@ -21,6 +21,7 @@ use Rattle.replica_core.specs.declared.event.Event.TheVariants.{Ask, Answer, Abs
 use Rattle.replica_core.proofs.ContainsFacts.{get-new}
 use Rattle.replica_core.specs.declared.error.SyncError.{SyncError}
 use Rattle.replica_core.specs.declared.error.SyncError.TheVariants.{Io, NoMemory}
+use Rattle.replica_sync.specs.SessionRun.{known_run}
 use Rattle.replica_sync.specs.Snapshots.{ended, text_of_lines}
 use Rattle.replica_sync.specs.Messages.{reply_text}
 use Rattle.replica_sync.specs.Answers.{AnswerBegins, content_lines}
@@ -204,8 +205,8 @@ answers-of c k bucket state (r ∷ replies) later others e =
 
 -- the answers of a whole pull are those that the other side gives to its questions
 pub replies-given : (m k held : Meaning) (asked told rest : List ℕ) (count : ℕ) → IsMeaning m → IsMeaning k → IsMeaning held
-    → config_id_of m.config ≡ config_id_of k.config → ServesAll k (Some asked) (Some []) (Some told) count
-    → (pulls : PullsAll m (Some (told ++ rest)) (Some []) held (Some asked)) → pulls.replies ≡ all-replies k (all-asked m pulls.replies ++ [])
+    → config_id_of m.config ≡ config_id_of k.config → ServesAll (known_run asked told) k count
+    → (pulls : PullsAll (known_run (told ++ rest) asked) m held) → pulls.replies ≡ all-replies k (all-asked m pulls.replies ++ [])
 replies-given m k held asked told rest count valid other kept same all pulls =
     let questions = all-asked m pulls.replies ++ [] in
     let asks = whole-asked m held (Some (told ++ rest)) asked valid kept pulls in
@@ -220,8 +221,8 @@ replies-given m k held asked told rest count valid other kept same all pulls =
 -- What a pull holds is what its replica holds after whole exchanges about all buckets.
 pub pull-in-world : (m k held : Meaning) (n i j : ℕ) (w : World) (asked told rest : List ℕ) (count : ℕ) → i < n → j < n → i ≢ j
     → w.now i ≡ state_of m → w.now j ≡ state_of k → IsMeaning m → IsMeaning k → IsMeaning held
-    → config_id_of m.config ≡ config_id_of k.config → ServesAll k (Some asked) (Some []) (Some told) count
-    → PullsAll m (Some (told ++ rest)) (Some []) held (Some asked)
+    → config_id_of m.config ≡ config_id_of k.config → ServesAll (known_run asked told) k count
+    → PullsAll (known_run (told ++ rest) asked) m held
     → (run_from (rules_of m.config n) w (whole_exchanges i j 256 0 (length w.sent))).now i ≡ state_of held
 pull-in-world m k held n i j w asked told rest count l h apart here there valid other kept same all pulls =
     let replies = pulls.replies in
@@ -385,8 +386,8 @@ cut-exchange-is rules i j l n c k w state sent bucket r content at is low room c
 -- What a pull holds that was cut is what its replica holds after whole exchanges and one that was cut.
 pub cut-in-world : (m k held : Meaning) (n i j : ℕ) (w : World) (asked told rest bytes lost : List ℕ) (count : ℕ) (e : SyncError)
     → i < n → j < n → i ≢ j → w.now i ≡ state_of m → w.now j ≡ state_of k → IsMeaning m → IsMeaning k → IsMeaning held
-    → config_id_of m.config ≡ config_id_of k.config → ServesAll k (Some asked) (Some []) (Some told) count
-    → bytes ++ lost ≡ told ++ rest → PullsUpTo m (Some bytes) (Some []) held (Some asked) e → e ≢ Io → e ≢ NoMemory
+    → config_id_of m.config ≡ config_id_of k.config → ServesAll (known_run asked told) k count
+    → bytes ++ lost ≡ told ++ rest → PullsUpTo (known_run bytes asked) m held e → e ≢ Io → e ≢ NoMemory
     → EndsCut (rules_of m.config n) w i j (state_of held)
 cut-in-world m k held n i j w asked told rest bytes lost count e l h apart here there valid other kept same all begins part calm ample =
     cut-at part.left part.session.text part.cause

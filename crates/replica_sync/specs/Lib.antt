@@ -1,10 +1,11 @@
--- What a caller cites stands in the first nine; `Inside` has what the records of the code say, and
+-- What a caller cites stands in the first ten; `Inside` has what the records of the code say, and
 -- the steps of reading, writing and sessions.
 pub mod Entries
 pub mod Snapshots
 pub mod Writing
 pub mod Messages
 pub mod FirstLines
+pub mod SessionRun
 pub mod Questions
 pub mod Answers
 pub mod Pulling

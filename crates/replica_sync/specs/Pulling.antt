@@ -14,6 +14,7 @@ use Rattle.replica_sync.specs.Messages.{question_text, reply_text}
 use Rattle.replica_sync.specs.Snapshots.{is_io}
 use Rattle.replica_sync.specs.Answers.{IsAnswer, AnswerBegins, RefusesHead, RefusesNextEntry}
 use Rattle.replica_sync.specs.Answers.{next_entry_number}
+use Rattle.replica_sync.specs.SessionRun.{SessionRun}
 use Rattle.replica_sync.specs.Questions.{IsWritten}
 use Rattle.replica_sync.specs.declared.pulling.PullFault.{PullFault}
 
@@ -89,29 +90,27 @@ RefusesAnswer config state bucket first content left e = FailsFirst config bucke
     ⊎ FailsWithin config state bucket first content left e
 
 -- All buckets are asked about, and what the answers have is held now.
-pub record PullsAll (old : Meaning) (stream before : Option (List ℕ)) (new : Meaning)
-    (after : Option (List ℕ)) : Type 0 where
+pub record PullsAll (run : SessionRun) (old new : Meaning) : Type 0 where
   pub replies : List Reply
   pub left : Option (List ℕ)
-  pub session : Session old.config stream replies left
+  pub session : Session old.config run.source replies left
   pub all : length replies ≡ 256
   pub meaning : new ≡ meaning_of_state old.config (after_replies (state_of old) replies)
-  pub asked : Appends before after
+  pub asked : Appends run.before run.after
       (flat_map question_text (questions_of old.config 0 (state_of old) replies))
 
 -- What the lines before the fault have is held now.
-pub record PullsUpTo (old : Meaning) (stream before : Option (List ℕ)) (new : Meaning)
-    (after : Option (List ℕ)) (e : SyncError) : Type 0 where
+pub record PullsUpTo (run : SessionRun) (old new : Meaning) (e : SyncError) : Type 0 where
   pub replies : List Reply
   pub left : Option (List ℕ)
-  pub session : Session old.config stream replies left
+  pub session : Session old.config run.source replies left
   pub few : length replies < 256
   pub content : State
   pub cause : RefusesAnswer old.config (after_replies (state_of old) replies) (length replies)
       (line_count replies + 1) content left e
   pub meaning : new ≡ meaning_of_state old.config
       (joined (after_replies (state_of old) replies) content)
-  pub asked : IsWritten e before after
+  pub asked : IsWritten e run.before run.after
       (flat_map question_text
       (questions_of old.config 0 (state_of old) replies
       ++ question_in old.config (after_replies (state_of old) replies) (length replies) ∷ []))
@@ -126,12 +125,9 @@ abbrev pub HasGained : Meaning → Meaning → ℕ → Type 0
 HasGained old new count = length new.held ≡ length old.held + count
 
 -- what a call does that asks and takes
-abbrev pub Pulls : Meaning → Option (List ℕ) → Option (List ℕ) → Meaning → Option (List ℕ)
-    → Result ℕ PullFault → Type 0
-Pulls old stream before new after (Ok count) = PullsAll old stream before new after
-    × HasGained old new count
-Pulls old stream before new after (Err fault) = PullsUpTo old stream before new after fault.why
-    × HasGained old new fault.taken
+abbrev pub Pulls : SessionRun → Meaning → Meaning → Result ℕ PullFault → Type 0
+Pulls run old new (Ok count) = PullsAll run old new × HasGained old new count
+Pulls run old new (Err fault) = PullsUpTo run old new fault.why × HasGained old new fault.taken
 
 -- a device was at fault
 abbrev pub is_pull_io : Result ℕ PullFault → Bool

@@ -8,6 +8,7 @@ use Rattle.receipt_core.specs.Acceptance.{Meaning}
 use Rattle.byte_lines.specs.Device.{AppendsBeginning}
 use Rattle.byte_lines.specs.Lines.{HasNoLine, HasMore}
 use Rattle.replica_core.specs.Session.{Question, reply_of}
+use Rattle.replica_sync.specs.SessionRun.{SessionRun}
 use Rattle.replica_sync.specs.Messages.{asked_of, asked_text, question_text, reply_text}
 use Rattle.replica_sync.specs.FirstLines.{HasBadFirstLine, IsAsked, RefusesAsked}
 use Rattle.replica_core.specs.declared.error.SyncError.{SyncError}
@@ -87,25 +88,23 @@ IsWritten (Refused n why) old new text = Appends old new text
 IsWritten Io old new text = AppendsBeginning old new text
 IsWritten NoMemory old new text = AppendsBeginning old new text
 
--- The whole stream is these questions, all are answered, and their number is told.
-pub record ServesAll (m : Meaning) (stream old new : Option (List ℕ)) (count : ℕ) : Type 0 where
+-- All that the source has are these questions, all are answered, and this is their number.
+pub record ServesAll (run : SessionRun) (m : Meaning) (count : ℕ) : Type 0 where
   pub questions : List Question
   pub each : AllByRecursion (IsQuestionOf m.config) questions
-  pub text : IfSome stream (λ bytes. bytes ≡ flat_map question_text questions)
+  pub text : IfSome run.source (λ bytes. bytes ≡ flat_map question_text questions)
   pub number : count ≡ length questions
-  pub written : Appends old new (replies_text m questions)
+  pub written : Appends run.before run.after (replies_text m questions)
 
 -- The questions before the fault are answered, and nothing else is written.
-pub record ServesUpTo (m : Meaning) (stream old new : Option (List ℕ))
-    (e : SyncError) : Type 0 where
+pub record ServesUpTo (run : SessionRun) (m : Meaning) (e : SyncError) : Type 0 where
   pub questions : List Question
   pub left : Option (List ℕ)
-  pub asks : Asks m.config stream questions left
+  pub asks : Asks m.config run.source questions left
   pub cause : RefusesFurther m.config left e
-  pub written : IsWritten e old new (replies_text m questions)
+  pub written : IsWritten e run.before run.after (replies_text m questions)
 
 -- what a call that serves one session does
-abbrev pub Serves : Meaning → Option (List ℕ) → Option (List ℕ) → Option (List ℕ)
-    → Result ℕ SyncError → Type 0
-Serves m stream old new (Ok count) = ServesAll m stream old new count
-Serves m stream old new (Err e) = ServesUpTo m stream old new e
+abbrev pub Serves : SessionRun → Meaning → Result ℕ SyncError → Type 0
+Serves run m (Ok count) = ServesAll run m count
+Serves run m (Err e) = ServesUpTo run m e

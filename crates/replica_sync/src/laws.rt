@@ -18,6 +18,7 @@ ghost use Rattle.replica_sync.specs.Messages.{question_text, reply_text};
 ghost use Rattle.replica_sync.specs.FirstLines.{HasDigestOf};
 ghost use Rattle.replica_sync.specs.Questions.{IsAskable, RefusesQuestion, ServesAll, ServesUpTo};
 ghost use Rattle.replica_sync.specs.Answers.{IsAnswer, RefusesGive};
+ghost use Rattle.replica_sync.specs.SessionRun.{ReadSame, SessionRun, known_run, session_run};
 ghost use Rattle.replica_sync.specs.Events.{EndsCut, whole_exchanges};
 ghost use Rattle.replica_sync.specs.Pulling.{HasDistinctIds, Pulls, PullsAll, PullsUpTo};
 ghost use Rattle.replica_sync.specs.Snapshots.{IsSnapshot, RefusesSnapshot, snapshot_text};
@@ -99,23 +100,20 @@ pub fn answers()
 /// - `taken`: nor is anything refused where a replica can hold all that they bring.
 /// - `pulled_once`: what is held after them is one.
 pub fn sessions()
-    ensures served { (m : Meaning) (bytes : List ℕ) (old new before after : Option (List ℕ))
-        (count : ℕ) (e : SyncError) → e ≢ Io → e ≢ NoMemory
-        → ServesAll m (Some bytes) old new count → ServesUpTo m (Some bytes) before after e → ⊥ }
-    ensures served_once { (m : Meaning) (bytes : List ℕ) (old new before after : Option (List ℕ))
-        (count number : ℕ) → ServesAll m (Some bytes) old new count
-        → ServesAll m (Some bytes) before after number → count ≡ number }
-    ensures pulled { (m : Meaning) (bytes : List ℕ) (old new before after : Option (List ℕ))
-        (held kept : Meaning) (e : SyncError) → e ≢ Io → e ≢ NoMemory
+    ensures served { (m : Meaning) (one other : SessionRun) (count : ℕ) (e : SyncError)
+        → ReadSame one other → e ≢ Io → e ≢ NoMemory
+        → ServesAll one m count → ServesUpTo other m e → ⊥ }
+    ensures served_once { (m : Meaning) (one other : SessionRun) (count number : ℕ)
+        → ReadSame one other → ServesAll one m count → ServesAll other m number → count ≡ number }
+    ensures pulled { (m held kept : Meaning) (one other : SessionRun) (e : SyncError)
+        → ReadSame one other → e ≢ Io → e ≢ NoMemory
         → ((n : ℕ) (why : TakeError) → e ≢ Refused n why)
-        → PullsAll m (Some bytes) old held new → PullsUpTo m (Some bytes) before kept after e → ⊥ }
-    ensures taken { (m : Meaning) (bytes : List ℕ) (old new before after : Option (List ℕ))
-        (held kept : Meaning) (e : SyncError) → IsConfiguration m.config → IsMeaning m
-        → IsMeaning held → e ≢ Io → e ≢ NoMemory
-        → PullsAll m (Some bytes) old held new → PullsUpTo m (Some bytes) before kept after e → ⊥ }
-    ensures pulled_once { (m : Meaning) (bytes : List ℕ) (old new before after : Option (List ℕ))
-        (held kept : Meaning) → PullsAll m (Some bytes) old held new
-        → PullsAll m (Some bytes) before kept after → held ≡ kept }
+        → PullsAll one m held → PullsUpTo other m kept e → ⊥ }
+    ensures taken { (m held kept : Meaning) (one other : SessionRun) (e : SyncError)
+        → ReadSame one other → IsConfiguration m.config → IsMeaning m → IsMeaning held
+        → e ≢ Io → e ≢ NoMemory → PullsAll one m held → PullsUpTo other m kept e → ⊥ }
+    ensures pulled_once { (m held kept : Meaning) (one other : SessionRun) → ReadSame one other
+        → PullsAll one m held → PullsAll other m kept → held ≡ kept }
 {}
 
 /// What one side writes the other takes: two replicas whose configurations have one digest never
@@ -142,31 +140,31 @@ pub fn understanding()
         (result : Result ℕ PullFault) (before after : Option (List ℕ)) (e : SyncError)
         → IsMeaning m → IsMeaning held → config_id_of m.config ≡ config_id_of k.config
         → IfErr result (λ fault. (fault.why ≢ Io) × (fault.why ≢ NoMemory))
-        → Pulls m stream (Some []) held (Some asked) result
-        → e ≢ Io → e ≢ NoMemory → ServesUpTo k (Some asked) before after e → ⊥ }
+        → Pulls (session_run stream (Some []) (Some asked)) m held result
+        → e ≢ Io → e ≢ NoMemory → ServesUpTo (session_run (Some asked) before after) k e → ⊥ }
     ensures pulled { (m k held : Meaning) (asked told rest : List ℕ) (count : ℕ) (e : SyncError)
         → IsMeaning m → IsMeaning k → IsMeaning held
         → config_id_of m.config ≡ config_id_of k.config
-        → ServesAll k (Some asked) (Some []) (Some told) count
-        → PullsUpTo m (Some (told ++ rest)) (Some []) held (Some asked) e
+        → ServesAll (known_run asked told) k count
+        → PullsUpTo (known_run (told ++ rest) asked) m held e
         → e ≢ Io → e ≢ NoMemory → ((n : ℕ) (why : TakeError) → e ≢ Refused n why) → ⊥ }
     ensures taken { (m k held : Meaning) (asked told rest : List ℕ) (count : ℕ) (e : SyncError)
         → IsConfiguration m.config → IsMeaning m → IsMeaning k → IsMeaning held
         → m.config ≡ k.config → is_within_limits (joined (state_of m) (state_of k)) ≡ true
-        → ServesAll k (Some asked) (Some []) (Some told) count
-        → PullsUpTo m (Some (told ++ rest)) (Some []) held (Some asked) e
+        → ServesAll (known_run asked told) k count
+        → PullsUpTo (known_run (told ++ rest) asked) m held e
         → e ≢ Io → e ≢ NoMemory → ⊥ }
     ensures brings { (m k held : Meaning) (asked told rest : List ℕ) (count bucket : ℕ)
         → IsMeaning m → IsMeaning k → IsMeaning held
         → config_id_of m.config ≡ config_id_of k.config
-        → ServesAll k (Some asked) (Some []) (Some told) count
-        → PullsAll m (Some (told ++ rest)) (Some []) held (Some asked)
+        → ServesAll (known_run asked told) k count
+        → PullsAll (known_run (told ++ rest) asked) m held
         → HasAll bucket (state_of k) (state_of held) }
     ensures joins { (m k held : Meaning) (asked told rest : List ℕ) (count : ℕ)
         → IsMeaning m → IsMeaning k → IsMeaning held
         → config_id_of m.config ≡ config_id_of k.config
-        → ServesAll k (Some asked) (Some []) (Some told) count
-        → PullsAll m (Some (told ++ rest)) (Some []) held (Some asked)
+        → ServesAll (known_run asked told) k count
+        → PullsAll (known_run (told ++ rest) asked) m held
         → HasDistinctIds (joined (state_of m) (state_of k))
         → state_of held ≡ joined (state_of m) (state_of k) }
 {}
@@ -198,8 +196,8 @@ pub fn world_of_sessions()
         (count : ℕ) → i < n → j < n → i ≢ j → w.now i ≡ state_of m → w.now j ≡ state_of k
         → IsMeaning m → IsMeaning k → IsMeaning held
         → config_id_of m.config ≡ config_id_of k.config
-        → ServesAll k (Some asked) (Some []) (Some told) count
-        → PullsAll m (Some (told ++ rest)) (Some []) held (Some asked)
+        → ServesAll (known_run asked told) k count
+        → PullsAll (known_run (told ++ rest) asked) m held
         → (run_from (rules_of m.config n) w (whole_exchanges i j 256 0 (length w.sent))).now i
         ≡ state_of held }
     ensures cut { (m k held : Meaning) (n i j : ℕ) (w : World) (asked told rest bytes lost : List ℕ)
@@ -207,8 +205,8 @@ pub fn world_of_sessions()
         → w.now i ≡ state_of m → w.now j ≡ state_of k
         → IsMeaning m → IsMeaning k → IsMeaning held
         → config_id_of m.config ≡ config_id_of k.config
-        → ServesAll k (Some asked) (Some []) (Some told) count
+        → ServesAll (known_run asked told) k count
         → bytes ++ lost ≡ told ++ rest
-        → PullsUpTo m (Some bytes) (Some []) held (Some asked) e → e ≢ Io → e ≢ NoMemory
+        → PullsUpTo (known_run bytes asked) m held e → e ≢ Io → e ≢ NoMemory
         → EndsCut (rules_of m.config n) w i j (state_of held) }
 {}

@@ -6,6 +6,7 @@ ghost use Rattle.byte_lines.specs.Streams.{stream_of, left_of};
 ghost use Rattle.replica_core.specs.Session.{question_of};
 ghost use Rattle.replica_sync.specs.Messages.{question_text, WritesText};
 ghost use Rattle.replica_sync.specs.Snapshots.{is_io};
+ghost use Rattle.replica_sync.specs.SessionRun.{session_run};
 ghost use Rattle.replica_sync.specs.Questions.{IsWritten};
 ghost use Rattle.replica_sync.specs.Pulling.{Pulls, PullsAll, PullsUpTo, is_pull_io};
 ghost use Rattle.replica_sync.specs.Inside.Taking.{TakesReply, StopsReply};
@@ -57,8 +58,9 @@ pub fn pull<C: Closure, R: Source, W: Sink>(
     source: &mut R,
     sink: &mut W,
 ) -> Result<u64, PullFault>
-    ensures pulls { Pulls (C.state closure.old).meaning (R.remaining source.old)
-        (W.contents sink.old) (C.state closure.new).meaning (W.contents sink.new) result }
+    ensures pulls { Pulls
+        (session_run (R.remaining source.old) (W.contents sink.old) (W.contents sink.new))
+        (C.state closure.old).meaning (C.state closure.new).meaning result }
     ensures io { IfErr result
         (λ fault. fault.why ≡ Io
         → (R.has_failed source.new ≡ true) ⊎ (W.has_failed sink.new ≡ true)) }
@@ -83,11 +85,12 @@ fn pull_all<C: Closure, R: Source, W: Sink>(
     sink: &mut W,
 ) -> Result<(), SyncError>
     ensures ok { OnOk result
-        (PullsAll (C.state closure.old).meaning (R.remaining source.old) (W.contents sink.old)
-        (C.state closure.new).meaning (W.contents sink.new)) }
+        (PullsAll (session_run (R.remaining source.old) (W.contents sink.old) (W.contents sink.new))
+        (C.state closure.old).meaning (C.state closure.new).meaning) }
     ensures refused { IfErr result
-        (PullsUpTo (C.state closure.old).meaning (R.remaining source.old) (W.contents sink.old)
-        (C.state closure.new).meaning (W.contents sink.new)) }
+        (PullsUpTo
+        (session_run (R.remaining source.old) (W.contents sink.old) (W.contents sink.new))
+        (C.state closure.old).meaning (C.state closure.new).meaning) }
     ensures io { IsErrOf result Io
         → (R.has_failed source.new ≡ true) ⊎ (W.has_failed sink.new ≡ true) }
     ensures fault { is_io result ≡ false

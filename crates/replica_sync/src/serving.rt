@@ -2,6 +2,7 @@
 ghost use Rattle.std.specs.Prelude.{◌≡◌, ◌<◌, ◌⊎◌, IfOk, IsErrOf, true, false};
 ghost use Rattle.byte_lines.specs.Streams.{stream_of, left_of};
 ghost use Rattle.replica_sync.specs.Snapshots.{is_io};
+ghost use Rattle.replica_sync.specs.SessionRun.{session_run};
 ghost use Rattle.replica_sync.specs.Questions.{Serves};
 ghost use Rattle.replica_sync.specs.Inside.Serving.{ServesNext};
 ghost use Rattle.replica_core.specs.declared.error.SyncError.TheVariants.{Io};
@@ -37,8 +38,9 @@ pub fn serve_one<C: Closure, R: Source, W: Sink>(
     source: &mut R,
     sink: &mut W,
 ) -> Result<u64, SyncError>
-    ensures serves { Serves (C.state closure.now).meaning (R.remaining source.old)
-        (W.contents sink.old) (W.contents sink.new) result }
+    ensures serves { Serves
+        (session_run (R.remaining source.old) (W.contents sink.old) (W.contents sink.new))
+        (C.state closure.now).meaning result }
     ensures io { IsErrOf result Io
         → (R.has_failed source.new ≡ true) ⊎ (W.has_failed sink.new ≡ true) }
     ensures fault { is_io result ≡ false

@@ -1,4 +1,5 @@
 use Rattle.std.proofs.Common.{◌∙◌, refl, arith}
+use Rattle.replica_sync.specs.SessionRun.{session_run}
 use Rattle.replica_sync.proofs.SnapshotFacts.{refused_by}
 use Rattle.replica_sync.specs.Pulling.{PullsUpTo}
 use Rattle.replica_sync.proofs.PullingFacts.{asked_more, asked_stops}
@@ -12,7 +13,7 @@ returns-in_err-pull_bucket-clause-refused g c =
     let new = (g.C.Closure.state c.pull_bucket.new.closure).meaning in
     let after = g.W.Sink.contents c.pull_bucket.new.sink in
     let e = c.in_err-pull_bucket.field-0.0 in
-    refused_by c.from_residual.result (PullsUpTo old stream before new after) e c.from_residual.ensures.1
+    refused_by c.from_residual.result (PullsUpTo (session_run stream before after) old new) e c.from_residual.ensures.1
     (asked_stops old stream before c.buckets.bucket _ _ _ _ new after e c.buckets-test.true c.buckets.invariant.asked
     c.in_err-pull_bucket.ensures.refused c.in_err-pull_bucket.ensures.asks)
 

@@ -1,0 +1,20 @@
+-- What a session does to its devices, in the words that sessions of both sides share.
+use Rattle.std.specs.Prelude.{◌≡◌, ℕ, List, [], Option, Some}
+
+-- The bytes that the source has when the session begins, and those that the sink holds before and
+-- after it, where the devices tell them.
+pub record SessionRun : Type 0 where
+  pub source : Option (List ℕ)
+  pub before : Option (List ℕ)
+  pub after : Option (List ℕ)
+
+abbrev pub session_run : Option (List ℕ) → Option (List ℕ) → Option (List ℕ) → SessionRun
+session_run source before after = record { source = source; before = before; after = after }
+
+-- the session that has these bytes to read, and writes those on an empty sink
+abbrev pub known_run : List ℕ → List ℕ → SessionRun
+known_run read written = session_run (Some read) (Some []) (Some written)
+
+-- Both have the same bytes to read, and the devices tell them.
+abbrev pub ReadSame : SessionRun → SessionRun → Type 0
+ReadSame one other = (bytes : List ℕ) × (one.source ≡ Some bytes) × (other.source ≡ Some bytes)
