@@ -1,6 +1,6 @@
 -- A whole pull brings all that the other side held.
 use Rattle.std.proofs.Common.{◌≡◌, ◌∙◌, ℕ, ◌+◌, ◌<◌, ◌≤◌, ◌&&◌, ◌⊎◌, inl, inr, Bool, true, List, [], ◌∷◌, ◌++◌, length, map}
-use Rattle.std.proofs.Common.{refl, sym, ap, subst, arith, eq-eqb, append-nil, Some}
+use Rattle.std.proofs.Common.{refl, sym, ap, subst, arith, eq-eqb, append-nil}
 use Rattle.std.specs.Prelude.{Contains, filter, not, bytes_eq}
 use Rattle.std.specs.List.{AllByRecursion}
 use Rattle.std.proofs.lemmas.Bool.{and_from, cases_Bool, cases_lt}

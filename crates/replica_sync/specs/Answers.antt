@@ -20,7 +20,7 @@ use Rattle.replica_sync.specs.FirstLines.{IsGiveHeader, config_of, HasBadFirstLi
 use Rattle.replica_core.specs.declared.error.SyncError.{SyncError}
 use Rattle.replica_core.specs.declared.error.SyncError.TheVariants.{BadHeader, ConfigDiffers}
 use Rattle.replica_core.specs.declared.error.SyncError.TheVariants.{VersionDiffers, NotCanonical}
-use Rattle.replica_core.specs.declared.error.SyncError.TheVariants.{NotRising, BadCount, Truncated}
+use Rattle.replica_core.specs.declared.error.SyncError.TheVariants.{NotRising, Truncated}
 use Rattle.replica_core.specs.declared.error.SyncError.TheVariants.{Refused, Io, NoMemory}
 
 -- the lines of records, and then those of receipts
@@ -96,20 +96,17 @@ pub record HasNoNext (count distrusts : ℕ) (content : State) (left : Option (L
 -- why the line that is wanted after so much of an answer is not read
 abbrev pub RefusesNextEntry : (Wanted → List ℕ → List ℕ → SyncError → Type 0) → ℕ → ℕ → State
     → Option (List ℕ) → Option (List ℕ) → SyncError → Type 0
-RefusesNextEntry refuses count distrusts content left after BadHeader = ⊥
-RefusesNextEntry refuses count distrusts content left after ConfigDiffers = ⊥
-RefusesNextEntry refuses count distrusts content left after VersionDiffers = ⊥
 RefusesNextEntry refuses count distrusts content left after (NotCanonical n) = HasBadNext refuses
     count distrusts content left after (NotCanonical n)
 RefusesNextEntry refuses count distrusts content left after (NotRising n) = HasBadNext refuses count
     distrusts content left after (NotRising n)
-RefusesNextEntry refuses count distrusts content left after BadCount = ⊥
 RefusesNextEntry refuses count distrusts content left after Truncated = HasNoNext count distrusts
     content left
 RefusesNextEntry refuses count distrusts content left after (Refused n why) = HasBadNext refuses
     count distrusts content left after (Refused n why)
 RefusesNextEntry refuses count distrusts content left after Io = Unit {0}
 RefusesNextEntry refuses count distrusts content left after NoMemory = Unit {0}
+RefusesNextEntry refuses count distrusts content left after _ = ⊥
 
 -- why no first line is read, where one should begin
 abbrev pub RefusesHead : Option Expected → Option (List ℕ) → Option (List ℕ) → SyncError → Type 0
@@ -118,13 +115,10 @@ RefusesHead expected old new ConfigDiffers = HasBadFirstLine (RefusesTold expect
     ConfigDiffers
 RefusesHead expected old new VersionDiffers = HasBadFirstLine (RefusesTold expected) old new
     VersionDiffers
-RefusesHead expected old new (NotCanonical n) = ⊥
-RefusesHead expected old new (NotRising n) = ⊥
-RefusesHead expected old new BadCount = ⊥
 RefusesHead expected old new Truncated = HasNoLine old
-RefusesHead expected old new (Refused n why) = ⊥
 RefusesHead expected old new Io = Unit {0}
 RefusesHead expected old new NoMemory = Unit {0}
+RefusesHead expected old new _ = ⊥
 
 -- ---- one answer alone
 

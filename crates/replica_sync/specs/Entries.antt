@@ -13,10 +13,9 @@ use Rattle.replica_core.specs.declared.entry.Entry.TheVariants.{Record, Receipt 
 use Rattle.replica_sync.specs.declared.entry_line.Wanted.{Wanted}
 use Rattle.replica_sync.specs.declared.entry_line.Wanted.TheVariants.{Records, Receipts, Either}
 use Rattle.replica_core.specs.declared.error.SyncError.{SyncError}
-use Rattle.replica_core.specs.declared.error.SyncError.TheVariants.{BadHeader, ConfigDiffers}
-use Rattle.replica_core.specs.declared.error.SyncError.TheVariants.{VersionDiffers, NotCanonical}
-use Rattle.replica_core.specs.declared.error.SyncError.TheVariants.{NotRising, BadCount, Truncated}
-use Rattle.replica_core.specs.declared.error.SyncError.TheVariants.{Refused, Io, NoMemory}
+use Rattle.replica_core.specs.declared.error.SyncError.TheVariants.{NotCanonical}
+use Rattle.replica_core.specs.declared.error.SyncError.TheVariants.{NotRising}
+use Rattle.replica_core.specs.declared.error.SyncError.TheVariants.{Refused, NoMemory}
 use Rattle.replica_core.specs.Absorbing.{RefusesEntry}
 use Rattle.byte_lines.specs.Limits.{line_limit}
 use Rattle.receipt_core.specs.Limits.{receipt_line_limit}
@@ -30,11 +29,10 @@ entry_line (AReceipt r) = line r
 -- It is a receipt or a record, and of a kind that may stand there.
 abbrev pub IsWanted : Wanted → Entry → Type 0
 IsWanted Records (Record x) = IsDistrust x
-IsWanted Records (AReceipt r) = ⊥
-IsWanted Receipts (Record x) = ⊥
 IsWanted Receipts (AReceipt r) = IsReceipt r
 IsWanted Either (Record x) = IsDistrust x
 IsWanted Either (AReceipt r) = IsReceipt r
+IsWanted _ _ = ⊥
 
 -- the text is the one spelling of what it says
 pub record IsEntry (wanted : Wanted) (text : List ℕ) (entry : Entry) : Type 0 where
@@ -73,30 +71,19 @@ pub record IsRefused (wanted : Wanted) (m : Meaning) (last text : List ℕ)
 
 -- what is wrong with the text alone
 abbrev pub RefusesEntryText : Wanted → List ℕ → ℕ → List ℕ → SyncError → Type 0
-RefusesEntryText wanted last number text BadHeader = ⊥
-RefusesEntryText wanted last number text ConfigDiffers = ⊥
-RefusesEntryText wanted last number text VersionDiffers = ⊥
 RefusesEntryText wanted last number text (NotCanonical n) = (n ≡ number) × IsNoLineOf wanted text
 RefusesEntryText wanted last number text (NotRising n) = (n ≡ number) × IsNotAbove wanted last text
-RefusesEntryText wanted last number text BadCount = ⊥
-RefusesEntryText wanted last number text Truncated = ⊥
-RefusesEntryText wanted last number text (Refused n why) = ⊥
-RefusesEntryText wanted last number text Io = ⊥
 RefusesEntryText wanted last number text NoMemory = length text ≤ receipt_line_limit
+RefusesEntryText wanted last number text _ = ⊥
 
 -- The faults of the line with this number, where the closure means m: the first of these that
 -- holds.
 abbrev pub RefusesEntryLine : Wanted → Meaning → List ℕ → ℕ → List ℕ → SyncError → Type 0
-RefusesEntryLine wanted m last number text BadHeader = ⊥
-RefusesEntryLine wanted m last number text ConfigDiffers = ⊥
-RefusesEntryLine wanted m last number text VersionDiffers = ⊥
 RefusesEntryLine wanted m last number text (NotCanonical n) = (n ≡ number) × IsNoLineOf wanted text
 RefusesEntryLine wanted m last number text (NotRising n) = (n ≡ number)
     × IsNotAbove wanted last text
-RefusesEntryLine wanted m last number text BadCount = ⊥
-RefusesEntryLine wanted m last number text Truncated = ⊥
 RefusesEntryLine wanted m last number text (Refused n why) = (n ≡ number) × (why ≢ NoTakeMemory)
     × IsRefused wanted m last text why
-RefusesEntryLine wanted m last number text Io = ⊥
 RefusesEntryLine wanted m last number text NoMemory = (length text ≤ receipt_line_limit)
     ⊎ IsRefused wanted m last text NoTakeMemory
+RefusesEntryLine wanted m last number text _ = ⊥

@@ -8,9 +8,8 @@ use Rattle.replica_core.specs.Session.{IsQuestion}
 use Rattle.replica_sync.specs.Messages.{Asked, asked_text, GiveHeader, told_text}
 use Rattle.replica_core.specs.declared.error.SyncError.{SyncError}
 use Rattle.replica_core.specs.declared.error.SyncError.TheVariants.{BadHeader, ConfigDiffers}
-use Rattle.replica_core.specs.declared.error.SyncError.TheVariants.{VersionDiffers, NotCanonical}
-use Rattle.replica_core.specs.declared.error.SyncError.TheVariants.{NotRising, BadCount, Truncated}
-use Rattle.replica_core.specs.declared.error.SyncError.TheVariants.{Refused, Io, NoMemory}
+use Rattle.replica_core.specs.declared.error.SyncError.TheVariants.{VersionDiffers}
+use Rattle.replica_core.specs.declared.error.SyncError.TheVariants.{NoMemory}
 use Rattle.byte_lines.specs.Limits.{line_limit}
 
 -- the one format and the one number of buckets that are supported
@@ -61,13 +60,8 @@ abbrev pub RefusesAsked : Option Configuration → List ℕ → SyncError → Ty
 RefusesAsked config text BadHeader = (asked : Asked) → IsAskedLine text asked → ⊥
 RefusesAsked config text ConfigDiffers = AsksOther config text
 RefusesAsked config text VersionDiffers = AsksUnsupported config text
-RefusesAsked config text (NotCanonical n) = ⊥
-RefusesAsked config text (NotRising n) = ⊥
-RefusesAsked config text BadCount = ⊥
-RefusesAsked config text Truncated = ⊥
-RefusesAsked config text (Refused n why) = ⊥
-RefusesAsked config text Io = ⊥
 RefusesAsked config text NoMemory = Unit {0}
+RefusesAsked config text _ = ⊥
 
 -- ---- answers
 
@@ -126,13 +120,8 @@ abbrev pub RefusesTold : Option Expected → List ℕ → SyncError → Type 0
 RefusesTold expected text BadHeader = (told : GiveHeader) → TellsOf expected text told → ⊥
 RefusesTold expected text ConfigDiffers = TellsOther expected text
 RefusesTold expected text VersionDiffers = TellsUnsupported expected text
-RefusesTold expected text (NotCanonical n) = ⊥
-RefusesTold expected text (NotRising n) = ⊥
-RefusesTold expected text BadCount = ⊥
-RefusesTold expected text Truncated = ⊥
-RefusesTold expected text (Refused n why) = ⊥
-RefusesTold expected text Io = ⊥
 RefusesTold expected text NoMemory = Unit {0}
+RefusesTold expected text _ = ⊥
 
 -- ---- in a stream
 

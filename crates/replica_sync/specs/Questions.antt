@@ -13,9 +13,9 @@ use Rattle.replica_sync.specs.Messages.{asked_of, asked_text, question_text, rep
 use Rattle.replica_sync.specs.FirstLines.{HasBadFirstLine, IsAsked, RefusesAsked}
 use Rattle.replica_core.specs.declared.error.SyncError.{SyncError}
 use Rattle.replica_core.specs.declared.error.SyncError.TheVariants.{BadHeader, ConfigDiffers}
-use Rattle.replica_core.specs.declared.error.SyncError.TheVariants.{VersionDiffers, NotCanonical}
-use Rattle.replica_core.specs.declared.error.SyncError.TheVariants.{NotRising, BadCount, Truncated}
-use Rattle.replica_core.specs.declared.error.SyncError.TheVariants.{Refused, Io, NoMemory}
+use Rattle.replica_core.specs.declared.error.SyncError.TheVariants.{VersionDiffers}
+use Rattle.replica_core.specs.declared.error.SyncError.TheVariants.{Truncated}
+use Rattle.replica_core.specs.declared.error.SyncError.TheVariants.{Io, NoMemory}
 use Rattle.byte_lines.specs.Limits.{line_limit}
 
 -- Why no question is read, where one should begin. Nothing is known of the stream where the source
@@ -27,13 +27,10 @@ RefusesQuestion config old new ConfigDiffers = HasBadFirstLine (RefusesAsked con
     ConfigDiffers
 RefusesQuestion config old new VersionDiffers = HasBadFirstLine (RefusesAsked config) old new
     VersionDiffers
-RefusesQuestion config old new (NotCanonical n) = ⊥
-RefusesQuestion config old new (NotRising n) = ⊥
-RefusesQuestion config old new BadCount = ⊥
 RefusesQuestion config old new Truncated = HasNoLine old
-RefusesQuestion config old new (Refused n why) = ⊥
 RefusesQuestion config old new Io = Unit {0}
 RefusesQuestion config old new NoMemory = Unit {0}
+RefusesQuestion config old new _ = ⊥
 
 -- A line can ask it: the bucket is one of 256, the ids are digests that rise, and there are not too
 -- many for a line.
@@ -67,26 +64,16 @@ RefusesFurther config left ConfigDiffers = (after : Option (List ℕ))
     × HasBadFirstLine (RefusesAsked (Some config)) left after ConfigDiffers
 RefusesFurther config left VersionDiffers = (after : Option (List ℕ))
     × HasBadFirstLine (RefusesAsked (Some config)) left after VersionDiffers
-RefusesFurther config left (NotCanonical n) = ⊥
-RefusesFurther config left (NotRising n) = ⊥
-RefusesFurther config left BadCount = ⊥
 RefusesFurther config left Truncated = HasNoLine left × HasMore left
-RefusesFurther config left (Refused n why) = ⊥
 RefusesFurther config left Io = Unit {0}
 RefusesFurther config left NoMemory = Unit {0}
+RefusesFurther config left _ = ⊥
 
 -- all that was due is written; where the device failed or memory ran out, a beginning of it
 abbrev pub IsWritten : SyncError → Option (List ℕ) → Option (List ℕ) → List ℕ → Type 0
-IsWritten BadHeader old new text = Appends old new text
-IsWritten ConfigDiffers old new text = Appends old new text
-IsWritten VersionDiffers old new text = Appends old new text
-IsWritten (NotCanonical n) old new text = Appends old new text
-IsWritten (NotRising n) old new text = Appends old new text
-IsWritten BadCount old new text = Appends old new text
-IsWritten Truncated old new text = Appends old new text
-IsWritten (Refused n why) old new text = Appends old new text
 IsWritten Io old new text = AppendsBeginning old new text
 IsWritten NoMemory old new text = AppendsBeginning old new text
+IsWritten _ old new text = Appends old new text
 
 -- All that the source has are these questions, all are answered, and this is their number.
 pub record ServesAll (run : SessionRun) (m : Meaning) (count : ℕ) : Type 0 where

@@ -1,7 +1,7 @@
 -- Snapshots: the text of what a replica holds, and what is wrong with a stream that is none.
 use Rattle.std.specs.Prelude.{◌≡◌, ℕ, ◌+◌, ◌^◌, ◌<◌, ◌≤◌, ◌⊎◌, ◌++◌, ◌||◌, Bool, true, false, List}
 use Rattle.std.specs.Prelude.{[], ◌∷◌, length, map, flat_map, fold, codes, decimal, Option, IfSome}
-use Rattle.std.specs.Prelude.{Result, Ok, Err, nat_le, ◌&&◌}
+use Rattle.std.specs.Prelude.{Result, Err, nat_le, ◌&&◌}
 use Rattle.std.specs.List.{AllPass}
 use Rattle.std.specs.Io.KnownBytes.{Consumes}
 use Rattle.hex.specs.Hex.{encode_lower}
@@ -134,13 +134,7 @@ abbrev pub RefusesHeader : Configuration → List ℕ → SyncError → Type 0
 RefusesHeader config text BadHeader = IsNoHeader text
 RefusesHeader config text ConfigDiffers = IsOfOther config text
 RefusesHeader config text VersionDiffers = IsOfOtherFormat config text
-RefusesHeader config text (NotCanonical n) = ⊥
-RefusesHeader config text (NotRising n) = ⊥
-RefusesHeader config text BadCount = ⊥
-RefusesHeader config text Truncated = ⊥
-RefusesHeader config text (Refused n why) = ⊥
-RefusesHeader config text Io = ⊥
-RefusesHeader config text NoMemory = ⊥
+RefusesHeader config text _ = ⊥
 
 -- The first line is there, and has this fault. A first line that is too long is none.
 pub record HasBadFirst (config : Configuration) (stream : Option (List ℕ))
@@ -154,13 +148,10 @@ abbrev pub RefusesFirst : Configuration → Option (List ℕ) → SyncError → 
 RefusesFirst config stream BadHeader = HasBadFirst config stream BadHeader
 RefusesFirst config stream ConfigDiffers = HasBadFirst config stream ConfigDiffers
 RefusesFirst config stream VersionDiffers = HasBadFirst config stream VersionDiffers
-RefusesFirst config stream (NotCanonical n) = ⊥
-RefusesFirst config stream (NotRising n) = ⊥
-RefusesFirst config stream BadCount = ⊥
 RefusesFirst config stream Truncated = HasNoLine stream
-RefusesFirst config stream (Refused n why) = ⊥
 RefusesFirst config stream Io = Unit {0}
 RefusesFirst config stream NoMemory = Unit {0}
+RefusesFirst config stream _ = ⊥
 
 -- ---- what is refused: a line after a good beginning
 
@@ -197,16 +188,12 @@ pub record IsBadLine (format : Format) (m : Meaning) (text : List ℕ) (e : Sync
 
 -- what is wrong with the line that follows the good beginning
 abbrev pub RefusesPlace : Format → Meaning → List ℕ → SyncError → Type 0
-RefusesPlace format m text BadHeader = ⊥
-RefusesPlace format m text ConfigDiffers = ⊥
-RefusesPlace format m text VersionDiffers = ⊥
 RefusesPlace format m text (NotCanonical n) = IsBadLine format m text (NotCanonical n)
 RefusesPlace format m text (NotRising n) = IsBadLine format m text (NotRising n)
 RefusesPlace format m text BadCount = IsBadCount format m text
-RefusesPlace format m text Truncated = ⊥
 RefusesPlace format m text (Refused n why) = IsBadLine format m text (Refused n why)
-RefusesPlace format m text Io = ⊥
 RefusesPlace format m text NoMemory = Unit {0}
+RefusesPlace format m text _ = ⊥
 
 -- There is such a line, and it has this fault.
 pub record HasBadLine (format : Format) (m : Meaning) (left : Option (List ℕ))
@@ -225,9 +212,6 @@ pub record HasMoreBehind (format : Format) (m : Meaning) (left : Option (List �
 -- Nothing of the stream is known where the source fails; and memory is wanted before its first byte
 -- is read.
 abbrev pub RefusesNext : Format → Meaning → Option (List ℕ) → SyncError → Type 0
-RefusesNext format m left BadHeader = ⊥
-RefusesNext format m left ConfigDiffers = ⊥
-RefusesNext format m left VersionDiffers = ⊥
 RefusesNext format m left (NotCanonical n) = HasBadLine format m left (NotCanonical n)
     ⊎ ((n ≡ next_number m + 1) × HasMoreBehind format m left)
 RefusesNext format m left (NotRising n) = HasBadLine format m left (NotRising n)
@@ -236,6 +220,7 @@ RefusesNext format m left Truncated = HasNoLine left
 RefusesNext format m left (Refused n why) = HasBadLine format m left (Refused n why)
 RefusesNext format m left Io = Unit {0}
 RefusesNext format m left NoMemory = Unit {0}
+RefusesNext format m left _ = ⊥
 
 -- ---- the first fault
 
@@ -253,14 +238,5 @@ RefusesSnapshot config stream e = RefusesFirst config stream e ⊎ HasFaultBehin
 
 -- the device was at fault
 abbrev pub is_io : {T : Type 0} → Result T SyncError → Bool
-is_io (Ok value) = false
-is_io (Err BadHeader) = false
-is_io (Err ConfigDiffers) = false
-is_io (Err VersionDiffers) = false
-is_io (Err (NotCanonical n)) = false
-is_io (Err (NotRising n)) = false
-is_io (Err BadCount) = false
-is_io (Err Truncated) = false
-is_io (Err (Refused n why)) = false
 is_io (Err Io) = true
-is_io (Err NoMemory) = false
+is_io _ = false

@@ -8,9 +8,9 @@ use Rattle.byte_lines.specs.Lines.{HasLine, HasNoLine, HasMore}
 use Rattle.replica_core.specs.Session.{Question}
 use Rattle.replica_core.specs.declared.error.SyncError.{SyncError}
 use Rattle.replica_core.specs.declared.error.SyncError.TheVariants.{BadHeader, ConfigDiffers}
-use Rattle.replica_core.specs.declared.error.SyncError.TheVariants.{VersionDiffers, NotCanonical}
-use Rattle.replica_core.specs.declared.error.SyncError.TheVariants.{NotRising, BadCount, Truncated}
-use Rattle.replica_core.specs.declared.error.SyncError.TheVariants.{Refused, Io, NoMemory}
+use Rattle.replica_core.specs.declared.error.SyncError.TheVariants.{VersionDiffers}
+use Rattle.replica_core.specs.declared.error.SyncError.TheVariants.{Truncated}
+use Rattle.replica_core.specs.declared.error.SyncError.TheVariants.{Io, NoMemory}
 use Rattle.replica_sync.specs.Messages.{Asked, question_text, quoted}
 use Rattle.replica_sync.specs.FirstLines.{HasBadFirstLine, IsAskedLine, IsSupportedVersion}
 use Rattle.replica_sync.specs.FirstLines.{RefusesAsked}
@@ -65,15 +65,10 @@ FindsAsked old new (Some a) = HasAsked old new a
 -- why no line of a question is read, of whatever configuration, format and number of buckets
 abbrev pub RefusesHaveLine : Option (List ℕ) → Option (List ℕ) → SyncError → Type 0
 RefusesHaveLine old new BadHeader = HasBadFirstLine (RefusesAsked None) old new BadHeader
-RefusesHaveLine old new ConfigDiffers = ⊥
-RefusesHaveLine old new VersionDiffers = ⊥
-RefusesHaveLine old new (NotCanonical n) = ⊥
-RefusesHaveLine old new (NotRising n) = ⊥
-RefusesHaveLine old new BadCount = ⊥
 RefusesHaveLine old new Truncated = HasNoLine old × HasMore old
-RefusesHaveLine old new (Refused n why) = ⊥
 RefusesHaveLine old new Io = Unit {0}
 RefusesHaveLine old new NoMemory = Unit {0}
+RefusesHaveLine old new _ = ⊥
 
 -- It is of the one format and number of buckets that are supported.
 pub record IsSupportedHave (a : VersionedHave) (q : Question) : Type 0 where
@@ -87,17 +82,10 @@ pub record IsUnsupportedHave (a : VersionedHave) (e : SyncError) : Type 0 where
 
 -- It is of another configuration, or of this one and of another format or number of buckets.
 abbrev pub RefusesVersionedHave : Configuration → VersionedHave → SyncError → Type 0
-RefusesVersionedHave config a BadHeader = ⊥
 RefusesVersionedHave config a ConfigDiffers = a.have.config ≢ config_id_of config
 RefusesVersionedHave config a VersionDiffers = (a.have.config ≡ config_id_of config)
     × (IsSupportedVersion a.format a.buckets → ⊥)
-RefusesVersionedHave config a (NotCanonical n) = ⊥
-RefusesVersionedHave config a (NotRising n) = ⊥
-RefusesVersionedHave config a BadCount = ⊥
-RefusesVersionedHave config a Truncated = ⊥
-RefusesVersionedHave config a (Refused n why) = ⊥
-RefusesVersionedHave config a Io = ⊥
-RefusesVersionedHave config a NoMemory = ⊥
+RefusesVersionedHave config a _ = ⊥
 
 -- there is a question of the configuration, or the stream has come to its end
 abbrev pub FindsOwn : Configuration → Option (List ℕ) → Option (List ℕ) → Option Question → Type 0

@@ -8,10 +8,8 @@ use Rattle.replica_sync.specs.Snapshots.{IsTold, RefusesNext, text_of_lines, hel
 use Rattle.replica_sync.specs.Snapshots.{header_of, next_number, ended}
 use Rattle.replica_sync.specs.declared.format.Format.{Format}
 use Rattle.replica_core.specs.declared.error.SyncError.{SyncError}
-use Rattle.replica_core.specs.declared.error.SyncError.TheVariants.{BadHeader, ConfigDiffers}
-use Rattle.replica_core.specs.declared.error.SyncError.TheVariants.{VersionDiffers, NotCanonical}
-use Rattle.replica_core.specs.declared.error.SyncError.TheVariants.{NotRising, BadCount, Truncated}
-use Rattle.replica_core.specs.declared.error.SyncError.TheVariants.{Refused, Io, NoMemory}
+use Rattle.replica_core.specs.declared.error.SyncError.TheVariants.{NotCanonical}
+use Rattle.replica_core.specs.declared.error.SyncError.TheVariants.{Io, NoMemory}
 
 -- It has the parts of a first line.
 pub record IsSplit (text digits number : List ℕ) : Type 0 where
@@ -69,13 +67,7 @@ pub record FailsBehind (config : Configuration) (stream : Option (List ℕ)) (fo
 
 -- a byte follows where the stream should end
 abbrev pub RefusesEnd : ℕ → Option (List ℕ) → SyncError → Type 0
-RefusesEnd number stream BadHeader = ⊥
-RefusesEnd number stream ConfigDiffers = ⊥
-RefusesEnd number stream VersionDiffers = ⊥
 RefusesEnd number stream (NotCanonical n) = (n ≡ number) × HasMore stream
-RefusesEnd number stream (NotRising n) = ⊥
-RefusesEnd number stream BadCount = ⊥
-RefusesEnd number stream Truncated = ⊥
-RefusesEnd number stream (Refused n why) = ⊥
 RefusesEnd number stream Io = Unit {0}
 RefusesEnd number stream NoMemory = Unit {0}
+RefusesEnd number stream _ = ⊥

@@ -4,9 +4,7 @@ use Rattle.byte_lines.specs.Lines.{HasLine}
 use Rattle.receipt_core.specs.Receipt.{IsDigest}
 use Rattle.replica_core.specs.declared.error.SyncError.{SyncError}
 use Rattle.replica_core.specs.declared.error.SyncError.TheVariants.{BadHeader, ConfigDiffers}
-use Rattle.replica_core.specs.declared.error.SyncError.TheVariants.{VersionDiffers, NotCanonical}
-use Rattle.replica_core.specs.declared.error.SyncError.TheVariants.{NotRising, BadCount, Truncated}
-use Rattle.replica_core.specs.declared.error.SyncError.TheVariants.{Refused, Io, NoMemory}
+use Rattle.replica_core.specs.declared.error.SyncError.TheVariants.{VersionDiffers}
 use Rattle.replica_sync.specs.Messages.{Asked, GiveHeader}
 use Rattle.replica_sync.specs.FirstLines.{Expected, IsAbout, HasDigestOf, HasOtherDigest}
 use Rattle.replica_sync.specs.FirstLines.{IsSupportedVersion, TellsOf, config_of}
@@ -82,10 +80,4 @@ RefusesGiveHeader expected t ConfigDiffers = IsAbout expected t.bucket
     × HasOtherDigest (config_of expected) t.config
 RefusesGiveHeader expected t VersionDiffers = IsAbout expected t.bucket
     × HasDigestOf (config_of expected) t.config × (IsSupportedVersion t.format t.buckets → ⊥)
-RefusesGiveHeader expected t (NotCanonical n) = ⊥
-RefusesGiveHeader expected t (NotRising n) = ⊥
-RefusesGiveHeader expected t BadCount = ⊥
-RefusesGiveHeader expected t Truncated = ⊥
-RefusesGiveHeader expected t (Refused n why) = ⊥
-RefusesGiveHeader expected t Io = ⊥
-RefusesGiveHeader expected t NoMemory = ⊥
+RefusesGiveHeader expected t _ = ⊥

@@ -14,9 +14,8 @@ use Rattle.replica_sync.specs.Messages.{reply_text}
 use Rattle.replica_sync.specs.Answers.{content_lines, IsBegun, RefusesNextEntry}
 use Rattle.replica_sync.specs.Pulling.{IsReply, RefusesAnswer, refused_line}
 use Rattle.replica_core.specs.declared.error.SyncError.{SyncError}
-use Rattle.replica_core.specs.declared.error.SyncError.TheVariants.{BadHeader, ConfigDiffers}
-use Rattle.replica_core.specs.declared.error.SyncError.TheVariants.{VersionDiffers, NotCanonical}
-use Rattle.replica_core.specs.declared.error.SyncError.TheVariants.{NotRising, BadCount, Truncated}
+use Rattle.replica_core.specs.declared.error.SyncError.TheVariants.{NotCanonical}
+use Rattle.replica_core.specs.declared.error.SyncError.TheVariants.{NotRising, Truncated}
 use Rattle.replica_core.specs.declared.error.SyncError.TheVariants.{Refused, Io, NoMemory}
 
 -- what is held with what was gained
@@ -57,19 +56,16 @@ pub record HasBadEntryLine (wanted : Wanted) (m : Meaning) (last : List ℕ) (nu
 -- why no line is taken where one is wanted
 abbrev pub RefusesTakingLine : Wanted → Meaning → List ℕ → ℕ → Option (List ℕ) → Option (List ℕ)
     → SyncError → Type 0
-RefusesTakingLine wanted m last number stream left BadHeader = ⊥
-RefusesTakingLine wanted m last number stream left ConfigDiffers = ⊥
-RefusesTakingLine wanted m last number stream left VersionDiffers = ⊥
 RefusesTakingLine wanted m last number stream left (NotCanonical n) = HasBadEntryLine wanted m last
     number stream left (NotCanonical n)
 RefusesTakingLine wanted m last number stream left (NotRising n) = HasBadEntryLine wanted m last
     number stream left (NotRising n)
-RefusesTakingLine wanted m last number stream left BadCount = ⊥
 RefusesTakingLine wanted m last number stream left Truncated = HasNoLine stream
 RefusesTakingLine wanted m last number stream left (Refused n why) = HasBadEntryLine wanted m last
     number stream left (Refused n why)
 RefusesTakingLine wanted m last number stream left Io = Unit {0}
 RefusesTakingLine wanted m last number stream left NoMemory = Unit {0}
+RefusesTakingLine wanted m last number stream left _ = ⊥
 
 -- No line is taken, and nothing has changed.
 pub record HasNotTaken (wanted : Wanted) (old : Meaning) (last : List ℕ) (number : ℕ)
