@@ -9,10 +9,10 @@ use Rattle.replica_sync.specs.Snapshots.{ended, text_of_lines}
 use Rattle.replica_core.specs.declared.error.SyncError.{SyncError}
 use Rattle.replica_core.specs.declared.error.SyncError.TheVariants.{Io, NoMemory}
 use Rattle.replica_sync.proofs.SnapshotFacts.{consumes_both}
-use Rattle.replica_sync.specs.Messages.{told_of, told_text, reply_text}
+use Rattle.replica_sync.specs.Messages.{give_header_of, give_header_text, reply_text}
 use Rattle.replica_sync.specs.FirstLines.{Expected, IsGiveHeader}
 use Rattle.replica_sync.specs.Answers.{RefusesHead, content_lines}
-use Rattle.replica_sync.specs.Inside.Spelling.{HasHead, TellsHead, told_by_head}
+use Rattle.replica_sync.specs.Inside.Spelling.{HasHead, IsHeadLine, header_by_head}
 use Rattle.replica_sync.specs.Inside.Taking.{StopsReply, StopsWithin, TakesLines, TakesReply}
 use Rattle.replica_sync.specs.declared.give_header_reader.Head.{Head}
 use Rattle.replica_sync.proofs.ContentFacts.{text_of_content}
@@ -27,20 +27,20 @@ reply_with config bucket content = record { bucket = bucket; config = config_id_
 
 -- What the first line says, with the content it announces, is what an answer with that content says
 -- first.
-told_is : (config : Configuration) (bucket : ℕ) (text : List ℕ) (h : Head) (content : State)
-    → TellsHead (wish config bucket) text h → length content.held ≡ h.count → length content.records ≡ h.distrusts
-    → told_by_head h ≡ told_of (reply_with config bucket content)
-told_is config bucket text h content tells receipts records =
-    λ i. record { bucket = tells.tells.about i; config = tells.own i; count = sym receipts i; distrusts = Some (sym records i); format = 2; buckets = 256 }
+header_is : (config : Configuration) (bucket : ℕ) (text : List ℕ) (h : Head) (content : State)
+    → IsHeadLine (wish config bucket) text h → length content.held ≡ h.count → length content.records ≡ h.distrusts
+    → header_by_head h ≡ give_header_of (reply_with config bucket content)
+header_is config bucket text h content wanted receipts records =
+    λ i. record { bucket = wanted.wanted.about i; config = wanted.own i; count = sym receipts i; distrusts = Some (sym records i); format = 2; buckets = 256 }
 
 -- The first line and the lines of the content are the text of that answer.
 reply_is : (config : Configuration) (bucket : ℕ) (text : List ℕ) (h : Head) (content : State)
-    → TellsHead (wish config bucket) text h → length content.held ≡ h.count → length content.records ≡ h.distrusts
+    → IsHeadLine (wish config bucket) text h → length content.held ≡ h.count → length content.records ≡ h.distrusts
     → ended text ++ text_of_lines (content_lines content) ≡ reply_text (reply_with config bucket content)
-reply_is config bucket text h content tells receipts records =
+reply_is config bucket text h content wanted receipts records =
     ap (λ (t : List ℕ). ended t ++ text_of_lines (content_lines content))
-    (tells.tells.line.spelt ∙ ap told_text (told_is config bucket text h content tells receipts records))
-    ∙ ap (λ (t : List ℕ). ended (told_text (told_of (reply_with config bucket content))) ++ t) (text_of_content content)
+    (wanted.wanted.line.spelt ∙ ap give_header_text (header_is config bucket text h content wanted receipts records))
+    ∙ ap (λ (t : List ℕ). ended (give_header_text (give_header_of (reply_with config bucket content))) ++ t) (text_of_content content)
 
 -- A first line, and all the lines that it announces, are an answer that is taken whole.
 pub answer_taken : (m : Meaning) (config : Configuration) (bucket before : ℕ) (h : Head)
@@ -48,19 +48,19 @@ pub answer_taken : (m : Meaning) (config : Configuration) (bucket before : ℕ) 
     → HasHead (wish config bucket) stream middle h
     → TakesLines m middle h.count h.distrusts (before + 1) new left read → TakesReply m bucket stream before new left read
 answer_taken m config bucket before h stream middle left new read same head lines =
-    let tells : TellsHead (wish m.config bucket) head.text h = subst (λ (k : Configuration). TellsHead (wish k bucket) head.text h) same head.tells in
+    let wanted : IsHeadLine (wish m.config bucket) head.text h = subst (λ (k : Configuration). IsHeadLine (wish k bucket) head.text h) same head.head in
     record {
       reply = reply_with m.config bucket lines.content;
       is = record {
         own = refl;
         about = refl;
         answer = record {
-          told = subst IsGiveHeader (told_is m.config bucket head.text h lines.content tells lines.receipts lines.records) tells.tells.line.is;
+          header = subst IsGiveHeader (header_is m.config bucket head.text h lines.content wanted lines.receipts lines.records) wanted.wanted.line.is;
           valid = lines.taken.begun.valid;
           rising = lines.taken.begun.rising;
         };
       };
-      text = subst (Consumes stream left) (reply_is m.config bucket head.text h lines.content tells lines.receipts lines.records)
+      text = subst (Consumes stream left) (reply_is m.config bucket head.text h lines.content wanted lines.receipts lines.records)
           (consumes_both stream middle left (ended head.text) (text_of_lines (content_lines lines.content)) head.is.1 lines.taken.text);
       meaning = lines.taken.meaning;
       read_is = lines.read_is;
@@ -72,7 +72,7 @@ pub answer_stops : (m : Meaning) (config : Configuration) (bucket first : ℕ) (
     → HasHead (wish config bucket) stream middle h
     → StopsWithin m middle h.count h.distrusts first new e → StopsReply m bucket first stream new e
 answer_stops m config bucket first h stream middle new e same head stops =
-    let tells : TellsHead (wish m.config bucket) head.text h = subst (λ (k : Configuration). TellsHead (wish k bucket) head.text h) same head.tells in
+    let wanted : IsHeadLine (wish m.config bucket) head.text h = subst (λ (k : Configuration). IsHeadLine (wish k bucket) head.text h) same head.head in
     record {
       content = stops.content;
       cause = inr (record {
@@ -82,7 +82,7 @@ answer_stops m config bucket first h stream middle new e same head stops =
         after = stops.after;
         begins = record {
           first = head.text;
-          heads = record { told = told_by_head h; tells = tells.tells; own = tells.own; supported = (refl, refl); receipts = refl; records = refl };
+          heads = record { header = header_by_head h; wanted = wanted.wanted; own = wanted.own; supported = (refl, refl); receipts = refl; records = refl };
           begun = stops.taken.begun;
           text = consumes_both stream middle stops.left (ended head.text) (text_of_lines (content_lines stops.content)) head.is.1 stops.taken.text;
         };

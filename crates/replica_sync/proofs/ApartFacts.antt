@@ -10,7 +10,8 @@ use Rattle.fed_config.specs.Configuration.{Configuration, IsConfiguration}
 use Rattle.receipt_core.specs.Acceptance.{Meaning, IsMeaning}
 use Rattle.byte_lines.specs.Lines.{Lines, lines_of, with_line, with_byte, before, HasLine, HasNoFeed, HasMore}
 use Rattle.byte_lines.proofs.StreamFacts.{lines_of-line, lines_of-rest}
-use Rattle.replica_sync.specs.Snapshots.{Begins, HasBadFirst, HasBadLine, HasMoreBehind, IsSnapshot, IsTold, RefusesFirst, RefusesHeader, RefusesNext}
+use Rattle.replica_sync.proofs.FeedlessFacts.{plain, first-of, same-line}
+use Rattle.replica_sync.specs.Snapshots.{Begins, HasBadFirst, HasBadLine, HasMoreAfter, IsSnapshot, FitsFormat, RefusesFirst, RefusesHeader, RefusesNext}
 use Rattle.replica_sync.specs.Snapshots.{RefusesPlace, RefusesSnapshot, begun_text, count_line, count_of, digits_of, ended, header_line, held_lines}
 use Rattle.replica_sync.specs.Snapshots.{snapshot_text, text_of_lines, version_of}
 use Rattle.replica_core.specs.declared.error.SyncError.{SyncError}
@@ -24,15 +25,10 @@ use Rattle.replica_sync.proofs.FeedFacts.{Feedless}
 use Rattle.replica_sync.proofs.HeaderFacts.{one_header}
 use Rattle.replica_core.proofs.RisingListFacts.{all_back}
 use Rattle.replica_sync.proofs.NextFacts.{no_fault_of_held}
-use Rattle.replica_sync.proofs.OneFacts.{feedless_behind, feedless_count, feedless_held, formats_apart, held_back, lines_back}
+use Rattle.replica_sync.proofs.OneFacts.{feedless_after, feedless_count, feedless_held, formats_apart, held_back, lines_back, no_end, front_text}
 use Rattle.replica_sync.proofs.WritingFacts.{lines_append}
 
 -- ---- the parts of a list
-
--- The empty list is not one with an item in it.
-no_end : (ys : List (List ℕ)) (b : List ℕ) (zs : List (List ℕ)) → [] ≡ ys ++ b ∷ zs → ⊥
-no_end [] b zs e = cc
-no_end (y ∷ ys) b zs e = cc
 
 -- the text is the last one
 record IsAtEnd (xs ys later : List (List ℕ)) (last text : List ℕ) : Type 0 where
@@ -75,23 +71,6 @@ no_bytes : (bytes : List ℕ) → (lines_of bytes).whole ≡ [] → (lines_of by
 no_bytes [] p q = refl
 no_bytes (b ∷ bytes) p q = absurd (no_byte (b == 10) b (lines_of bytes) p q)
 
--- A text without a line feed, in the words of streams.
-fed : (text : List ℕ) → Feedless text → HasNoFeed text
-fed text h = All-from_recursion (λ b. b ≡ 10 → ⊥) text h
-
--- A text with its line feed is the first line of what begins with it.
-first_of_lines : (text bytes after : List ℕ) → HasNoFeed text → bytes ≡ ended text ++ after → lines_of bytes ≡ with_line text (lines_of after)
-first_of_lines text bytes after plain e = ap lines_of e ∙ lines_of-line text after plain
-
--- Two first lines of one stream are one.
-one_first : (text other bytes after since : List ℕ) → HasNoFeed text → HasNoFeed other → bytes ≡ ended text ++ after
-    → bytes ≡ ended other ++ since → text ≡ other
-one_first text other bytes after since p q e f =
-    let both : with_line text (lines_of after) ≡ with_line other (lines_of since) =
-    sym (first_of_lines text bytes after p e) ∙ first_of_lines other bytes since q f in
-    let heads : text ∷ (lines_of after).whole ≡ other ∷ (lines_of since).whole = ap (λ (l : Lines). l.whole) both in
-    cc
-
 -- ---- the first line
 
 -- The first line of this configuration has no fault.
@@ -103,7 +82,7 @@ right_first format config text BadHeader is (inr h) =
     h (digits_of config) (version_of format) (let first = is_first_line format config in record { form = first.form; few = first.few; spelt = is })
 right_first format config text ConfigDiffers is (inr h) =
     let first = is_first_line format config in
-    let same = one_header text h.told (digits_of config) h.version (version_of format) h.is (record { form = first.form; few = first.few; spelt = is }) in
+    let same = one_header text h.digits (digits_of config) h.version (version_of format) h.is (record { form = first.form; few = first.few; spelt = is }) in
     h.other same.0
 right_first format config text VersionDiffers is (inr h) =
     let first = is_first_line format config in
@@ -127,13 +106,13 @@ bad_first format config bytes tail e whole h = by_rest h.after h.is
     by_rest None is = is.1
     by_rest (Some rest) is =
         right_first format config h.text e
-        (one_first h.text (header_line format config) bytes rest tail is.0
-        (fed (header_line format config) (feedless_first format config)) is.1 whole) h.cause
+        (same-line bytes h.text (header_line format config) rest tail is.0
+        (plain (header_line format config) (feedless_first format config)) is.1 whole).line h.cause
 
 -- A stream that begins with the first line is not one without a line.
 no_line : (format : Format) (config : Configuration) (bytes tail : List ℕ) → bytes ≡ ended (header_line format config) ++ tail → HasNoFeed bytes → ⊥
 no_line format config bytes tail whole none =
-    let lines = first_of_lines (header_line format config) bytes tail (fed (header_line format config) (feedless_first format config)) whole in
+    let lines = first-of bytes (header_line format config) tail (plain (header_line format config) (feedless_first format config)) whole in
     let both : [] ≡ header_line format config ∷ (lines_of tail).whole = ap (λ (l : Lines). l.whole) (sym (lines_of-rest bytes none) ∙ lines) in
     cc
 
@@ -155,7 +134,7 @@ refused_first format config bytes tail NoMemory calm ample whole h = ample refl
 
 -- What follows the one's lines in a stream is the end of the other's.
 record IsTail (format : Format) (m k : Meaning) (rest : List ℕ) : Type 0 where
-  pub told : IsTold format m
+  pub fits : FitsFormat format m
   pub valid : IsMeaning m
   pub other : IsMeaning k
   pub same : k.config ≡ m.config
@@ -166,9 +145,9 @@ record IsTail (format : Format) (m k : Meaning) (rest : List ℕ) : Type 0 where
 -- The line that follows is one of what is held, or the last one.
 next_line : (format : Format) (m k : Meaning) (rest text after : List ℕ) → IsTail format m k rest → HasNoFeed text → rest ≡ ended text ++ after
     → IsAtEnd (held_lines m) (held_lines k) (lines_of after).whole (count_line format m) text ⊎ IsInside (held_lines m) (held_lines k) text
-next_line format m k rest text after tail plain e =
+next_line format m k rest text after tail none e =
     parted (held_lines m) (held_lines k) (lines_of after).whole (count_line format m) text
-    (tail.whole ∙ ap (λ (l : Lines). held_lines k ++ l.whole) (first_of_lines text rest after plain e))
+    (tail.whole ∙ ap (λ (l : Lines). held_lines k ++ l.whole) (first-of rest text after none e))
 
 -- Meanings with the same lines have the same last line.
 same_count : (format : Format) (m k : Meaning) → IsMeaning m → IsMeaning k → held_lines m ≡ held_lines k → count_line format m ≡ count_line format k
@@ -181,7 +160,7 @@ good_place : (format : Format) (m k : Meaning) (rest text after : List ℕ) (e :
     → IsTail format m k rest → HasNoFeed text → rest ≡ ended text ++ after → RefusesPlace format k text e → ⊥
 good_place format m k rest text after e ample tail plain is cause = elim (next_line format m k rest text after tail plain is) [
   | inl at ↦ no_fault_of_count format k text e tail.other (at.is ∙ same_count format m k tail.valid tail.other at.front) ample cause
-  | inr at ↦ no_fault_of_held format m k text at.later e tail.configured tail.valid tail.other tail.told tail.same at.parts ample cause
+  | inr at ↦ no_fault_of_held format m k text at.later e tail.configured tail.valid tail.other tail.fits tail.same at.parts ample cause
 ]
 
 -- The end of a snapshot has no line with a fault.
@@ -202,17 +181,17 @@ count_apart format m text ys later k valid is e =
 -- The last line has no line feed in it.
 pub plain_count : (format : Format) (m : Meaning) → IsMeaning m → HasNoFeed (count_line format m)
 plain_count format m valid =
-    fed (count_line format m) (feedless_count format (length m.held) (length m.records) (omega (arith, valid.few)) (omega (arith, valid.few_records)))
+    plain (count_line format m) (feedless_count format (length m.held) (length m.records) (omega (arith, valid.few)) (omega (arith, valid.few_records)))
 
 -- Nothing follows the last line of a snapshot.
-more_behind : (format : Format) (m k : Meaning) (rest : List ℕ) → IsTail format m k rest → HasMoreBehind format k (Some rest) → ⊥
-more_behind format m k rest tail h = by_rest h.after h.is h.more
+more_after : (format : Format) (m k : Meaning) (rest : List ℕ) → IsTail format m k rest → HasMoreAfter format k (Some rest) → ⊥
+more_after format m k rest tail h = by_rest h.after h.is h.more
   where
     by_rest : (after : Option (List ℕ)) → Consumes (Some rest) after (ended (count_line format k)) → HasMore after → ⊥
     by_rest None is more = is
     by_rest (Some left) is more = elim (next_line format m k rest (count_line format k) left tail (plain_count format k tail.other) is) [
       | inl at ↦
-          let lines = first_of_lines (count_line format k) rest left (plain_count format k tail.other) is in
+          let lines = first-of rest (count_line format k) left (plain_count format k tail.other) is in
           let none : (lines_of left).rest ≡ [] = sym (ap (λ (l : Lines). l.rest) lines) ∙ tail.none in
           let empty = ap length (no_bytes left at.none none) in
           omega (arith, more, empty)
@@ -233,7 +212,7 @@ refused_next format m k rest BadHeader calm ample tail h = h
 refused_next format m k rest ConfigDiffers calm ample tail h = h
 refused_next format m k rest VersionDiffers calm ample tail h = h
 refused_next format m k rest (NotCanonical n) calm ample tail (inl h) = bad_line format m k rest (NotCanonical n) ample tail h
-refused_next format m k rest (NotCanonical n) calm ample tail (inr h) = more_behind format m k rest tail h.1
+refused_next format m k rest (NotCanonical n) calm ample tail (inr h) = more_after format m k rest tail h.1
 refused_next format m k rest (NotRising n) calm ample tail h = bad_line format m k rest (NotRising n) ample tail h
 refused_next format m k rest BadCount calm ample tail h = bad_line format m k rest BadCount ample tail h
 refused_next format m k rest Truncated calm ample tail h = cut format m k rest tail h
@@ -244,15 +223,13 @@ refused_next format m k rest NoMemory calm ample tail h = ample refl
 -- ---- the whole
 
 -- what stands after the first line
-abbrev behind : Format → Meaning → List ℕ
-behind format m = text_of_lines (held_lines m) ++ ended (count_line format m)
+abbrev follows : Format → Meaning → List ℕ
+follows format m = text_of_lines (held_lines m) ++ ended (count_line format m)
 
--- A snapshot is its first line and what stands after it.
-front_text : (format : Format) (config : Configuration) (m : Meaning) → m.config ≡ config
-    → snapshot_text format m ≡ ended (header_line format config) ++ behind format m
-front_text format config m same =
-    append_assoc (ended (header_line format m.config)) (text_of_lines (held_lines m)) (ended (count_line format m))
-    ∙ ap (λ c. ended (header_line format c) ++ behind format m) same
+-- A snapshot is its first line and what stands after it, where the configuration is this one.
+front_of : (format : Format) (config : Configuration) (m : Meaning) → m.config ≡ config
+    → snapshot_text format m ≡ ended (header_line format config) ++ follows format m
+front_of format config m same = front_text format m ∙ ap (λ c. ended (header_line format c) ++ follows format m) same
 
 -- The beginning of a snapshot is its first line and the lines of what is held.
 pub begun_front : (format : Format) (config : Configuration) (k : Meaning) (rest : List ℕ) → k.config ≡ config
@@ -270,22 +247,22 @@ one_format config Second First rest other e = absurd (formats_apart (digits_of c
 one_format config Second Second rest other e = refl
 
 -- What stands after the first line is the lines of what is held, and the last line.
-behind_lines : (format : Format) (m : Meaning) → IsMeaning m
-    → lines_of (behind format m) ≡ record { whole = held_lines m ++ count_line format m ∷ []; rest = [] }
-behind_lines format m valid =
+after_lines : (format : Format) (m : Meaning) → IsMeaning m
+    → lines_of (follows format m) ≡ record { whole = held_lines m ++ count_line format m ∷ []; rest = [] }
+after_lines format m valid =
     ap (λ t. lines_of (text_of_lines (held_lines m) ++ t)) (sym (append-nil (ended (count_line format m))) ∙ sym (flat_map-cons ended (count_line format m) []))
     ∙ ap lines_of (sym (lines_append (held_lines m) (count_line format m ∷ [])) ∙ sym (append-nil (text_of_lines (held_lines m ++ count_line format m ∷ []))))
-    ∙ lines_back (held_lines m ++ count_line format m ∷ []) [] (feedless_behind format m valid)
+    ∙ lines_back (held_lines m ++ count_line format m ∷ []) [] (feedless_after format m valid)
     ∙ ap (λ (w : List (List ℕ)). record { whole = w; rest = [] }) (append-nil (held_lines m ++ count_line format m ∷ []))
 
 -- What follows a good beginning of a snapshot is the end of that snapshot.
 tail_of : (config : Configuration) (format : Format) (m k : Meaning) (rest : List ℕ) → IsConfiguration config
-    → IsMeaning m → IsMeaning k → m.config ≡ config → k.config ≡ config → IsTold format m
-    → behind format m ≡ text_of_lines (held_lines k) ++ rest → IsTail format m k rest
-tail_of config format m k rest is valid other p q told e =
-    let lines = sym (behind_lines format m valid) ∙ ap lines_of e ∙ lines_back (held_lines k) rest (feedless_held k other) in
+    → IsMeaning m → IsMeaning k → m.config ≡ config → k.config ≡ config → FitsFormat format m
+    → follows format m ≡ text_of_lines (held_lines k) ++ rest → IsTail format m k rest
+tail_of config format m k rest is valid other p q fits e =
+    let lines = sym (after_lines format m valid) ∙ ap lines_of e ∙ lines_back (held_lines k) rest (feedless_held k other) in
     record {
-      told = told;
+      fits = fits;
       valid = valid;
       other = other;
       same = q ∙ sym p;
@@ -295,29 +272,29 @@ tail_of config format m k rest is valid other p q told e =
     }
 
 -- A snapshot is not refused after a good beginning.
-refused_behind : (config : Configuration) (f : Format) (bytes : List ℕ) (m : Meaning) (e : SyncError)
-    → IsConfiguration config → e ≢ Io → e ≢ NoMemory → IsMeaning m → m.config ≡ config → IsTold f m
-    → bytes ≡ ended (header_line f config) ++ behind f m → (g : Format) (k : Meaning) (left : Option (List ℕ))
+refused_after : (config : Configuration) (f : Format) (bytes : List ℕ) (m : Meaning) (e : SyncError)
+    → IsConfiguration config → e ≢ Io → e ≢ NoMemory → IsMeaning m → m.config ≡ config → FitsFormat f m
+    → bytes ≡ ended (header_line f config) ++ follows f m → (g : Format) (k : Meaning) (left : Option (List ℕ))
     → Begins config (Some bytes) g k left → RefusesNext g k left e → ⊥
-refused_behind config f bytes m e is calm ample valid same told whole g k None begins cause = begins.text
-refused_behind config f bytes m e is calm ample valid same told whole g k (Some rest) begins cause =
+refused_after config f bytes m e is calm ample valid same fits whole g k None begins cause = begins.text
+refused_after config f bytes m e is calm ample valid same fits whole g k (Some rest) begins cause =
     let other : bytes ≡ ended (header_line g config) ++ (text_of_lines (held_lines k) ++ rest) = begins.text ∙ begun_front g config k rest begins.of_config in
-    let formats : g ≡ f = sym (one_format config f g (behind f m) (text_of_lines (held_lines k) ++ rest) (sym whole ∙ other)) in
-    let texts : behind f m ≡ text_of_lines (held_lines k) ++ rest =
-    append_cancel_left (ended (header_line f config)) (behind f m) (text_of_lines (held_lines k) ++ rest)
+    let formats : g ≡ f = sym (one_format config f g (follows f m) (text_of_lines (held_lines k) ++ rest) (sym whole ∙ other)) in
+    let texts : follows f m ≡ text_of_lines (held_lines k) ++ rest =
+    append_cancel_left (ended (header_line f config)) (follows f m) (text_of_lines (held_lines k) ++ rest)
     (sym whole ∙ other ∙ ap (λ x. ended (header_line x config) ++ (text_of_lines (held_lines k) ++ rest)) formats)
     in
     refused_next f m k rest e calm ample
-    (tail_of config f m k rest is valid begins.valid same begins.of_config told texts)
+    (tail_of config f m k rest is valid begins.valid same begins.of_config fits texts)
     (subst (λ x. RefusesNext x k (Some rest) e) formats cause)
 
 -- a stream that is read is not refused
 pub not_refused : (config : Configuration) (bytes : List ℕ) (m : Meaning) (e : SyncError) → IsConfiguration config
     → e ≢ Io → e ≢ NoMemory → IsSnapshot config (Some bytes) m → RefusesSnapshot config (Some bytes) e → ⊥
 not_refused config bytes m e is calm ample read (inl first) =
-    refused_first read.format config bytes (behind read.format m) e calm ample
-    (read.text ∙ front_text read.format config m read.of_config) first
+    refused_first read.format config bytes (follows read.format m) e calm ample
+    (read.text ∙ front_of read.format config m read.of_config) first
 not_refused config bytes m e is calm ample read (inr fault) =
-    refused_behind config read.format bytes m e is calm ample read.valid read.of_config read.told
-    (read.text ∙ front_text read.format config m read.of_config) fault.format fault.m fault.left fault.begins
+    refused_after config read.format bytes m e is calm ample read.valid read.of_config read.fits
+    (read.text ∙ front_of read.format config m read.of_config) fault.format fault.m fault.left fault.begins
     fault.cause

@@ -24,7 +24,7 @@ asked-line q is = record { is = is.asked; spelt = refl }
 -- Both are one question, and the same follows them.
 pub record IsSameQuestion (p q : Question) (left rest : List ℕ) : Type 0 where
   pub question : p ≡ q
-  pub behind : left ≡ rest
+  pub follows : left ≡ rest
 
 -- A stream of known bytes begins with one question at most, and one thing follows it.
 pub same-question : (bytes : List ℕ) (p q : Question) (left rest : List ℕ) → IsAskable p → IsAskable q
@@ -35,7 +35,7 @@ same-question bytes p q left rest is valid e f =
     let asked : asked_of p ≡ asked_of q =
     one-asked (asked_text (asked_of p)) (asked_of p) (asked_of q) (asked-line p is)
     (record { is = valid.asked; spelt = line.line }) in
-    record { question = ap (λ (a : Asked). a.question) asked; behind = line.rest }
+    record { question = ap (λ (a : Asked). a.question) asked; follows = line.rest }
 
 -- The clause `one` of the law on questions: a stream begins with one question at most.
 pub one-question : (bytes : List ℕ) (p q : Question) (left rest : Option (List ℕ)) → IsAskable p → IsAskable q
@@ -45,7 +45,7 @@ one-question bytes p q None rest is valid e f = absurd e
 one-question bytes p q (Some left) None is valid e f = absurd f
 one-question bytes p q (Some left) (Some rest) is valid e f =
     let same = same-question bytes p q left rest is valid e f in
-    (same.question, ap Some same.behind)
+    (same.question, ap Some same.follows)
 
 -- ---- no fault
 

@@ -114,9 +114,9 @@ records-brought c k bucket state (a ∷ replies) x valid rising final given some
 
 -- ---- a whole pull
 
-module _ (m k held : Meaning) (asked told rest : List ℕ) (count : ℕ) (valid : IsMeaning m) (other : IsMeaning k) (kept : IsMeaning held)
-    (same : config_id_of m.config ≡ config_id_of k.config) (all : ServesAll (known_run asked told) k count)
-    (pulls : PullsAll (known_run (told ++ rest) asked) m held) where
+module _ (m k held : Meaning) (asked replied rest : List ℕ) (count : ℕ) (valid : IsMeaning m) (other : IsMeaning k) (kept : IsMeaning held)
+    (same : config_id_of m.config ≡ config_id_of k.config) (all : ServesAll (known_run asked replied) k count)
+    (pulls : PullsAll (known_run (replied ++ rest) asked) m held) where
   abbrev final : State
   final = after_replies (state_of m) pulls.replies
 
@@ -126,7 +126,7 @@ module _ (m k held : Meaning) (asked told rest : List ℕ) (count : ℕ) (valid 
   given : AnswersOf m.config k 0 (state_of m) pulls.replies
   given =
       answers-of m.config k 0 (state_of m) pulls.replies [] []
-      (append-nil pulls.replies ∙ replies-given m k held asked told rest count valid other kept same all pulls)
+      (append-nil pulls.replies ∙ replies-given m k held asked replied rest count valid other kept same all pulls)
 
   receipt-brought : (r : Receipt) → Has k.held r → HasId final r
   receipt-brought r has =
@@ -167,13 +167,13 @@ module _ (m k held : Meaning) (asked told rest : List ℕ) (count : ℕ) (valid 
   final-of-either r has =
       receipt-of-either (state_of m) k (all-asked m pulls.replies ++ []) r
       (subst (λ (rs : List Reply). Has (after_replies (state_of m) rs).held r)
-      (replies-given m k held asked told rest count valid other kept same all pulls) has)
+      (replies-given m k held asked replied rest count valid other kept same all pulls) has)
 
   final-record-of-either : (x : Distrust) → Has final.records x → Has m.records x ⊎ Has k.records x
   final-record-of-either x has =
       record-of-either (state_of m) k (all-asked m pulls.replies ++ []) x
       (subst (λ (rs : List Reply). Has (after_replies (state_of m) rs).records x)
-      (replies-given m k held asked told rest count valid other kept same all pulls) has)
+      (replies-given m k held asked replied rest count valid other kept same all pulls) has)
 
   -- where ids differ, the receipt that was brought is the one that the other held
   receipt-itself : HasDistinctIds (joined (state_of m) (state_of k)) → (r : Receipt) → Has k.held r → Has final.held r

@@ -21,7 +21,7 @@ use Rattle.replica_core.specs.Absorbing.{with_entry}
 use Rattle.replica_core.specs.declared.entry.Entry.{Entry}
 use Rattle.replica_core.specs.declared.entry.Entry.TheVariants.{Record, Receipt as AReceipt}
 use Rattle.replica_sync.proofs.HeldFacts.{text_cmp, AllBelow, below_last}
-use Rattle.replica_core.proofs.RisingListFacts.{rising_head, rising_tail}
+use Rattle.replica_core.proofs.RisingListFacts.{rising_head, rising_tail, rising_cons}
 use Rattle.replica_sync.proofs.SnapshotFacts.{consumes_both}
 use Rattle.replica_sync.specs.Messages.{record_text, receipt_text}
 use Rattle.replica_sync.specs.Answers.{content_lines}
@@ -39,12 +39,6 @@ all_pushed P (y ∷ xs) x h k = (h.0, all_pushed P xs x h.1 k)
 rising_one : {A : Type 0} (cmp : A → A → Ordering) (x : A) → IsStrictlySortedBy cmp (x ∷ [])
 unfolding IsStrictlySortedBy
 rising_one cmp x = (tt, tt)
-
--- An item below all others, before a rising list, makes a rising list.
-rising_cons : {A : Type 0} (cmp : A → A → Ordering) (x : A) (xs : List A) → AllByRecursion (λ y. cmp x y ≡ Less) xs
-    → IsStrictlySortedBy cmp xs → IsStrictlySortedBy cmp (x ∷ xs)
-unfolding IsStrictlySortedBy
-rising_cons cmp x xs above rising = (above, rising)
 
 -- Lines that rise, with one more above all of them, rise.
 rising_below : (lines : List (List ℕ)) (text : List ℕ) → IsStrictlySortedBy text_cmp lines → AllBelow text lines
@@ -66,7 +60,7 @@ joined_one cmp xs set x = fold-append (λ old item. with_item cmp item old) set 
 -- ---- lines
 
 -- A record at the end of the records adds its line, while there is no receipt.
-lines_with_record : (content : State) (x : Distrust) → content.held ≡ []
+pub lines_with_record : (content : State) (x : Distrust) → content.held ≡ []
     → content_lines (pushed (Record x) content) ≡ content_lines content ++ distrust_line x ∷ []
 lines_with_record content x none =
     ap (λ held. map distrust_line (content.records ++ x ∷ []) ++ map line held) none
@@ -76,7 +70,7 @@ lines_with_record content x none =
     ∙ ap (λ held. (map distrust_line content.records ++ map line held) ++ distrust_line x ∷ []) (sym none)
 
 -- A receipt at the end of the receipts adds its line.
-lines_with_receipt : (content : State) (r : Receipt) → content_lines (pushed (AReceipt r) content) ≡ content_lines content ++ line r ∷ []
+pub lines_with_receipt : (content : State) (r : Receipt) → content_lines (pushed (AReceipt r) content) ≡ content_lines content ++ line r ∷ []
 lines_with_receipt content r =
     ap (λ lines. map distrust_line content.records ++ lines) (map-append line content.held (r ∷ []))
     ∙ sym (append_assoc (map distrust_line content.records) (map line content.held) (line r ∷ []))

@@ -14,7 +14,7 @@ use Rattle.replica_core.specs.declared.error.SyncError.TheVariants.{Refused, Io,
 use Rattle.replica_sync.specs.declared.format.Format.{Format}
 use Rattle.replica_sync.specs.declared.format.Format.TheVariants.{First, Second}
 
--- ---- the third byte tells the last line from others
+-- ---- the third byte sets the last line apart
 
 -- the third byte is that of the lines of receipts and records, a `d`
 abbrev pub IsThird : List ℕ → Type 0
@@ -57,7 +57,7 @@ part_length Second records h =
     let number = length-decimal-le 5 records (omega arith) (omega (arith, h)) (omega (arith, h)) in
     omega (arith, whole, label, number)
 
--- The last line is one that is to tell the numbers: so it is not too long.
+-- The last line begins as one does, and is not too long.
 pub is_count : (format : Format) (m : Meaning) → IsMeaning m → IsCountLine (count_line format m)
 unfolding count_of
 is_count format m valid = record {

@@ -14,7 +14,7 @@ use Rattle.replica_sync.specs.Snapshots.{AreDigits, IsHeader, is_lower_hex_digit
 use Rattle.replica_sync.specs.declared.format.Format.{Format}
 use Rattle.replica_sync.specs.declared.format.Format.TheVariants.{First, Second}
 use Rattle.replica_core.proofs.BucketFacts.{digest-bytes}
-use Rattle.replica_sync.proofs.FeedFacts.{Feedless, feedless_both, feedless_decimal}
+use Rattle.replica_sync.proofs.FeedFacts.{Feedless, feedless_both, feedless_decimal, feedless_by}
 
 -- ---- digits
 
@@ -102,18 +102,6 @@ short_header text digits version is =
 -- The first line of a configuration is not too long.
 pub short_first : (format : Format) (c : Configuration) → length (header_line format c) ≤ 8388608
 short_first format c = short_header (header_line format c) (digits_of c) (version_of format) (is_first_line format c)
-
--- the test that a text has no line feed, which computes
-abbrev is_feedless : List ℕ → Bool
-is_feedless [] = true
-is_feedless (b ∷ bytes) = not (b == 10) && is_feedless bytes
-
--- A text that passes the test has none.
-feedless_by : (bytes : List ℕ) → is_feedless bytes ≡ true → Feedless bytes
-feedless_by [] h = tt
-feedless_by (b ∷ bytes) h =
-    let parts = and_parts (not (b == 10)) (is_feedless bytes) h in
-    ((λ e. let no : not (10 == 10) ≡ true = subst (λ x. not (x == 10) ≡ true) e parts.0 in cc), feedless_by bytes parts.1)
 
 -- The first line of a configuration has none.
 pub feedless_first : (format : Format) (c : Configuration) → Feedless (header_line format c)

@@ -15,13 +15,13 @@ use Rattle.replica_core.specs.declared.error.SyncError.{SyncError}
 use Rattle.replica_core.specs.declared.error.SyncError.TheVariants.{BadHeader, ConfigDiffers, VersionDiffers, NotCanonical, NotRising, Truncated}
 use Rattle.replica_core.specs.declared.error.SyncError.TheVariants.{Refused, Io, NoMemory}
 use Rattle.replica_sync.specs.Messages.{Asked, GiveHeader}
-use Rattle.replica_sync.specs.FirstLines.{HasBadFirstLine, RefusesAsked, RefusesFirstLine, RefusesTold}
+use Rattle.replica_sync.specs.FirstLines.{HasBadFirstLine, RefusesAsked, RefusesFirstLine, RefusesGiveLine}
 use Rattle.replica_sync.specs.Questions.{RefusesQuestion}
-use Rattle.replica_sync.specs.Answers.{AnswerBegins, AnswerFailsBehind, HasBadNext, HasNoNext, IsBegun, RefusesGive, RefusesHead, RefusesNextEntry, Wants}
+use Rattle.replica_sync.specs.Answers.{AnswerBegins, AnswerFailsAfter, HasBadNext, HasNoNext, IsBegun, RefusesGive, RefusesHead, RefusesNextEntry, Wants}
 use Rattle.replica_sync.specs.Answers.{content_lines, next_entry_number, refused_text}
 use Rattle.replica_sync.proofs.AskableFacts.{no-other}
-use Rattle.replica_sync.proofs.FeedlessFacts.{no-first, plain-told, same-line}
-use Rattle.replica_sync.proofs.FirstLineFacts.{one-asked, one-told}
+use Rattle.replica_sync.proofs.FeedlessFacts.{no-first, plain-give-header, same-line}
+use Rattle.replica_sync.proofs.FirstLineFacts.{one-asked, one-give-header}
 use Rattle.replica_sync.proofs.GatherFacts.{short-entry}
 use Rattle.replica_sync.proofs.GiveFacts.{no-bad-head, no-next-fault, no-text-fault, same-front, same-lines, some-once}
 use Rattle.replica_sync.proofs.OneFacts.{held_back}
@@ -109,23 +109,23 @@ one-question-cause config bytes new since d e c m k n p q =
 -- ---- the first line of an answer
 
 -- The first line of an answer has one fault at most.
-one-told-fault : (text : List ℕ) (d e : SyncError) → d ≢ NoMemory → e ≢ NoMemory → RefusesTold None text d → RefusesTold None text e → d ≡ e
-one-told-fault text BadHeader BadHeader m n p q = refl
-one-told-fault text BadHeader ConfigDiffers m n p q = absurd (p q.told q.tells)
-one-told-fault text BadHeader VersionDiffers m n p q = absurd (p q.told q.tells)
-one-told-fault text ConfigDiffers e m n p q = absurd p.other
-one-told-fault text VersionDiffers BadHeader m n p q = absurd (q p.told p.tells)
-one-told-fault text VersionDiffers ConfigDiffers m n p q = absurd q.other
-one-told-fault text VersionDiffers VersionDiffers m n p q = refl
-one-told-fault text d NoMemory m n p q = absurd (n refl)
-one-told-fault text NoMemory e m n p q = absurd (m refl)
-one-told-fault text BadHeader e m n p q = absurd q
-one-told-fault text VersionDiffers e m n p q = absurd q
-one-told-fault text d e m n p q = absurd p
+one-give-header-fault : (text : List ℕ) (d e : SyncError) → d ≢ NoMemory → e ≢ NoMemory → RefusesGiveLine None text d → RefusesGiveLine None text e → d ≡ e
+one-give-header-fault text BadHeader BadHeader m n p q = refl
+one-give-header-fault text BadHeader ConfigDiffers m n p q = absurd (p q.header q.wanted)
+one-give-header-fault text BadHeader VersionDiffers m n p q = absurd (p q.header q.wanted)
+one-give-header-fault text ConfigDiffers e m n p q = absurd p.other
+one-give-header-fault text VersionDiffers BadHeader m n p q = absurd (q p.header p.wanted)
+one-give-header-fault text VersionDiffers ConfigDiffers m n p q = absurd q.other
+one-give-header-fault text VersionDiffers VersionDiffers m n p q = refl
+one-give-header-fault text d NoMemory m n p q = absurd (n refl)
+one-give-header-fault text NoMemory e m n p q = absurd (m refl)
+one-give-header-fault text BadHeader e m n p q = absurd q
+one-give-header-fault text VersionDiffers e m n p q = absurd q
+one-give-header-fault text d e m n p q = absurd p
 
 -- Why no first line of an answer is read, in two cases.
 at-head : (bytes : List ℕ) (new : Option (List ℕ)) (e : SyncError) → e ≢ Io → e ≢ NoMemory
-    → RefusesHead None (Some bytes) new e → FailsAtFirst (RefusesTold None) bytes new e
+    → RefusesHead None (Some bytes) new e → FailsAtFirst (RefusesGiveLine None) bytes new e
 at-head bytes new BadHeader calm ample h = inl h
 at-head bytes new ConfigDiffers calm ample h = inl h
 at-head bytes new VersionDiffers calm ample h = inl h
@@ -139,18 +139,18 @@ begun-line : (bytes : List ℕ) (count distrusts : ℕ) (content : State) (left 
     → (b : AnswerBegins None (Some bytes) count distrusts content (Some left))
     → HasLine (Some bytes) (Some (text_of_lines (content_lines content) ++ left)) b.first
 begun-line bytes count distrusts content left b =
-    let told = b.heads.tells.line in (
-      subst (λ (t : List ℕ). HasNoFeed t) (sym told.spelt) (plain-told b.heads.told told.is),
+    let header = b.heads.wanted.line in (
+      subst (λ (t : List ℕ). HasNoFeed t) (sym header.spelt) (plain-give-header b.heads.header header.is),
       b.text ∙ append_assoc (ended b.first) (text_of_lines (content_lines content)) left,
     )
 
 -- After a first line that is read no fault of the first line stands.
 no-head-cause : (bytes : List ℕ) (new : Option (List ℕ)) (e : SyncError) (count distrusts : ℕ) (content : State) (left : List ℕ)
-    → e ≢ NoMemory → AnswerBegins None (Some bytes) count distrusts content (Some left) → FailsAtFirst (RefusesTold None) bytes new e → ⊥
+    → e ≢ NoMemory → AnswerBegins None (Some bytes) count distrusts content (Some left) → FailsAtFirst (RefusesGiveLine None) bytes new e → ⊥
 no-head-cause bytes new e count distrusts content left ample b (inl h) =
     let same = one-first-line bytes h.text b.first new (Some (text_of_lines (content_lines content) ++ left)) h.is
     (begun-line bytes count distrusts content left b) in
-    no-bad-head None b.first count distrusts e b.heads ample (subst (λ (t : List ℕ). RefusesFirstLine (RefusesTold None) t e) same h.cause)
+    no-bad-head None b.first count distrusts e b.heads ample (subst (λ (t : List ℕ). RefusesFirstLine (RefusesGiveLine None) t e) same h.cause)
 no-head-cause bytes new e count distrusts content left ample b (inr h) =
     line-or-none bytes b.first (Some (text_of_lines (content_lines content) ++ left)) (begun-line bytes count distrusts content left b) h.1
 
@@ -218,15 +218,15 @@ one-next-fault count distrusts content left new since d e m n (inr h) (inr k) = 
 record AreOfOne (count distrusts : ℕ) (content other : State) (left rest : List ℕ) : Type 0 where
   pub begun : IsBegun count distrusts content
   pub second : IsBegun count distrusts other
-  pub behind : text_of_lines (content_lines content) ++ left ≡ text_of_lines (content_lines other) ++ rest
+  pub follows : text_of_lines (content_lines content) ++ left ≡ text_of_lines (content_lines other) ++ rest
   pub lines : content_lines content ++ (lines_of left).whole ≡ content_lines other ++ (lines_of rest).whole
 
 turned-round : (count distrusts : ℕ) (content other : State) (left rest : List ℕ) → AreOfOne count distrusts content other left rest
     → AreOfOne count distrusts other content rest left
 turned-round count distrusts content other left rest one =
-    record { begun = one.second; second = one.begun; behind = sym one.behind; lines = sym one.lines }
+    record { begun = one.second; second = one.begun; follows = sym one.follows; lines = sym one.lines }
 
--- Behind the shorter of the two stands no fault.
+-- After the shorter of the two stands no fault.
 shorter-fine : (count distrusts : ℕ) (content other : State) (left rest : List ℕ) (new : Option (List ℕ)) (e : SyncError)
     → AreOfOne count distrusts content other left rest → length (content_lines content) < length (content_lines other)
     → e ≢ Io → e ≢ NoMemory → RefusesNextEntry (refused_text content) count distrusts content (Some left) new e → ⊥
@@ -238,7 +238,7 @@ shorter-fine count distrusts content other left rest new e one less calm ample c
 -- Two of one length are one, and what follows them is one.
 record AreAlike (content other : State) (left rest : List ℕ) : Type 0 where
   pub same : content ≡ other
-  pub behind : left ≡ rest
+  pub follows : left ≡ rest
 
 alike : (count distrusts : ℕ) (content other : State) (left rest : List ℕ) → AreOfOne count distrusts content other left rest
     → length (content_lines content) ≡ length (content_lines other) → AreAlike content other left rest
@@ -248,16 +248,16 @@ alike count distrusts content other left rest one size =
     one.begun.valid.receipts one.second.valid.receipts lines.0 in
     record {
       same = λ i. record { held = sets.receipts i; records = sets.records i };
-      behind = append_cancel_left (text_of_lines (content_lines other)) left rest
-          (ap (λ (ls : List (List ℕ)). text_of_lines ls ++ left) (sym lines.0) ∙ one.behind);
+      follows = append_cancel_left (text_of_lines (content_lines other)) left rest
+          (ap (λ (ls : List (List ℕ)). text_of_lines ls ++ left) (sym lines.0) ∙ one.follows);
     }
 
--- Behind two beginnings of one answer stands one fault at most.
-one-behind : (count distrusts : ℕ) (content other : State) (left rest : List ℕ) (new since : Option (List ℕ)) (d e : SyncError)
+-- After two beginnings of one answer stands one fault at most.
+one-after : (count distrusts : ℕ) (content other : State) (left rest : List ℕ) (new since : Option (List ℕ)) (d e : SyncError)
     → AreOfOne count distrusts content other left rest → d ≢ Io → d ≢ NoMemory → e ≢ Io → e ≢ NoMemory
     → RefusesNextEntry (refused_text content) count distrusts content (Some left) new d
     → RefusesNextEntry (refused_text other) count distrusts other (Some rest) since e → d ≡ e
-one-behind count distrusts content other left rest new since d e one c m k n p q =
+one-after count distrusts content other left rest new since d e one c m k n p q =
     elim (cases_lt (length (content_lines content)) (length (content_lines other))) [
       | inl less ↦ absurd (shorter-fine count distrusts content other left rest new d one less c m p)
       | inr not_less ↦ elim (cases_lt (length (content_lines other)) (length (content_lines content))) [
@@ -267,7 +267,7 @@ one-behind count distrusts content other left rest new since d e one c m k n p q
             let both = alike count distrusts content other left rest one (omega (arith, not_less, not_more)) in
             one-next-fault count distrusts other rest new since d e m n
             (at-next count distrusts other rest new d c m
-            (subst (λ (l : List ℕ). RefusesNextEntry (refused_text other) count distrusts other (Some l) new d) both.behind
+            (subst (λ (l : List ℕ). RefusesNextEntry (refused_text other) count distrusts other (Some l) new d) both.follows
             (subst (λ (s : State). RefusesNextEntry (refused_text s) count distrusts s (Some left) new d) both.same p)))
             (at-next count distrusts other rest since e k n q)
       ]
@@ -286,19 +286,19 @@ of-one bytes count distrusts count_too distrusts_too content other left rest b k
     let p = begun-line bytes count distrusts content left b in
     let q = begun-line bytes count_too distrusts_too other rest k in
     let first = same-line bytes b.first k.first _ _ p.0 q.0 p.1 q.1 in
-    let told : b.heads.told ≡ k.heads.told =
-    one-told b.first b.heads.told k.heads.told b.heads.tells.line
-    (record { is = k.heads.tells.line.is; spelt = first.line ∙ k.heads.tells.line.spelt }) in
-    let receipts : count ≡ count_too = b.heads.receipts ∙ ap (λ (t : GiveHeader). t.count) told ∙ sym k.heads.receipts in
+    let header : b.heads.header ≡ k.heads.header =
+    one-give-header b.first b.heads.header k.heads.header b.heads.wanted.line
+    (record { is = k.heads.wanted.line.is; spelt = first.line ∙ k.heads.wanted.line.spelt }) in
+    let receipts : count ≡ count_too = b.heads.receipts ∙ ap (λ (t : GiveHeader). t.count) header ∙ sym k.heads.receipts in
     let records : distrusts ≡ distrusts_too =
-    some-once distrusts distrusts_too (b.heads.records ∙ ap (λ (t : GiveHeader). t.distrusts) told ∙ sym k.heads.records) in
+    some-once distrusts distrusts_too (b.heads.records ∙ ap (λ (t : GiveHeader). t.distrusts) header ∙ sym k.heads.records) in
     record {
       receipts = receipts;
       records = records;
       one = record {
         begun = subst (λ (n : ℕ). IsBegun n distrusts_too content) receipts (subst (λ (n : ℕ). IsBegun count n content) records b.begun);
         second = k.begun;
-        behind = first.rest;
+        follows = first.rest;
         lines = same-lines content other left rest b.begun.valid k.begun.valid first.rest;
       };
     }
@@ -306,9 +306,9 @@ of-one bytes count distrusts count_too distrusts_too content other left rest b k
 -- ---- an answer
 
 -- The first line has the fault, or a line after it.
-two-behind : (bytes : List ℕ) (new since : Option (List ℕ)) (d e : SyncError) → d ≢ Io → d ≢ NoMemory → e ≢ Io → e ≢ NoMemory
-    → (h : AnswerFailsBehind (Some bytes) new d) (k : AnswerFailsBehind (Some bytes) since e) → d ≡ e
-two-behind bytes new since d e c m n o h k = by-rests h.left k.left h.begins k.begins h.cause k.cause
+two-after : (bytes : List ℕ) (new since : Option (List ℕ)) (d e : SyncError) → d ≢ Io → d ≢ NoMemory → e ≢ Io → e ≢ NoMemory
+    → (h : AnswerFailsAfter (Some bytes) new d) (k : AnswerFailsAfter (Some bytes) since e) → d ≡ e
+two-after bytes new since d e c m n o h k = by-rests h.left k.left h.begins k.begins h.cause k.cause
   where
     by-rests : (left rest : Option (List ℕ)) → AnswerBegins None (Some bytes) h.count h.distrusts h.content left
         → AnswerBegins None (Some bytes) k.count k.distrusts k.content rest
@@ -318,15 +318,15 @@ two-behind bytes new since d e c m n o h k = by-rests h.left k.left h.begins k.b
     by-rests (Some left) None b j p q = absurd j.text
     by-rests (Some left) (Some rest) b j p q =
         let both = of-one bytes h.count h.distrusts k.count k.distrusts h.content k.content left rest b j in
-        one-behind k.count k.distrusts h.content k.content left rest new since d e both.one c m n o
+        one-after k.count k.distrusts h.content k.content left rest new since d e both.one c m n o
         (subst (λ (x : ℕ). RefusesNextEntry (refused_text h.content) x k.distrusts h.content (Some left) new d) both.receipts
         (subst (λ (x : ℕ). RefusesNextEntry (refused_text h.content) h.count x h.content (Some left) new d) both.records p))
         q
 
 -- No stream has a fault of its first line and one after it.
-first-or-behind : (bytes : List ℕ) (new since : Option (List ℕ)) (d e : SyncError) → d ≢ Io → d ≢ NoMemory
-    → RefusesHead None (Some bytes) new d → AnswerFailsBehind (Some bytes) since e → ⊥
-first-or-behind bytes new since d e calm ample head h = by-rest h.left h.begins
+first-or-after : (bytes : List ℕ) (new since : Option (List ℕ)) (d e : SyncError) → d ≢ Io → d ≢ NoMemory
+    → RefusesHead None (Some bytes) new d → AnswerFailsAfter (Some bytes) since e → ⊥
+first-or-after bytes new since d e calm ample head h = by-rest h.left h.begins
   where
     by-rest : (left : Option (List ℕ)) → AnswerBegins None (Some bytes) h.count h.distrusts h.content left → ⊥
     by-rest None b = b.text
@@ -336,7 +336,8 @@ first-or-behind bytes new since d e calm ample head h = by-rest h.left h.begins
 pub one-reply-cause : (bytes : List ℕ) (new since : Option (List ℕ)) (d e : SyncError) → d ≢ Io → d ≢ NoMemory → e ≢ Io → e ≢ NoMemory
     → RefusesGive (Some bytes) new d → RefusesGive (Some bytes) since e → d ≡ e
 one-reply-cause bytes new since d e c m k n (inl p) (inl q) =
-    one-first-fault (RefusesTold None) bytes new since d e (λ text. one-told-fault text d e m n) (at-head bytes new d c m p) (at-head bytes since e k n q)
-one-reply-cause bytes new since d e c m k n (inl p) (inr q) = absurd (first-or-behind bytes new since d e c m p q)
-one-reply-cause bytes new since d e c m k n (inr p) (inl q) = absurd (first-or-behind bytes since new e d k n q p)
-one-reply-cause bytes new since d e c m k n (inr p) (inr q) = two-behind bytes new since d e c m k n p q
+    one-first-fault (RefusesGiveLine None) bytes new since d e (λ text. one-give-header-fault text d e m n) (at-head bytes new d c m p)
+    (at-head bytes since e k n q)
+one-reply-cause bytes new since d e c m k n (inl p) (inr q) = absurd (first-or-after bytes new since d e c m p q)
+one-reply-cause bytes new since d e c m k n (inr p) (inl q) = absurd (first-or-after bytes since new e d k n q p)
+one-reply-cause bytes new since d e c m k n (inr p) (inr q) = two-after bytes new since d e c m k n p q

@@ -1,6 +1,7 @@
 -- No line of a receipt or of a record has a line feed in it.
 use Rattle.std.proofs.Common.{◌≡◌, ◌≢◌, ℕ, ◌+◌, ◌<◌, ◌^◌, ◌/◌, ◌%◌, ◌==◌, ◌||◌, Bool, true, false, cond, List, [], ◌∷◌}
-use Rattle.std.proofs.Common.{◌++◌, codes, decimal, nat_lt, refl, subst, arith}
+use Rattle.std.proofs.Common.{◌++◌, ◌&&◌, not, codes, decimal, nat_lt, refl, subst, arith}
+use Rattle.std.proofs.lemmas.Bool.{and_parts}
 use Rattle.std.proofs.lemmas.Fmt.{decimal_by_steps}
 use Rattle.std.specs.Char.{digit_char}
 use Rattle.std.specs.List.{AllByRecursion}
@@ -138,3 +139,17 @@ feedless_record x = (
   feedless_member false (codes "distrust") (quoted (encode_lower x.key.0)) _ (feedless_quoted (encode_lower x.key.0))
       (feedless_member true (codes "domain") (quoted x.domain) (125 ∷ []) (feedless_quoted x.domain) ends),
 )
+
+-- ---- texts that are known
+
+-- the test that a text has no line feed, which computes
+abbrev pub is_feedless : List ℕ → Bool
+is_feedless [] = true
+is_feedless (b ∷ bytes) = not (b == 10) && is_feedless bytes
+
+-- A text that passes the test has none.
+pub feedless_by : (bytes : List ℕ) → is_feedless bytes ≡ true → Feedless bytes
+feedless_by [] h = tt
+feedless_by (b ∷ bytes) h =
+    let parts = and_parts (not (b == 10)) (is_feedless bytes) h in
+    ((λ e. let no : not (10 == 10) ≡ true = subst (λ x. not (x == 10) ≡ true) e parts.0 in cc), feedless_by bytes parts.1)

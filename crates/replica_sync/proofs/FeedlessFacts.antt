@@ -11,25 +11,13 @@ use Rattle.receipt_core.specs.Receipt.{IsDigest}
 use Rattle.receipt_core.proofs.HexFacts.{Above-encode_lower}
 use Rattle.byte_lines.proofs.StreamFacts.{lines_of-line, lines_of-rest}
 use Rattle.replica_sync.specs.Snapshots.{ended}
-use Rattle.replica_sync.proofs.FeedFacts.{Feedless, feedless_both, feedless_decimal}
-use Rattle.replica_sync.specs.Messages.{Asked, GiveHeader, asked_text, distrusts_part, quoted, told_text}
+use Rattle.replica_sync.proofs.FeedFacts.{Feedless, feedless_both, feedless_decimal, feedless_by, is_feedless}
+use Rattle.replica_sync.specs.Messages.{Asked, GiveHeader, asked_text, distrusts_part, quoted, give_header_text}
 use Rattle.replica_sync.specs.FirstLines.{IsAsked, IsRecordCount, IsGiveHeader}
 use Rattle.replica_sync.proofs.HaveLineFacts.{small-bucket}
 use Rattle.replica_sync.proofs.IdListFacts.{later_text}
 
 -- ---- texts without a line feed
-
--- the test that a text has no line feed, which computes
-abbrev is_feedless : List ℕ → Bool
-is_feedless [] = true
-is_feedless (b ∷ bytes) = not (b == 10) && is_feedless bytes
-
--- A text that passes the test has none.
-feedless-by : (bytes : List ℕ) → is_feedless bytes ≡ true → Feedless bytes
-feedless-by [] h = tt
-feedless-by (b ∷ bytes) h =
-    let parts = and_parts (not (b == 10)) (is_feedless bytes) h in
-    ((λ e. let no : not (10 == 10) ≡ true = subst (λ x. not (x == 10) ≡ true) e parts.0 in cc), feedless-by bytes parts.1)
 
 -- Bytes above the quotation mark are no line feeds.
 above-feed : (text : List ℕ) → AllByRecursion (λ b. 34 < b) text → Feedless text
@@ -43,15 +31,15 @@ feedless-digest digest is = above-feed (encode_lower digest) (Above-encode_lower
 -- An id in quotation marks has no line feed.
 feedless-quoted : (id : List ℕ) → IsDigest id → Feedless (quoted id)
 feedless-quoted id is =
-    feedless_both (codes "\"") (encode_lower id ++ codes "\"") (feedless-by (codes "\"") refl)
-    (feedless_both (encode_lower id) (codes "\"") (feedless-digest id is) (feedless-by (codes "\"") refl))
+    feedless_both (codes "\"") (encode_lower id ++ codes "\"") (feedless_by (codes "\"") refl)
+    (feedless_both (encode_lower id) (codes "\"") (feedless-digest id is) (feedless_by (codes "\"") refl))
 
 -- Ids with commas before them have no line feed.
 feedless-later : (ids : List (List ℕ)) → AllByRecursion IsDigest ids → Feedless (later_text ids)
 feedless-later [] h = tt
 feedless-later (id ∷ ids) h =
     feedless_both (codes "," ++ quoted id) (later_text ids)
-    (feedless_both (codes ",") (quoted id) (feedless-by (codes ",") refl) (feedless-quoted id h.0))
+    (feedless_both (codes ",") (quoted id) (feedless_by (codes ",") refl) (feedless-quoted id h.0))
     (feedless-later ids h.1)
 
 -- A list of ids has no line feed.
@@ -62,11 +50,11 @@ feedless-ids (id ∷ ids) h = feedless_both (quoted id) (later_text ids) (feedle
 -- The part on records has no line feed.
 feedless-part : (format : ℕ) (distrusts : Option ℕ) → IsRecordCount format distrusts → Feedless (distrusts_part distrusts)
 feedless-part format None h = tt
-feedless-part format (Some n) h = feedless_both (codes ",\"distrusts\":") (decimal n) (feedless-by (codes ",\"distrusts\":") refl) (feedless_decimal n h)
+feedless-part format (Some n) h = feedless_both (codes ",\"distrusts\":") (decimal n) (feedless_by (codes ",\"distrusts\":") refl) (feedless_decimal n h)
 
 -- A label without a line feed, and more without one, have none.
 labelled : (label rest : List ℕ) → is_feedless label ≡ true → Feedless rest → Feedless (label ++ rest)
-labelled label rest plain h = feedless_both label rest (feedless-by label plain) h
+labelled label rest plain h = feedless_both label rest (feedless_by label plain) h
 
 -- ---- first lines
 
@@ -78,22 +66,22 @@ feedless-asked a is =
     (labelled (codes ",\"config\":\"") _ refl (feedless_both (encode_lower a.question.config) _ (feedless-digest a.question.config is.config)
     (labelled (codes "\",\"format\":") _ refl (feedless_both (decimal a.format) _ (feedless_decimal a.format is.format)
     (labelled (codes ",\"have\":[") _ refl (feedless_both (join_by quoted (codes ",") a.question.ids) _ (feedless-ids a.question.ids is.ids)
-    (labelled (codes "],\"of\":") _ refl (feedless_both (decimal a.buckets) _ (feedless_decimal a.buckets is.buckets) (feedless-by (codes "}") refl))))))))))
+    (labelled (codes "],\"of\":") _ refl (feedless_both (decimal a.buckets) _ (feedless_decimal a.buckets is.buckets) (feedless_by (codes "}") refl))))))))))
 
 -- The first line of an answer has no line feed.
-feedless-told : (t : GiveHeader) → IsGiveHeader t → Feedless (told_text t)
-unfolding told_text
-feedless-told t is =
+feedless-give-header : (t : GiveHeader) → IsGiveHeader t → Feedless (give_header_text t)
+unfolding give_header_text
+feedless-give-header t is =
     let few : t.bucket < 2 ^ 64 = let below = is.bucket in let many = is.buckets in omega (arith, below, many) in
     labelled (codes "{\"bucket\":") _ refl (feedless_both (decimal t.bucket) _ (feedless_decimal t.bucket few)
     (labelled (codes ",\"config\":\"") _ refl (feedless_both (encode_lower t.config) _ (feedless-digest t.config is.config)
     (labelled (codes "\",\"count\":") _ refl (feedless_both (decimal t.count) _ (feedless_decimal t.count is.count)
     (feedless_both (distrusts_part t.distrusts) _ (feedless-part t.format t.distrusts is.records)
     (labelled (codes ",\"format\":") _ refl (feedless_both (decimal t.format) _ (feedless_decimal t.format is.format)
-    (labelled (codes ",\"of\":") _ refl (feedless_both (decimal t.buckets) _ (feedless_decimal t.buckets is.buckets) (feedless-by (codes "}") refl)))))))))))
+    (labelled (codes ",\"of\":") _ refl (feedless_both (decimal t.buckets) _ (feedless_decimal t.buckets is.buckets) (feedless_by (codes "}") refl)))))))))))
 
 -- A text without a line feed, in the words of streams.
-plain : (text : List ℕ) → Feedless text → HasNoFeed text
+pub plain : (text : List ℕ) → Feedless text → HasNoFeed text
 plain text h = All-from_recursion (λ b. b ≢ 10) text h
 
 -- The line of a question has no line feed, in the words of streams.
@@ -101,8 +89,8 @@ pub plain-asked : (a : Asked) → IsAsked a → HasNoFeed (asked_text a)
 plain-asked a is = plain (asked_text a) (feedless-asked a is)
 
 -- The first line of an answer has no line feed, in the words of streams.
-pub plain-told : (t : GiveHeader) → IsGiveHeader t → HasNoFeed (told_text t)
-plain-told t is = plain (told_text t) (feedless-told t is)
+pub plain-give-header : (t : GiveHeader) → IsGiveHeader t → HasNoFeed (give_header_text t)
+plain-give-header t is = plain (give_header_text t) (feedless-give-header t is)
 
 -- ---- the first line of a stream
 
@@ -112,7 +100,7 @@ pub record IsSameLine (text other after since : List ℕ) : Type 0 where
   pub rest : after ≡ since
 
 -- A text with its line feed is the first line of what begins with it.
-first-of : (bytes text after : List ℕ) → HasNoFeed text → bytes ≡ ended text ++ after → lines_of bytes ≡ with_line text (lines_of after)
+pub first-of : (bytes text after : List ℕ) → HasNoFeed text → bytes ≡ ended text ++ after → lines_of bytes ≡ with_line text (lines_of after)
 first-of bytes text after none e = ap lines_of e ∙ lines_of-line text after none
 
 -- What begins with two lines begins with one line twice, and the same follows.

@@ -9,9 +9,9 @@ use Rattle.std.proofs.lemmas.List.{append_cancel_left}
 use Rattle.hex.specs.Hex.{encode_lower, decode_sized}
 use Rattle.receipt_core.specs.Receipt.{IsDigest}
 use Rattle.receipt_core.proofs.HexFacts.{decode_sized-encode_lower}
-use Rattle.replica_sync.specs.Messages.{Asked, GiveHeader, distrusts_part, quoted, told_text}
-use Rattle.replica_sync.specs.FirstLines.{IsAskedLine, IsToldLine}
-use Rattle.replica_sync.proofs.HaveLineFacts.{behind_bucket, behind_config, behind_format, behind_ids, small-bucket, whole-line}
+use Rattle.replica_sync.specs.Messages.{Asked, GiveHeader, distrusts_part, quoted, give_header_text}
+use Rattle.replica_sync.specs.FirstLines.{IsAskedLine, IsGiveHeaderLine}
+use Rattle.replica_sync.proofs.HaveLineFacts.{after_bucket, after_config, after_format, after_ids, small-bucket, whole-line}
 use Rattle.replica_sync.proofs.IdListFacts.{later_text}
 use Rattle.replica_sync.proofs.ScanFacts.{AreDecimal, both-truths, each-decimal, split-digest}
 use Rattle.replica_sync.proofs.GiveHeaderFacts.{few-records, format_label, no-records, part-begins, records_label}
@@ -92,13 +92,13 @@ one-list (id ∷ ids) (o ∷ others) more rest p q e =
 pub one-asked : (text : List ℕ) (a b : Asked) → IsAskedLine text a → IsAskedLine text b → a ≡ b
 one-asked text a b p q =
     let whole = sym (whole-line text a p.spelt) ∙ whole-line text b q.spelt in
-    let bucket = one-number a.question.bucket b.question.bucket 44 44 (behind_bucket a) (behind_bucket b)
+    let bucket = one-number a.question.bucket b.question.bucket 44 44 (after_bucket a) (after_bucket b)
     (small-bucket a p.is) (small-bucket b q.is) refl refl (append_cancel_left (codes "{\"bucket\":") _ _ whole) in
-    let config = one-digest a.question.config b.question.config (behind_config a) (behind_config b) p.is.config
+    let config = one-digest a.question.config b.question.config (after_config a) (after_config b) p.is.config
     q.is.config (append_cancel_left (codes ",\"config\":\"") _ _ bucket.1) in
-    let format = one-number a.format b.format 44 44 (behind_format a) (behind_format b) p.is.format q.is.format refl
+    let format = one-number a.format b.format 44 44 (after_format a) (after_format b) p.is.format q.is.format refl
     refl (append_cancel_left (codes "\",\"format\":") _ _ config.1) in
-    let ids = one-list a.question.ids b.question.ids (behind_ids a) (behind_ids b) p.is.ids q.is.ids (append_cancel_left (codes ",\"have\":[") _ _ format.1) in
+    let ids = one-list a.question.ids b.question.ids (after_ids a) (after_ids b) p.is.ids q.is.ids (append_cancel_left (codes ",\"have\":[") _ _ format.1) in
     let buckets = one-number a.buckets b.buckets 125 125 [] [] p.is.buckets q.is.buckets refl refl (append_cancel_left (codes ",\"of\":") _ _ ids.1) in
     λ i. record { question = record { bucket = bucket.0 i; config = config.0 i; ids = ids.0 i }; format = format.0 i; buckets = buckets.0 i }
 
@@ -121,13 +121,13 @@ one-part (Some m) (Some n) more rest p q e =
     (ap Some number.0, append_cancel_left format_label more rest number.1)
 
 -- The first line of an answer says one thing.
-pub one-told : (text : List ℕ) (a b : GiveHeader) → IsToldLine text a → IsToldLine text b → a ≡ b
-unfolding told_text
-one-told text a b p q =
+pub one-give-header : (text : List ℕ) (a b : GiveHeader) → IsGiveHeaderLine text a → IsGiveHeaderLine text b → a ≡ b
+unfolding give_header_text
+one-give-header text a b p q =
     let last : GiveHeader → List ℕ = λ t. codes ",\"of\":" ++ (decimal t.buckets ++ codes "}") in
     let later : GiveHeader → List ℕ = λ t. decimal t.format ++ last t in
-    let behind : GiveHeader → List ℕ = λ t. distrusts_part t.distrusts ++ (format_label ++ later t) in
-    let counted : GiveHeader → List ℕ = λ t. codes "\",\"count\":" ++ (decimal t.count ++ behind t) in
+    let follows : GiveHeader → List ℕ = λ t. distrusts_part t.distrusts ++ (format_label ++ later t) in
+    let counted : GiveHeader → List ℕ = λ t. codes "\",\"count\":" ++ (decimal t.count ++ follows t) in
     let configured : GiveHeader → List ℕ = λ t. codes ",\"config\":\"" ++ (encode_lower t.config ++ counted t) in
     let few : a.bucket < 2 ^ 64 = let below = p.is.bucket in let many = p.is.buckets in omega (arith, below, many) in
     let few_too : b.bucket < 2 ^ 64 = let below = q.is.bucket in let many = q.is.buckets in omega (arith, below, many) in
@@ -136,8 +136,8 @@ one-told text a b p q =
     let bucket = one-number a.bucket b.bucket 44 44 (drop 1 (configured a)) (drop 1 (configured b)) few few_too refl
     refl (append_cancel_left (codes "{\"bucket\":") _ _ whole) in
     let config = one-digest a.config b.config (counted a) (counted b) p.is.config q.is.config (append_cancel_left (codes ",\"config\":\"") _ _ bucket.1) in
-    let counts : decimal a.count ++ behind a ≡ decimal b.count ++ behind b = append_cancel_left (codes "\",\"count\":") _ _ config.1 in
-    let count = one-number a.count b.count 44 44 (drop 1 (behind a)) (drop 1 (behind b)) p.is.count q.is.count refl refl
+    let counts : decimal a.count ++ follows a ≡ decimal b.count ++ follows b = append_cancel_left (codes "\",\"count\":") _ _ config.1 in
+    let count = one-number a.count b.count 44 44 (drop 1 (follows a)) (drop 1 (follows b)) p.is.count q.is.count refl refl
     (ap (λ t. decimal a.count ++ t) (sym (part-begins a.distrusts (later a))) ∙ counts ∙ ap (λ t. decimal b.count ++ t) (part-begins b.distrusts (later b))) in
     let records = one-part a.distrusts b.distrusts (later a) (later b) (few-records a.format a.distrusts p.is.records)
     (few-records b.format b.distrusts q.is.records)

@@ -12,6 +12,7 @@ use Rattle.receipt_core.specs.declared.distrust.Distrust.{Distrust}
 use Rattle.receipt_core.specs.Receipt.{Receipt, line, distrust_line}
 use Rattle.receipt_core.proofs.ReadFacts.{length-line, no_long_record}
 use Rattle.replica_core.specs.State.{State, no_state}
+use Rattle.replica_sync.proofs.ContentFacts.{lines_with_record, lines_with_receipt, all_pushed, rising_pushed}
 use Rattle.replica_sync.specs.Entries.{IsEntry, IsNextEntry, IsAbove}
 use Rattle.replica_sync.specs.Snapshots.{ended, last_of, text_of_lines}
 use Rattle.replica_core.specs.declared.entry.Entry.{Entry}
@@ -20,12 +21,12 @@ use Rattle.replica_sync.specs.declared.entry_line.Wanted.{Wanted}
 use Rattle.replica_sync.specs.declared.entry_line.Wanted.TheVariants.{Records, Receipts, Either}
 use Rattle.replica_core.specs.declared.error.SyncError.{SyncError}
 use Rattle.replica_sync.proofs.HeldFacts.{AllBelow, below_last, text_cmp}
-use Rattle.replica_core.proofs.RisingListFacts.{rising_head, rising_tail}
+use Rattle.replica_core.proofs.RisingListFacts.{rising_head, rising_tail, rising_nil}
 use Rattle.replica_sync.proofs.SnapshotFacts.{consumes_both}
-use Rattle.replica_sync.specs.Messages.{receipt_text, record_text, reply_text, told_of, told_text}
+use Rattle.replica_sync.specs.Messages.{receipt_text, record_text, reply_text, give_header_of, give_header_text}
 use Rattle.replica_sync.specs.FirstLines.{Expected, IsGiveHeader}
 use Rattle.replica_sync.specs.Answers.{Heads, IsAnswer, IsBegun, RefusesGive, Wants, content_lines}
-use Rattle.replica_sync.specs.Inside.Spelling.{HasHead, TellsHead, told_by_head}
+use Rattle.replica_sync.specs.Inside.Spelling.{HasHead, IsHeadLine, header_by_head}
 use Rattle.replica_sync.specs.Inside.Gathering.{StopsGathering, Gathers, GathersAll, IsNextAnswerLine, IsWhole, Pushes, pushed}
 use Rattle.replica_sync.specs.declared.give_header_reader.Head.{Head}
 
@@ -51,60 +52,7 @@ short-entry Receipts text (AReceipt r) is = short-receipt text r is
 short-entry Either text (Record x) is = short-record text x (record { is = is.is; spelt = is.spelt })
 short-entry Either text (AReceipt r) is = short-receipt text r (record { is = is.is; spelt = is.spelt })
 
--- ---- rising lines
-
--- A list of one line rises.
-rising-one : (text : List ℕ) → IsStrictlySortedBy text_cmp (text ∷ [])
-unfolding IsStrictlySortedBy
-rising-one text = (tt, tt)
-
--- A line below all others, before lines that rise, makes lines that rise.
-rising-more : (x : List ℕ) (xs : List (List ℕ)) → AllByRecursion (λ y. text_cmp x y ≡ Less) xs
-    → IsStrictlySortedBy text_cmp xs → IsStrictlySortedBy text_cmp (x ∷ xs)
-unfolding IsStrictlySortedBy
-rising-more x xs above rising = (above, rising)
-
--- A line that is below all others is so with one more above it.
-above-pushed : (x text : List ℕ) (xs : List (List ℕ)) → AllByRecursion (λ y. text_cmp x y ≡ Less) xs
-    → text_cmp x text ≡ Less → AllByRecursion (λ y. text_cmp x y ≡ Less) (xs ++ text ∷ [])
-above-pushed x text [] h k = (k, tt)
-above-pushed x text (y ∷ xs) h k = (h.0, above-pushed x text xs h.1 k)
-
--- Lines that rise, with one more above all of them, rise.
-rising-pushed : (lines : List (List ℕ)) (text : List ℕ) → IsStrictlySortedBy text_cmp lines → AllBelow text lines
-    → IsStrictlySortedBy text_cmp (lines ++ text ∷ [])
-rising-pushed [] text rising below = rising-one text
-rising-pushed (x ∷ lines) text rising below =
-    rising-more x (lines ++ text ∷ []) (above-pushed x text lines (rising_head text_cmp x lines rising) below.0)
-    (rising-pushed lines text (rising_tail text_cmp x lines rising) below.1)
-
--- The empty list of lines rises.
-rising-none : IsStrictlySortedBy text_cmp []
-unfolding IsStrictlySortedBy
-rising-none = tt
-
--- What holds of all items, and of one more, holds of the longer list.
-all-pushed : {A : Type 0} (P : A → Type 0) (xs : List A) (x : A) → AllByRecursion P xs → P x → AllByRecursion P (xs ++ x ∷ [])
-all-pushed P [] x h p = (p, tt)
-all-pushed P (y ∷ xs) x h p = (h.0, all-pushed P xs x h.1 p)
-
 -- ---- one more line
-
--- A receipt at the end of the receipts adds its line.
-lines-with-receipt : (content : State) (r : Receipt) → content_lines (pushed (AReceipt r) content) ≡ content_lines content ++ line r ∷ []
-lines-with-receipt content r =
-    ap (λ lines. map distrust_line content.records ++ lines) (map-append line content.held (r ∷ []))
-    ∙ sym (append_assoc (map distrust_line content.records) (map line content.held) (line r ∷ []))
-
--- A record at the end of the records adds its line, while there is no receipt.
-lines-with-record : (content : State) (x : Distrust) → content.held ≡ []
-    → content_lines (pushed (Record x) content) ≡ content_lines content ++ distrust_line x ∷ []
-lines-with-record content x none =
-    ap (λ (held : List Receipt). map distrust_line (content.records ++ x ∷ []) ++ map line held) none
-    ∙ append-nil (map distrust_line (content.records ++ x ∷ []))
-    ∙ map-append distrust_line content.records (x ∷ [])
-    ∙ ap (λ lines. lines ++ distrust_line x ∷ []) (sym (append-nil (map distrust_line content.records)))
-    ∙ ap (λ (held : List Receipt). (map distrust_line content.records ++ map line held) ++ distrust_line x ∷ []) (sym none)
 
 -- what was read with one more, and its lines
 pub record Grows (count distrusts : ℕ) (old : State) (text : List ℕ) (new : State) : Type 0 where
@@ -117,7 +65,7 @@ rises : (old new : State) (text : List ℕ) → IsStrictlySortedBy text_cmp (con
     → IsStrictlySortedBy text_cmp (content_lines new)
 rises old new text rising above e =
     subst (IsStrictlySortedBy text_cmp) (sym e)
-    (rising-pushed (content_lines old) text rising (below_last (content_lines old) text rising above))
+    (rising_pushed (content_lines old) text rising above)
 
 module _ (count distrusts : ℕ) (old : State) (begun : IsBegun count distrusts old) where
   -- A record that is wanted goes on with the answer.
@@ -127,10 +75,10 @@ module _ (count distrusts : ℕ) (old : State) (begun : IsBegun count distrusts 
   grows-by-record text x more next =
       let longer : length (old.records ++ x ∷ []) ≡ length old.records + 1 = length-append old.records (x ∷ []) in
       let lines : content_lines (pushed (Record x) old) ≡ content_lines old ++ text ∷ [] =
-      lines-with-record old x (begun.order more) ∙ ap (λ t. content_lines old ++ t ∷ []) (sym next.is.spelt) in
+      lines_with_record old x (begun.order more) ∙ ap (λ t. content_lines old ++ t ∷ []) (sym next.is.spelt) in
       record {
         begun = record {
-          valid = record { receipts = begun.valid.receipts; records = all-pushed _ old.records x begun.valid.records next.is.is };
+          valid = record { receipts = begun.valid.receipts; records = all_pushed _ old.records x begun.valid.records next.is.is };
           records = omega (arith, longer, more);
           receipts = begun.receipts;
           order = λ less. begun.order more;
@@ -146,10 +94,10 @@ module _ (count distrusts : ℕ) (old : State) (begun : IsBegun count distrusts 
   grows-by-receipt text r all more next =
       let longer : length (old.held ++ r ∷ []) ≡ length old.held + 1 = length-append old.held (r ∷ []) in
       let lines : content_lines (pushed (AReceipt r) old) ≡ content_lines old ++ text ∷ [] =
-      lines-with-receipt old r ∙ ap (λ t. content_lines old ++ t ∷ []) (sym next.is.spelt) in
+      lines_with_receipt old r ∙ ap (λ t. content_lines old ++ t ∷ []) (sym next.is.spelt) in
       record {
         begun = record {
-          valid = record { receipts = all-pushed _ old.held r begun.valid.receipts next.is.is; records = begun.valid.records };
+          valid = record { receipts = all_pushed _ old.held r begun.valid.receipts next.is.is; records = begun.valid.records };
           records = begun.records;
           receipts = omega (arith, longer, more);
           order = λ less. absurd (omega (arith, less, all));
@@ -182,7 +130,13 @@ lines-text (x ∷ lines) text = ap (λ t. ended x ++ t) (lines-text lines text) 
 -- Before the first line nothing of the answer is read.
 pub gathers-none : (count distrusts : ℕ) (stream : Option (List ℕ)) (content : State) → content ≡ no_state → Gathers count distrusts stream content stream
 gathers-none count distrusts stream content none = subst (λ s. Gathers count distrusts stream s stream) (sym none) (record {
-  begun = record { valid = record { receipts = tt; records = tt }; records = omega arith; receipts = omega arith; order = λ less. refl; rising = rising-none };
+  begun = record {
+    valid = record { receipts = tt; records = tt };
+    records = omega arith;
+    receipts = omega arith;
+    order = λ less. refl;
+    rising = rising_nil text_cmp;
+  };
   text = nothing stream;
 })
   where
@@ -220,9 +174,9 @@ content-text content =
     ∙ append-nil (flat_map receipt_text content.held))
 
 -- Where as many lines came as the first one says, that is the first line of the answer.
-told-whole : (h : Head) (content : State) → IsWhole h.count h.distrusts content
-    → told_by_head h ≡ told_of (record { bucket = h.bucket; config = h.config.0; content = content })
-told-whole h content whole = λ i. record {
+header-whole : (h : Head) (content : State) → IsWhole h.count h.distrusts content
+    → header_by_head h ≡ give_header_of (record { bucket = h.bucket; config = h.config.0; content = content })
+header-whole h content whole = λ i. record {
   bucket = h.bucket;
   config = h.config.0;
   count = sym whole.receipts i;
@@ -236,8 +190,8 @@ pub whole-reply : (old middle new : Option (List ℕ)) (h : Head) (content : Sta
     → GathersAll h.count h.distrusts middle content new
     → Consumes old new (reply_text (record { bucket = h.bucket; config = h.config.0; content = content }))
 whole-reply old middle new h content head all =
-    let first : head.text ≡ told_text (told_of (record { bucket = h.bucket; config = h.config.0; content = content })) =
-    head.tells.tells.line.spelt ∙ ap told_text (told-whole h content all.whole) in
+    let first : head.text ≡ give_header_text (give_header_of (record { bucket = h.bucket; config = h.config.0; content = content })) =
+    head.head.wanted.line.spelt ∙ ap give_header_text (header-whole h content all.whole) in
     subst (Consumes old new) ((λ i. ended (first i) ++ content-text content i))
     (consumes_both old middle new (ended head.text) (text_of_lines (content_lines content)) head.is.1 all.gathers.text)
 
@@ -246,26 +200,26 @@ pub whole-answer : (old middle new : Option (List ℕ)) (h : Head) (content : St
     → GathersAll h.count h.distrusts middle content new
     → IsAnswer (record { bucket = h.bucket; config = h.config.0; content = content })
 whole-answer old middle new h content head all = record {
-  told = subst IsGiveHeader (told-whole h content all.whole) head.tells.tells.line.is;
+  header = subst IsGiveHeader (header-whole h content all.whole) head.head.wanted.line.is;
   valid = all.gathers.begun.valid;
   rising = all.gathers.begun.rising;
 }
 
 -- A first line that was read is one that is read by the definition.
-pub heads-told : (expected : Option Expected) (text : List ℕ) (h : Head) → TellsHead expected text h → Heads expected text h.count h.distrusts
-heads-told expected text h t = record { told = told_by_head h; tells = t.tells; own = t.own; supported = (refl, refl); receipts = refl; records = refl }
+pub read-heads : (expected : Option Expected) (text : List ℕ) (h : Head) → IsHeadLine expected text h → Heads expected text h.count h.distrusts
+read-heads expected text h t = record { header = header_by_head h; wanted = t.wanted; own = t.own; supported = (refl, refl); receipts = refl; records = refl }
 
 -- A fault after the first line is why the answer is not read.
-pub fails-behind : (old middle new : Option (List ℕ)) (h : Head) (e : SyncError) → HasHead None old middle h
+pub fails-after : (old middle new : Option (List ℕ)) (h : Head) (e : SyncError) → HasHead None old middle h
     → StopsGathering h.count h.distrusts middle new e → RefusesGive old new e
-fails-behind old middle new h e head fails = inr (record {
+fails-after old middle new h e head fails = inr (record {
   count = h.count;
   distrusts = h.distrusts;
   content = fails.content;
   left = fails.left;
   begins = record {
     first = head.text;
-    heads = heads-told None head.text h head.tells;
+    heads = read-heads None head.text h head.head;
     begun = fails.gathers.begun;
     text = consumes_both old middle fails.left (ended head.text) (text_of_lines (content_lines fails.content)) head.is.1 fails.gathers.text;
   };

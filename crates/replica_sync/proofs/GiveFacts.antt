@@ -16,6 +16,7 @@ use Rattle.receipt_core.proofs.HexFacts.{length-encode_lower}
 use Rattle.byte_lines.proofs.StreamFacts.{lines_of-line, lines_of-rest}
 use Rattle.replica_core.specs.State.{State}
 use Rattle.replica_core.specs.Session.{Reply}
+use Rattle.replica_sync.proofs.NextFacts.{above_nothing, last_above}
 use Rattle.replica_sync.specs.Entries.{IsAbove, IsEntry, IsNextEntry, entry_line}
 use Rattle.replica_sync.specs.Snapshots.{ended, last_of, text_of_lines}
 use Rattle.replica_core.specs.declared.entry.Entry.{Entry}
@@ -26,25 +27,26 @@ use Rattle.replica_core.specs.declared.error.SyncError.{SyncError}
 use Rattle.replica_core.specs.declared.error.SyncError.TheVariants.{BadHeader, ConfigDiffers, VersionDiffers, NotCanonical, NotRising, BadCount, Truncated}
 use Rattle.replica_core.specs.declared.error.SyncError.TheVariants.{Refused, Io, NoMemory}
 use Rattle.replica_sync.proofs.FeedFacts.{Feedless, feedless_line, feedless_record}
-use Rattle.replica_core.proofs.RisingListFacts.{all_back, rising_head, rising_tail}
+use Rattle.replica_core.proofs.RisingListFacts.{all_back, rising_head, rising_tail, all_append}
 use Rattle.replica_sync.proofs.HeldFacts.{text_cmp}
-use Rattle.replica_sync.proofs.OneFacts.{held_back, lines_back}
-use Rattle.replica_sync.specs.Messages.{GiveHeader, distrusts_part, reply_text, told_of, told_text}
-use Rattle.replica_sync.specs.FirstLines.{Expected, HasBadFirstLine, IsAbout, HasDigestOf, IsRecordCount, IsGiveHeader, IsToldLine, RefusesFirstLine, RefusesTold}
+use Rattle.replica_sync.proofs.OneFacts.{held_back, lines_back, feedless_all}
+use Rattle.replica_sync.specs.Messages.{GiveHeader, distrusts_part, reply_text, give_header_of, give_header_text}
+use Rattle.replica_sync.specs.FirstLines.{Expected, HasBadFirstLine, IsAbout, HasDigestOf, IsRecordCount, IsGiveHeader}
+use Rattle.replica_sync.specs.FirstLines.{IsGiveHeaderLine, RefusesFirstLine, RefusesGiveLine}
 use Rattle.replica_sync.specs.FirstLines.{config_of}
 use Rattle.replica_sync.specs.Answers.{AnswerBegins, Heads, IsAnswer, IsBegun, IsContent, HasBadNext, RefusesGive, RefusesHead, RefusesNextEntry}
 use Rattle.replica_sync.specs.Answers.{Wants, content_lines, refused_text}
 use Rattle.replica_sync.proofs.AskableFacts.{first-cause, no-other}
 use Rattle.replica_sync.proofs.ContentFacts.{text_of_content}
-use Rattle.replica_sync.proofs.FeedlessFacts.{no-first, plain-told, same-line}
-use Rattle.replica_sync.proofs.FirstLineFacts.{one-told}
+use Rattle.replica_sync.proofs.FeedlessFacts.{no-first, plain-give-header, same-line}
+use Rattle.replica_sync.proofs.FirstLineFacts.{one-give-header}
 use Rattle.replica_sync.proofs.GatherFacts.{short-entry}
 
 -- ---- the first line
 
 -- The first line of an answer is the line of what it says.
-told-line : (r : Reply) → IsAnswer r → IsToldLine (told_text (told_of r)) (told_of r)
-told-line r is = record { is = is.told; spelt = refl }
+give-header-line : (r : Reply) → IsAnswer r → IsGiveHeaderLine (give_header_text (give_header_of r)) (give_header_of r)
+give-header-line r is = record { is = is.header; spelt = refl }
 
 -- A number of 64 bits has 20 digits at most.
 pub short-number : (n : ℕ) → n < 2 ^ 64 → length (decimal n) ≤ 20
@@ -67,9 +69,9 @@ parts-length : (b c n d f k : List ℕ)
 parts-length b c n d f k = simp length-append (omega arith)
 
 -- The first line of an answer is not too long.
-short-told : (t : GiveHeader) → IsGiveHeader t → length (told_text t) ≤ 8388608
-unfolding told_text
-short-told t is =
+short-give-header : (t : GiveHeader) → IsGiveHeader t → length (give_header_text t) ≤ 8388608
+unfolding give_header_text
+short-give-header t is =
     let whole = parts-length (decimal t.bucket) (encode_lower t.config) (decimal t.count) (distrusts_part t.distrusts) (decimal t.format) (decimal t.buckets) in
     let bucket = short-number t.bucket (let below = is.bucket in let many = is.buckets in omega (arith, below, many)) in
     let config = length-encode_lower t.config is.config in
@@ -81,10 +83,10 @@ short-told t is =
 
 -- The first line of an answer says that it is one with so many receipts and records.
 heads-reply : (expected : Option Expected) (r : Reply) → IsAnswer r → IsAbout expected r.bucket → HasDigestOf (config_of expected) r.config
-    → Heads expected (told_text (told_of r)) (length r.content.held) (length r.content.records)
+    → Heads expected (give_header_text (give_header_of r)) (length r.content.held) (length r.content.records)
 heads-reply expected r is about own = record {
-  told = told_of r;
-  tells = record { line = told-line r is; about = about };
+  header = give_header_of r;
+  wanted = record { line = give-header-line r is; about = about };
   own = own;
   supported = (refl, refl);
   receipts = refl;
@@ -93,19 +95,19 @@ heads-reply expected r is about own = record {
 
 -- A first line that is read has no fault.
 pub no-bad-head : (expected : Option Expected) (text : List ℕ) (count distrusts : ℕ) (e : SyncError) → Heads expected text count distrusts
-    → e ≢ NoMemory → RefusesFirstLine (RefusesTold expected) text e → ⊥
+    → e ≢ NoMemory → RefusesFirstLine (RefusesGiveLine expected) text e → ⊥
 no-bad-head expected text count distrusts e is ample (inl long) =
     let more = long.1 in
-    let line = is.tells.line in
-    let short = short-told is.told line.is in
+    let line = is.wanted.line in
+    let short = short-give-header is.header line.is in
     let same = ap length line.spelt in
     omega (arith, more, short, same)
-no-bad-head expected text count distrusts BadHeader is ample (inr none) = none.1 is.told is.tells
+no-bad-head expected text count distrusts BadHeader is ample (inr none) = none.1 is.header is.wanted
 no-bad-head expected text count distrusts ConfigDiffers is ample (inr h) =
-    let same = one-told text h.1.told is.told h.1.tells.line is.tells.line in
-    no-other (config_of expected) is.told.config h.1.told.config is.own (ap (λ (t : GiveHeader). t.config) same) h.1.other
+    let same = one-give-header text h.1.header is.header h.1.wanted.line is.wanted.line in
+    no-other (config_of expected) is.header.config h.1.header.config is.own (ap (λ (t : GiveHeader). t.config) same) h.1.other
 no-bad-head expected text count distrusts VersionDiffers is ample (inr h) =
-    let same = one-told text h.1.told is.told h.1.tells.line is.tells.line in
+    let same = one-give-header text h.1.header is.header h.1.wanted.line is.wanted.line in
     h.1.unsupported (ap (λ (t : GiveHeader). t.format) same ∙ is.supported.0, ap (λ (t : GiveHeader). t.buckets) same ∙ is.supported.1)
 no-bad-head expected text count distrusts (NotCanonical n) is ample (inr h) = h.1
 no-bad-head expected text count distrusts (NotRising n) is ample (inr h) = h.1
@@ -119,22 +121,17 @@ no-bad-head expected text count distrusts NoMemory is ample (inr h) = ample refl
 
 -- the answer's first line, and the lines after it
 pub in-lines : (bytes : List ℕ) (r : Reply) (rest : List ℕ) → bytes ≡ reply_text r ++ rest
-    → bytes ≡ ended (told_text (told_of r)) ++ (text_of_lines (content_lines r.content) ++ rest)
+    → bytes ≡ ended (give_header_text (give_header_of r)) ++ (text_of_lines (content_lines r.content) ++ rest)
 in-lines bytes r rest e =
-    e ∙ append_assoc (ended (told_text (told_of r))) _ rest ∙ ap (λ t. ended (told_text (told_of r)) ++ (t ++ rest)) (sym (text_of_content r.content))
-
--- Where no item's text has a line feed, no line of the list has, nor of what follows it.
-feedless-all : {A : Type 0} (P : A → Type 0) (text : A → List ℕ) → ((a : A) → P a → Feedless (text a))
-    → (xs : List A) (later : List (List ℕ)) → AllByRecursion P xs → AllByRecursion Feedless later
-    → AllByRecursion Feedless (map text xs ++ later)
-feedless-all P text each [] later h k = k
-feedless-all P text each (x ∷ xs) later h k = (each x h.0, feedless-all P text each xs later h.1 k)
+    e ∙ append_assoc (ended (give_header_text (give_header_of r))) _ rest
+    ∙ ap (λ t. ended (give_header_text (give_header_of r)) ++ (t ++ rest)) (sym (text_of_content r.content))
 
 -- No line of an answer's content has a line feed in it.
 feedless-content : (content : State) → IsContent content → AllByRecursion Feedless (content_lines content)
 feedless-content content is =
-    feedless-all IsDistrust distrust_line (λ x h. feedless_record x) content.records (map line content.held) is.records
-    (subst (AllByRecursion Feedless) (append-nil (map line content.held)) (feedless-all IsReceipt line feedless_line content.held [] is.receipts tt))
+    all_append Feedless (map distrust_line content.records) (map line content.held)
+    (feedless_all IsDistrust distrust_line (λ x h. feedless_record x) content.records is.records)
+    (feedless_all IsReceipt line feedless_line content.held is.receipts)
 
 -- There is one line for each record and each receipt.
 pub count-lines : (content : State) → length (content_lines content) ≡ length content.records + length content.held
@@ -172,19 +169,19 @@ some-once m n e = cc
 -- Both are one answer, and the same follows them.
 pub record IsSameReply (a b : Reply) (left rest : List ℕ) : Type 0 where
   pub reply : a ≡ b
-  pub behind : left ≡ rest
+  pub follows : left ≡ rest
 
 -- A stream of known bytes begins with one answer at most, and one thing follows it.
 pub same-reply : (bytes : List ℕ) (a b : Reply) (left rest : List ℕ) → IsAnswer a → IsAnswer b
     → bytes ≡ reply_text a ++ left → bytes ≡ reply_text b ++ rest → IsSameReply a b left rest
 same-reply bytes a b left rest is valid e f =
-    let first = same-line bytes (told_text (told_of a)) (told_text (told_of b)) _ _ (plain-told (told_of a) is.told)
-    (plain-told (told_of b) valid.told) (in-lines bytes a left e) (in-lines bytes b rest f) in
-    let told : told_of a ≡ told_of b =
-    one-told (told_text (told_of a)) (told_of a) (told_of b) (told-line a is)
-    (record { is = valid.told; spelt = first.line }) in
-    let receipts : length a.content.held ≡ length b.content.held = ap (λ (t : GiveHeader). t.count) told in
-    let records : length a.content.records ≡ length b.content.records = some-once _ _ (ap (λ (t : GiveHeader). t.distrusts) told) in
+    let first = same-line bytes (give_header_text (give_header_of a)) (give_header_text (give_header_of b)) _ _ (plain-give-header (give_header_of a) is.header)
+    (plain-give-header (give_header_of b) valid.header) (in-lines bytes a left e) (in-lines bytes b rest f) in
+    let header : give_header_of a ≡ give_header_of b =
+    one-give-header (give_header_text (give_header_of a)) (give_header_of a) (give_header_of b) (give-header-line a is)
+    (record { is = valid.header; spelt = first.line }) in
+    let receipts : length a.content.held ≡ length b.content.held = ap (λ (t : GiveHeader). t.count) header in
+    let records : length a.content.records ≡ length b.content.records = some-once _ _ (ap (λ (t : GiveHeader). t.distrusts) header) in
     let many = count-lines a.content in
     let many_too = count-lines b.content in
     let lines = same-front (content_lines a.content) (content_lines b.content) _ _
@@ -193,8 +190,8 @@ same-reply bytes a b left rest is valid e f =
     let sets = held_back a.content.records b.content.records a.content.held b.content.held is.valid.records
     valid.valid.records is.valid.receipts valid.valid.receipts lines.0 in
     record {
-      reply = λ i. record { bucket = (told i).bucket; config = (told i).config; content = record { held = sets.receipts i; records = sets.records i } };
-      behind = append_cancel_left (text_of_lines (content_lines b.content)) left rest
+      reply = λ i. record { bucket = (header i).bucket; config = (header i).config; content = record { held = sets.receipts i; records = sets.records i } };
+      follows = append_cancel_left (text_of_lines (content_lines b.content)) left rest
           (ap (λ (ls : List (List ℕ)). text_of_lines ls ++ left) (sym lines.0) ∙ first.rest);
     }
 
@@ -205,7 +202,7 @@ one-reply bytes a b None rest is valid e f = absurd e
 one-reply bytes a b (Some left) None is valid e f = absurd f
 one-reply bytes a b (Some left) (Some rest) is valid e f =
     let same = same-reply bytes a b left rest is valid e f in
-    (same.reply, ap Some same.behind)
+    (same.reply, ap Some same.follows)
 
 -- ---- the line after a beginning
 
@@ -213,20 +210,20 @@ one-reply bytes a b (Some left) (Some rest) is valid e f =
 pub record HasFurther (xs us ys : List (List ℕ)) : Type 0 where
   pub text : List ℕ
   pub later : List (List ℕ)
-  pub behind : List (List ℕ)
+  pub follows : List (List ℕ)
   pub whole : ys ≡ xs ++ text ∷ later
-  pub rest : us ≡ text ∷ behind
+  pub rest : us ≡ text ∷ follows
 
 -- Where fewer lines and more begin one list, one more line stands after the fewer.
 pub further : (xs us ys vs : List (List ℕ)) → xs ++ us ≡ ys ++ vs → length xs < length ys → HasFurther xs us ys
 further [] us [] vs e less = absurd (omega (arith, less))
-further [] us (y ∷ ys) vs e less = record { text = y; later = ys; behind = ys ++ vs; whole = refl; rest = e }
+further [] us (y ∷ ys) vs e less = record { text = y; later = ys; follows = ys ++ vs; whole = refl; rest = e }
 further (x ∷ xs) us [] vs e less = absurd (omega (arith, less))
 further (x ∷ xs) us (y ∷ ys) vs e less =
     let head : x ≡ y = cc in
     let tail : xs ++ us ≡ ys ++ vs = cc in
     let more = further xs us ys vs tail (omega (arith, less)) in
-    record { text = more.text; later = more.later; behind = more.behind; whole = (λ i. sym head i ∷ more.whole i); rest = more.rest }
+    record { text = more.text; later = more.later; follows = more.follows; whole = (λ i. sym head i ∷ more.whole i); rest = more.rest }
 
 -- the text is that of such an item
 record StandsAt {A : Type 0} (P : A → Type 0) (f : A → List ℕ) (text : List ℕ) : Type 0 where
@@ -289,29 +286,15 @@ entry-at Receipts count distrusts whole content text later larger begun less wan
     let longer = more.1 in
     let many = length-map whole.records distrust_line in
     let many_too = length-map content.records distrust_line in
-    let behind =
+    let follows =
     (same-front (map distrust_line whole.records) (map distrust_line content.records) (map line whole.held)
     (map line content.held ++ text ∷ later) (omega (arith, many, many_too, same))
     (e ∙ append_assoc (map distrust_line content.records) (map line content.held) (text ∷ later))).1 in
     let few = length-map content.held line in
     let at = stands-at IsReceipt line whole.held [] (map line content.held) later text larger.valid.receipts
-    (append-nil (map line whole.held) ∙ behind) (omega (arith, few, longer)) in
+    (append-nil (map line whole.held) ∙ follows) (omega (arith, few, longer)) in
     (AReceipt at.it, record { is = at.is; spelt = at.spelt })
 entry-at Either count distrusts whole content text later larger begun less wants e = absurd wants
-
--- Each line is above the empty text, which stands for no line before.
-above-nothing : (entry : Entry) → IsAbove [] (entry_line entry)
-unfolding line distrust_line
-above-nothing (Record x) = refl
-above-nothing (AReceipt r) = refl
-
--- In lines that rise, each is above the last one before it.
-last-above : (before text : List ℕ) (xs later : List (List ℕ)) → text_cmp before text ≡ Less → IsStrictlySortedBy text_cmp (xs ++ text ∷ later)
-    → text_cmp (fold (λ (l : List ℕ) (line : List ℕ). line) before xs) text ≡ Less
-last-above before text [] later h rising = h
-last-above before text (x ∷ xs) later h rising =
-    last-above x text xs later (all_back (λ y. text_cmp x y ≡ Less) xs (text ∷ later)
-    (rising_head text_cmp x (xs ++ text ∷ later) rising)).0 (rising_tail text_cmp x (xs ++ text ∷ later) rising)
 
 -- It is the line after this beginning of the whole.
 pub record IsGood (whole content : State) (wanted : Wanted) (text : List ℕ) : Type 0 where
@@ -385,8 +368,8 @@ module _ (whole content : State) (count distrusts : ℕ) (rest after : List ℕ)
         entry = found.0;
         next = record {
           is = found.1;
-          above = last-above [] text (content_lines content) later
-              (subst (IsAbove []) (sym found.1.spelt) (above-nothing found.0))
+          above = last_above [] text (content_lines content) later
+              (subst (IsAbove []) (sym found.1.spelt) (above_nothing found.0))
               (subst (IsStrictlySortedBy text_cmp) lines part.larger.rising);
         };
         later = later;
@@ -400,7 +383,7 @@ module _ (whole content : State) (count distrusts : ℕ) (rest after : List ℕ)
   good-next wanted text (Some since) wants is =
       let more = next-line wanted wants in
       let lines = ap (λ (l : Lines). l.whole) (ap lines_of is.1 ∙ lines_of-line text since is.0) in
-      let heads : text ∷ (lines_of since).whole ≡ more.text ∷ more.behind = sym lines ∙ more.rest in
+      let heads : text ∷ (lines_of since).whole ≡ more.text ∷ more.follows = sym lines ∙ more.rest in
       let same : text ≡ more.text = cc in
       good-line wanted text more.later wants (more.whole ∙ ap (λ t. content_lines content ++ t ∷ more.later) (sym same))
 
@@ -408,7 +391,7 @@ module _ (whole content : State) (count distrusts : ℕ) (rest after : List ℕ)
   no-cut : (wanted : Wanted) → Wants count distrusts content wanted → HasNoLine (Some rest) → ⊥
   no-cut wanted wants none =
       let more = next-line wanted wants in
-      let nothing : [] ≡ more.text ∷ more.behind = sym (ap (λ (l : Lines). l.whole) (lines_of-rest rest none)) ∙ more.rest in
+      let nothing : [] ≡ more.text ∷ more.follows = sym (ap (λ (l : Lines). l.whole) (lines_of-rest rest none)) ∙ more.rest in
       cc
 
   module _ (refuses : Wanted → List ℕ → List ℕ → SyncError → Type 0) (e : SyncError)
@@ -438,10 +421,12 @@ module _ (expected : Option Expected) (bytes : List ℕ) (r : Reply) (after : Li
     (about : IsAbout expected r.bucket) (own : HasDigestOf (config_of expected) r.config)
     (begins : bytes ≡ reply_text r ++ after) where
   -- The stream has no fault of its first line.
-  bad-first : (new : Option (List ℕ)) (e : SyncError) → e ≢ NoMemory → HasBadFirstLine (RefusesTold expected) (Some bytes) new e → ⊥
+  bad-first : (new : Option (List ℕ)) (e : SyncError) → e ≢ NoMemory → HasBadFirstLine (RefusesGiveLine expected) (Some bytes) new e → ⊥
   bad-first new e ample h =
-      no-bad-head expected (told_text (told_of r)) (length r.content.held) (length r.content.records) e (heads-reply expected r is about own) ample
-      (first-cause (RefusesTold expected) bytes (told_text (told_of r)) _ new e (plain-told (told_of r) is.told) (in-lines bytes r after begins) h)
+      no-bad-head expected (give_header_text (give_header_of r)) (length r.content.held) (length r.content.records) e
+      (heads-reply expected r is about own) ample
+      (first-cause (RefusesGiveLine expected) bytes (give_header_text (give_header_of r)) _ new e (plain-give-header (give_header_of r) is.header)
+      (in-lines bytes r after begins) h)
 
   -- The first line is read, unless the source or memory fails.
   pub no-head-fault : (new : Option (List ℕ)) (e : SyncError) → e ≢ Io → e ≢ NoMemory → RefusesHead expected (Some bytes) new e → ⊥
@@ -451,7 +436,8 @@ module _ (expected : Option Expected) (bytes : List ℕ) (r : Reply) (after : Li
   no-head-fault new (NotCanonical n) calm ample h = h
   no-head-fault new (NotRising n) calm ample h = h
   no-head-fault new BadCount calm ample h = h
-  no-head-fault new Truncated calm ample h = no-first bytes (told_text (told_of r)) _ (plain-told (told_of r) is.told) (in-lines bytes r after begins) h
+  no-head-fault new Truncated calm ample h =
+      no-first bytes (give_header_text (give_header_of r)) _ (plain-give-header (give_header_of r) is.header) (in-lines bytes r after begins) h
   no-head-fault new (Refused n why) calm ample h = h
   no-head-fault new Io calm ample h = calm refl
   no-head-fault new NoMemory calm ample h = ample refl
@@ -461,26 +447,27 @@ module _ (expected : Option Expected) (bytes : List ℕ) (r : Reply) (after : Li
       → AnswerBegins expected (Some bytes) count distrusts content (Some rest)
       → IsPart r.content content count distrusts rest after
   is-part count distrusts content rest b =
-      let line = b.heads.tells.line in
-      let first = same-line bytes b.first (told_text (told_of r)) _ _
-      (subst HasNoFeed (sym line.spelt) (plain-told b.heads.told line.is)) (plain-told (told_of r) is.told)
+      let line = b.heads.wanted.line in
+      let first = same-line bytes b.first (give_header_text (give_header_of r)) _ _
+      (subst HasNoFeed (sym line.spelt) (plain-give-header b.heads.header line.is)) (plain-give-header (give_header_of r) is.header)
       (b.text ∙ append_assoc (ended b.first) (text_of_lines (content_lines content)) rest) (in-lines bytes r after begins) in
-      let told : b.heads.told ≡ told_of r = one-told b.first b.heads.told (told_of r) line (record { is = is.told; spelt = first.line }) in
+      let header : b.heads.header ≡ give_header_of r =
+      one-give-header b.first b.heads.header (give_header_of r) line (record { is = is.header; spelt = first.line }) in
       record {
         begun = b.begun;
-        receipts = b.heads.receipts ∙ ap (λ (t : GiveHeader). t.count) told;
-        records = some-once distrusts (length r.content.records) (b.heads.records ∙ ap (λ (t : GiveHeader). t.distrusts) told);
+        receipts = b.heads.receipts ∙ ap (λ (t : GiveHeader). t.count) header;
+        records = some-once distrusts (length r.content.records) (b.heads.records ∙ ap (λ (t : GiveHeader). t.distrusts) header);
         lines = same-lines content r.content rest after b.begun.valid is.valid first.rest;
       }
 
   -- Nothing is wrong after a good beginning.
-  pub no-fault-behind : (refuses : Wanted → List ℕ → List ℕ → SyncError
+  pub no-fault-after : (refuses : Wanted → List ℕ → List ℕ → SyncError
       → Type 0) (count distrusts : ℕ) (content : State) (left new : Option (List ℕ)) (e : SyncError)
       → ((wanted : Wanted) (text : List ℕ) → IsGood r.content content wanted text → refuses wanted (last_of (content_lines content)) text e → ⊥)
       → e ≢ Io → e ≢ NoMemory → AnswerBegins expected (Some bytes) count distrusts content left
       → RefusesNextEntry refuses count distrusts content left new e → ⊥
-  no-fault-behind refuses count distrusts content None new e welcome calm ample b h = b.text
-  no-fault-behind refuses count distrusts content (Some rest) new e welcome calm ample b h =
+  no-fault-after refuses count distrusts content None new e welcome calm ample b h = b.text
+  no-fault-after refuses count distrusts content (Some rest) new e welcome calm ample b h =
       no-next-fault r.content content count distrusts rest after
       (shorter-part r.content content count distrusts rest after is.valid is.rising (is-part count distrusts content rest b)) refuses new e welcome calm ample h
 
@@ -506,7 +493,7 @@ whole-read : (bytes : List ℕ) (r : Reply) (after : List ℕ) (new : Option (Li
     → e ≢ NoMemory → bytes ≡ reply_text r ++ after → RefusesGive (Some bytes) new e → ⊥
 whole-read bytes r after new e is calm ample begins (inl head) = no-head-fault None bytes r after is tt tt begins new e calm ample head
 whole-read bytes r after new e is calm ample begins (inr fault) =
-    no-fault-behind None bytes r after is tt tt begins (refused_text fault.content) fault.count fault.distrusts fault.content fault.left new e
+    no-fault-after None bytes r after is tt tt begins (refused_text fault.content) fault.count fault.distrusts fault.content fault.left new e
     (λ wanted text. no-text-fault r.content fault.content wanted text e ample) calm ample fault.begins fault.cause
 
 -- The clause `read` of the law on answers: a stream that begins with an answer has no fault before

@@ -32,14 +32,14 @@ no-records text rest more e f = let no : 100 ≡ 102 = sym (ap (λ (t : List ℕ
 
 -- Where the label of records comes next, the number that was read after it is the number of
 -- records.
-pub some-records : (text rest behind : List ℕ) (number : ℕ) → text ≡ records_label ++ rest
+pub some-records : (text rest follows : List ℕ) (number : ℕ) → text ≡ records_label ++ rest
     → ((n stop : ℕ) (more : List ℕ) → n < 2 ^ 64 → is_ascii_digit stop ≡ false
-    → text ≡ records_label ++ (decimal n ++ (stop ∷ more)) → (number ≡ n) × (behind ≡ stop ∷ more))
+    → text ≡ records_label ++ (decimal n ++ (stop ∷ more)) → (number ≡ n) × (follows ≡ stop ∷ more))
     → (distrusts : Option ℕ) (more : List ℕ) → IfSome distrusts (λ n. n < 2 ^ 64)
     → text ≡ distrusts_part distrusts ++ (format_label ++ more)
-    → (Some number ≡ distrusts) × (behind ≡ format_label ++ more)
-some-records text rest behind number begins right None more few e = absurd (no-records text rest more begins e)
-some-records text rest behind number begins right (Some n) more few e =
+    → (Some number ≡ distrusts) × (follows ≡ format_label ++ more)
+some-records text rest follows number begins right None more few e = absurd (no-records text rest more begins e)
+some-records text rest follows number begins right (Some n) more few e =
     let parts = right n 44 (drop 1 (format_label ++ more)) few refl (e ∙ append_assoc records_label (decimal n) (format_label ++ more)) in
     (ap Some parts.0, parts.1)
 

@@ -6,23 +6,23 @@ use Rattle.replica_sync.specs.Messages.{Asked, asked_text, quoted}
 use Rattle.replica_sync.specs.FirstLines.{IsAsked}
 
 -- what stands after the list of ids
-abbrev pub behind_ids : Asked → List ℕ
-behind_ids a = codes ",\"of\":" ++ (decimal a.buckets ++ (125 ∷ []))
+abbrev pub after_ids : Asked → List ℕ
+after_ids a = codes ",\"of\":" ++ (decimal a.buckets ++ (125 ∷ []))
 
 -- what stands after the format
-abbrev pub behind_format : Asked → List ℕ
-behind_format a = codes "\"have\":[" ++ (join_by quoted (codes ",") a.question.ids ++ (93 ∷ behind_ids a))
+abbrev pub after_format : Asked → List ℕ
+after_format a = codes "\"have\":[" ++ (join_by quoted (codes ",") a.question.ids ++ (93 ∷ after_ids a))
 
 -- what stands after the digest
-abbrev pub behind_config : Asked → List ℕ
-behind_config a = codes "\",\"format\":" ++ (decimal a.format ++ (44 ∷ behind_format a))
+abbrev pub after_config : Asked → List ℕ
+after_config a = codes "\",\"format\":" ++ (decimal a.format ++ (44 ∷ after_format a))
 
 -- what stands after the bucket
-abbrev pub behind_bucket : Asked → List ℕ
-behind_bucket a = codes "\"config\":\"" ++ (encode_lower a.question.config ++ behind_config a)
+abbrev pub after_bucket : Asked → List ℕ
+after_bucket a = codes "\"config\":\"" ++ (encode_lower a.question.config ++ after_config a)
 
 -- The line of a question, in the parts in which it is read.
-pub whole-line : (text : List ℕ) (a : Asked) → text ≡ asked_text a → text ≡ codes "{\"bucket\":" ++ (decimal a.question.bucket ++ (44 ∷ behind_bucket a))
+pub whole-line : (text : List ℕ) (a : Asked) → text ≡ asked_text a → text ≡ codes "{\"bucket\":" ++ (decimal a.question.bucket ++ (44 ∷ after_bucket a))
 unfolding asked_text
 whole-line text a e = e
 

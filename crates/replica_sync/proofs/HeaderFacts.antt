@@ -17,8 +17,8 @@ abbrev second_label : List ℕ
 second_label = codes "\",\"format\":"
 
 -- what stands after the digits of the digest
-abbrev behind_digits : List ℕ → List ℕ
-behind_digits number = second_label ++ (number ++ codes "}")
+abbrev after_digits : List ℕ → List ℕ
+after_digits number = second_label ++ (number ++ codes "}")
 
 -- What was written piece by piece is a first line.
 pub header_pushed : (t0 t1 t2 t3 t4 t5 digits number : List ℕ) → t0 ≡ [] → t1 ≡ t0 ++ first_label → t2 ≡ t1 ++ digits
@@ -36,40 +36,40 @@ count_pushed format t0 t1 t2 t3 t4 receipts records e0 e1 e2 e3 e4 = rw (e4, e3,
 -- ---- what a split text has after each part
 
 -- After the first label stand the digits and what follows them.
-pub behind_first : (text rest digits number : List ℕ) → text ≡ first_label ++ rest → IsSplit text digits number → rest ≡ digits ++ behind_digits number
+pub after_first : (text rest digits number : List ℕ) → text ≡ first_label ++ rest → IsSplit text digits number → rest ≡ digits ++ after_digits number
 unfolding header_of
-behind_first text rest digits number e s = append_cancel_left first_label rest (digits ++ behind_digits number) (sym e ∙ s.whole)
+after_first text rest digits number e s = append_cancel_left first_label rest (digits ++ after_digits number) (sym e ∙ s.whole)
 
 -- A text that has the parts begins with the first label.
-pub has_first : (text digits number : List ℕ) → IsSplit text digits number → text ≡ first_label ++ (digits ++ behind_digits number)
+pub has_first : (text digits number : List ℕ) → IsSplit text digits number → text ≡ first_label ++ (digits ++ after_digits number)
 unfolding header_of
 has_first text digits number s = s.whole
 
 -- After the first label at least 64 bytes stand.
 pub long_rest : (text rest digits number : List ℕ) → text ≡ first_label ++ rest → length rest < 64 → IsSplit text digits number → ⊥
 long_rest text rest digits number e l s =
-    let whole : length rest ≡ length (digits ++ behind_digits number) = ap length (behind_first text rest digits number e s) in
-    let parts : length (digits ++ behind_digits number) ≡ length digits + length (behind_digits number) = length-append digits (behind_digits number) in
+    let whole : length rest ≡ length (digits ++ after_digits number) = ap length (after_first text rest digits number e s) in
+    let parts : length (digits ++ after_digits number) ≡ length digits + length (after_digits number) = length-append digits (after_digits number) in
     omega (arith, s.size)
 
 -- The first 64 bytes after the first label are the digits.
-pub told_digits : (text rest digits number : List ℕ) → text ≡ first_label ++ rest → IsSplit text digits number → take 64 rest ≡ digits
-told_digits text rest digits number e s =
-    ap (take 64) (behind_first text rest digits number e s)
-    ∙ ap (λ n. take n (digits ++ behind_digits number)) (sym s.size)
-    ∙ take-append_seam digits (behind_digits number)
+pub split_digits_are : (text rest digits number : List ℕ) → text ≡ first_label ++ rest → IsSplit text digits number → take 64 rest ≡ digits
+split_digits_are text rest digits number e s =
+    ap (take 64) (after_first text rest digits number e s)
+    ∙ ap (λ n. take n (digits ++ after_digits number)) (sym s.size)
+    ∙ take-append_seam digits (after_digits number)
 
 -- After the digits stands the second label.
-pub behind_second : (text rest digits number : List ℕ) → text ≡ first_label ++ rest → IsSplit text digits number → drop 64 rest ≡ behind_digits number
-behind_second text rest digits number e s =
-    ap (drop 64) (behind_first text rest digits number e s)
-    ∙ ap (λ n. drop n (digits ++ behind_digits number)) (sym s.size)
-    ∙ drop-append_seam digits (behind_digits number)
+pub after_second : (text rest digits number : List ℕ) → text ≡ first_label ++ rest → IsSplit text digits number → drop 64 rest ≡ after_digits number
+after_second text rest digits number e s =
+    ap (drop 64) (after_first text rest digits number e s)
+    ∙ ap (λ n. drop n (digits ++ after_digits number)) (sym s.size)
+    ∙ drop-append_seam digits (after_digits number)
 
 -- After the second label stand the number and the closing brace.
-pub behind_third : (text rest last digits number : List ℕ) → text ≡ first_label ++ rest
+pub after_third : (text rest last digits number : List ℕ) → text ≡ first_label ++ rest
     → drop 64 rest ≡ second_label ++ last → IsSplit text digits number → last ≡ number ++ codes "}"
-behind_third text rest last digits number e f s = append_cancel_left second_label last (number ++ codes "}") (sym f ∙ behind_second text rest digits number e s)
+after_third text rest last digits number e f s = append_cancel_left second_label last (number ++ codes "}") (sym f ∙ after_second text rest digits number e s)
 
 -- A text that was taken apart so has these parts.
 pub split_whole : (text rest last number : List ℕ) → text ≡ first_label ++ rest → 64 ≤ length rest
@@ -86,9 +86,9 @@ split_whole text rest last number e l f g = record {
 pub one_split : (text d n d' n' : List ℕ) → IsSplit text d n → IsSplit text d' n' → (d ≡ d') × (n ≡ n')
 one_split text d n d' n' s t =
     let e = has_first text d n s in
-    let digits : d ≡ d' = sym (told_digits text (d ++ behind_digits n) d n e s) ∙ told_digits text (d ++ behind_digits n) d' n' e t in
-    let tails : behind_digits n ≡ behind_digits n' =
-    sym (behind_second text (d ++ behind_digits n) d n e s) ∙ behind_second text (d ++ behind_digits n) d' n' e t in
+    let digits : d ≡ d' = sym (split_digits_are text (d ++ after_digits n) d n e s) ∙ split_digits_are text (d ++ after_digits n) d' n' e t in
+    let tails : after_digits n ≡ after_digits n' =
+    sym (after_second text (d ++ after_digits n) d n e s) ∙ after_second text (d ++ after_digits n) d' n' e t in
     (digits, append_cancel_right n n' (codes "}") (append_cancel_left second_label (n ++ codes "}") (n' ++ codes "}") tails))
 
 -- A first line has its parts.

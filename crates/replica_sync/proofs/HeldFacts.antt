@@ -17,7 +17,7 @@ use Rattle.receipt_core.proofs.RisingFacts.{turned}
 use Rattle.replica_sync.specs.Inside.EntrySteps.{TakesEntryText}
 use Rattle.replica_sync.specs.Entries.{IsAbove, IsWanted, entry_line}
 use Rattle.replica_core.specs.Absorbing.{with_entry}
-use Rattle.replica_sync.specs.Snapshots.{IsTold, held_lines, last_of, last_line, wanted_of}
+use Rattle.replica_sync.specs.Snapshots.{FitsFormat, held_lines, last_of, last_line, wanted_of}
 use Rattle.replica_sync.specs.Inside.Reading.{IsFurther}
 use Rattle.replica_core.specs.declared.entry.Entry.{Entry}
 use Rattle.replica_core.specs.declared.entry.Entry.TheVariants.{Record, Receipt as AReceipt}
@@ -152,18 +152,18 @@ module _ (total : IsTotalOrder receipt_cmp) (records_total : IsTotalOrder distru
       ∙ ap (λ held. (map distrust_line m.records ++ map line held) ++ distrust_line x ∷ []) (sym joins.1)
 
   -- One receipt more leaves the first format without records.
-  told_still : (format : Format) (m : Meaning) (r : Receipt) → IsTold format m → IsTold format (with_entry (AReceipt r) m)
-  told_still First m r told = told
-  told_still Second m r told = tt
+  fits_still : (format : Format) (m : Meaning) (r : Receipt) → FitsFormat format m → FitsFormat format (with_entry (AReceipt r) m)
+  fits_still First m r fits = fits
+  fits_still Second m r fits = tt
 
   -- A receipt whose line is above the last one is the next line of what is held.
-  further_receipt : (format : Format) (m : Meaning) (r : Receipt) → IsMeaning m → IsTold format m → IsReceipt r
+  further_receipt : (format : Format) (m : Meaning) (r : Receipt) → IsMeaning m → FitsFormat format m → IsReceipt r
       → IsAbove (last_line m) (line r) → IsFurther format m (line r) (with_entry (AReceipt r) m)
-  further_receipt format m r valid told is above =
+  further_receipt format m r valid fits is above =
       let longer : length (with_item receipt_cmp r m.held) ≡ length m.held + 1 = ap length (receipt_joins m r valid is above) ∙ length-append m.held (r ∷ []) in
       record {
         of_config = refl;
-        told = told_still format m r told;
+        fits = fits_still format m r fits;
         lines = lines_with_receipt m r valid is above;
         number = omega (arith, longer);
       }
@@ -176,26 +176,26 @@ module _ (total : IsTotalOrder receipt_cmp) (records_total : IsTotalOrder distru
       ap length (record_joins m x valid is above).0 ∙ length-append m.records (x ∷ []) in
       record {
         of_config = refl;
-        told = tt;
+        fits = tt;
         lines = lines_with_record m x valid is above;
         number = omega (arith, longer);
       }
 
   -- An entry of the format whose line is above the last one is the next line of what is held.
-  further_entry : (format : Format) (m : Meaning) (entry : Entry) → IsMeaning m → IsTold format m
+  further_entry : (format : Format) (m : Meaning) (entry : Entry) → IsMeaning m → FitsFormat format m
       → IsWanted (wanted_of format) entry → IsAbove (last_line m) (entry_line entry)
       → IsFurther format m (entry_line entry) (with_entry entry m)
-  further_entry First m (Record x) valid told is above = absurd is
-  further_entry First m (AReceipt r) valid told is above = further_receipt First m r valid told is above
-  further_entry Second m (Record x) valid told is above = further_record m x valid is above
-  further_entry Second m (AReceipt r) valid told is above = further_receipt Second m r valid told is above
+  further_entry First m (Record x) valid fits is above = absurd is
+  further_entry First m (AReceipt r) valid fits is above = further_receipt First m r valid fits is above
+  further_entry Second m (Record x) valid fits is above = further_record m x valid is above
+  further_entry Second m (AReceipt r) valid fits is above = further_receipt Second m r valid fits is above
 
   -- A line that was read and taken is the next line of what is held.
-  pub further : (format : Format) (m new : Meaning) (text : List ℕ) (count : ℕ) → IsMeaning m → IsTold format m
+  pub further : (format : Format) (m new : Meaning) (text : List ℕ) (count : ℕ) → IsMeaning m → FitsFormat format m
       → TakesEntryText (wanted_of format) m (last_line m) text new count → IsFurther format m text new
-  further format m new text count valid told taken =
+  further format m new text count valid fits taken =
       let spelt = taken.next.is.spelt in
       let same = taken.taken.meaning in
       subst (λ t. IsFurther format m t new) (sym spelt)
       (subst (λ n. IsFurther format m (entry_line taken.entry) n) (sym same)
-      (further_entry format m taken.entry valid told taken.next.is.is (subst (IsAbove (last_line m)) spelt taken.next.above)))
+      (further_entry format m taken.entry valid fits taken.next.is.is (subst (IsAbove (last_line m)) spelt taken.next.above)))

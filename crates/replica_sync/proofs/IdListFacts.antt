@@ -14,6 +14,7 @@ use Rattle.spiffe_name.specs.Bytes.{FirstFails}
 use Rattle.receipt_core.specs.Receipt.{IsDigest}
 use Rattle.receipt_core.proofs.HexFacts.{length-encode_lower}
 use Rattle.receipt_core.specs.declared.receipt_id.ReceiptId.{ReceiptId}
+use Rattle.replica_core.proofs.RisingListFacts.{all_append}
 use Rattle.replica_sync.specs.Messages.{quoted}
 use Rattle.replica_sync.specs.Inside.IdList.{TakesId, is_inside}
 use Rattle.replica_sync.proofs.PieceFacts.{bytes_of}
@@ -33,8 +34,8 @@ bracket-fails : (b : ℕ) → b ≡ 93 → is_inside b ≡ true → ⊥
 bracket-fails b e passes = let no : is_inside 93 ≡ true = subst (λ x. is_inside x ≡ true) e passes in cc
 
 -- The first byte that is not inside is not after the bracket.
-not_behind : (front rest : List ℕ) (place : ℕ) → FirstFails is_inside (front ++ 93 ∷ rest) place → length front < place → ⊥
-not_behind front rest place first more =
+not_after : (front rest : List ℕ) (place : ℕ) → FirstFails is_inside (front ++ 93 ∷ rest) place → length front < place → ⊥
+not_after front rest place first more =
     let text = front ++ 93 ∷ rest in
     let within : place < length text = first.within in
     let size : length (take place text) ≡ place = length-take place text ∙ omega arith in
@@ -47,7 +48,7 @@ seam : (text front rest : List ℕ) (place : ℕ) → AllPass is_inside front �
 seam text front rest place plain e first =
     let here = subst (λ t. FirstFails is_inside t place) e first in
     let low : (place < length front) → ⊥ = not_before front rest place plain here in
-    let high : (length front < place) → ⊥ = not_behind front rest place here in
+    let high : (length front < place) → ⊥ = not_after front rest place here in
     omega arith
 
 -- A text with a bracket is not all inside.
@@ -131,8 +132,8 @@ inside_ids ids h = All-from_recursion (λ b. is_inside b ≡ true) (join_by quot
 pub length-quoted : (id : List ℕ) → IsDigest id → length (quoted id) ≡ 66
 length-quoted id is =
     let size = length-encode_lower id is in
-    let behind = length-append (encode_lower id) (34 ∷ []) in
-    omega (arith, size, behind)
+    let follows = length-append (encode_lower id) (34 ∷ []) in
+    omega (arith, size, follows)
 
 -- where there is an id, it is long enough and begins with a quotation mark
 pub none-short : (text : List ℕ) (ids : List (List ℕ)) → AllByRecursion IsDigest ids
@@ -158,13 +159,13 @@ without-comma (id ∷ ids) = refl
 pub some-first : (text first rest digest : List ℕ) (ids : List (List ℕ)) (found : ReceiptId) (back : Bor (List ℕ))
     → AllByRecursion IsDigest ids → text ≡ join_by quoted (codes ",") ids → 66 ≤ length text
     → first ≡ take 66 text → rest ≡ drop 66 text
-    → ((d behind : List ℕ) → IsDigest d
-    → first ≡ codes "\"" ++ (encode_lower d ++ behind) → digest ≡ d) → found.0 ≡ digest → back.now ≡ drop 1 rest
+    → ((d follows : List ℕ) → IsDigest d
+    → first ≡ codes "\"" ++ (encode_lower d ++ follows) → digest ≡ d) → found.0 ≡ digest → back.now ≡ drop 1 rest
     → TakesId ids (Some (found, back))
-some-first text first rest digest [] found back h e long f r told same b = absurd (omega (arith, long, ap length e))
-some-first text first rest digest (id ∷ ids) found back h e long f r told same b =
+some-first text first rest digest [] found back h e long f r exact same b = absurd (omega (arith, long, ap length e))
+some-first text first rest digest (id ∷ ids) found back h e long f r exact same b =
     let parts = parted text (quoted id) (later_text ids) 66 e (sym (length-quoted id h.0)) in
-    (same ∙ told id (codes "\"") h.0 (f ∙ parts.0), b ∙ ap (drop 1) (r ∙ parts.1) ∙ without-comma ids)
+    (same ∙ exact id (codes "\"") h.0 (f ∙ parts.0), b ∙ ap (drop 1) (r ∙ parts.1) ∙ without-comma ids)
 
 -- ---- the ids so far
 
@@ -204,13 +205,9 @@ lists-more text rest ids more found back lists takes e = λ wanted digests spelt
     subst (λ taken. IsRest wanted taken back.now) (sym (ap (map bytes_of) e ∙ map-append bytes_of ids (found ∷ [])))
     (more-of wanted (map bytes_of ids) so_far.others rest found back so_far.digests so_far.parts (takes so_far.others so_far.digests so_far.listed))
 
--- Digests after digests are digests.
-all_both : (xs ys : List (List ℕ)) → AllByRecursion IsDigest xs → AllByRecursion IsDigest ys → AllByRecursion IsDigest (xs ++ ys)
-all_both [] ys h k = k
-all_both (x ∷ xs) ys h k = (h.0, all_both xs ys h.1 k)
-
 -- With one digest more at the end, all ids that were taken are digests.
 pub digests-more : (ids more : List ReceiptId) (found : ReceiptId) → AllByRecursion IsDigest (map bytes_of ids)
     → IsDigest found.0 → more ≡ ids ++ found ∷ [] → AllByRecursion IsDigest (map bytes_of more)
 digests-more ids more found h is e =
-    subst (AllByRecursion IsDigest) (sym (ap (map bytes_of) e ∙ map-append bytes_of ids (found ∷ []))) (all_both (map bytes_of ids) (found.0 ∷ []) h (is, tt))
+    subst (AllByRecursion IsDigest) (sym (ap (map bytes_of) e ∙ map-append bytes_of ids (found ∷ [])))
+    (all_append IsDigest (map bytes_of ids) (found.0 ∷ []) h (is, tt))

@@ -15,7 +15,7 @@ use Rattle.closure_core.specs.declared.error.TakeError.{TakeError}
 use Rattle.closure_core.specs.declared.error.TakeError.TheVariants.{UnknownDomain, WrongEndpoint, Full, NoMemory as NoTakeMemory, ConfigDiffers as OtherConfig}
 use Rattle.replica_sync.specs.Entries.{IsAbove, IsEntry, IsWanted, entry_line}
 use Rattle.replica_core.specs.Absorbing.{RefusesEntry}
-use Rattle.replica_sync.specs.Snapshots.{IsTold, RefusesPlace, held_lines, last_line, wanted_of}
+use Rattle.replica_sync.specs.Snapshots.{FitsFormat, RefusesPlace, held_lines, last_line, wanted_of}
 use Rattle.replica_core.specs.declared.entry.Entry.{Entry}
 use Rattle.replica_core.specs.declared.entry.Entry.TheVariants.{Record, Receipt as AReceipt}
 use Rattle.replica_sync.specs.declared.entry_line.Wanted.TheVariants.{Either}
@@ -125,13 +125,13 @@ no_fault_of_good format m text NoMemory good ample h = ample refl
 -- ---- a line of what is held is good
 
 -- Each line is above the empty text, which stands for no line before.
-above_nothing : (entry : Entry) → IsAbove [] (entry_line entry)
+pub above_nothing : (entry : Entry) → IsAbove [] (entry_line entry)
 unfolding line distrust_line
 above_nothing (Record x) = refl
 above_nothing (AReceipt r) = refl
 
 -- In lines that rise, each is above the last one before it.
-last_above : (before text : List ℕ) (xs later : List (List ℕ)) → text_cmp before text ≡ Less → IsStrictlySortedBy text_cmp (xs ++ text ∷ later)
+pub last_above : (before text : List ℕ) (xs later : List (List ℕ)) → text_cmp before text ≡ Less → IsStrictlySortedBy text_cmp (xs ++ text ∷ later)
     → text_cmp (fold (λ (l : List ℕ) (line : List ℕ). line) before xs) text ≡ Less
 last_above before text [] later h rising = h
 last_above before text (x ∷ xs) later h rising =
@@ -183,11 +183,11 @@ welcome_receipt m k r later NoTakeMemory is valid same more ample h = ample refl
 welcome_receipt m k r later OtherConfig is valid same more ample h = h
 
 -- A record's line may stand in a format that has records.
-wanted_record : (format : Format) (m : Meaning) (ys later : List Distrust) (x : Distrust) → IsTold format m
+wanted_record : (format : Format) (m : Meaning) (ys later : List Distrust) (x : Distrust) → FitsFormat format m
     → m.records ≡ ys ++ x ∷ later → IsDistrust x → IsWanted (wanted_of format) (Record x)
-wanted_record First m [] later x told more is = absurd (cc)
-wanted_record First m (y ∷ ys) later x told more is = absurd (cc)
-wanted_record Second m ys later x told more is = is
+wanted_record First m [] later x fits more is = absurd (cc)
+wanted_record First m (y ∷ ys) later x fits more is = absurd (cc)
+wanted_record Second m ys later x fits more is = is
 
 -- A receipt's line may stand in each format.
 wanted_receipt : (format : Format) (r : Receipt) → IsReceipt r → IsWanted (wanted_of format) (AReceipt r)
@@ -195,14 +195,14 @@ wanted_receipt First r is = is
 wanted_receipt Second r is = is
 
 -- The line of the next record is good.
-good_record : (format : Format) (m k : Meaning) (text : List ℕ) (later : List (List ℕ)) → IsMeaning m → IsTold format m
+good_record : (format : Format) (m k : Meaning) (text : List ℕ) (later : List (List ℕ)) → IsMeaning m → FitsFormat format m
     → k.config ≡ m.config → held_lines m ≡ held_lines k ++ text ∷ later
     → IsNextRecord m.records k.records text → IsGood format k text
-good_record format m k text later valid told same e next =
+good_record format m k text later valid fits same e next =
     let is : IsDistrust next.it = (all_back IsDistrust k.records (next.it ∷ next.later) (subst (AllByRecursion IsDistrust) next.more valid.distrusts)).0 in
     record {
       entry = Record next.it;
-      is = record { is = wanted_record format m k.records next.later next.it told next.more is; spelt = next.spelt };
+      is = record { is = wanted_record format m k.records next.later next.it fits next.more is; spelt = next.spelt };
       above = rises m k text later valid e (subst (IsAbove []) (sym next.spelt) (above_nothing (Record next.it)));
       short = elim (cases_lt 346 (length text)) [
         | inl long ↦ absurd (no_long_record text long next.it (record { is = is; text = next.spelt }))
@@ -229,10 +229,10 @@ good_receipt format m k text later configured valid same e next =
 
 -- A line that is held after all those of another meaning has no fault there.
 pub no_fault_of_held : (format : Format) (m k : Meaning) (text : List ℕ) (later : List (List ℕ)) (e : SyncError)
-    → IsConfiguration k.config → IsMeaning m → IsMeaning k → IsTold format m → k.config ≡ m.config
+    → IsConfiguration k.config → IsMeaning m → IsMeaning k → FitsFormat format m → k.config ≡ m.config
     → held_lines m ≡ held_lines k ++ text ∷ later → e ≢ NoMemory → RefusesPlace format k text e → ⊥
-no_fault_of_held format m k text later e configured valid other told same lines ample h =
+no_fault_of_held format m k text later e configured valid other fits same lines ample h =
     elim (next_held m.records k.records m.held k.held text later valid.distrusts other.distrusts valid.receipts other.receipts lines) [
-      | inl next ↦ no_fault_of_good format k text e (good_record format m k text later valid told same lines next) ample h
+      | inl next ↦ no_fault_of_good format k text e (good_record format m k text later valid fits same lines next) ample h
       | inr next ↦ no_fault_of_good format k text e (good_receipt format m k text later configured valid same lines next) ample h
     ]

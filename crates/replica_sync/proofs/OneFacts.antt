@@ -17,6 +17,7 @@ use Rattle.receipt_core.specs.Acceptance.{Meaning, IsMeaning}
 use Rattle.byte_lines.specs.Lines.{Lines, lines_of, with_line}
 use Rattle.byte_lines.proofs.StreamFacts.{lines_of-line}
 use Rattle.receipt_core.proofs.LineFacts.{one_line, one_record, record_first}
+use Rattle.replica_core.proofs.RisingListFacts.{all_append}
 use Rattle.replica_sync.specs.Snapshots.{IsSnapshot, header_line, header_of, digits_of, count_line, count_of, count_beginning, records_part, ended}
 use Rattle.replica_sync.specs.Snapshots.{text_of_lines, held_lines, snapshot_text}
 use Rattle.replica_sync.specs.declared.format.Format.{Format}
@@ -93,15 +94,10 @@ snapshot_lines format m =
 -- ---- the last line and the first
 
 -- Where no item's text has a line feed, no line of the list has.
-feedless_all : {A : Type 0} (P : A → Type 0) (text : A → List ℕ) → ((a : A) → P a → Feedless (text a)) → (xs : List A)
+pub feedless_all : {A : Type 0} (P : A → Type 0) (text : A → List ℕ) → ((a : A) → P a → Feedless (text a)) → (xs : List A)
     → AllByRecursion P xs → AllByRecursion Feedless (map text xs)
 feedless_all P text each [] h = tt
 feedless_all P text each (x ∷ xs) h = (each x h.0, feedless_all P text each xs h.1)
-
--- Lines without line feeds after others have none.
-all_both : (xs ys : List (List ℕ)) → AllByRecursion Feedless xs → AllByRecursion Feedless ys → AllByRecursion Feedless (xs ++ ys)
-all_both [] ys h k = k
-all_both (x ∷ xs) ys h k = (h.0, all_both xs ys h.1 k)
 
 -- The part on records has no line feed.
 feedless_records_part : (format : Format) (records : ℕ) → records < 2 ^ 64 → Feedless (records_part format records)
@@ -164,14 +160,14 @@ feedless_count format receipts records h k =
 -- No line of what is held has a line feed.
 pub feedless_held : (m : Meaning) → IsMeaning m → AllByRecursion Feedless (held_lines m)
 feedless_held m valid =
-    all_both (map distrust_line m.records) (map line m.held)
+    all_append Feedless (map distrust_line m.records) (map line m.held)
     (feedless_all IsDistrust distrust_line (λ x h. feedless_record x) m.records valid.distrusts)
     (feedless_all IsReceipt line feedless_line m.held valid.receipts)
 
 -- No line after the first has a line feed.
-pub feedless_behind : (format : Format) (m : Meaning) → IsMeaning m → AllByRecursion Feedless (held_lines m ++ count_line format m ∷ [])
-feedless_behind format m valid =
-    all_both (held_lines m) (count_line format m ∷ []) (feedless_held m valid)
+pub feedless_after : (format : Format) (m : Meaning) → IsMeaning m → AllByRecursion Feedless (held_lines m ++ count_line format m ∷ [])
+feedless_after format m valid =
+    all_append Feedless (held_lines m) (count_line format m ∷ []) (feedless_held m valid)
     (feedless_count format (length m.held) (length m.records) (omega (arith, valid.few)) (omega (arith, valid.few_records)), tt)
 
 -- The pieces of a first line with its line feed, in other brackets.
@@ -186,29 +182,26 @@ formats_apart digits rest other e =
     let b = codes "\",\"format\":" in
     let tail : List ℕ → List ℕ = λ r. codes "}" ++ ((10 ∷ []) ++ r) in
     let both = sym (regrouped a digits b (decimal 1) (codes "}") rest) ∙ e ∙ regrouped a digits b (decimal 2) (codes "}") other in
-    let behind = append_cancel_left digits (b ++ (decimal 1 ++ tail rest)) (b ++ (decimal 2 ++ tail other))
+    let follows = append_cancel_left digits (b ++ (decimal 1 ++ tail rest)) (b ++ (decimal 2 ++ tail other))
     (append_cancel_left a (digits ++ (b ++ (decimal 1 ++ tail rest))) (digits ++ (b ++ (decimal 2 ++ tail other)))
     both) in
-    let numbers : decimal 1 ++ tail rest ≡ decimal 2 ++ tail other = append_cancel_left b (decimal 1 ++ tail rest) (decimal 2 ++ tail other) behind in
+    let numbers : decimal 1 ++ tail rest ≡ decimal 2 ++ tail other = append_cancel_left b (decimal 1 ++ tail rest) (decimal 2 ++ tail other) follows in
     let heads : 49 ∷ tail rest ≡ 50 ∷ tail other =
     ap (λ n. n ++ tail rest) (sym (decimal_digit 1 (omega arith))) ∙ numbers
     ∙ ap (λ n. n ++ tail other) (decimal_digit 2 (omega arith)) in
     let no : 49 ≡ 50 = ap (λ (xs : List ℕ). get_or xs 0 0) heads in
     omega (arith, no)
 
+-- The empty list is not one with an item in it.
+pub no_end : (ys : List (List ℕ)) (b : List ℕ) (zs : List (List ℕ)) → [] ≡ ys ++ b ∷ zs → ⊥
+no_end [] b zs e = cc
+no_end (y ∷ ys) b zs e = cc
+
 -- Lists with one more item each that are equal are equal without it.
 front_same : (xs ys : List (List ℕ)) (a b : List ℕ) → xs ++ a ∷ [] ≡ ys ++ b ∷ [] → xs ≡ ys
 front_same [] [] a b e = refl
-front_same [] (y ∷ ys) a b e = let none : [] ≡ ys ++ b ∷ [] = cc in absurd (no_end ys b none)
-  where
-    no_end : (ys : List (List ℕ)) (b : List ℕ) → [] ≡ ys ++ b ∷ [] → ⊥
-    no_end [] b e = cc
-    no_end (y ∷ ys) b e = cc
-front_same (x ∷ xs) [] a b e = let none : [] ≡ xs ++ a ∷ [] = cc in absurd (no_end xs a none)
-  where
-    no_end : (ys : List (List ℕ)) (b : List ℕ) → [] ≡ ys ++ b ∷ [] → ⊥
-    no_end [] b e = cc
-    no_end (y ∷ ys) b e = cc
+front_same [] (y ∷ ys) a b e = let none : [] ≡ ys ++ b ∷ [] = cc in absurd (no_end ys b [] none)
+front_same (x ∷ xs) [] a b e = let none : [] ≡ xs ++ a ∷ [] = cc in absurd (no_end xs a [] none)
 front_same (x ∷ xs) (y ∷ ys) a b e =
     let head : x ≡ y = cc in
     let tail : xs ++ a ∷ [] ≡ ys ++ b ∷ [] = cc in
@@ -217,26 +210,26 @@ front_same (x ∷ xs) (y ∷ ys) a b e =
 -- A snapshot of one format is that of one meaning.
 one_format : (format : Format) (m n : Meaning) → m.config ≡ n.config → IsMeaning m → IsMeaning n → snapshot_text format m ≡ snapshot_text format n → m ≡ n
 one_format format m n same p q e =
-    let behind = λ (k : Meaning). held_lines k ++ count_line format k ∷ [] in
+    let follows = λ (k : Meaning). held_lines k ++ count_line format k ∷ [] in
     let texts : text_of_lines (all_lines format m) ≡ text_of_lines (all_lines format n) = sym (snapshot_lines format m) ∙ e ∙ snapshot_lines format n in
-    let split : ended (header_line format n.config) ++ text_of_lines (behind m) ≡ ended (header_line format n.config) ++ text_of_lines (behind n) =
-    ap (λ c. ended (header_line format c) ++ text_of_lines (behind m)) (sym same)
-    ∙ sym (flat_map-cons ended (header_line format m.config) (behind m)) ∙ texts
-    ∙ flat_map-cons ended (header_line format n.config) (behind n) in
-    let later : text_of_lines (behind m) ≡ text_of_lines (behind n) =
-    append_cancel_left (ended (header_line format n.config)) (text_of_lines (behind m)) (text_of_lines (behind n))
+    let split : ended (header_line format n.config) ++ text_of_lines (follows m) ≡ ended (header_line format n.config) ++ text_of_lines (follows n) =
+    ap (λ c. ended (header_line format c) ++ text_of_lines (follows m)) (sym same)
+    ∙ sym (flat_map-cons ended (header_line format m.config) (follows m)) ∙ texts
+    ∙ flat_map-cons ended (header_line format n.config) (follows n) in
+    let later : text_of_lines (follows m) ≡ text_of_lines (follows n) =
+    append_cancel_left (ended (header_line format n.config)) (text_of_lines (follows m)) (text_of_lines (follows n))
     split in
-    let left = lines_back (behind m) [] (feedless_behind format m p) in
-    let right = lines_back (behind n) [] (feedless_behind format n q) in
-    let wholes : behind m ++ [] ≡ behind n ++ [] = ap (λ (l : Lines). l.whole) (sym left ∙ ap (λ t. lines_of (t ++ [])) later ∙ right) in
+    let left = lines_back (follows m) [] (feedless_after format m p) in
+    let right = lines_back (follows n) [] (feedless_after format n q) in
+    let wholes : follows m ++ [] ≡ follows n ++ [] = ap (λ (l : Lines). l.whole) (sym left ∙ ap (λ t. lines_of (t ++ [])) later ∙ right) in
     let fronts : held_lines m ≡ held_lines n =
     front_same (held_lines m) (held_lines n) (count_line format m) (count_line format n)
-    (sym (append-nil (behind m)) ∙ wholes ∙ append-nil (behind n)) in
+    (sym (append-nil (follows m)) ∙ wholes ∙ append-nil (follows n)) in
     let sets = held_back m.records n.records m.held n.held p.distrusts q.distrusts p.receipts q.receipts fronts in
     λ i. record { config = same i; held = sets.receipts i; records = sets.records i }
 
 -- A snapshot is its first line, the lines of what is held, and the last line.
-front_text : (format : Format) (m : Meaning)
+pub front_text : (format : Format) (m : Meaning)
     → snapshot_text format m ≡ ended (header_line format m.config) ++
     (text_of_lines (held_lines m) ++ ended (count_line format m))
 front_text format m = append_assoc (ended (header_line format m.config)) (text_of_lines (held_lines m)) (ended (count_line format m))

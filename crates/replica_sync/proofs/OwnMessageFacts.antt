@@ -188,7 +188,7 @@ answer-given m q valid is =
     let few = all.few in
     let few_records = all.few_records in
     record {
-      told = record {
+      header = record {
         bucket = is.asked.bucket;
         count = omega (arith, few);
         records = omega (arith, few_records);

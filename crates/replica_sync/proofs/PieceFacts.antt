@@ -4,7 +4,7 @@ use Rattle.std.specs.Prelude.{codes, decimal}
 use Rattle.std.specs.List.{flat_map, join_by}
 use Rattle.hex.specs.Hex.{encode_lower}
 use Rattle.receipt_core.specs.declared.receipt_id.ReceiptId.{ReceiptId}
-use Rattle.replica_sync.specs.Messages.{quoted, Asked, asked_text, GiveHeader, distrusts_part, told_text}
+use Rattle.replica_sync.specs.Messages.{quoted, Asked, asked_text, GiveHeader, distrusts_part, give_header_text}
 use Rattle.replica_sync.proofs.GlueFacts.{glue}
 
 -- an id as its bytes
@@ -41,12 +41,12 @@ asked-pushed a s0 s1 s2 s3 s4 s5 s6 s7 s8 s9 s10 s11 e1 e2 e3 e4 e5 e6 e7 e8 e9 
     (glue s6 s7 s11 _ _ e7 (glue s7 s8 s11 _ _ e8 (glue s8 s9 s11 _ _ e9 (glue s9 s10 s11 _ _ e10 e11)))))))))
 
 -- What was written piece by piece is the first line of the answer.
-pub told-pushed : (t : GiveHeader) (s0 s1 s2 s3 s4 s5 s6 s7 s8 s9 s10 s11 s12 : List ℕ)
+pub give-header-pushed : (t : GiveHeader) (s0 s1 s2 s3 s4 s5 s6 s7 s8 s9 s10 s11 s12 : List ℕ)
     → s1 ≡ s0 ++ codes "{\"bucket\":" → s2 ≡ s1 ++ decimal t.bucket → s3 ≡ s2 ++ codes ",\"config\":\""
     → s4 ≡ s3 ++ encode_lower t.config → s5 ≡ s4 ++ codes "\",\"count\":" → s6 ≡ s5 ++ decimal t.count → s7 ≡ s6 ++ distrusts_part t.distrusts
     → s8 ≡ s7 ++ codes ",\"format\":" → s9 ≡ s8 ++ decimal t.format → s10 ≡ s9 ++ codes ",\"of\":" → s11 ≡ s10 ++ decimal t.buckets → s12 ≡ s11 ++ codes "}"
-    → s12 ≡ s0 ++ told_text t
-unfolding told_text
-told-pushed t s0 s1 s2 s3 s4 s5 s6 s7 s8 s9 s10 s11 s12 e1 e2 e3 e4 e5 e6 e7 e8 e9 e10 e11 e12 =
+    → s12 ≡ s0 ++ give_header_text t
+unfolding give_header_text
+give-header-pushed t s0 s1 s2 s3 s4 s5 s6 s7 s8 s9 s10 s11 s12 e1 e2 e3 e4 e5 e6 e7 e8 e9 e10 e11 e12 =
     glue s0 s1 s12 _ _ e1 (glue s1 s2 s12 _ _ e2 (glue s2 s3 s12 _ _ e3 (glue s3 s4 s12 _ _ e4 (glue s4 s5 s12 _ _ e5 (glue s5 s6 s12 _ _ e6
     (glue s6 s7 s12 _ _ e7 (glue s7 s8 s12 _ _ e8 (glue s8 s9 s12 _ _ e9 (glue s9 s10 s12 _ _ e10 (glue s10 s11 s12 _ _ e11 e12))))))))))

@@ -4,7 +4,7 @@ use Rattle.std.proofs.Common.{append-nil, length-append, Option, None, Some}
 use Rattle.std.specs.Prelude.{IfErr, OnOk, Result, Ok, Err}
 use Rattle.std.specs.List.{flat_map}
 use Rattle.std.specs.Io.KnownBytes.{Appends, Consumes}
-use Rattle.std.proofs.KnownBytes.{Appends-trans}
+use Rattle.std.proofs.KnownBytes.{Appends-trans, Consumes-nil}
 use Rattle.std.proofs.lemmas.Grind.{flat_map-append}
 use Rattle.std.proofs.lemmas.List.{take_all}
 use Rattle.std.proofs.lemmas.List.Sums.{fold-append}
@@ -70,11 +70,6 @@ pub record AskedUpTo (old : Meaning) (stream before : Option (List ℕ)) (bucket
   pub meaning : now ≡ meaning_of_state old.config (after_replies (state_of old) replies)
   pub asked : Appends before after (flat_map question_text (questions_of old.config 0 (state_of old) replies))
   pub read_is : read ≡ line_count replies
-
--- Before the first answer nothing of the stream is used up.
-none_consumed : (stream : Option (List ℕ)) → Consumes stream stream []
-none_consumed None = tt
-none_consumed (Some bytes) = refl
 
 -- After one answer more the next bucket comes, with all in the words of the definitions.
 more_at : (old : Meaning) (stream before : Option (List ℕ)) (bucket : ℕ) (now : Meaning) (left after : Option (List ℕ))

@@ -13,6 +13,7 @@ use Rattle.replica_core.specs.Session.{Question, reply_of}
 use Rattle.replica_core.specs.declared.error.SyncError.{SyncError}
 use Rattle.replica_core.specs.declared.error.SyncError.TheVariants.{BadHeader, ConfigDiffers, VersionDiffers, NotCanonical, NotRising, BadCount, Truncated}
 use Rattle.replica_core.specs.declared.error.SyncError.TheVariants.{Refused, Io, NoMemory}
+use Rattle.replica_core.proofs.RisingListFacts.{all_append}
 use Rattle.replica_sync.specs.SessionRun.{session_run}
 use Rattle.replica_sync.specs.Messages.{question_text, reply_text}
 use Rattle.replica_sync.specs.Questions.{Asks, IsQuestionOf, IsWritten, RefusesFurther, ServesUpTo, replies_text}
@@ -67,11 +68,6 @@ unsupported-further config old new a NoMemory h r = tt
 
 -- ---- a session
 
--- What holds of the questions of two lists holds of both together.
-all_both : (P : Question → Type 0) (xs ys : List Question) → AllByRecursion P xs → AllByRecursion P ys → AllByRecursion P (xs ++ ys)
-all_both P [] ys h k = k
-all_both P (x ∷ xs) ys h k = (h.0, all_both P xs ys h.1 k)
-
 -- The text of one item more comes last.
 one-more : {X : Type 0} (f : X → List ℕ) (xs : List X) (x : X) → flat_map f xs ++ f x ≡ flat_map f (xs ++ x ∷ [])
 one-more f xs x = ap (λ t. flat_map f xs ++ t) (sym (append-nil (f x))) ∙ sym (flat_map-append f xs (x ∷ []))
@@ -85,7 +81,7 @@ asks-more : (m : Meaning) (stream left next : Option (List ℕ)) (questions : Li
     → Asks m.config stream questions left → IsQuestionOf m.config q → Consumes left next (question_text q)
     → Asks m.config stream (questions ++ q ∷ []) next
 asks-more m stream left next questions q asks own text = record {
-  each = all_both (IsQuestionOf m.config) questions (q ∷ []) asks.each (own, tt);
+  each = all_append (IsQuestionOf m.config) questions (q ∷ []) asks.each (own, tt);
   text = subst (Consumes stream next) (one-more question_text questions q)
       (Consumes-trans stream left next (flat_map question_text questions) (question_text q) asks.text text);
 }

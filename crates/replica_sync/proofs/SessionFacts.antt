@@ -24,7 +24,7 @@ use Rattle.replica_sync.specs.Answers.{IsContent, content_lines}
 use Rattle.replica_sync.specs.Pulling.{AreReplies, IsReply, PullsAll, PullsUpTo, RefusesAnswer, after_replies, line_count, refused_line}
 use Rattle.replica_sync.proofs.AskableFacts.{no-question-fault, same-question}
 use Rattle.replica_sync.proofs.GatherFacts.{short-entry}
-use Rattle.replica_sync.proofs.GiveFacts.{IsGood, no-fault-behind, no-head-fault, same-reply}
+use Rattle.replica_sync.proofs.GiveFacts.{IsGood, no-fault-after, no-head-fault, same-reply}
 use Rattle.replica_sync.proofs.WelcomeFacts.{IsRisingState, meaning-within, none-refused, rising-joined, rising-meaning, within-after}
 
 -- ---- questions
@@ -88,7 +88,7 @@ no-fault-of-asked config (q ∷ questions) (o ∷ others) left e is valid w calm
     let same = same-question (question_text q ++ asked_texts questions) q o (asked_texts questions)
     (asked_texts others ++ left) is.0.askable valid.0.askable refl
     (w ∙ append_assoc (question_text o) (asked_texts others) left) in
-    no-fault-of-asked config questions others left e is.1 valid.1 same.behind calm ample h
+    no-fault-of-asked config questions others left e is.1 valid.1 same.follows calm ample h
 
 -- In a stream of questions no fault comes after some of them, in the words of streams.
 pub unserved : (config : Configuration) (bytes : List ℕ) (questions others : List Question) (left : Option (List ℕ))
@@ -124,7 +124,7 @@ same-questions config [] (o ∷ others) is valid w = absurd (no-line (asked_text
 same-questions config (q ∷ questions) [] is valid w = absurd (no-line (asked_text (asked_of q)) (asked_texts questions) (sym w))
 same-questions config (q ∷ questions) (o ∷ others) is valid w =
     let same = same-question (question_text q ++ asked_texts questions) q o (asked_texts questions) (asked_texts others) is.0.askable valid.0.askable refl w in
-    let later = same-questions config questions others is.1 valid.1 same.behind in
+    let later = same-questions config questions others is.1 valid.1 same.follows in
     (λ i. same.question i ∷ later i)
 
 -- The clause `served_once`: the questions of a stream have one number.
@@ -206,8 +206,8 @@ no-line-fault config state first whole content wanted text Io ample spelt good h
 no-line-fault config state first whole content wanted text NoMemory ample spelt good h = ample refl
 
 -- the texts of the answers, one after another
-abbrev pub told_texts : List Reply → List ℕ
-told_texts replies = flat_map reply_text replies
+abbrev pub reply_texts : List Reply → List ℕ
+reply_texts replies = flat_map reply_text replies
 
 -- The answer with which a stream goes on has no fault of its spelling.
 no-fault-of-reply : (config : Configuration) (state : State) (bucket first : ℕ) (content : State) (r : Reply)
@@ -217,48 +217,48 @@ no-fault-of-reply : (config : Configuration) (state : State) (bucket first : ℕ
 no-fault-of-reply config state bucket first content r left rest e is begins calm ample spelt (inl head) =
     no-head-fault (Some (record { config = config; bucket = bucket })) left r rest is.answer is.about is.own begins head.after e calm ample head.cause
 no-fault-of-reply config state bucket first content r left rest e is begins calm ample spelt (inr fault) =
-    no-fault-behind (Some (record { config = config; bucket = bucket })) left r rest is.answer is.about is.own begins
+    no-fault-after (Some (record { config = config; bucket = bucket })) left r rest is.answer is.about is.own begins
     (refused_line config state first content) fault.count fault.distrusts content fault.further fault.after e
     (λ wanted text good. no-line-fault config state first r.content content wanted text e ample
     (not-refused config state r.content content wanted text e spelt is.answer.valid fault.begins.begun.valid good) good)
     calm ample fault.begins fault.cause
 
 -- The text of a list of answers is that of the first and of the others.
-pub joined-texts : (r : Reply) (replies : List Reply) (rest : List ℕ) → told_texts (r ∷ replies) ++ rest ≡ reply_text r ++ (told_texts replies ++ rest)
-joined-texts r replies rest = append_assoc (reply_text r) (told_texts replies) rest
+pub joined-texts : (r : Reply) (replies : List Reply) (rest : List ℕ) → reply_texts (r ∷ replies) ++ rest ≡ reply_text r ++ (reply_texts replies ++ rest)
+joined-texts r replies rest = append_assoc (reply_text r) (reply_texts replies) rest
 
 -- In a stream of answers no fault of spelling comes before the last of them.
-no-fault-of-told : (config : Configuration) (from state : State) (start bucket first : ℕ) (content : State)
+no-fault-of-replies : (config : Configuration) (from state : State) (start bucket first : ℕ) (content : State)
     (replies others : List Reply) (rest left : List ℕ) (e : SyncError)
     → AreReplies config start replies → AreReplies config start others → length others < length replies → bucket ≡ start + length others
-    → told_texts replies ++ rest ≡ told_texts others ++ left → e ≢ Io → e ≢ NoMemory
+    → reply_texts replies ++ rest ≡ reply_texts others ++ left → e ≢ Io → e ≢ NoMemory
     → IsSpelling e ⊎ HoldsAnswers config from state replies others → RefusesAnswer config state bucket first content (Some left) e → ⊥
-no-fault-of-told config from state start bucket first content [] others rest left e is valid few at w calm ample fine h = omega (arith, few)
-no-fault-of-told config from state start bucket first content (r ∷ replies) [] rest left e is valid few at w calm ample fine h =
+no-fault-of-replies config from state start bucket first content [] others rest left e is valid few at w calm ample fine h = omega (arith, few)
+no-fault-of-replies config from state start bucket first content (r ∷ replies) [] rest left e is valid few at w calm ample fine h =
     let same : start ≡ bucket = omega (arith, at) in
-    no-fault-of-reply config state bucket first content r left (told_texts replies ++ rest) e
+    no-fault-of-reply config state bucket first content r left (reply_texts replies ++ rest) e
     (subst (λ (b : ℕ). IsReply config b r) same is.0) (sym w ∙ joined-texts r replies rest) calm ample
     (elim fine [ inl spelt ↦ inl spelt | inr holds ↦ inr (first-holds config from state r replies holds) ]) h
-no-fault-of-told config from state start bucket first content (r ∷ replies) (o ∷ others) rest left e is valid few at w calm ample fine h =
-    let same = same-reply (told_texts (r ∷ replies) ++ rest) r o (told_texts replies ++ rest)
-    (told_texts others ++ left) is.0.answer valid.0.answer (joined-texts r replies rest)
+no-fault-of-replies config from state start bucket first content (r ∷ replies) (o ∷ others) rest left e is valid few at w calm ample fine h =
+    let same = same-reply (reply_texts (r ∷ replies) ++ rest) r o (reply_texts replies ++ rest)
+    (reply_texts others ++ left) is.0.answer valid.0.answer (joined-texts r replies rest)
     (w ∙ joined-texts o others left) in
-    no-fault-of-told config (joined from r.content) state (start + 1) bucket first content replies others rest left e is.1 valid.1
-    (omega (arith, few)) (omega (arith, at)) same.behind calm ample
+    no-fault-of-replies config (joined from r.content) state (start + 1) bucket first content replies others rest left e is.1 valid.1
+    (omega (arith, few)) (omega (arith, at)) same.follows calm ample
     (elim fine [ inl spelt ↦ inl spelt | inr holds ↦ inr (later-holds config from state r o replies others same.reply holds) ]) h
 
 -- No fault of spelling comes before the last answer, in the words of streams.
 pub unpulled : (config : Configuration) (from state : State) (bytes : List ℕ) (first : ℕ) (content : State)
     (replies others : List Reply) (rest left : Option (List ℕ)) (e : SyncError)
     → AreReplies config 0 replies → AreReplies config 0 others → length others < length replies
-    → Consumes (Some bytes) rest (told_texts replies) → Consumes (Some bytes) left (told_texts others)
+    → Consumes (Some bytes) rest (reply_texts replies) → Consumes (Some bytes) left (reply_texts others)
     → e ≢ Io → e ≢ NoMemory → IsSpelling e ⊎ HoldsAnswers config from state replies others
     → RefusesAnswer config state (length others) first content left e → ⊥
 unpulled config from state bytes first content replies others None left e is valid few whole begins calm ample fine h = whole
 unpulled config from state bytes first content replies others (Some rest) None e is valid few whole begins calm ample fine h = begins
 unpulled config from state bytes first content replies others (Some rest) (Some left) e is valid few whole begins calm ample fine h =
     let at : length others ≡ 0 + length others = omega arith in
-    no-fault-of-told config from state 0 (length others) first content replies others rest left e is valid few at (sym whole ∙ begins) calm ample fine h
+    no-fault-of-replies config from state 0 (length others) first content replies others rest left e is valid few at (sym whole ∙ begins) calm ample fine h
 
 -- where a stream begins with all answers, a pull has no fault that is excluded here
 all-or-part : (old new now : Meaning) (one other : SessionRun) (e : SyncError) → ReadSame one other → e ≢ Io → e ≢ NoMemory
@@ -269,8 +269,8 @@ all-or-part old new now one other e same calm ample all part fine =
     let few = part.few in
     unpulled old.config (state_of old) (after_replies (state_of old) part.replies) same.0 (line_count part.replies + 1) part.content
     all.replies part.replies all.left part.left e all.session.each part.session.each (omega (arith, many, few))
-    (known-text one.source all.left same.0 (told_texts all.replies) same.1 all.session.text)
-    (known-text other.source part.left same.0 (told_texts part.replies) same.2 part.session.text) calm ample fine part.cause
+    (known-text one.source all.left same.0 (reply_texts all.replies) same.1 all.session.text)
+    (known-text other.source part.left same.0 (reply_texts part.replies) same.2 part.session.text) calm ample fine part.cause
 
 -- The clause `pulled`: a stream of all answers has no fault but that what a line says is refused.
 pub pulled-or-not : (old new now : Meaning) (one other : SessionRun) (e : SyncError) → ReadSame one other → e ≢ Io → e ≢ NoMemory
@@ -287,21 +287,21 @@ taken-or-not old new now one other e same configured valid held calm ample all p
 -- Two lists of as many answers with which a stream begins are one list.
 same-replies : (config : Configuration) (start : ℕ) (replies others : List Reply) (rest left : List ℕ)
     → AreReplies config start replies → AreReplies config start others → length replies ≡ length others
-    → told_texts replies ++ rest ≡ told_texts others ++ left → replies ≡ others
+    → reply_texts replies ++ rest ≡ reply_texts others ++ left → replies ≡ others
 same-replies config start [] [] rest left is valid many w = refl
 same-replies config start [] (o ∷ others) rest left is valid many w = absurd (omega (arith, many))
 same-replies config start (r ∷ replies) [] rest left is valid many w = absurd (omega (arith, many))
 same-replies config start (r ∷ replies) (o ∷ others) rest left is valid many w =
-    let same = same-reply (told_texts (r ∷ replies) ++ rest) r o (told_texts replies ++ rest)
-    (told_texts others ++ left) is.0.answer valid.0.answer (joined-texts r replies rest)
+    let same = same-reply (reply_texts (r ∷ replies) ++ rest) r o (reply_texts replies ++ rest)
+    (reply_texts others ++ left) is.0.answer valid.0.answer (joined-texts r replies rest)
     (w ∙ joined-texts o others left) in
-    let later = same-replies config (start + 1) replies others rest left is.1 valid.1 (omega (arith, many)) same.behind in
+    let later = same-replies config (start + 1) replies others rest left is.1 valid.1 (omega (arith, many)) same.follows in
     (λ i. same.reply i ∷ later i)
 
 -- Two lists of as many answers with which a stream begins are one, in the words of streams.
 pub both-replies : (config : Configuration) (bytes : List ℕ) (replies others : List Reply) (rest left : Option (List ℕ))
     → AreReplies config 0 replies → AreReplies config 0 others → length replies ≡ length others
-    → Consumes (Some bytes) rest (told_texts replies) → Consumes (Some bytes) left (told_texts others) → replies ≡ others
+    → Consumes (Some bytes) rest (reply_texts replies) → Consumes (Some bytes) left (reply_texts others) → replies ≡ others
 both-replies config bytes replies others None left is valid many whole other = absurd whole
 both-replies config bytes replies others (Some rest) None is valid many whole other = absurd other
 both-replies config bytes replies others (Some rest) (Some left) is valid many whole other =
@@ -312,6 +312,6 @@ pub pulled-once : (old new now : Meaning) (one other : SessionRun) → ReadSame 
 pulled-once old new now one other same all again =
     let many : length all.replies ≡ length again.replies = all.all ∙ sym again.all in
     let replies = both-replies old.config same.0 all.replies again.replies all.left again.left all.session.each again.session.each many
-    (known-text one.source all.left same.0 (told_texts all.replies) same.1 all.session.text)
-    (known-text other.source again.left same.0 (told_texts again.replies) same.2 again.session.text) in
+    (known-text one.source all.left same.0 (reply_texts all.replies) same.1 all.session.text)
+    (known-text other.source again.left same.0 (reply_texts again.replies) same.2 again.session.text) in
     all.meaning ∙ ap (λ (rs : List Reply). meaning_of_state old.config (after_replies (state_of old) rs)) replies ∙ sym again.meaning

@@ -4,9 +4,9 @@ use Rattle.std.specs.Prelude.{IfSome, IfErr, IsErrAnd, Result, Ok, Err}
 use Rattle.std.specs.Io.KnownBytes.{Consumes, IsAtEnd, prepend_known}
 use Rattle.fed_config.specs.Configuration.{Configuration}
 use Rattle.receipt_core.specs.Acceptance.{Meaning}
-use Rattle.replica_sync.specs.Snapshots.{IsSnapshot, HasFaultBehind, RefusesNext, RefusesSnapshot, begun_text, count_line, ended, header_line, held_lines}
+use Rattle.replica_sync.specs.Snapshots.{IsSnapshot, HasFaultAfter, RefusesNext, RefusesSnapshot, begun_text, count_line, ended, header_line, held_lines}
 use Rattle.replica_sync.specs.Snapshots.{text_of_lines}
-use Rattle.replica_sync.specs.Inside.Reading.{FailsBehind, HoldsAll, RefusesEnd}
+use Rattle.replica_sync.specs.Inside.Reading.{FailsAfter, HoldsAll, RefusesEnd}
 use Rattle.replica_sync.specs.declared.format.Format.{Format}
 use Rattle.replica_core.specs.declared.error.SyncError.{SyncError}
 use Rattle.replica_core.specs.declared.error.SyncError.TheVariants.{BadHeader, ConfigDiffers, VersionDiffers, NotCanonical, NotRising, BadCount, Truncated}
@@ -59,26 +59,26 @@ begun config format m a b c same first lines =
     (subst (λ k. Consumes a b (ended (header_line format k))) (sym same) first) lines
 
 -- A fault after lines of what is held is one after a good beginning.
-pub fault_behind : (config : Configuration) (format : Format) (a b : Option (List ℕ)) (e : SyncError)
-    → Consumes a b (ended (header_line format config)) → FailsBehind config b format e → HasFaultBehind config a e
-fault_behind config format a b e first fails = record {
+pub fault_after : (config : Configuration) (format : Format) (a b : Option (List ℕ)) (e : SyncError)
+    → Consumes a b (ended (header_line format config)) → FailsAfter config b format e → HasFaultAfter config a e
+fault_after config format a b e first fails = record {
   format = format;
   m = fails.m;
   left = fails.left;
   begins = record {
     of_config = fails.holds.of_config;
     valid = fails.valid;
-    told = fails.holds.told;
+    fits = fails.holds.fits;
     text = begun config format fails.m a b fails.left fails.holds.of_config first fails.holds.text;
   };
   cause = fails.cause;
 }
 
 -- A fault after the last line is one after a good beginning.
-behind_all : (config : Configuration) (format : Format) (m : Meaning) (a b c : Option (List ℕ)) (number : ℕ)
+after_all : (config : Configuration) (format : Format) (m : Meaning) (a b c : Option (List ℕ)) (number : ℕ)
     (e : SyncError) → Consumes a b (ended (header_line format config)) → HoldsAll config b format m c number
-    → ((left : Option (List ℕ)) → Consumes left c (ended (count_line format m)) → RefusesNext format m left e) → HasFaultBehind config a e
-behind_all config format m a b c number e first all cause =
+    → ((left : Option (List ℕ)) → Consumes left c (ended (count_line format m)) → RefusesNext format m left e) → HasFaultAfter config a e
+after_all config format m a b c number e first all cause =
     let parts = split b c (text_of_lines (held_lines m)) (ended (count_line format m)) all.text in
     record {
       format = format;
@@ -87,7 +87,7 @@ behind_all config format m a b c number e first all cause =
       begins = record {
         of_config = all.of_config;
         valid = all.valid;
-        told = all.told;
+        fits = all.fits;
         text = begun config format m a b parts.middle all.of_config first parts.first;
       };
       cause = cause parts.middle parts.second;
@@ -96,18 +96,18 @@ behind_all config format m a b c number e first all cause =
 -- More after the last line is a fault after a good beginning.
 pub fault_at_end : (config : Configuration) (format : Format) (m : Meaning) (a b c : Option (List ℕ)) (number : ℕ)
     (e : SyncError) → Consumes a b (ended (header_line format config)) → HoldsAll config b format m c number
-    → RefusesEnd number c e → HasFaultBehind config a e
+    → RefusesEnd number c e → HasFaultAfter config a e
 fault_at_end config format m a b c number BadHeader first all h = absurd h
 fault_at_end config format m a b c number ConfigDiffers first all h = absurd h
 fault_at_end config format m a b c number VersionDiffers first all h = absurd h
 fault_at_end config format m a b c number (NotCanonical n) first all h =
-    behind_all config format m a b c number (NotCanonical n) first all (λ left last. inr (h.0 ∙ all.next, record { after = c; is = last; more = h.1 }))
+    after_all config format m a b c number (NotCanonical n) first all (λ left last. inr (h.0 ∙ all.next, record { after = c; is = last; more = h.1 }))
 fault_at_end config format m a b c number (NotRising n) first all h = absurd h
 fault_at_end config format m a b c number BadCount first all h = absurd h
 fault_at_end config format m a b c number Truncated first all h = absurd h
 fault_at_end config format m a b c number (Refused n why) first all h = absurd h
-fault_at_end config format m a b c number Io first all h = behind_all config format m a b c number Io first all (λ left last. tt)
-fault_at_end config format m a b c number NoMemory first all h = behind_all config format m a b c number NoMemory first all (λ left last. tt)
+fault_at_end config format m a b c number Io first all h = after_all config format m a b c number Io first all (λ left last. tt)
+fault_at_end config format m a b c number NoMemory first all h = after_all config format m a b c number NoMemory first all (λ left last. tt)
 
 -- ---- the whole
 
@@ -128,7 +128,7 @@ all_read config format m a b c number first all end =
       of_config = all.of_config;
       valid = all.valid;
       format = format;
-      told = all.told;
+      fits = all.fits;
       text = whole a parts.middle c (begun_text format m) (ended (count_line format m))
           (begun config format m a b parts.middle all.of_config first parts.first) parts.second end;
     }
@@ -142,10 +142,10 @@ refused_by (Err y) Q e is q = subst Q (sym is) q
 
 -- Why the lines of what is held were not read is why the snapshot is refused.
 pub held_refused : (config own : Configuration) (format : Format) (a s b : Option (List ℕ)) (e : SyncError) → s ≡ a
-    → own ≡ config → Consumes s b (ended (header_line format config)) → FailsBehind own b format e
+    → own ≡ config → Consumes s b (ended (header_line format config)) → FailsAfter own b format e
     → RefusesSnapshot config a e
 held_refused config own format a s b e same same_config first fails =
-    subst (λ x. RefusesSnapshot config x e) same (inr (fault_behind config format s b e first (subst (λ k. FailsBehind k b format e) same_config fails)))
+    subst (λ x. RefusesSnapshot config x e) same (inr (fault_after config format s b e first (subst (λ k. FailsAfter k b format e) same_config fails)))
 
 -- Why the end was not found is why the snapshot is refused.
 pub end_refused : (config own : Configuration) (format : Format) (m : Meaning) (a s b c : Option (List ℕ)) (number : ℕ)

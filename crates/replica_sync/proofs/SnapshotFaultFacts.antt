@@ -17,7 +17,7 @@ use Rattle.replica_core.specs.declared.error.SyncError.TheVariants.{BadHeader, C
 use Rattle.replica_core.specs.declared.error.SyncError.TheVariants.{Refused, Io, NoMemory}
 use Rattle.replica_core.proofs.FitFacts.{fits_right}
 use Rattle.replica_sync.specs.Entries.{RefusesEntryLine}
-use Rattle.replica_sync.specs.Snapshots.{Begins, HasBadFirst, HasBadLine, HasFaultBehind, HasMoreBehind, IsTold, RefusesFirst, RefusesHeader, RefusesNext}
+use Rattle.replica_sync.specs.Snapshots.{Begins, HasBadFirst, HasBadLine, HasFaultAfter, HasMoreAfter, FitsFormat, RefusesFirst, RefusesHeader, RefusesNext}
 use Rattle.replica_sync.specs.Snapshots.{RefusesPlace, RefusesSnapshot, count_line, digits_of, ended, header_line, held_lines, last_line, next_number}
 use Rattle.replica_sync.specs.Snapshots.{text_of_lines, wanted_of}
 use Rattle.replica_sync.specs.declared.format.Format.{Format}
@@ -35,15 +35,15 @@ use Rattle.replica_sync.proofs.OneFacts.{feedless_held, held_back, lines_back}
 -- A first line has one fault at most.
 one-header-fault : (config : Configuration) (text : List ℕ) (d e : SyncError) → RefusesHeader config text d → RefusesHeader config text e → d ≡ e
 one-header-fault config text BadHeader BadHeader p q = refl
-one-header-fault config text BadHeader ConfigDiffers p q = absurd (p q.told q.version q.is)
+one-header-fault config text BadHeader ConfigDiffers p q = absurd (p q.digits q.version q.is)
 one-header-fault config text BadHeader VersionDiffers p q = absurd (p (digits_of config) q.version q.is)
-one-header-fault config text ConfigDiffers BadHeader p q = absurd (q p.told p.version p.is)
+one-header-fault config text ConfigDiffers BadHeader p q = absurd (q p.digits p.version p.is)
 one-header-fault config text ConfigDiffers ConfigDiffers p q = refl
 one-header-fault config text ConfigDiffers VersionDiffers p q =
-    absurd (p.other (one_header text p.told (digits_of config) p.version q.version p.is q.is).0)
+    absurd (p.other (one_header text p.digits (digits_of config) p.version q.version p.is q.is).0)
 one-header-fault config text VersionDiffers BadHeader p q = absurd (q (digits_of config) p.version p.is)
 one-header-fault config text VersionDiffers ConfigDiffers p q =
-    absurd (q.other (one_header text q.told (digits_of config) q.version p.version q.is p.is).0)
+    absurd (q.other (one_header text q.digits (digits_of config) q.version p.version q.is p.is).0)
 one-header-fault config text VersionDiffers VersionDiffers p q = refl
 one-header-fault config text BadHeader e p q = absurd q
 one-header-fault config text ConfigDiffers e p q = absurd q
@@ -53,7 +53,7 @@ one-header-fault config text d e p q = absurd p
 -- A line that is too long has no other fault of a first line.
 long-header : (config : Configuration) (text : List ℕ) (e : SyncError) → 8388608 < length text → RefusesHeader config text e → BadHeader ≡ e
 long-header config text BadHeader long h = refl
-long-header config text ConfigDiffers long h = let short = short_header text h.told h.version h.is in absurd (omega (arith, long, short))
+long-header config text ConfigDiffers long h = let short = short_header text h.digits h.version h.is in absurd (omega (arith, long, short))
 long-header config text VersionDiffers long h = let short = short_header text (digits_of config) h.version h.is in absurd (omega (arith, long, short))
 long-header config text e long h = absurd h
 
@@ -174,7 +174,7 @@ module _ (format : Format) (m : Meaning) (is : IsConfiguration m.config) (text :
 -- The next line has the fault, more follows a right last line, or there is no line.
 data NextCause (format : Format) (m : Meaning) (left : List ℕ) (e : SyncError) : Type 0 where
   bad : HasBadLine format m (Some left) e → NextCause format m left e
-  more : e ≡ NotCanonical (next_number m + 1) → HasMoreBehind format m (Some left) → NextCause format m left e
+  more : e ≡ NotCanonical (next_number m + 1) → HasMoreAfter format m (Some left) → NextCause format m left e
   none : e ≡ Truncated → HasNoLine (Some left) → NextCause format m left e
 
 -- Why nothing is read after a good beginning, in three cases.
@@ -191,13 +191,13 @@ at-next format m left NoMemory calm ample h = absurd (ample refl)
 at-next format m left e calm ample h = absurd h
 
 -- The right last line is the first line of what follows.
-count-line-next : (format : Format) (m : Meaning) (left : List ℕ) → IsMeaning m → (h : HasMoreBehind format m (Some left))
+count-line-next : (format : Format) (m : Meaning) (left : List ℕ) → IsMeaning m → (h : HasMoreAfter format m (Some left))
     → HasLine (Some left) h.after (count_line format m)
 count-line-next format m left valid h = (plain_count format m valid, h.is)
 
 -- Nothing is wrong with a line where the last one is right.
 right-count : (format : Format) (m : Meaning) (left : List ℕ) (e : SyncError) → IsMeaning m → e ≢ NoMemory
-    → HasBadLine format m (Some left) e → HasMoreBehind format m (Some left) → ⊥
+    → HasBadLine format m (Some left) e → HasMoreAfter format m (Some left) → ⊥
 right-count format m left e valid ample h k =
     no_fault_of_count format m h.text e valid
     (one-first-line left h.text (count_line format m) h.after k.after h.is (count-line-next format m left valid k)) ample h.cause
@@ -223,36 +223,36 @@ one-next-cause format m left d e is valid l j (none p h) (none q k) = p ∙ sym 
 
 -- Both are good beginnings of one stream, in one format.
 record AreOfOne (format : Format) (m k : Meaning) (left rest : List ℕ) : Type 0 where
-  pub told : IsTold format m
-  pub told_too : IsTold format k
+  pub fits : FitsFormat format m
+  pub fits_too : FitsFormat format k
   pub valid : IsMeaning m
   pub other : IsMeaning k
   pub same : m.config ≡ k.config
   pub configured : IsConfiguration m.config
-  pub behind : text_of_lines (held_lines m) ++ left ≡ text_of_lines (held_lines k) ++ rest
+  pub follows : text_of_lines (held_lines m) ++ left ≡ text_of_lines (held_lines k) ++ rest
   pub lines : held_lines m ++ (lines_of left).whole ≡ held_lines k ++ (lines_of rest).whole
 
 turned-round : (format : Format) (m k : Meaning) (left rest : List ℕ) → AreOfOne format m k left rest → AreOfOne format k m rest left
 turned-round format m k left rest one = record {
-  told = one.told_too;
-  told_too = one.told;
+  fits = one.fits_too;
+  fits_too = one.fits;
   valid = one.other;
   other = one.valid;
   same = sym one.same;
   configured = subst IsConfiguration one.same one.configured;
-  behind = sym one.behind;
+  follows = sym one.follows;
   lines = sym one.lines;
 }
 
 -- the first line of what follows is the first of its lines
-line-is : (left text other : List ℕ) (behind : List (List ℕ)) (new : Option (List ℕ)) → HasLine (Some left) new text
-    → (lines_of left).whole ≡ other ∷ behind → text ≡ other
-line-is left text other behind None is e = absurd is.1
-line-is left text other behind (Some after) is e =
-    let heads : text ∷ (lines_of after).whole ≡ other ∷ behind = sym (ap (λ (l : Lines). l.whole) (ap lines_of is.1 ∙ lines_of-line text after is.0)) ∙ e in
+line-is : (left text other : List ℕ) (follows : List (List ℕ)) (new : Option (List ℕ)) → HasLine (Some left) new text
+    → (lines_of left).whole ≡ other ∷ follows → text ≡ other
+line-is left text other follows None is e = absurd is.1
+line-is left text other follows (Some after) is e =
+    let heads : text ∷ (lines_of after).whole ≡ other ∷ follows = sym (ap (λ (l : Lines). l.whole) (ap lines_of is.1 ∙ lines_of-line text after is.0)) ∙ e in
     cc
 
--- Behind the shorter of the two stands no fault.
+-- After the shorter of the two stands no fault.
 shorter-fine : (format : Format) (m k : Meaning) (left rest : List ℕ) (e : SyncError) → AreOfOne format m k left rest
     → length (held_lines m) < length (held_lines k) → e ≢ NoMemory → NextCause format m left e → ⊥
 shorter-fine format m k left rest e one less ample cause =
@@ -260,21 +260,21 @@ shorter-fine format m k left rest e one less ample cause =
   where
     fine : HasFurther (held_lines m) (lines_of left).whole (held_lines k) → NextCause format m left e → ⊥
     fine next (bad h) =
-        let text = line-is left h.text next.text next.behind h.after h.is next.rest in
-        no_fault_of_held format k m h.text next.later e one.configured one.other one.valid one.told_too one.same
+        let text = line-is left h.text next.text next.follows h.after h.is next.rest in
+        no_fault_of_held format k m h.text next.later e one.configured one.other one.valid one.fits_too one.same
         (next.whole ∙ ap (λ (t : List ℕ). held_lines m ++ t ∷ next.later) (sym text)) ample h.cause
     fine next (more p h) =
-        let text = line-is left (count_line format m) next.text next.behind h.after (count-line-next format m left one.valid h) next.rest in
+        let text = line-is left (count_line format m) next.text next.follows h.after (count-line-next format m left one.valid h) next.rest in
         count_apart format k (count_line format m) (held_lines m) next.later m one.valid refl
         (next.whole ∙ ap (λ (t : List ℕ). held_lines m ++ t ∷ next.later) (sym text))
     fine next (none p h) =
-        let nothing : [] ≡ next.text ∷ next.behind = sym (ap (λ (l : Lines). l.whole) (lines_of-rest left h)) ∙ next.rest in
+        let nothing : [] ≡ next.text ∷ next.follows = sym (ap (λ (l : Lines). l.whole) (lines_of-rest left h)) ∙ next.rest in
         cc
 
 -- Two of one length are one, and what follows them is one.
 record AreAlike (m k : Meaning) (left rest : List ℕ) : Type 0 where
   pub same : m ≡ k
-  pub behind : left ≡ rest
+  pub follows : left ≡ rest
 
 alike : (format : Format) (m k : Meaning) (left rest : List ℕ) → AreOfOne format m k left rest → length (held_lines m) ≡ length (held_lines k)
     → AreAlike m k left rest
@@ -283,14 +283,14 @@ alike format m k left rest one size =
     let sets = held_back m.records k.records m.held k.held one.valid.distrusts one.other.distrusts one.valid.receipts one.other.receipts lines.0 in
     record {
       same = λ i. record { config = one.same i; held = sets.receipts i; records = sets.records i };
-      behind = append_cancel_left (text_of_lines (held_lines k)) left rest
-          (ap (λ (ls : List (List ℕ)). text_of_lines ls ++ left) (sym lines.0) ∙ one.behind);
+      follows = append_cancel_left (text_of_lines (held_lines k)) left rest
+          (ap (λ (ls : List (List ℕ)). text_of_lines ls ++ left) (sym lines.0) ∙ one.follows);
     }
 
--- Behind two good beginnings of one stream stands one fault at most.
-one-behind : (format : Format) (m k : Meaning) (left rest : List ℕ) (d e : SyncError) → AreOfOne format m k left rest
+-- After two good beginnings of one stream stands one fault at most.
+one-after : (format : Format) (m k : Meaning) (left rest : List ℕ) (d e : SyncError) → AreOfOne format m k left rest
     → d ≢ NoMemory → e ≢ NoMemory → NextCause format m left d → NextCause format k rest e → d ≡ e
-one-behind format m k left rest d e one l j p q =
+one-after format m k left rest d e one l j p q =
     elim (cases_lt (length (held_lines m)) (length (held_lines k))) [
       | inl less ↦ absurd (shorter-fine format m k left rest d one less l p)
       | inr not_less ↦ elim (cases_lt (length (held_lines k)) (length (held_lines m))) [
@@ -298,7 +298,7 @@ one-behind format m k left rest d e one l j p q =
         | inr not_more ↦
             let both = alike format m k left rest one (omega (arith, not_less, not_more)) in
             one-next-cause format k rest d e (subst IsConfiguration one.same one.configured) one.other l j
-            (subst (λ (t : List ℕ). NextCause format k t d) both.behind (subst (λ (x : Meaning). NextCause format x left d) both.same p)) q
+            (subst (λ (t : List ℕ). NextCause format k t d) both.follows (subst (λ (x : Meaning). NextCause format x left d) both.same p)) q
       ]
     ]
 
@@ -319,27 +319,27 @@ of-one : (config : Configuration) (bytes : List ℕ) (f g : Format) (m k : Meani
 of-one config bytes f g m k left rest is b j =
     let texts = sym (front config bytes f m left b) ∙ front config bytes g k rest j in
     let formats : f ≡ g = one_format config f g (text_of_lines (held_lines m) ++ left) (text_of_lines (held_lines k) ++ rest) texts in
-    let behind : text_of_lines (held_lines m) ++ left ≡ text_of_lines (held_lines k) ++ rest =
+    let follows : text_of_lines (held_lines m) ++ left ≡ text_of_lines (held_lines k) ++ rest =
     append_cancel_left (ended (header_line g config)) (text_of_lines (held_lines m) ++ left) (text_of_lines (held_lines k) ++ rest)
     (ap (λ (x : Format). ended (header_line x config) ++ (text_of_lines (held_lines m) ++ left)) (sym formats) ∙ texts) in
     record {
       formats = formats;
       one = record {
-        told = subst (λ (x : Format). IsTold x m) formats b.told;
-        told_too = j.told;
+        fits = subst (λ (x : Format). FitsFormat x m) formats b.fits;
+        fits_too = j.fits;
         valid = b.valid;
         other = j.valid;
         same = b.of_config ∙ sym j.of_config;
         configured = subst IsConfiguration (sym b.of_config) is;
-        behind = behind;
+        follows = follows;
         lines = ap (λ (l : Lines). l.whole)
-            (sym (lines_back (held_lines m) left (feedless_held m b.valid)) ∙ ap lines_of behind ∙ lines_back (held_lines k) rest (feedless_held k j.valid));
+            (sym (lines_back (held_lines m) left (feedless_held m b.valid)) ∙ ap lines_of follows ∙ lines_back (held_lines k) rest (feedless_held k j.valid));
       };
     }
 
-two-behind : (config : Configuration) (bytes : List ℕ) (d e : SyncError) → IsConfiguration config → d ≢ Io → d ≢ NoMemory → e ≢ Io → e ≢ NoMemory
-    → HasFaultBehind config (Some bytes) d → HasFaultBehind config (Some bytes) e → d ≡ e
-two-behind config bytes d e is c l n j h k = by-rests h.left k.left h.begins k.begins h.cause k.cause
+two-after : (config : Configuration) (bytes : List ℕ) (d e : SyncError) → IsConfiguration config → d ≢ Io → d ≢ NoMemory → e ≢ Io → e ≢ NoMemory
+    → HasFaultAfter config (Some bytes) d → HasFaultAfter config (Some bytes) e → d ≡ e
+two-after config bytes d e is c l n j h k = by-rests h.left k.left h.begins k.begins h.cause k.cause
   where
     by-rests : (left rest : Option (List ℕ)) → Begins config (Some bytes) h.format h.m left → Begins config (Some bytes) k.format k.m rest
         → RefusesNext h.format h.m left d → RefusesNext k.format k.m rest e → d ≡ e
@@ -347,12 +347,12 @@ two-behind config bytes d e is c l n j h k = by-rests h.left k.left h.begins k.b
     by-rests (Some left) None b i p q = absurd i.text
     by-rests (Some left) (Some rest) b i p q =
         let both = of-one config bytes h.format k.format h.m k.m left rest is b i in
-        one-behind k.format h.m k.m left rest d e both.one l j
+        one-after k.format h.m k.m left rest d e both.one l j
         (subst (λ (x : Format). NextCause x h.m left d) both.formats (at-next h.format h.m left d c l p)) (at-next k.format k.m rest e n j q)
 
-first-or-behind : (config : Configuration) (bytes : List ℕ) (d e : SyncError) → d ≢ Io → d ≢ NoMemory → RefusesFirst config (Some bytes) d
-    → HasFaultBehind config (Some bytes) e → ⊥
-first-or-behind config bytes d e calm ample first h = by-rest h.left h.begins
+first-or-after : (config : Configuration) (bytes : List ℕ) (d e : SyncError) → d ≢ Io → d ≢ NoMemory → RefusesFirst config (Some bytes) d
+    → HasFaultAfter config (Some bytes) e → ⊥
+first-or-after config bytes d e calm ample first h = by-rest h.left h.begins
   where
     by-rest : (left : Option (List ℕ)) → Begins config (Some bytes) h.format h.m left → ⊥
     by-rest None b = b.text
@@ -364,6 +364,6 @@ pub one-snapshot-cause : (config : Configuration) (bytes : List ℕ) (d e : Sync
     → d ≢ Io → d ≢ NoMemory → e ≢ Io → e ≢ NoMemory → RefusesSnapshot config (Some bytes) d → RefusesSnapshot config (Some bytes) e → d ≡ e
 one-snapshot-cause config bytes d e is c l n j (inl p) (inl q) =
     one-first-cause config bytes d e (at-first config bytes d c l p) (at-first config bytes e n j q)
-one-snapshot-cause config bytes d e is c l n j (inl p) (inr q) = absurd (first-or-behind config bytes d e c l p q)
-one-snapshot-cause config bytes d e is c l n j (inr p) (inl q) = absurd (first-or-behind config bytes e d n j q p)
-one-snapshot-cause config bytes d e is c l n j (inr p) (inr q) = two-behind config bytes d e is c l n j p q
+one-snapshot-cause config bytes d e is c l n j (inl p) (inr q) = absurd (first-or-after config bytes d e c l p q)
+one-snapshot-cause config bytes d e is c l n j (inr p) (inl q) = absurd (first-or-after config bytes e d n j q p)
+one-snapshot-cause config bytes d e is c l n j (inr p) (inr q) = two-after config bytes d e is c l n j p q

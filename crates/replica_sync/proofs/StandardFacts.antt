@@ -6,7 +6,7 @@ use Rattle.hex.specs.Hex.{encode_with}
 use Rattle.replica_core.specs.Session.{Question}
 use Rattle.replica_sync.specs.declared.format.Format.TheVariants.{First, Second}
 use Rattle.replica_sync.specs.Snapshots.{header_of, count_of}
-use Rattle.replica_sync.specs.Messages.{asked_text, told_text, question_text, reply_text}
+use Rattle.replica_sync.specs.Messages.{asked_text, give_header_text, question_text, reply_text}
 
 -- ---- snapshots
 
@@ -56,17 +56,17 @@ question_of_one_bucket = refl
 -- an answer with nothing to give is its first line
 pub empty_answer : reply_text (record { bucket = 255; config = 18 ∷ 171 ∷ []; content = record { held = []; records = [] } })
     ≡ codes "{\"bucket\":255,\"config\":\"12ab\",\"count\":0,\"distrusts\":0,\"format\":2,\"of\":256}\n"
-unfolding told_text digits encode_with
+unfolding give_header_text digits encode_with
 empty_answer = refl
 
 -- receipts are counted before records
-pub first_line_of_an_answer : told_text (record { bucket = 97; config = 18 ∷ 171 ∷ []; count = 2; distrusts = Some 1; format = 2; buckets = 256 })
+pub first_line_of_an_answer : give_header_text (record { bucket = 97; config = 18 ∷ 171 ∷ []; count = 2; distrusts = Some 1; format = 2; buckets = 256 })
     ≡ codes "{\"bucket\":97,\"config\":\"12ab\",\"count\":2,\"distrusts\":1,\"format\":2,\"of\":256}"
-unfolding told_text digits encode_with
+unfolding give_header_text digits encode_with
 first_line_of_an_answer = refl
 
 -- The first format has no number of records.
-pub first_line_without_records : told_text (record { bucket = 0; config = 18 ∷ 171 ∷ []; count = 2; distrusts = None; format = 1; buckets = 1 })
+pub first_line_without_records : give_header_text (record { bucket = 0; config = 18 ∷ 171 ∷ []; count = 2; distrusts = None; format = 1; buckets = 1 })
     ≡ codes "{\"bucket\":0,\"config\":\"12ab\",\"count\":2,\"format\":1,\"of\":1}"
-unfolding told_text digits encode_with
+unfolding give_header_text digits encode_with
 first_line_without_records = refl

@@ -7,6 +7,8 @@ use Rattle.receipt_core.specs.Acceptance.{Meaning}
 use Rattle.byte_lines.specs.Lines.{HasLine}
 use Rattle.replica_core.specs.State.{State, no_state}
 use Rattle.replica_core.specs.Session.{state_of}
+use Rattle.std.proofs.KnownBytes.{Consumes-nil}
+use Rattle.replica_core.proofs.RisingListFacts.{rising_nil}
 use Rattle.replica_sync.specs.Snapshots.{last_of, text_of_lines}
 use Rattle.replica_sync.specs.Entries.{IsWanted, RefusesEntryLine, entry_line}
 use Rattle.replica_sync.specs.Inside.EntrySteps.{TakesEntryText}
@@ -38,25 +40,21 @@ pub record SoFar (old : Meaning) (stream : Option (List ℕ)) (count distrusts f
   pub records_due : length content.records + records ≡ distrusts
   pub read_is : read ≡ first + length content.records + length content.held
 
--- The empty list of lines rises.
-none_rises : IsStrictlySortedBy text_cmp []
-unfolding IsStrictlySortedBy
-none_rises = tt
-
--- Before the first line nothing of the stream is used up.
-none_consumed : (stream : Option (List ℕ)) → Consumes stream stream []
-none_consumed None = tt
-none_consumed (Some bytes) = refl
-
 -- Before the first line nothing is taken.
 pub so_far_none : (old : Meaning) (stream : Option (List ℕ)) (count distrusts first : ℕ) (last : List ℕ) → last ≡ []
     → SoFar old stream count distrusts first count distrusts old stream last first
 so_far_none old stream count distrusts first last none = record {
   content = no_state;
   taken = record {
-    begun = record { valid = record { receipts = tt; records = tt }; records = omega arith; receipts = omega arith; order = λ h. refl; rising = none_rises };
+    begun = record {
+      valid = record { receipts = tt; records = tt };
+      records = omega arith;
+      receipts = omega arith;
+      order = λ h. refl;
+      rising = rising_nil text_cmp;
+    };
     meaning = refl;
-    text = none_consumed stream;
+    text = Consumes-nil stream;
   };
   last_is = none;
   receipts_due = omega arith;

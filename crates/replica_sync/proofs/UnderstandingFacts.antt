@@ -167,10 +167,10 @@ replies-in-turn c k bucket (q ∷ qs) valid same h = (
 )
 
 -- What was answered to the questions that a pull wrote, are the texts of the answers to them.
-pub told-is : (m k : Meaning) (asked told : List ℕ) (count : ℕ) (questions : List Question)
+pub replied-is : (m k : Meaning) (asked replied : List ℕ) (count : ℕ) (questions : List Question)
     → config_id_of m.config ≡ config_id_of k.config → HasAskedInTurn m asked questions
-    → ServesAll (known_run asked told) k count → told ≡ flat_map reply_text (all-replies k questions)
-told-is m k asked told count questions same asks all =
+    → ServesAll (known_run asked replied) k count → replied ≡ flat_map reply_text (all-replies k questions)
+replied-is m k asked replied count questions same asks all =
     let one = same-questions k.config questions all.questions (each-own m.config k.config 0 questions same asks.each) all.each
     (sym asks.text ∙ all.text) in
     all.written ∙ ap (replies_text k) (sym one) ∙ sym (flat_map-map reply_text (reply_of k) questions)
@@ -179,33 +179,33 @@ pub length-asked : (c : Configuration) (bucket : ℕ) (state : State) (rs : List
 length-asked c bucket state [] = refl
 length-asked c bucket state (r ∷ rs) = let later = length-asked c (bucket + 1) (joined state r.content) rs in omega (arith, later)
 
-answered-or-not : (m k held : Meaning) (asked told rest : List ℕ) (count : ℕ) (e : SyncError)
+answered-or-not : (m k held : Meaning) (asked replied rest : List ℕ) (count : ℕ) (e : SyncError)
     → IsMeaning m → IsMeaning k → IsMeaning held → config_id_of m.config ≡ config_id_of k.config
-    → ServesAll (known_run asked told) k count → (part : PullsUpTo (known_run (told ++ rest) asked) m held e)
+    → ServesAll (known_run asked replied) k count → (part : PullsUpTo (known_run (replied ++ rest) asked) m held e)
     → e ≢ Io → e ≢ NoMemory
     → IsSpelling e ⊎ HoldsAnswers m.config (state_of m) (after_replies (state_of m) part.replies)
     (all-replies k (all-asked m part.replies ++ last-asked m part.replies)) part.replies → ⊥
-answered-or-not m k held asked told rest count e valid other kept same all part calm ample fine =
+answered-or-not m k held asked replied rest count e valid other kept same all part calm ample fine =
     let replies = part.replies in
     let questions = all-asked m replies ++ last-asked m replies in
-    let asks = part-asked m held (Some (told ++ rest)) asked e valid kept calm ample part in
-    let text = told-is m k asked told count questions same asks all in
+    let asks = part-asked m held (Some (replied ++ rest)) asked e valid kept calm ample part in
+    let text = replied-is m k asked replied count questions same asks all in
     let many = length-map questions (reply_of k) in
     let both = length-append (all-asked m replies) (last-asked m replies) in
     let each = length-asked m.config 0 (state_of m) replies in
-    unpulled m.config (state_of m) (after_replies (state_of m) replies) (told ++ rest) (line_count replies + 1) part.content
+    unpulled m.config (state_of m) (after_replies (state_of m) replies) (replied ++ rest) (line_count replies + 1) part.content
     (all-replies k questions) replies (Some rest) part.left e
     (replies-in-turn m.config k 0 questions other (sym same) asks.each) part.session.each
     (omega (arith, many, both, each))
     (ap (λ (t : List ℕ). t ++ rest) text) part.session.text calm ample fine part.cause
 
 -- A pull that reads what is answered to its questions has no fault, but that what a line says is refused.
-pub answered-pulled : (m k held : Meaning) (asked told rest : List ℕ) (count : ℕ) (e : SyncError)
+pub answered-pulled : (m k held : Meaning) (asked replied rest : List ℕ) (count : ℕ) (e : SyncError)
     → IsMeaning m → IsMeaning k → IsMeaning held → config_id_of m.config ≡ config_id_of k.config
-    → ServesAll (known_run asked told) k count → PullsUpTo (known_run (told ++ rest) asked) m held e
+    → ServesAll (known_run asked replied) k count → PullsUpTo (known_run (replied ++ rest) asked) m held e
     → e ≢ Io → e ≢ NoMemory → ((n : ℕ) (why : TakeError) → e ≢ Refused n why) → ⊥
-answered-pulled m k held asked told rest count e valid other kept same all part calm ample spelt =
-    answered-or-not m k held asked told rest count e valid other kept same all part calm ample (inl spelt)
+answered-pulled m k held asked replied rest count e valid other kept same all part calm ample spelt =
+    answered-or-not m k held asked replied rest count e valid other kept same all part calm ample (inl spelt)
 
 -- ---- what two replicas hold together
 
@@ -315,13 +315,13 @@ module _ (m k : Meaning) (valid : IsMeaning m) (other : IsMeaning k) (same : m.c
   }
 
 -- Where both together are within the limits, nothing of it is refused either.
-pub answered-taken : (m k held : Meaning) (asked told rest : List ℕ) (count : ℕ) (e : SyncError)
+pub answered-taken : (m k held : Meaning) (asked replied rest : List ℕ) (count : ℕ) (e : SyncError)
     → IsConfiguration m.config → IsMeaning m → IsMeaning k → IsMeaning held → m.config ≡ k.config
     → is_within_limits (joined (state_of m) (state_of k)) ≡ true
-    → ServesAll (known_run asked told) k count → PullsUpTo (known_run (told ++ rest) asked) m held e
+    → ServesAll (known_run asked replied) k count → PullsUpTo (known_run (replied ++ rest) asked) m held e
     → e ≢ Io → e ≢ NoMemory → ⊥
-answered-taken m k held asked told rest count e configured valid other kept same room all part calm ample =
-    answered-or-not m k held asked told rest count e valid other kept (ap config_id_of same) all part calm ample
+answered-taken m k held asked replied rest count e configured valid other kept same room all part calm ample =
+    answered-or-not m k held asked replied rest count e valid other kept (ap config_id_of same) all part calm ample
     (inr (record {
       configured = configured;
       rising = rising-meaning m valid;

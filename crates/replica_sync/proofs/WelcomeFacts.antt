@@ -127,34 +127,34 @@ no-record (r ∷ rs) (y ∷ ys) x later ps is e =
     let tail : map line rs ≡ map line ys ++ distrust_line x ∷ later = cc in
     no-record rs ys x later ps.1 is tail
 
--- what stands behind the lines of a beginning: that of a receipt
-receipt-behind : (xs ys : List Distrust) (rs front : List Receipt) (r : Receipt) (later : List (List ℕ))
+-- what stands after the lines of a beginning: that of a receipt
+receipt-after : (xs ys : List Distrust) (rs front : List Receipt) (r : Receipt) (later : List (List ℕ))
     → AllByRecursion IsDistrust xs → AllByRecursion IsDistrust ys → AllByRecursion IsReceipt rs → AllByRecursion IsReceipt front → IsReceipt r
     → map distrust_line xs ++ map line rs ≡ map distrust_line ys ++ (map line front ++ line r ∷ later) → IsSplit rs front r
-receipt-behind [] [] rs front r later p q h k is e = split-receipts rs front r later h k is e
-receipt-behind [] (y ∷ ys) [] front r later p q h k is e = absurd (cc)
-receipt-behind [] (y ∷ ys) (s ∷ ss) front r later p q h k is e = absurd (apart y s q.0 h.0 (let head : distrust_line y ≡ line s = cc in head))
-receipt-behind (x ∷ xs) [] rs [] r later p q h k is e = absurd (apart x r p.0 is (let head : distrust_line x ≡ line r = cc in head))
-receipt-behind (x ∷ xs) [] rs (s ∷ ss) r later p q h k is e = absurd (apart x s p.0 k.0 (let head : distrust_line x ≡ line s = cc in head))
-receipt-behind (x ∷ xs) (y ∷ ys) rs front r later p q h k is e =
+receipt-after [] [] rs front r later p q h k is e = split-receipts rs front r later h k is e
+receipt-after [] (y ∷ ys) [] front r later p q h k is e = absurd (cc)
+receipt-after [] (y ∷ ys) (s ∷ ss) front r later p q h k is e = absurd (apart y s q.0 h.0 (let head : distrust_line y ≡ line s = cc in head))
+receipt-after (x ∷ xs) [] rs [] r later p q h k is e = absurd (apart x r p.0 is (let head : distrust_line x ≡ line r = cc in head))
+receipt-after (x ∷ xs) [] rs (s ∷ ss) r later p q h k is e = absurd (apart x s p.0 k.0 (let head : distrust_line x ≡ line s = cc in head))
+receipt-after (x ∷ xs) (y ∷ ys) rs front r later p q h k is e =
     let tail : map distrust_line xs ++ map line rs ≡ map distrust_line ys ++ (map line front ++ line r ∷ later) = cc in
-    receipt-behind xs ys rs front r later p.1 q.1 h k is tail
+    receipt-after xs ys rs front r later p.1 q.1 h k is tail
 
 -- that of a record
-record-behind : (xs ys : List Distrust) (rs front : List Receipt) (x : Distrust) (later : List (List ℕ))
+record-after : (xs ys : List Distrust) (rs front : List Receipt) (x : Distrust) (later : List (List ℕ))
     → AllByRecursion IsDistrust xs → AllByRecursion IsDistrust ys → AllByRecursion IsReceipt rs → AllByRecursion IsReceipt front → IsDistrust x
     → map distrust_line xs ++ map line rs ≡ map distrust_line ys ++ (map line front ++ distrust_line x ∷ later) → IsSplit xs ys x
-record-behind [] [] rs front x later p q h k is e = absurd (no-record rs front x later h is e)
-record-behind [] (y ∷ ys) [] front x later p q h k is e = absurd (cc)
-record-behind [] (y ∷ ys) (s ∷ ss) front x later p q h k is e = absurd (apart y s q.0 h.0 (let head : distrust_line y ≡ line s = cc in head))
-record-behind (z ∷ zs) [] rs [] x later p q h k is e =
+record-after [] [] rs front x later p q h k is e = absurd (no-record rs front x later h is e)
+record-after [] (y ∷ ys) [] front x later p q h k is e = absurd (cc)
+record-after [] (y ∷ ys) (s ∷ ss) front x later p q h k is e = absurd (apart y s q.0 h.0 (let head : distrust_line y ≡ line s = cc in head))
+record-after (z ∷ zs) [] rs [] x later p q h k is e =
     let head : distrust_line z ≡ distrust_line x = cc in
     record { later = zs; parts = λ i. one_record z x p.0 is head i ∷ zs }
-record-behind (z ∷ zs) [] rs (s ∷ ss) x later p q h k is e = absurd (apart z s p.0 k.0 (let head : distrust_line z ≡ line s = cc in head))
-record-behind (z ∷ zs) (y ∷ ys) rs front x later p q h k is e =
+record-after (z ∷ zs) [] rs (s ∷ ss) x later p q h k is e = absurd (apart z s p.0 k.0 (let head : distrust_line z ≡ line s = cc in head))
+record-after (z ∷ zs) (y ∷ ys) rs front x later p q h k is e =
     let head : distrust_line z ≡ distrust_line y = cc in
     let tail : map distrust_line zs ++ map line rs ≡ map distrust_line ys ++ (map line front ++ distrust_line x ∷ later) = cc in
-    one-further z y x zs ys (one_record z y p.0 q.0 head) (record-behind zs ys rs front x later p.1 q.1 h k is tail)
+    one-further z y x zs ys (one_record z y p.0 q.0 head) (record-after zs ys rs front x later p.1 q.1 h k is tail)
 
 -- ---- there is room for it
 
@@ -235,24 +235,24 @@ module _ (c : Configuration) (configured : IsConfiguration c) (state whole conte
       → RefusesEntry (meaning_of_state c (joined state content)) entry why → ⊥
   no-entry-refused Records (Record x) why later form e ample h =
       no-record-refused x why form
-      (record-behind whole.records content.records whole.held content.held x later is.records begun.records is.receipts begun.receipts form
+      (record-after whole.records content.records whole.held content.held x later is.records begun.records is.receipts begun.receipts form
       (e ∙ append_assoc (map distrust_line content.records) (map line content.held) (distrust_line x ∷ later))) ample h
   no-entry-refused Records (AReceipt r) why later form e ample h = form
   no-entry-refused Receipts (Record x) why later form e ample h = form
   no-entry-refused Receipts (AReceipt r) why later form e ample h =
       no-receipt-refused r why form
-      (receipt-behind whole.records content.records whole.held content.held r later is.records begun.records is.receipts begun.receipts form
+      (receipt-after whole.records content.records whole.held content.held r later is.records begun.records is.receipts begun.receipts form
       (e ∙ append_assoc (map distrust_line content.records) (map line content.held) (line r ∷ later))) ample h
   no-entry-refused Either (Record x) why later form e ample h =
       no-record-refused x why form
-      (record-behind whole.records content.records whole.held content.held x later is.records begun.records is.receipts begun.receipts form
+      (record-after whole.records content.records whole.held content.held x later is.records begun.records is.receipts begun.receipts form
       (e ∙ append_assoc (map distrust_line content.records) (map line content.held) (distrust_line x ∷ later))) ample h
   no-entry-refused Either (AReceipt r) why later form e ample h =
       no-receipt-refused r why form
-      (receipt-behind whole.records content.records whole.held content.held r later is.records begun.records is.receipts begun.receipts form
+      (receipt-after whole.records content.records whole.held content.held r later is.records begun.records is.receipts begun.receipts form
       (e ∙ append_assoc (map distrust_line content.records) (map line content.held) (line r ∷ later))) ample h
 
-  -- the line behind this beginning of the answer is not refused
+  -- the line after this beginning of the answer is not refused
   pub none-refused : (wanted : Wanted) (last text : List ℕ) (later : List (List ℕ)) (why : TakeError)
       → content_lines whole ≡ content_lines content ++ text ∷ later → why ≢ NoTakeMemory
       → IsRefused wanted (meaning_of_state c (joined state content)) last text why → ⊥

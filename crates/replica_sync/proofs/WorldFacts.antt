@@ -28,10 +28,10 @@ use Rattle.replica_sync.specs.Answers.{AnswerBegins, content_lines}
 use Rattle.replica_sync.specs.Events.{EndsCut, cut_exchange, whole_exchange, whole_exchanges}
 use Rattle.replica_sync.specs.Pulling.{AreReplies, IsReply, PullsAll, PullsUpTo, RefusesAnswer, after_replies, line_count, question_in, questions_of}
 use Rattle.replica_sync.specs.Questions.{ServesAll}
-use Rattle.replica_sync.proofs.SessionFacts.{both-replies, joined-texts, told_texts}
+use Rattle.replica_sync.proofs.SessionFacts.{both-replies, joined-texts, reply_texts}
 use Rattle.replica_sync.proofs.GiveFacts.{is-part, same-reply}
 use Rattle.replica_sync.proofs.OwnMessageFacts.{answer-given}
-use Rattle.replica_sync.proofs.UnderstandingFacts.{all-asked, all-replies, last-asked, length-asked, own-question, part-asked, replies-in-turn, told-is}
+use Rattle.replica_sync.proofs.UnderstandingFacts.{all-asked, all-replies, last-asked, length-asked, own-question, part-asked, replies-in-turn, replied-is}
 use Rattle.replica_sync.proofs.UnderstandingFacts.{whole-asked}
 use Rattle.replica_sync.proofs.WelcomeFacts.{IsWithin, meaning-within, rising-after, rising-meaning, within-after, within-itself, within-joined}
 
@@ -204,29 +204,29 @@ answers-of c k bucket state (r ∷ replies) later others e =
     (head, answers-of c k (bucket + 1) (joined state r.content) replies later others tail)
 
 -- the answers of a whole pull are those that the other side gives to its questions
-pub replies-given : (m k held : Meaning) (asked told rest : List ℕ) (count : ℕ) → IsMeaning m → IsMeaning k → IsMeaning held
-    → config_id_of m.config ≡ config_id_of k.config → ServesAll (known_run asked told) k count
-    → (pulls : PullsAll (known_run (told ++ rest) asked) m held) → pulls.replies ≡ all-replies k (all-asked m pulls.replies ++ [])
-replies-given m k held asked told rest count valid other kept same all pulls =
+pub replies-given : (m k held : Meaning) (asked replied rest : List ℕ) (count : ℕ) → IsMeaning m → IsMeaning k → IsMeaning held
+    → config_id_of m.config ≡ config_id_of k.config → ServesAll (known_run asked replied) k count
+    → (pulls : PullsAll (known_run (replied ++ rest) asked) m held) → pulls.replies ≡ all-replies k (all-asked m pulls.replies ++ [])
+replies-given m k held asked replied rest count valid other kept same all pulls =
     let questions = all-asked m pulls.replies ++ [] in
-    let asks = whole-asked m held (Some (told ++ rest)) asked valid kept pulls in
-    let text = told-is m k asked told count questions same asks all in
+    let asks = whole-asked m held (Some (replied ++ rest)) asked valid kept pulls in
+    let text = replied-is m k asked replied count questions same asks all in
     let many = length-map questions (reply_of k) in
     let both = length-append (all-asked m pulls.replies) [] in
     let each = length-asked m.config 0 (state_of m) pulls.replies in
-    both-replies m.config (told ++ rest) pulls.replies (all-replies k questions) pulls.left (Some rest) pulls.session.each
+    both-replies m.config (replied ++ rest) pulls.replies (all-replies k questions) pulls.left (Some rest) pulls.session.each
     (replies-in-turn m.config k 0 questions other (sym same) asks.each) (omega (arith, many, both, each)) pulls.session.text
     (ap (λ (t : List ℕ). t ++ rest) text)
 
 -- What a pull holds is what its replica holds after whole exchanges about all buckets.
-pub pull-in-world : (m k held : Meaning) (n i j : ℕ) (w : World) (asked told rest : List ℕ) (count : ℕ) → i < n → j < n → i ≢ j
+pub pull-in-world : (m k held : Meaning) (n i j : ℕ) (w : World) (asked replied rest : List ℕ) (count : ℕ) → i < n → j < n → i ≢ j
     → w.now i ≡ state_of m → w.now j ≡ state_of k → IsMeaning m → IsMeaning k → IsMeaning held
-    → config_id_of m.config ≡ config_id_of k.config → ServesAll (known_run asked told) k count
-    → PullsAll (known_run (told ++ rest) asked) m held
+    → config_id_of m.config ≡ config_id_of k.config → ServesAll (known_run asked replied) k count
+    → PullsAll (known_run (replied ++ rest) asked) m held
     → (run_from (rules_of m.config n) w (whole_exchanges i j 256 0 (length w.sent))).now i ≡ state_of held
-pull-in-world m k held n i j w asked told rest count l h apart here there valid other kept same all pulls =
+pull-in-world m k held n i j w asked replied rest count l h apart here there valid other kept same all pulls =
     let replies = pulls.replies in
-    let equal = replies-given m k held asked told rest count valid other kept same all pulls in
+    let equal = replies-given m k held asked replied rest count valid other kept same all pulls in
     let all_of_it = pulls.all in
     let final : IsMeaning (meaning_of_state m.config (after_replies (state_of m) replies)) = subst IsMeaning pulls.meaning kept in
     let run = run-all (rules_of m.config n) i j l h (λ e. apart (sym e)) m.config k replies w (state_of m) (length w.sent) 0
@@ -242,21 +242,21 @@ pull-in-world m k held n i j w asked told rest count l h apart here there valid 
 record IsFront (replies others : List Reply) (rest left : List ℕ) : Type 0 where
   pub later : List Reply
   pub whole : replies ≡ others ++ later
-  pub behind : left ≡ told_texts later ++ rest
+  pub follows : left ≡ reply_texts later ++ rest
 
 -- what was taken whole are the first of the answers that were written
 first-replies : (c : Configuration) (start : ℕ) (replies others : List Reply) (rest left : List ℕ) → AreReplies c start replies
-    → AreReplies c start others → length others ≤ length replies → told_texts replies ++ rest ≡ told_texts others ++ left
+    → AreReplies c start others → length others ≤ length replies → reply_texts replies ++ rest ≡ reply_texts others ++ left
     → IsFront replies others rest left
-first-replies c start replies [] rest left is valid few e = record { later = replies; whole = refl; behind = sym e }
+first-replies c start replies [] rest left is valid few e = record { later = replies; whole = refl; follows = sym e }
 first-replies c start [] (o ∷ others) rest left is valid few e = absurd (omega (arith, few))
 first-replies c start (r ∷ replies) (o ∷ others) rest left is valid few e =
-    let same = same-reply (told_texts (r ∷ replies) ++ rest) r o (told_texts replies ++ rest) (told_texts others ++ left)
+    let same = same-reply (reply_texts (r ∷ replies) ++ rest) r o (reply_texts replies ++ rest) (reply_texts others ++ left)
     is.0.answer valid.0.answer (joined-texts r replies rest) (e ∙ joined-texts o others left) in
-    let front = first-replies c (start + 1) replies others rest left is.1 valid.1 (omega (arith, few)) same.behind in
-    record { later = front.later; whole = (λ t. same.reply t ∷ front.whole t); behind = front.behind }
+    let front = first-replies c (start + 1) replies others rest left is.1 valid.1 (omega (arith, few)) same.follows in
+    record { later = front.later; whole = (λ t. same.reply t ∷ front.whole t); follows = front.follows }
 
--- behind so many answers one is left
+-- after so many answers one is left
 last-one : (k : Meaning) (qs : List Question) (q : Question) (others later : List Reply) → length others ≡ length qs
     → all-replies k (qs ++ q ∷ []) ≡ others ++ later → later ≡ reply_of k q ∷ []
 last-one k [] q [] later n e = sym e
@@ -340,12 +340,12 @@ part-is-cut : (c : Configuration) (state : State) (bucket first : ℕ) (content 
 part-is-cut c state bucket first content left lost r rest e is begins (inl head) =
     record { lines = 0; is = no-lines r.content ∙ sym head.none }
 part-is-cut c state bucket first content left lost r rest e is begins (inr fault) =
-    cut-behind fault.count fault.distrusts fault.further fault.begins
+    cut-after fault.count fault.distrusts fault.further fault.begins
   where
-    cut-behind : (count distrusts : ℕ) (further : Option (List ℕ))
+    cut-after : (count distrusts : ℕ) (further : Option (List ℕ))
         → AnswerBegins (Some (record { config = c; bucket = bucket })) (Some left) count distrusts content further → IsCut r.content content
-    cut-behind count distrusts None b = absurd b.text
-    cut-behind count distrusts (Some further) b =
+    cut-after count distrusts None b = absurd b.text
+    cut-after count distrusts (Some further) b =
         let more : AnswerBegins (Some (record { config = c; bucket = bucket })) (Some (left ++ lost)) count distrusts content (Some (further ++ lost)) =
         record {
           first = b.first;
@@ -384,15 +384,15 @@ cut-exchange-is rules i j l n c k w state sent bucket r content at is low room c
     ap (λ (v : World). v.now i) run ∙ at-here i (joined (w.now i) (first_of cut.lines (the_content rules i j l n w bucket low))) w.now ∙ taken
 
 -- What a pull holds that was cut is what its replica holds after whole exchanges and one that was cut.
-pub cut-in-world : (m k held : Meaning) (n i j : ℕ) (w : World) (asked told rest bytes lost : List ℕ) (count : ℕ) (e : SyncError)
+pub cut-in-world : (m k held : Meaning) (n i j : ℕ) (w : World) (asked replied rest bytes lost : List ℕ) (count : ℕ) (e : SyncError)
     → i < n → j < n → i ≢ j → w.now i ≡ state_of m → w.now j ≡ state_of k → IsMeaning m → IsMeaning k → IsMeaning held
-    → config_id_of m.config ≡ config_id_of k.config → ServesAll (known_run asked told) k count
-    → bytes ++ lost ≡ told ++ rest → PullsUpTo (known_run bytes asked) m held e → e ≢ Io → e ≢ NoMemory
+    → config_id_of m.config ≡ config_id_of k.config → ServesAll (known_run asked replied) k count
+    → bytes ++ lost ≡ replied ++ rest → PullsUpTo (known_run bytes asked) m held e → e ≢ Io → e ≢ NoMemory
     → EndsCut (rules_of m.config n) w i j (state_of held)
-cut-in-world m k held n i j w asked told rest bytes lost count e l h apart here there valid other kept same all begins part calm ample =
+cut-in-world m k held n i j w asked replied rest bytes lost count e l h apart here there valid other kept same all begins part calm ample =
     cut-at part.left part.session.text part.cause
   where
-    cut-at : (left : Option (List ℕ)) → Consumes (Some bytes) left (told_texts part.replies)
+    cut-at : (left : Option (List ℕ)) → Consumes (Some bytes) left (reply_texts part.replies)
         → RefusesAnswer m.config (after_replies (state_of m) part.replies) (length part.replies) (line_count part.replies + 1) part.content left e
         → EndsCut (rules_of m.config n) w i j (state_of held)
     cut-at None text cause = absurd text
@@ -400,15 +400,15 @@ cut-in-world m k held n i j w asked told rest bytes lost count e l h apart here 
         let state = after_replies (state_of m) part.replies in
         let questions = all-asked m part.replies ++ last-asked m part.replies in
         let asks = part-asked m held (Some bytes) asked e valid kept calm ample part in
-        let told_text = told-is m k asked told count questions same asks all in
+        let give_header_text = replied-is m k asked replied count questions same asks all in
         let each = replies-in-turn m.config k 0 questions other (sym same) asks.each in
         let many = length-map questions (reply_of k) in
         let both = length-append (all-asked m part.replies) (last-asked m part.replies) in
         let size = length-asked m.config 0 (state_of m) part.replies in
         let front = first-replies m.config 0 (all-replies k questions) part.replies rest (left ++ lost) each part.session.each
         (omega (arith, many, both, size))
-        (sym (ap (λ (t : List ℕ). t ++ rest) told_text) ∙ sym begins ∙ ap (λ (t : List ℕ). t ++ lost) text
-        ∙ append_assoc (told_texts part.replies) left lost) in
+        (sym (ap (λ (t : List ℕ). t ++ rest) give_header_text) ∙ sym begins ∙ ap (λ (t : List ℕ). t ++ lost) text
+        ∙ append_assoc (reply_texts part.replies) left lost) in
         let last = question_in m.config state (length part.replies) in
         let reply = reply_of k last in
         let one = last-one k (all-asked m part.replies) last part.replies front.later (sym size) front.whole in
@@ -419,9 +419,9 @@ cut-in-world m k held n i j w asked told rest bytes lost count e l h apart here 
         let few = part.few in
         let is : IsReply m.config (length part.replies) reply =
         record { own = sym same; about = refl; answer = answer-given k last other (own-question m.config state (length part.replies) now few).askable } in
-        let behind : left ++ lost ≡ reply_text reply ++ rest =
-        front.behind ∙ ap (λ (ls : List Reply). told_texts ls ++ rest) one ∙ ap (λ (t : List ℕ). t ++ rest) (append-nil (reply_text reply)) in
-        let cut = part-is-cut m.config state (length part.replies) (line_count part.replies + 1) part.content left lost reply rest e is behind cause in
+        let follows : left ++ lost ≡ reply_text reply ++ rest =
+        front.follows ∙ ap (λ (ls : List Reply). reply_texts ls ++ rest) one ∙ ap (λ (t : List ℕ). t ++ rest) (append-nil (reply_text reply)) in
+        let cut = part-is-cut m.config state (length part.replies) (line_count part.replies + 1) part.content left lost reply rest e is follows cause in
         let room = small-within (joined state part.content) (joined state part.content) (within-itself (joined state part.content))
         (record { receipts = final.few; records = final.few_records }) in
         let run = run-all (rules_of m.config n) i j l h (λ s. apart (sym s)) m.config k part.replies w (state_of m) (length w.sent) 0

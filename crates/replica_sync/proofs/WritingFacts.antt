@@ -12,10 +12,6 @@ use Rattle.replica_sync.specs.Writing.{Writes, IsOfWriting}
 use Rattle.replica_sync.specs.Inside.WritingSteps.{WrittenSoFar}
 use Rattle.replica_core.specs.declared.error.SyncError.{SyncError}
 
--- Before the first piece all is left to be written.
-pub started : (none : (old : Option (List ℕ)) → Appends old old []) (old : Option (List ℕ)) (whole : List ℕ) → WrittenSoFar old old whole whole
-started none old whole = record { done = []; appended = none old; parts = refl }
-
 module _ (both : (old between new : Option (List ℕ)) (first second : List ℕ) → Appends old between first
     → Appends between new second → Appends old new (first ++ second))
     (in_first : (old new : Option (List ℕ)) (first second : List ℕ) → AppendsBeginning old new first → AppendsBeginning old new (first ++ second))

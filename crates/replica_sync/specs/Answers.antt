@@ -14,9 +14,9 @@ use Rattle.replica_sync.specs.Snapshots.{ended, last_of, text_of_lines}
 use Rattle.replica_sync.specs.Entries.{RefusesEntryText}
 use Rattle.replica_sync.specs.declared.entry_line.Wanted.{Wanted}
 use Rattle.replica_sync.specs.declared.entry_line.Wanted.TheVariants.{Records, Receipts, Either}
-use Rattle.replica_sync.specs.Messages.{GiveHeader, told_of}
-use Rattle.replica_sync.specs.FirstLines.{Expected, TellsOf, HasDigestOf, IsSupportedVersion}
-use Rattle.replica_sync.specs.FirstLines.{IsGiveHeader, config_of, HasBadFirstLine, RefusesTold}
+use Rattle.replica_sync.specs.Messages.{GiveHeader, give_header_of}
+use Rattle.replica_sync.specs.FirstLines.{Expected, IsWantedHeader, HasDigestOf, IsSupportedVersion}
+use Rattle.replica_sync.specs.FirstLines.{IsGiveHeader, config_of, HasBadFirstLine, RefusesGiveLine}
 use Rattle.replica_core.specs.declared.error.SyncError.{SyncError}
 use Rattle.replica_core.specs.declared.error.SyncError.TheVariants.{BadHeader, ConfigDiffers}
 use Rattle.replica_core.specs.declared.error.SyncError.TheVariants.{VersionDiffers, NotCanonical}
@@ -30,12 +30,12 @@ content_lines content = map distrust_line content.records ++ map line content.he
 -- It is a first line that is read: about the bucket that is wanted, of this configuration, in the
 -- one format that is supported, with so many receipts and records.
 pub record Heads (expected : Option Expected) (text : List ℕ) (count distrusts : ℕ) : Type 0 where
-  pub told : GiveHeader
-  pub tells : TellsOf expected text told
-  pub own : HasDigestOf (config_of expected) told.config
-  pub supported : IsSupportedVersion told.format told.buckets
-  pub receipts : count ≡ told.count
-  pub records : Some distrusts ≡ told.distrusts
+  pub header : GiveHeader
+  pub wanted : IsWantedHeader expected text header
+  pub own : HasDigestOf (config_of expected) header.config
+  pub supported : IsSupportedVersion header.format header.buckets
+  pub receipts : count ≡ header.count
+  pub records : Some distrusts ≡ header.distrusts
 
 -- what is given as receipts and records are such
 pub record IsContent (content : State) : Type 0 where
@@ -45,7 +45,7 @@ pub record IsContent (content : State) : Type 0 where
 -- It is an answer: its bucket is one of 256, its digest has 32 bytes, and the lines of what it
 -- gives rise.
 pub record IsAnswer (reply : Reply) : Type 0 where
-  pub told : IsGiveHeader (told_of reply)
+  pub header : IsGiveHeader (give_header_of reply)
   pub valid : IsContent reply.content
   pub rising : IsStrictlySortedBy (slice_cmp nat_cmp) (content_lines reply.content)
 
@@ -110,10 +110,11 @@ RefusesNextEntry refuses count distrusts content left after _ = ⊥
 
 -- why no first line is read, where one should begin
 abbrev pub RefusesHead : Option Expected → Option (List ℕ) → Option (List ℕ) → SyncError → Type 0
-RefusesHead expected old new BadHeader = HasBadFirstLine (RefusesTold expected) old new BadHeader
-RefusesHead expected old new ConfigDiffers = HasBadFirstLine (RefusesTold expected) old new
+RefusesHead expected old new BadHeader = HasBadFirstLine (RefusesGiveLine expected) old new
+    BadHeader
+RefusesHead expected old new ConfigDiffers = HasBadFirstLine (RefusesGiveLine expected) old new
     ConfigDiffers
-RefusesHead expected old new VersionDiffers = HasBadFirstLine (RefusesTold expected) old new
+RefusesHead expected old new VersionDiffers = HasBadFirstLine (RefusesGiveLine expected) old new
     VersionDiffers
 RefusesHead expected old new Truncated = HasNoLine old
 RefusesHead expected old new Io = Unit {0}
@@ -128,7 +129,7 @@ refused_text content wanted last text e = RefusesEntryText wanted last (next_ent
     text e
 
 -- A good beginning, and after it this fault.
-pub record AnswerFailsBehind (old new : Option (List ℕ)) (e : SyncError) : Type 0 where
+pub record AnswerFailsAfter (old new : Option (List ℕ)) (e : SyncError) : Type 0 where
   pub count : ℕ
   pub distrusts : ℕ
   pub content : State
@@ -138,4 +139,4 @@ pub record AnswerFailsBehind (old new : Option (List ℕ)) (e : SyncError) : Typ
 
 -- Why no answer is read. The lines that were read are used up.
 abbrev pub RefusesGive : Option (List ℕ) → Option (List ℕ) → SyncError → Type 0
-RefusesGive old new e = RefusesHead None old new e ⊎ AnswerFailsBehind old new e
+RefusesGive old new e = RefusesHead None old new e ⊎ AnswerFailsAfter old new e

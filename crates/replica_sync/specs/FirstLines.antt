@@ -5,7 +5,7 @@ use Rattle.fed_config.specs.Configuration.{Configuration, config_id_of}
 use Rattle.byte_lines.specs.Lines.{HasLine}
 use Rattle.receipt_core.specs.Receipt.{IsDigest}
 use Rattle.replica_core.specs.Session.{IsQuestion}
-use Rattle.replica_sync.specs.Messages.{Asked, asked_text, GiveHeader, told_text}
+use Rattle.replica_sync.specs.Messages.{Asked, asked_text, GiveHeader, give_header_text}
 use Rattle.replica_core.specs.declared.error.SyncError.{SyncError}
 use Rattle.replica_core.specs.declared.error.SyncError.TheVariants.{BadHeader, ConfigDiffers}
 use Rattle.replica_core.specs.declared.error.SyncError.TheVariants.{VersionDiffers}
@@ -78,7 +78,7 @@ abbrev pub IsAbout : Option Expected → ℕ → Type 0
 IsAbout None bucket = ⊤
 IsAbout (Some expected) bucket = bucket ≡ expected.bucket
 
--- the number of records; the first format, and no other, tells none
+-- the number of records; the first format, and no other, has none
 abbrev pub IsRecordCount : ℕ → Option ℕ → Type 0
 IsRecordCount format None = format ≡ 1
 IsRecordCount format (Some number) = number < 2 ^ 64
@@ -93,35 +93,37 @@ pub record IsGiveHeader (t : GiveHeader) : Type 0 where
   pub config : IsDigest t.config
 
 -- It is spelt as an answer's first line, and says this.
-pub record IsToldLine (text : List ℕ) (t : GiveHeader) : Type 0 where
+pub record IsGiveHeaderLine (text : List ℕ) (t : GiveHeader) : Type 0 where
   pub is : IsGiveHeader t
-  pub spelt : text ≡ told_text t
+  pub spelt : text ≡ give_header_text t
 
 -- It is such a line about the bucket that is wanted.
-pub record TellsOf (expected : Option Expected) (text : List ℕ) (t : GiveHeader) : Type 0 where
-  pub line : IsToldLine text t
+pub record IsWantedHeader (expected : Option Expected) (text : List ℕ)
+    (t : GiveHeader) : Type 0 where
+  pub line : IsGiveHeaderLine text t
   pub about : IsAbout expected t.bucket
 
 -- It is one of another configuration.
-pub record TellsOther (expected : Option Expected) (text : List ℕ) : Type 0 where
-  pub told : GiveHeader
-  pub tells : TellsOf expected text told
-  pub other : HasOtherDigest (config_of expected) told.config
+pub record IsOtherHeader (expected : Option Expected) (text : List ℕ) : Type 0 where
+  pub header : GiveHeader
+  pub wanted : IsWantedHeader expected text header
+  pub other : HasOtherDigest (config_of expected) header.config
 
 -- It is one of this configuration, of another format or number of buckets.
-pub record TellsUnsupported (expected : Option Expected) (text : List ℕ) : Type 0 where
-  pub told : GiveHeader
-  pub tells : TellsOf expected text told
-  pub own : HasDigestOf (config_of expected) told.config
-  pub unsupported : IsSupportedVersion told.format told.buckets → ⊥
+pub record IsUnsupportedHeader (expected : Option Expected) (text : List ℕ) : Type 0 where
+  pub header : GiveHeader
+  pub wanted : IsWantedHeader expected text header
+  pub own : HasDigestOf (config_of expected) header.config
+  pub unsupported : IsSupportedVersion header.format header.buckets → ⊥
 
 -- what is wrong with the line where an answer's first is wanted
-abbrev pub RefusesTold : Option Expected → List ℕ → SyncError → Type 0
-RefusesTold expected text BadHeader = (told : GiveHeader) → TellsOf expected text told → ⊥
-RefusesTold expected text ConfigDiffers = TellsOther expected text
-RefusesTold expected text VersionDiffers = TellsUnsupported expected text
-RefusesTold expected text NoMemory = Unit {0}
-RefusesTold expected text _ = ⊥
+abbrev pub RefusesGiveLine : Option Expected → List ℕ → SyncError → Type 0
+RefusesGiveLine expected text BadHeader = (header : GiveHeader)
+    → IsWantedHeader expected text header → ⊥
+RefusesGiveLine expected text ConfigDiffers = IsOtherHeader expected text
+RefusesGiveLine expected text VersionDiffers = IsUnsupportedHeader expected text
+RefusesGiveLine expected text NoMemory = Unit {0}
+RefusesGiveLine expected text _ = ⊥
 
 -- ---- in a stream
 

@@ -30,7 +30,7 @@ asked_text a =
     ++ (codes "],\"of\":" ++ (decimal a.buckets ++ codes "}")))))))))
 
 -- what the first line of an answer says, of whatever format and number of buckets; in the first
--- format it tells no records
+-- format it has no number of records
 pub record GiveHeader : Type 0 where
   pub bucket : ℕ
   pub config : List ℕ
@@ -43,8 +43,8 @@ abbrev pub distrusts_part : Option ℕ → List ℕ
 distrusts_part None = []
 distrusts_part (Some n) = codes ",\"distrusts\":" ++ decimal n
 
-unfoldable pub told_text : GiveHeader → List ℕ
-told_text t =
+unfoldable pub give_header_text : GiveHeader → List ℕ
+give_header_text t =
     codes "{\"bucket\":" ++
     (decimal t.bucket ++ (codes ",\"config\":\""
     ++ (encode_lower t.config ++ (codes "\",\"count\":" ++ (decimal t.count
@@ -59,8 +59,8 @@ asked_of q = record { question = q; format = 2; buckets = 256 }
 abbrev pub question_text : Question → List ℕ
 question_text q = ended (asked_text (asked_of q))
 
-abbrev pub told_of : Reply → GiveHeader
-told_of r = record {
+abbrev pub give_header_of : Reply → GiveHeader
+give_header_of r = record {
   bucket = r.bucket;
   config = r.config;
   count = length r.content.held;
@@ -77,7 +77,7 @@ receipt_text r = ended (line r)
 
 -- the answer: its first line, a line for each record, and a line for each receipt
 abbrev pub reply_text : Reply → List ℕ
-reply_text r = ended (told_text (told_of r))
+reply_text r = ended (give_header_text (give_header_of r))
     ++ (flat_map record_text r.content.records ++ flat_map receipt_text r.content.held)
 
 -- exactly the text was written; at a fault a beginning of it

@@ -75,10 +75,10 @@ snapshot_text format m = begun_text format m ++ ended (count_line format m)
 
 -- ---- what is read
 
--- the first format tells no records
-abbrev pub IsTold : Format → Meaning → Type 0
-IsTold First m = m.records ≡ []
-IsTold Second m = Unit {0}
+-- the first format has no records, and the second any
+abbrev pub FitsFormat : Format → Meaning → Type 0
+FitsFormat First m = m.records ≡ []
+FitsFormat Second m = Unit {0}
 
 -- The stream begins with the first line and the lines of what a replica of the configuration may
 -- hold, and `left` is what follows them.
@@ -86,7 +86,7 @@ pub record Begins (config : Configuration) (stream : Option (List ℕ)) (format 
     (m : Meaning) (left : Option (List ℕ)) : Type 0 where
   pub of_config : m.config ≡ config
   pub valid : IsMeaning m
-  pub told : IsTold format m
+  pub fits : FitsFormat format m
   pub text : Consumes stream left (begun_text format m)
 
 -- The stream is the text of what a replica of the configuration may hold.
@@ -95,7 +95,7 @@ pub record IsSnapshot (config : Configuration) (stream : Option (List ℕ))
   pub of_config : m.config ≡ config
   pub valid : IsMeaning m
   pub format : Format
-  pub told : IsTold format m
+  pub fits : FitsFormat format m
   pub text : IfSome stream (λ bytes. bytes ≡ snapshot_text format m)
 
 -- ---- what is refused: the first line
@@ -119,10 +119,10 @@ IsNoHeader text = (digits : List ℕ) (version : ℕ) → IsHeader text digits v
 
 -- It is one of another configuration.
 pub record IsOfOther (config : Configuration) (text : List ℕ) : Type 0 where
-  pub told : List ℕ
+  pub digits : List ℕ
   pub version : ℕ
-  pub is : IsHeader text told version
-  pub other : told ≡ digits_of config → ⊥
+  pub is : IsHeader text digits version
+  pub other : digits ≡ digits_of config → ⊥
 
 -- It is one of this configuration, with a number that is no format's.
 pub record IsOfOtherFormat (config : Configuration) (text : List ℕ) : Type 0 where
@@ -170,18 +170,18 @@ last_line m = last_of (held_lines m)
 abbrev pub next_number : Meaning → ℕ
 next_number m = length m.records + length m.held + 2
 
--- It is to tell the numbers.
+-- It begins as the last line does, and is not too long.
 pub record IsCountLine (text : List ℕ) : Type 0 where
   pub rest : List ℕ
   pub begins : text ≡ count_beginning ++ rest
   pub few : length text ≤ line_limit
 
--- It tells other numbers, or tells them otherwise.
+-- It has other numbers than the last line, or spells them otherwise.
 pub record IsBadCount (format : Format) (m : Meaning) (text : List ℕ) : Type 0 where
   pub count : IsCountLine text
   pub other : text ≡ count_line format m → ⊥
 
--- It isn't to tell the numbers, and has a fault of one line.
+-- It does not begin as the last line does, and has a fault of one line.
 pub record IsBadLine (format : Format) (m : Meaning) (text : List ℕ) (e : SyncError) : Type 0 where
   pub further : IsCountLine text → ⊥
   pub cause : RefusesEntryLine (wanted_of format) m (last_line m) (next_number m) text e
@@ -204,7 +204,7 @@ pub record HasBadLine (format : Format) (m : Meaning) (left : Option (List ℕ))
   pub cause : RefusesPlace format m text e
 
 -- The last line is right, and more follows it.
-pub record HasMoreBehind (format : Format) (m : Meaning) (left : Option (List ℕ)) : Type 0 where
+pub record HasMoreAfter (format : Format) (m : Meaning) (left : Option (List ℕ)) : Type 0 where
   pub after : Option (List ℕ)
   pub is : Consumes left after (ended (count_line format m))
   pub more : HasMore after
@@ -213,7 +213,7 @@ pub record HasMoreBehind (format : Format) (m : Meaning) (left : Option (List �
 -- is read.
 abbrev pub RefusesNext : Format → Meaning → Option (List ℕ) → SyncError → Type 0
 RefusesNext format m left (NotCanonical n) = HasBadLine format m left (NotCanonical n)
-    ⊎ ((n ≡ next_number m + 1) × HasMoreBehind format m left)
+    ⊎ ((n ≡ next_number m + 1) × HasMoreAfter format m left)
 RefusesNext format m left (NotRising n) = HasBadLine format m left (NotRising n)
 RefusesNext format m left BadCount = HasBadLine format m left BadCount
 RefusesNext format m left Truncated = HasNoLine left
@@ -225,7 +225,7 @@ RefusesNext format m left _ = ⊥
 -- ---- the first fault
 
 -- A good beginning, and after it this fault.
-pub record HasFaultBehind (config : Configuration) (stream : Option (List ℕ))
+pub record HasFaultAfter (config : Configuration) (stream : Option (List ℕ))
     (e : SyncError) : Type 0 where
   pub format : Format
   pub m : Meaning
@@ -234,7 +234,7 @@ pub record HasFaultBehind (config : Configuration) (stream : Option (List ℕ))
   pub cause : RefusesNext format m left e
 
 abbrev pub RefusesSnapshot : Configuration → Option (List ℕ) → SyncError → Type 0
-RefusesSnapshot config stream e = RefusesFirst config stream e ⊎ HasFaultBehind config stream e
+RefusesSnapshot config stream e = RefusesFirst config stream e ⊎ HasFaultAfter config stream e
 
 -- the device was at fault
 abbrev pub is_io : {T : Type 0} → Result T SyncError → Bool

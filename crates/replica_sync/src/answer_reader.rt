@@ -22,7 +22,7 @@ use std::alloc::{AllocError, Global};
 /// configuration is compared.
 ///
 /// Memory is taken for what was read, and for one line, but never by a number that the first line
-/// tells.
+/// says.
 ///
 /// # Errors
 /// The lines up to the fault are used up; but where memory ran out the last of them may still be
@@ -134,7 +134,7 @@ fn read_next<R: Source>(
     let Some(wanted) = next_wanted(head, content) else {
         return Ok(false);
     };
-    let number = number_behind(alloc, content)?;
+    let number = next_line_number(alloc, content)?;
     match lines.next_line(source)? {
         Line::Text(text) => {
             push_line(alloc, wanted, content, number, text)?;
@@ -164,7 +164,7 @@ fn next_wanted(head: &Head, content: &AnswerBody) -> Option<Wanted>
 
 // The number of the line after what was read. There is no memory for so many that it has more than
 // 64 bits: there it asks for a growth that is always refused.
-fn number_behind(alloc: Global, content: &AnswerBody) -> Result<u64, AllocError>
+fn next_line_number(alloc: Global, content: &AnswerBody) -> Result<u64, AllocError>
     ensures { IfOk result (λ number. number ≡ next_entry_number 1 (answer_content content.now)) }
 {
     let count = content.distrusts.len() as u64 + content.receipts.len() as u64;

@@ -1,7 +1,7 @@
 //! Answers, written.
 ghost use Rattle.std.specs.Prelude.{◌≡◌, ◌≢◌, ◌||◌, IfErr, IfOk, flat_map, true, Err};
 ghost use Rattle.replica_sync.specs.Messages.{WritesText, receipt_text, record_text, reply_text};
-ghost use Rattle.replica_sync.specs.Messages.{told_of, told_text};
+ghost use Rattle.replica_sync.specs.Messages.{give_header_of, give_header_text};
 ghost use Rattle.replica_sync.specs.Snapshots.{ended, is_io};
 ghost use Rattle.replica_core.specs.declared.error.SyncError.TheVariants.{Io, NoMemory};
 
@@ -42,10 +42,11 @@ pub fn write_answer<W: Sink>(
 }
 
 fn header_of(alloc: Global, answer: &Answer<'_>) -> Result<Vec<u8>, AllocError>
-    ensures { IfOk result (λ text. text.items ≡ ended (told_text (told_of answer.now))) }
+    ensures { IfOk result
+        (λ text. text.items ≡ ended (give_header_text (give_header_of answer.now))) }
 {
     let mut text = Vec::new(alloc);
-    let told = GiveHeaderLine {
+    let header = GiveHeaderLine {
         bucket: u64::from(answer.bucket()),
         config: answer.config(),
         count: answer.receipt_count() as u64,
@@ -53,7 +54,7 @@ fn header_of(alloc: Global, answer: &Answer<'_>) -> Result<Vec<u8>, AllocError>
         format: 2,
         buckets: 256,
     };
-    push_give_header(&mut text, &told)?;
+    push_give_header(&mut text, &header)?;
     text.extend_from_slice(b"\n")?;
     Ok(text)
 }

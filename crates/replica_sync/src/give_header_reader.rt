@@ -4,15 +4,15 @@ ghost use Rattle.std.specs.Prelude.{◌≡◌, ◌++◌, ◌<◌, ◌^◌, ◌�
 ghost use Rattle.std.specs.Prelude.{IfErr, IfSome, OnOk, MatchOption, codes};
 ghost use Rattle.byte_lines.specs.Streams.{stream_of, left_of};
 ghost use Rattle.replica_sync.specs.Snapshots.{is_io};
-ghost use Rattle.replica_sync.specs.Messages.{GiveHeader, distrusts_part, told_text};
+ghost use Rattle.replica_sync.specs.Messages.{GiveHeader, distrusts_part, give_header_text};
 ghost use Rattle.replica_sync.specs.FirstLines.{IsAbout, HasDigestOf, IsRecordCount, IsGiveHeader};
-ghost use Rattle.replica_sync.specs.FirstLines.{IsToldLine, RefusesTold, config_of};
+ghost use Rattle.replica_sync.specs.FirstLines.{IsGiveHeaderLine, RefusesGiveLine, config_of};
 ghost use Rattle.replica_sync.specs.Answers.{RefusesHead};
 ghost use Rattle.replica_sync.specs.Inside.Spelling.{HasHead, HasWords, IsHeadOf};
-ghost use Rattle.replica_sync.specs.Inside.Spelling.{RefusesGiveHeader, TellsHead, expected_by};
+ghost use Rattle.replica_sync.specs.Inside.Spelling.{RefusesGiveHeader, IsHeadLine, expected_by};
 ghost use Rattle.replica_sync.specs.Inside.Spelling.{header_by};
 
-use crate::scanner::{after, digest_behind, id_of, number_behind};
+use crate::scanner::{after, digest_after, id_of, number_after};
 use crate::spelling::{GiveHeaderLine, push_give_header};
 use byte_lines::{Line, LineBuf, Source};
 use fed_config::{Config, ConfigId};
@@ -68,38 +68,38 @@ pub(crate) fn read_head(
     expected: Option<Expected<'_>>,
     text: &[u8],
 ) -> Result<Head, SyncError>
-    ensures ok { IfOk result (TellsHead (expected_by expected.entry) text.now) }
-    ensures refused { IfErr result (RefusesTold (expected_by expected.entry) text.now) }
+    ensures ok { IfOk result (IsHeadLine (expected_by expected.entry) text.now) }
+    ensures refused { IfErr result (RefusesGiveLine (expected_by expected.entry) text.now) }
 {
     match read_give_header(alloc, text)? {
-        Some(told) => head_of(expected, &told),
+        Some(header) => head_of(expected, &header),
         None => Err(SyncError::BadHeader),
     }
 }
 
 // What the line says, where it is wanted and of the one format that is supported.
-fn head_of(expected: Option<Expected<'_>>, told: &GiveHeaderLine) -> Result<Head, SyncError>
-    requires { IsGiveHeader (header_by told.now) }
-    ensures ok { IfOk result (IsHeadOf (expected_by expected.entry) (header_by told.now)) }
+fn head_of(expected: Option<Expected<'_>>, header: &GiveHeaderLine) -> Result<Head, SyncError>
+    requires { IsGiveHeader (header_by header.now) }
+    ensures ok { IfOk result (IsHeadOf (expected_by expected.entry) (header_by header.now)) }
     ensures refused { IfErr result
-        (RefusesGiveHeader (expected_by expected.entry) (header_by told.now)) }
+        (RefusesGiveHeader (expected_by expected.entry) (header_by header.now)) }
 {
-    if !is_about(expected, told.bucket) {
+    if !is_about(expected, header.bucket) {
         return Err(SyncError::BadHeader);
     }
-    if !is_own(expected, &told.config) {
+    if !is_own(expected, &header.config) {
         return Err(SyncError::ConfigDiffers);
     }
-    let Some(distrusts) = told.distrusts else {
+    let Some(distrusts) = header.distrusts else {
         return Err(SyncError::VersionDiffers);
     };
-    if told.format != 2 || told.buckets != 256 {
+    if header.format != 2 || header.buckets != 256 {
         return Err(SyncError::VersionDiffers);
     }
     Ok(Head {
-        bucket: told.bucket as u8,
-        config: told.config,
-        count: told.count,
+        bucket: header.bucket as u8,
+        config: header.config,
+        count: header.count,
         distrusts,
     })
 }
@@ -129,18 +129,18 @@ pub(crate) fn read_give_header(
     text: &[u8],
 ) -> Result<Option<GiveHeaderLine>, AllocError>
     ensures read { IfOk result
-        (λ found. MatchOption found ((t : GiveHeader) → IsToldLine text.now t → ⊥)
-        (λ t. IsToldLine text.now (header_by t))) }
+        (λ found. MatchOption found ((t : GiveHeader) → IsGiveHeaderLine text.now t → ⊥)
+        (λ t. IsGiveHeaderLine text.now (header_by t))) }
     ensures only { IfOk result
-        (λ found. IfSome found (λ t. (other : GiveHeader) → IsToldLine text.now other
+        (λ found. IfSome found (λ t. (other : GiveHeader) → IsGiveHeaderLine text.now other
         → header_by t ≡ other)) }
 {
-    let told = guess(text);
-    if !is_told(&told) {
+    let header = guess(text);
+    if !is_give_header(&header) {
         return Ok(None);
     }
-    if is_spelt(alloc, &told, text)? {
-        Ok(Some(told))
+    if is_spelt(alloc, &header, text)? {
+        Ok(Some(header))
     } else {
         Ok(None)
     }
@@ -149,14 +149,14 @@ pub(crate) fn read_give_header(
 // What the line says, where it is spelt as the first of an answer, and else anything.
 fn guess(text: &[u8]) -> GiveHeaderLine
     ensures words { HasWords (header_by result) }
-    ensures right { (t : GiveHeader) → IsToldLine text.now t → header_by result ≡ t }
+    ensures right { (t : GiveHeader) → IsGiveHeaderLine text.now t → header_by result ≡ t }
 {
-    let (bucket, rest) = number_behind(text, b"{\"bucket\":");
-    let (config, rest) = digest_behind(rest, b",\"config\":\"");
-    let (count, rest) = number_behind(rest, b"\",\"count\":");
-    let (distrusts, rest) = records_behind(rest);
-    let (format, rest) = number_behind(rest, b",\"format\":");
-    let (buckets, _) = number_behind(rest, b",\"of\":");
+    let (bucket, rest) = number_after(text, b"{\"bucket\":");
+    let (config, rest) = digest_after(rest, b",\"config\":\"");
+    let (count, rest) = number_after(rest, b"\",\"count\":");
+    let (distrusts, rest) = records_after(rest);
+    let (format, rest) = number_after(rest, b",\"format\":");
+    let (buckets, _) = number_after(rest, b",\"of\":");
     GiveHeaderLine {
         bucket,
         config: id_of(&config),
@@ -168,7 +168,7 @@ fn guess(text: &[u8]) -> GiveHeaderLine
 }
 
 // The number of records, where one is given, and what follows.
-fn records_behind(text: &[u8]) -> (Option<u64>, &[u8])
+fn records_after(text: &[u8]) -> (Option<u64>, &[u8])
     ensures few { IfSome result.0 (λ n. n < 2 ^ 64) }
     ensures right { (distrusts : Option ℕ) (more : List ℕ) → IfSome distrusts (λ n. n < 2 ^ 64)
         → text.now ≡ distrusts_part distrusts ++ (codes ",\"format\":" ++ more)
@@ -176,7 +176,7 @@ fn records_behind(text: &[u8]) -> (Option<u64>, &[u8])
 {
     match after(text, b",\"distrusts\":") {
         Some(_) => {
-            let (number, rest) = number_behind(text, b",\"distrusts\":");
+            let (number, rest) = number_after(text, b",\"distrusts\":");
             (Some(number), rest)
         }
         None => (None, text),
@@ -185,14 +185,14 @@ fn records_behind(text: &[u8]) -> (Option<u64>, &[u8])
 
 // Whether the bucket is below the number of buckets, and the number of records is given, but for
 // the first format.
-fn is_told(told: &GiveHeaderLine) -> bool
-    requires { HasWords (header_by told.now) }
-    ensures { IsTrue result ↔ IsGiveHeader (header_by told.now) }
+fn is_give_header(header: &GiveHeaderLine) -> bool
+    requires { HasWords (header_by header.now) }
+    ensures { IsTrue result ↔ IsGiveHeader (header_by header.now) }
 {
-    if told.bucket >= told.buckets {
+    if header.bucket >= header.buckets {
         return false;
     }
-    is_record_count(told.format, told.distrusts)
+    is_record_count(header.format, header.distrusts)
 }
 
 fn is_record_count(format: u64, distrusts: Option<u64>) -> bool
@@ -205,10 +205,11 @@ fn is_record_count(format: u64, distrusts: Option<u64>) -> bool
     }
 }
 
-fn is_spelt(alloc: Global, told: &GiveHeaderLine, text: &[u8]) -> Result<bool, AllocError>
-    ensures { IfOk result (λ same. IsTrue same ↔ (text.now ≡ told_text (header_by told.now))) }
+fn is_spelt(alloc: Global, header: &GiveHeaderLine, text: &[u8]) -> Result<bool, AllocError>
+    ensures { IfOk result
+        (λ same. IsTrue same ↔ (text.now ≡ give_header_text (header_by header.now))) }
 {
     let mut spelt = Vec::new(alloc);
-    push_give_header(&mut spelt, told)?;
+    push_give_header(&mut spelt, header)?;
     Ok(text == spelt.as_slice())
 }

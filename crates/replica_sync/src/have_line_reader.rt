@@ -9,8 +9,8 @@ ghost use Rattle.replica_sync.specs.FirstLines.{IsAskedLine};
 ghost use Rattle.replica_sync.specs.Inside.Asking.{ArePartsOf, IsOfParts, asking_by};
 
 use crate::have_fields::{HaveFields, VersionedHave};
-use crate::id_list::{list_behind, read_ids};
-use crate::scanner::{digest_behind, id_of, number_behind};
+use crate::id_list::{list_after, read_ids};
+use crate::scanner::{digest_after, id_of, number_after};
 use crate::spelling::{HaveLine, push_have_line};
 use receipt_core::ReceiptId;
 use replica_core::Have;
@@ -43,11 +43,11 @@ fn guess(text: &[u8]) -> HaveFields<'_>
     ensures config { IsDigest result.config.0 }
     ensures few { (result.format < 2 ^ 64) × (result.buckets < 2 ^ 64) }
 {
-    let (bucket, rest) = number_behind(text, b"{\"bucket\":");
-    let (config, rest) = digest_behind(rest, b",\"config\":\"");
-    let (format, rest) = number_behind(rest, b"\",\"format\":");
-    let (ids, rest) = list_behind(rest, b",\"have\":[");
-    let (buckets, _) = number_behind(rest, b"],\"of\":");
+    let (bucket, rest) = number_after(text, b"{\"bucket\":");
+    let (config, rest) = digest_after(rest, b",\"config\":\"");
+    let (format, rest) = number_after(rest, b"\",\"format\":");
+    let (ids, rest) = list_after(rest, b",\"have\":[");
+    let (buckets, _) = number_after(rest, b"],\"of\":");
     HaveFields {
         bucket,
         config: id_of(&config),

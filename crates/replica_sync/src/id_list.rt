@@ -7,17 +7,17 @@ ghost use Rattle.spiffe_name.specs.Bytes.{FirstFails};
 ghost use Rattle.replica_sync.specs.Messages.{quoted};
 ghost use Rattle.replica_sync.specs.Inside.IdList.{TakesId, is_inside};
 
-use crate::scanner::{behind, digest_behind};
+use crate::scanner::{digest_after, rest_after};
 use receipt_core::ReceiptId;
 use std::alloc::{AllocError, Global};
 
 /// What stands after the label and before the first closing bracket, and what begins with that.
-pub(crate) fn list_behind<'a>(text: &'a [u8], label: &[u8]) -> (&'a [u8], &'a [u8])
+pub(crate) fn list_after<'a>(text: &'a [u8], label: &[u8]) -> (&'a [u8], &'a [u8])
     ensures { (inside rest : List ℕ) → AllPass is_inside inside
         → text.now ≡ label.now ++ (inside ++ (93 ∷ rest))
         → (result.0.now ≡ inside) × (result.1.now ≡ 93 ∷ rest) }
 {
-    let rest = behind(text, label);
+    let rest = rest_after(text, label);
     match bracket(rest) {
         Some(place) => rest.split_at(place),
         None => (rest, rest),
@@ -60,7 +60,7 @@ fn take_id(text: &[u8]) -> Option<(ReceiptId, &[u8])>
         return None;
     }
     let (first, rest) = text.split_at(66);
-    let (digest, _) = digest_behind(first, b"\"");
+    let (digest, _) = digest_after(first, b"\"");
     Some((id_of(&digest), without_first(rest)))
 }
 

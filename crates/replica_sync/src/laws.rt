@@ -117,8 +117,8 @@ pub fn sessions()
 {}
 
 /// What one side writes the other takes: two replicas whose configurations have one digest never
-/// refuse each other's questions and answers. `asked` are the bytes that a pull wrote, and `told`
-/// those that were written to them.
+/// refuse each other's questions and answers. `asked` are the bytes that a pull wrote, and
+/// `replied` those that were written to them.
 ///
 /// - `asks`: what a replica asks about a bucket, a line can ask.
 /// - `answers`: what a replica answers to a question that a line can ask is an answer.
@@ -142,29 +142,29 @@ pub fn understanding()
         → IfErr result (λ fault. (fault.why ≢ Io) × (fault.why ≢ NoMemory))
         → Pulls (session_run stream (Some []) (Some asked)) m held result
         → e ≢ Io → e ≢ NoMemory → ServesUpTo (session_run (Some asked) before after) k e → ⊥ }
-    ensures pulled { (m k held : Meaning) (asked told rest : List ℕ) (count : ℕ) (e : SyncError)
+    ensures pulled { (m k held : Meaning) (asked replied rest : List ℕ) (count : ℕ) (e : SyncError)
         → IsMeaning m → IsMeaning k → IsMeaning held
         → config_id_of m.config ≡ config_id_of k.config
-        → ServesAll (known_run asked told) k count
-        → PullsUpTo (known_run (told ++ rest) asked) m held e
+        → ServesAll (known_run asked replied) k count
+        → PullsUpTo (known_run (replied ++ rest) asked) m held e
         → e ≢ Io → e ≢ NoMemory → ((n : ℕ) (why : TakeError) → e ≢ Refused n why) → ⊥ }
-    ensures taken { (m k held : Meaning) (asked told rest : List ℕ) (count : ℕ) (e : SyncError)
+    ensures taken { (m k held : Meaning) (asked replied rest : List ℕ) (count : ℕ) (e : SyncError)
         → IsConfiguration m.config → IsMeaning m → IsMeaning k → IsMeaning held
         → m.config ≡ k.config → is_within_limits (joined (state_of m) (state_of k)) ≡ true
-        → ServesAll (known_run asked told) k count
-        → PullsUpTo (known_run (told ++ rest) asked) m held e
+        → ServesAll (known_run asked replied) k count
+        → PullsUpTo (known_run (replied ++ rest) asked) m held e
         → e ≢ Io → e ≢ NoMemory → ⊥ }
-    ensures brings { (m k held : Meaning) (asked told rest : List ℕ) (count bucket : ℕ)
+    ensures brings { (m k held : Meaning) (asked replied rest : List ℕ) (count bucket : ℕ)
         → IsMeaning m → IsMeaning k → IsMeaning held
         → config_id_of m.config ≡ config_id_of k.config
-        → ServesAll (known_run asked told) k count
-        → PullsAll (known_run (told ++ rest) asked) m held
+        → ServesAll (known_run asked replied) k count
+        → PullsAll (known_run (replied ++ rest) asked) m held
         → HasAll bucket (state_of k) (state_of held) }
-    ensures joins { (m k held : Meaning) (asked told rest : List ℕ) (count : ℕ)
+    ensures joins { (m k held : Meaning) (asked replied rest : List ℕ) (count : ℕ)
         → IsMeaning m → IsMeaning k → IsMeaning held
         → config_id_of m.config ≡ config_id_of k.config
-        → ServesAll (known_run asked told) k count
-        → PullsAll (known_run (told ++ rest) asked) m held
+        → ServesAll (known_run asked replied) k count
+        → PullsAll (known_run (replied ++ rest) asked) m held
         → HasDistinctIds (joined (state_of m) (state_of k))
         → state_of held ≡ joined (state_of m) (state_of k) }
 {}
@@ -183,8 +183,8 @@ pub fn convergence()
 }
 
 /// A session is part of what happens in a world of replicas with one configuration: replica i
-/// pulls, and replica j serves it. `asked` are the bytes that the pull wrote, and `told` those that
-/// were written to them.
+/// pulls, and replica j serves it. `asked` are the bytes that the pull wrote, and `replied`
+/// those that were written to them.
 ///
 /// - `whole`: after a pull that was carried out i holds what it holds in the world where it asked j
 ///   about each bucket and absorbed each answer.
@@ -192,21 +192,21 @@ pub fn convergence()
 ///   holds in the world where it absorbed the answers about the first buckets, and the first lines
 ///   of the next one.
 pub fn world_of_sessions()
-    ensures whole { (m k held : Meaning) (n i j : ℕ) (w : World) (asked told rest : List ℕ)
+    ensures whole { (m k held : Meaning) (n i j : ℕ) (w : World) (asked replied rest : List ℕ)
         (count : ℕ) → i < n → j < n → i ≢ j → w.now i ≡ state_of m → w.now j ≡ state_of k
         → IsMeaning m → IsMeaning k → IsMeaning held
         → config_id_of m.config ≡ config_id_of k.config
-        → ServesAll (known_run asked told) k count
-        → PullsAll (known_run (told ++ rest) asked) m held
+        → ServesAll (known_run asked replied) k count
+        → PullsAll (known_run (replied ++ rest) asked) m held
         → (run_from (rules_of m.config n) w (whole_exchanges i j 256 0 (length w.sent))).now i
         ≡ state_of held }
-    ensures cut { (m k held : Meaning) (n i j : ℕ) (w : World) (asked told rest bytes lost : List ℕ)
-        (count : ℕ) (e : SyncError) → i < n → j < n → i ≢ j
+    ensures cut { (m k held : Meaning) (n i j : ℕ) (w : World)
+        (asked replied rest bytes lost : List ℕ) (count : ℕ) (e : SyncError) → i < n → j < n → i ≢ j
         → w.now i ≡ state_of m → w.now j ≡ state_of k
         → IsMeaning m → IsMeaning k → IsMeaning held
         → config_id_of m.config ≡ config_id_of k.config
-        → ServesAll (known_run asked told) k count
-        → bytes ++ lost ≡ told ++ rest
+        → ServesAll (known_run asked replied) k count
+        → bytes ++ lost ≡ replied ++ rest
         → PullsUpTo (known_run bytes asked) m held e → e ≢ Io → e ≢ NoMemory
         → EndsCut (rules_of m.config n) w i j (state_of held) }
 {}

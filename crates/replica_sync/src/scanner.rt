@@ -18,7 +18,7 @@ pub(crate) fn after<'a>(text: &'a [u8], label: &[u8]) -> Option<&'a [u8]>
 }
 
 /// What follows the label.
-pub(crate) fn behind<'a>(text: &'a [u8], label: &[u8]) -> &'a [u8]
+pub(crate) fn rest_after<'a>(text: &'a [u8], label: &[u8]) -> &'a [u8]
     ensures { (rest : List ℕ) → text.now ≡ label.now ++ rest → result.now ≡ rest }
 {
     match after(text, label) {
@@ -28,23 +28,23 @@ pub(crate) fn behind<'a>(text: &'a [u8], label: &[u8]) -> &'a [u8]
 }
 
 /// The number after the label, and what follows its digits.
-pub(crate) fn number_behind<'a>(text: &'a [u8], label: &[u8]) -> (u64, &'a [u8])
+pub(crate) fn number_after<'a>(text: &'a [u8], label: &[u8]) -> (u64, &'a [u8])
     ensures few { result.0 < 2 ^ 64 }
     ensures right { (n stop : ℕ) (more : List ℕ) → n < 2 ^ 64 → is_ascii_digit stop ≡ false
         → text.now ≡ label.now ++ (decimal n ++ (stop ∷ more))
         → (result.0 ≡ n) × (result.1.now ≡ stop ∷ more) }
 {
-    let (digits, rest) = split_digits(behind(text, label));
+    let (digits, rest) = split_digits(rest_after(text, label));
     (number_of(digits), rest)
 }
 
 /// The digest after the label, and what follows its digits.
-pub(crate) fn digest_behind<'a>(text: &'a [u8], label: &[u8]) -> ([u8; 32], &'a [u8])
+pub(crate) fn digest_after<'a>(text: &'a [u8], label: &[u8]) -> ([u8; 32], &'a [u8])
     ensures { (digest rest : List ℕ) → IsDigest digest
         → text.now ≡ label.now ++ (encode_lower digest ++ rest)
         → (result.0 ≡ digest) × (result.1.now ≡ rest) }
 {
-    let text = behind(text, label);
+    let text = rest_after(text, label);
     if text.len() < 64 {
         return (digest_of(text), text);
     }

@@ -4,10 +4,10 @@ ghost use Rattle.std.specs.Prelude.{IfErr, MatchResult, length};
 ghost use Rattle.std.specs.Io.KnownBytes.{Consumes, IsAtEnd};
 ghost use Rattle.receipt_core.specs.Acceptance.{IsMeaning};
 ghost use Rattle.byte_lines.specs.Streams.{stream_of, left_of};
-ghost use Rattle.replica_sync.specs.Snapshots.{IsSnapshot, IsTold, RefusesNext, RefusesPlace};
+ghost use Rattle.replica_sync.specs.Snapshots.{IsSnapshot, FitsFormat, RefusesNext, RefusesPlace};
 ghost use Rattle.replica_sync.specs.Snapshots.{RefusesSnapshot, count_of, is_io, last_line};
 ghost use Rattle.replica_sync.specs.Snapshots.{next_number, wanted_of};
-ghost use Rattle.replica_sync.specs.Inside.Reading.{FailsBehind, HoldsAll, Judges, RefusesEnd};
+ghost use Rattle.replica_sync.specs.Inside.Reading.{FailsAfter, HoldsAll, Judges, RefusesEnd};
 ghost use Rattle.replica_sync.specs.Inside.Reading.{StepsThroughSnapshot};
 ghost use Rattle.closure_core.specs.Changes.{empty_of};
 ghost use Rattle.byte_lines.specs.Limits.{line_limit};
@@ -74,7 +74,7 @@ fn read_held<C: Closure, R: Source>(
         (HoldsAll (C.state closure.old).meaning.config (stream_of R.remaining lines.old source.old)
         format (C.state closure.new).meaning (stream_of R.remaining lines.new source.new)) }
     ensures refused { IfErr result
-        (FailsBehind (C.state closure.old).meaning.config
+        (FailsAfter (C.state closure.old).meaning.config
         (stream_of R.remaining lines.old source.old) format) }
     ensures fault { R.has_failed source.new ≡ (is_io result || R.has_failed source.old) }
 {
@@ -99,7 +99,7 @@ fn read_next<C: Closure, R: Source>(
 ) -> Result<bool, SyncError>
     requires last { last.old.items ≡ last_line (C.state closure.old).meaning }
     requires number { number ≡ next_number (C.state closure.old).meaning }
-    requires told { IsTold format (C.state closure.old).meaning }
+    requires fits { FitsFormat format (C.state closure.old).meaning }
     ensures ok { IfOk result
         (StepsThroughSnapshot format (C.state closure.old).meaning
         (stream_of R.remaining lines.old source.old) (C.state closure.new).meaning
@@ -135,7 +135,7 @@ fn judge<C: Closure>(
 ) -> Result<bool, SyncError>
     requires last { last.old.items ≡ last_line (C.state closure.old).meaning }
     requires number { number ≡ next_number (C.state closure.old).meaning }
-    requires told { IsTold format (C.state closure.old).meaning }
+    requires fits { FitsFormat format (C.state closure.old).meaning }
     requires short { length text.now ≤ line_limit }
     ensures judges { MatchResult result
         (Judges format (C.state closure.old).meaning text.now (C.state closure.new).meaning)
@@ -146,7 +146,7 @@ fn judge<C: Closure>(
     let _config = closure.config();
     if text.starts_with(b"{\"count\":") {
         let receipts = closure.receipt_count() as u64;
-        if tells(alloc, format, receipts, number - 2 - receipts, text)? {
+        if says(alloc, format, receipts, number - 2 - receipts, text)? {
             return Ok(false);
         }
         return Err(SyncError::BadCount);
@@ -165,7 +165,7 @@ fn judge<C: Closure>(
 }
 
 // Whether the line says these numbers.
-fn tells(
+fn says(
     alloc: Global,
     format: Format,
     receipts: u64,

@@ -1,7 +1,7 @@
 //! The first lines of messages: JSON without spaces, its members in the order of their names.
 ghost use Rattle.std.specs.Prelude.{◌≡◌, ◌++◌, OnOk, map, codes};
 ghost use Rattle.std.specs.List.{join_by};
-ghost use Rattle.replica_sync.specs.Messages.{asked_text, distrusts_part, quoted, told_text};
+ghost use Rattle.replica_sync.specs.Messages.{asked_text, distrusts_part, quoted, give_header_text};
 ghost use Rattle.replica_sync.specs.Inside.Spelling.{asked_by, header_by};
 
 use byte_lines::{push_digits, push_number};
@@ -70,20 +70,21 @@ fn push_quoted(out: &mut Vec<u8>, id: &ReceiptId) -> Result<(), AllocError>
     out.extend_from_slice(b"\"")
 }
 
-pub(crate) fn push_give_header(out: &mut Vec<u8>, told: &GiveHeaderLine) -> Result<(), AllocError>
-    ensures { OnOk result (out.new.items ≡ out.old.items ++ told_text (header_by told.now)) }
+pub(crate) fn push_give_header(out: &mut Vec<u8>, header: &GiveHeaderLine) -> Result<(), AllocError>
+    ensures { OnOk result
+        (out.new.items ≡ out.old.items ++ give_header_text (header_by header.now)) }
 {
     out.extend_from_slice(b"{\"bucket\":")?;
-    push_number(out, told.bucket)?;
+    push_number(out, header.bucket)?;
     out.extend_from_slice(b",\"config\":\"")?;
-    push_digits(out, &told.config.0)?;
+    push_digits(out, &header.config.0)?;
     out.extend_from_slice(b"\",\"count\":")?;
-    push_number(out, told.count)?;
-    push_distrusts(out, told.distrusts)?;
+    push_number(out, header.count)?;
+    push_distrusts(out, header.distrusts)?;
     out.extend_from_slice(b",\"format\":")?;
-    push_number(out, told.format)?;
+    push_number(out, header.format)?;
     out.extend_from_slice(b",\"of\":")?;
-    push_number(out, told.buckets)?;
+    push_number(out, header.buckets)?;
     out.extend_from_slice(b"}")?;
     Ok(())
 }

@@ -50,17 +50,17 @@ pub(crate) fn take_answer<C: Closure, R: Source>(
         config: closure.config(),
         bucket,
     };
-    let told = next_head(alloc, Some(expected), lines, source)?;
+    let head = next_head(alloc, Some(expected), lines, source)?;
     place.read += 1;
     place.last.clear();
-    take_lines(alloc, closure, told, place, lines, source)
+    take_lines(alloc, closure, head, place, lines, source)
 }
 
 // Takes as many records and receipts as the first line says.
 fn take_lines<C: Closure, R: Source>(
     alloc: Global,
     closure: &mut C,
-    told: Head,
+    head: Head,
     place: &mut Place,
     lines: &mut LineBuf,
     source: &mut R,
@@ -69,18 +69,18 @@ fn take_lines<C: Closure, R: Source>(
     requires counted { place.old.read + left_of R.budget lines.old source.old < 2 ^ 64 }
     ensures ok { OnOk result
         (TakesLines (C.state closure.old).meaning (stream_of R.remaining lines.old source.old)
-        told.count told.distrusts place.old.read (C.state closure.new).meaning
+        head.count head.distrusts place.old.read (C.state closure.new).meaning
         (stream_of R.remaining lines.new source.new) place.new.read) }
     ensures refused { IfErr result
         (StopsWithin (C.state closure.old).meaning (stream_of R.remaining lines.old source.old)
-        told.count told.distrusts place.old.read (C.state closure.new).meaning) }
+        head.count head.distrusts place.old.read (C.state closure.new).meaning) }
     ensures counted { OnOk result
         (place.new.read + left_of R.budget lines.new source.new
         ≤ place.old.read + left_of R.budget lines.old source.old) }
     ensures io { IsErrOf result Io → R.has_failed source.new ≡ true }
     ensures fault { R.has_failed source.new ≡ (is_io result || R.has_failed source.old) }
 {
-    let mut due = told;
+    let mut due = head;
     'lines: while due.distrusts > 0 || due.count > 0 {
         let (wanted, rest) = next_of(due);
         take_next(alloc, closure, wanted, place, lines, source)?;

@@ -4,7 +4,8 @@ use Rattle.std.specs.Io.KnownBytes.{Consumes}
 use Rattle.fed_config.specs.Configuration.{Configuration}
 use Rattle.receipt_core.specs.Acceptance.{Meaning, IsMeaning}
 use Rattle.byte_lines.specs.Lines.{HasLine, HasMore}
-use Rattle.replica_sync.specs.Snapshots.{IsTold, RefusesNext, text_of_lines, held_lines, count_line}
+use Rattle.replica_sync.specs.Snapshots.{FitsFormat, RefusesNext, text_of_lines, held_lines}
+use Rattle.replica_sync.specs.Snapshots.{count_line}
 use Rattle.replica_sync.specs.Snapshots.{header_of, next_number, ended}
 use Rattle.replica_sync.specs.declared.format.Format.{Format}
 use Rattle.replica_core.specs.declared.error.SyncError.{SyncError}
@@ -20,11 +21,11 @@ pub record IsSplit (text digits number : List ℕ) : Type 0 where
 pub record IsFurther (format : Format) (old : Meaning) (text : List ℕ)
     (new : Meaning) : Type 0 where
   pub of_config : new.config ≡ old.config
-  pub told : IsTold format new
+  pub fits : FitsFormat format new
   pub lines : held_lines new ≡ held_lines old ++ text ∷ []
   pub number : next_number new ≡ next_number old + 1
 
--- It tells the numbers.
+-- It is the last line, with the numbers.
 pub record IsLastLine (format : Format) (old : Meaning) (text : List ℕ)
     (new : Meaning) : Type 0 where
   pub same : new ≡ old
@@ -45,7 +46,7 @@ pub record StepsThroughSnapshot (format : Format) (old : Meaning) (before : Opti
 pub record Holds (config : Configuration) (stream : Option (List ℕ)) (format : Format) (m : Meaning)
     (left : Option (List ℕ)) : Type 0 where
   pub of_config : m.config ≡ config
-  pub told : IsTold format m
+  pub fits : FitsFormat format m
   pub text : Consumes stream left (text_of_lines (held_lines m))
 
 -- They are all, and the last line follows.
@@ -53,11 +54,11 @@ pub record HoldsAll (config : Configuration) (stream : Option (List ℕ)) (forma
     (m : Meaning) (left : Option (List ℕ)) (number : ℕ) : Type 0 where
   pub of_config : m.config ≡ config
   pub valid : IsMeaning m
-  pub told : IsTold format m
+  pub fits : FitsFormat format m
   pub text : Consumes stream left (text_of_lines (held_lines m) ++ ended (count_line format m))
   pub next : number ≡ next_number m + 1
 
-pub record FailsBehind (config : Configuration) (stream : Option (List ℕ)) (format : Format)
+pub record FailsAfter (config : Configuration) (stream : Option (List ℕ)) (format : Format)
     (e : SyncError) : Type 0 where
   pub m : Meaning
   pub left : Option (List ℕ)

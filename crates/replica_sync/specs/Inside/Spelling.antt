@@ -7,7 +7,7 @@ use Rattle.replica_core.specs.declared.error.SyncError.TheVariants.{BadHeader, C
 use Rattle.replica_core.specs.declared.error.SyncError.TheVariants.{VersionDiffers}
 use Rattle.replica_sync.specs.Messages.{Asked, GiveHeader}
 use Rattle.replica_sync.specs.FirstLines.{Expected, IsAbout, HasDigestOf, HasOtherDigest}
-use Rattle.replica_sync.specs.FirstLines.{IsSupportedVersion, TellsOf, config_of}
+use Rattle.replica_sync.specs.FirstLines.{IsSupportedVersion, IsWantedHeader, config_of}
 use Rattle.replica_sync.specs.declared.spelling.HaveLine.{HaveLine}
 use Rattle.replica_sync.specs.declared.spelling.GiveHeaderLine.{GiveHeaderLine}
 use Rattle.replica_sync.specs.declared.give_header_reader.Expected.{Expected as Wish}
@@ -45,8 +45,8 @@ expected_by (Some wish) = Some (record { config = wish.config.now; bucket = wish
 
 -- ---- the one format and number of buckets that are supported
 
-abbrev pub told_by_head : Head → GiveHeader
-told_by_head h = record {
+abbrev pub header_by_head : Head → GiveHeader
+header_by_head h = record {
   bucket = h.bucket;
   config = h.config.0;
   count = h.count;
@@ -56,8 +56,8 @@ told_by_head h = record {
 }
 
 -- It is a first line that is read, and says this.
-pub record TellsHead (expected : Option Expected) (text : List ℕ) (h : Head) : Type 0 where
-  pub tells : TellsOf expected text (told_by_head h)
+pub record IsHeadLine (expected : Option Expected) (text : List ℕ) (h : Head) : Type 0 where
+  pub wanted : IsWantedHeader expected text (header_by_head h)
   pub own : HasDigestOf (config_of expected) h.config.0
 
 -- The stream's first line is such a one. It is used up.
@@ -65,15 +65,15 @@ pub record HasHead (expected : Option Expected) (old new : Option (List ℕ))
     (h : Head) : Type 0 where
   pub text : List ℕ
   pub is : HasLine old new text
-  pub tells : TellsHead expected text h
+  pub head : IsHeadLine expected text h
 
--- What is told is wanted, and is this.
+-- What the first line says is wanted, and is this.
 pub record IsHeadOf (expected : Option Expected) (t : GiveHeader) (h : Head) : Type 0 where
   pub about : IsAbout expected t.bucket
   pub own : HasDigestOf (config_of expected) t.config
-  pub same : t ≡ told_by_head h
+  pub same : t ≡ header_by_head h
 
--- what is wrong with what is told
+-- what is wrong with what the first line says
 abbrev pub RefusesGiveHeader : Option Expected → GiveHeader → SyncError → Type 0
 RefusesGiveHeader expected t BadHeader = IsAbout expected t.bucket → ⊥
 RefusesGiveHeader expected t ConfigDiffers = IsAbout expected t.bucket

@@ -85,7 +85,7 @@ IsNextOf receipts records Receipts receipts_then records_then = (records ≡ 0) 
     × (receipts ≡ receipts_then + 1)
 IsNextOf receipts records Either receipts_then records_then = ⊥
 
--- Behind the first line of an answer with so many receipts and records: so much was taken.
+-- After the first line of an answer with so many receipts and records: so much was taken.
 pub record HasTakenPart (old : Meaning) (stream : Option (List ℕ)) (count distrusts : ℕ)
     (content : State) (new : Meaning) (left : Option (List ℕ)) : Type 0 where
   pub begun : IsBegun count distrusts content

@@ -6,7 +6,7 @@ use Rattle.replica_sync.proofs.SnapshotFacts.{refused_by}
 use Rattle.replica_sync.specs.Messages.{reply_text}
 use Rattle.replica_sync.specs.Answers.{IsAnswer, RefusesGive}
 use Rattle.replica_sync.specs.Inside.Gathering.{answer_content}
-use Rattle.replica_sync.proofs.GatherFacts.{fails-behind, whole-answer, whole-reply}
+use Rattle.replica_sync.proofs.GatherFacts.{fails-after, whole-answer, whole-reply}
 use Rattle.replica_sync.proofs.answer_reader.read_give.Goals as goal
 
 pub returns-in_err-content-clause-refused : goal.returns-in_err-content-clause-refused
@@ -16,7 +16,7 @@ returns-in_err-content-clause-refused g c =
     let new = stream_of g.R.Source.remaining c.read_content.new.lines c.read_content.new.source in
     let e = c.in_err-content.field-0.0 in
     refused_by c.from_residual-in_err-content.result (RefusesGive old new) e c.from_residual-in_err-content.ensures.1
-    (fails-behind old middle new c.in_ok-head.head e c.in_ok-head.ensures.ok c.in_err-content.ensures.refused)
+    (fails-after old middle new c.in_ok-head.head e c.in_ok-head.ensures.ok c.in_err-content.ensures.refused)
 
 pub returns-clause-valid : goal.returns-clause-valid
 returns-clause-valid g c =

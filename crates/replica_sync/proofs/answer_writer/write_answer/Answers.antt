@@ -3,7 +3,7 @@ use Rattle.std.specs.List.{flat_map}
 use Rattle.std.specs.Io.KnownBytes.{Appends}
 use Rattle.byte_lines.specs.Device.{AppendsBeginning}
 use Rattle.replica_sync.specs.Snapshots.{ended}
-use Rattle.replica_sync.specs.Messages.{WritesText, told_of, told_text, record_text, receipt_text}
+use Rattle.replica_sync.specs.Messages.{WritesText, give_header_of, give_header_text, record_text, receipt_text}
 use Rattle.replica_sync.proofs.WrittenPieceFacts.{begins-first, begins-second, writes-err, writes-then}
 use Rattle.replica_sync.proofs.answer_writer.write_answer.Goals as goal
 
@@ -11,7 +11,7 @@ pub returns-in_err-write_all-clause-written : goal.returns-in_err-write_all-clau
 returns-in_err-write_all-clause-written g c =
     let old = g.W.Sink.contents c.args.sink.now in
     let new = g.W.Sink.contents c.write_all.new.sink in
-    let head = ended (told_text (told_of c.args.answer)) in
+    let head = ended (give_header_text (give_header_of c.args.answer)) in
     let is : c.as_slice.result.now ≡ head = c.as_slice.ensures.value ∙ c.in_ok-header.ensures in
     writes-err old new c.from_residual-in_err-write_all.result _ c.from_residual-in_err-write_all.ensures.0
     (begins-first old new head _ (subst (AppendsBeginning old new) is c.write_all.ensures.beginning))
@@ -21,7 +21,7 @@ returns-in_err-write_records-clause-written g c =
     let old = g.W.Sink.contents c.args.sink.now in
     let now = g.W.Sink.contents c.write_all.new.sink in
     let new = g.W.Sink.contents c.write_records.new.sink in
-    let head = ended (told_text (told_of c.args.answer)) in
+    let head = ended (give_header_text (give_header_of c.args.answer)) in
     let is : c.as_slice.result.now ≡ head = c.as_slice.ensures.value ∙ c.in_ok-header.ensures in
     writes-err old new c.from_residual-in_err-write_records.result _ c.from_residual-in_err-write_records.ensures.0
     (begins-second old now new head _ (subst (Appends old now) is c.in_ok-write_all.ensures.ok)
@@ -34,7 +34,7 @@ returns-clause-written g c =
     let one = g.W.Sink.contents c.write_all.new.sink in
     let two = g.W.Sink.contents c.write_records.new.sink in
     let new = g.W.Sink.contents c.write_receipts.new.sink in
-    let head = ended (told_text (told_of c.args.answer)) in
+    let head = ended (give_header_text (give_header_of c.args.answer)) in
     let is : c.as_slice.result.now ≡ head = c.as_slice.ensures.value ∙ c.in_ok-header.ensures in
     writes-then old one new c.write_receipts.result head _ (subst (Appends old one) is c.in_ok-write_all.ensures.ok)
     (writes-then one two new c.write_receipts.result (flat_map record_text c.args.answer.content.records) (flat_map receipt_text c.args.answer.content.held)

@@ -1,4 +1,4 @@
-use Rattle.replica_sync.proofs.HeaderFacts.{has_first, long_rest, behind_second, behind_third, split_whole}
+use Rattle.replica_sync.proofs.HeaderFacts.{has_first, long_rest, after_second, after_third, split_whole}
 use Rattle.std.proofs.Common.{List, ℕ, ◌∙◌, sym, subst}
 use Rattle.replica_sync.specs.Inside.Reading.{IsSplit}
 use Rattle.replica_sync.proofs.header.split_header.Goals as goal
@@ -12,7 +12,7 @@ returns-then-rest-lt64 c = λ digits number s. long_rest c.args.text.now c.in-So
 pub returns-in_default-after : goal.returns-in_default-after
 returns-in_default-after c =
     λ digits number s. c.in_default-after.ensures _ (c.split_at.ensures.back
-    ∙ behind_second c.args.text.now c.in-Some.rest.now digits number c.in-Some.ensures s)
+    ∙ after_second c.args.text.now c.in-Some.rest.now digits number c.in-Some.ensures s)
 
 pub returns-in-Some-before_end : goal.returns-in-Some-before_end
 returns-in-Some-before_end c =
@@ -23,5 +23,5 @@ returns-in-Some-before_end c =
 pub returns-in-None : goal.returns-in-None
 returns-in-None c =
     λ digits number s. c.in-None.ensures _
-    (behind_third c.args.text.now c.in-Some.rest.now c.in-Some-after.rest.now digits number c.in-Some.ensures
+    (after_third c.args.text.now c.in-Some.rest.now c.in-Some-after.rest.now digits number c.in-Some.ensures
     (sym c.split_at.ensures.back ∙ c.in-Some-after.ensures) s)

@@ -11,6 +11,6 @@ returns-then-text-lt66-clause-same c = λ ids digests e.
 
 pub returns-clause-same : goal.returns-clause-same
 returns-clause-same c = λ ids digests e.
-    some-first c.args.text.now _ _ c.digest_behind.result.0 ids c.id_of.result c.without_first.result digests e
+    some-first c.args.text.now _ _ c.digest_after.result.0 ids c.id_of.result c.without_first.result digests e
     c.if-text-lt66.false c.split_at.ensures.front c.split_at.ensures.back
-    (λ d behind is spelt. (c.digest_behind.ensures d behind is spelt).0) c.id_of.ensures.same c.without_first.ensures
+    (λ d follows is spelt. (c.digest_after.ensures d follows is spelt).0) c.id_of.ensures.same c.without_first.ensures

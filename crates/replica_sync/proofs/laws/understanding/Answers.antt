@@ -19,8 +19,8 @@ pub returns-clause-taken : goal.returns-clause-taken
 returns-clause-taken c = answered-taken
 
 pub returns-clause-brings : goal.returns-clause-brings
-returns-clause-brings c m k held asked told rest count bucket valid other kept same all pulls =
-    all-brought m k held asked told rest count valid other kept same all pulls bucket
+returns-clause-brings c m k held asked replied rest count bucket valid other kept same all pulls =
+    all-brought m k held asked replied rest count valid other kept same all pulls bucket
 
 pub returns-clause-joins : goal.returns-clause-joins
 returns-clause-joins c = both-held

@@ -12,7 +12,7 @@ returns-clause-judges g c =
     let new = (g.C.Closure.state c.take_line.new.closure).meaning in
     let last : c.as_slice.result.now ≡ last_line old = c.as_slice.ensures.value ∙ c.requires.last in
     further receipt_total distrust_total c.lines.ensures.records c.lines.ensures.record_first c.args.format old new
-    c.args.text.now c.in_ok-take_line.field-0 c.config-config.ensures.valid c.requires.told
+    c.args.text.now c.in_ok-take_line.field-0 c.config-config.ensures.valid c.requires.fits
     (subst (λ (l : List ℕ). TakesEntryText (wanted_of c.args.format) old l c.args.text.now new c.in_ok-take_line.field-0) last
     (subst (λ w. TakesEntryText w old c.as_slice.result.now c.args.text.now new c.in_ok-take_line.field-0) c.wanted.ensures c.in_ok-take_line.ensures))
 
@@ -23,7 +23,7 @@ returns-clause-last g c = λ more.
     let last : c.as_slice.result.now ≡ last_line old = c.as_slice.ensures.value ∙ c.requires.last in
     let joins : IsFurther c.args.format old c.args.text.now new =
     further receipt_total distrust_total c.lines.ensures.records c.lines.ensures.record_first c.args.format old new
-    c.args.text.now c.in_ok-take_line.field-0 c.config-config.ensures.valid c.requires.told
+    c.args.text.now c.in_ok-take_line.field-0 c.config-config.ensures.valid c.requires.fits
     (subst (λ (l : List ℕ). TakesEntryText (wanted_of c.args.format) old l c.args.text.now new c.in_ok-take_line.field-0) last
     (subst (λ w. TakesEntryText w old c.as_slice.result.now c.args.text.now new c.in_ok-take_line.field-0) c.wanted.ensures c.in_ok-take_line.ensures)) in
     c.in_ok-set_last.ensures ∙ sym (ap last_of joins.lines ∙ last_pushed (held_lines old) c.args.text.now)

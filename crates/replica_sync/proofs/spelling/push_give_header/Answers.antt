@@ -1,10 +1,10 @@
 use Rattle.replica_sync.specs.Inside.Spelling.{header_by}
-use Rattle.replica_sync.proofs.PieceFacts.{told-pushed}
+use Rattle.replica_sync.proofs.PieceFacts.{give-header-pushed}
 use Rattle.replica_sync.proofs.spelling.push_give_header.Goals as goal
 
 pub returns : goal.returns
 returns c =
-    told-pushed (header_by c.args.told.now) _ _ _ _ _ _ _ _ _ _ _ _ _
+    give-header-pushed (header_by c.args.header.now) _ _ _ _ _ _ _ _ _ _ _ _ _
     c.in_ok-extend_from_slice.ensures.items c.in_ok-push_number.ensures c.in_ok-extend_from_slice-2.ensures.items c.in_ok-push_digits.ensures
     c.in_ok-extend_from_slice-3.ensures.items c.in_ok-push_number-2.ensures c.in_ok-push_distrusts.ensures
     c.in_ok-extend_from_slice-4.ensures.items c.in_ok-push_number-3.ensures c.in_ok-extend_from_slice-5.ensures.items

@@ -6,13 +6,13 @@ use Rattle.replica_sync.specs.Inside.Taking.{StopsReply, StopsWithin}
 use Rattle.replica_sync.proofs.AnswerFacts.{answer_refused, answer_stops, answer_taken}
 use Rattle.replica_sync.proofs.taking.take_answer.Goals as goal
 
-pub returns-in_err-told-clause-refused : goal.returns-in_err-told-clause-refused
-returns-in_err-told-clause-refused g c =
+pub returns-in_err-head-clause-refused : goal.returns-in_err-head-clause-refused
+returns-in_err-head-clause-refused g c =
     let old = (g.C.Closure.state c.args.closure.now).meaning in
     let stream = stream_of g.R.Source.remaining c.args.lines.now c.args.source.now in
-    refused_by c.from_residual.result (StopsReply old c.args.bucket (c.args.place.now.read + 1) stream old) c.in_err-told.field-0.0 c.from_residual.ensures.1
-    (answer_refused old c.config.result.now c.args.bucket (c.args.place.now.read + 1) stream _ c.in_err-told.field-0.0
-    c.config.ensures.config c.in_err-told.ensures.refused)
+    refused_by c.from_residual.result (StopsReply old c.args.bucket (c.args.place.now.read + 1) stream old) c.in_err-head.field-0.0 c.from_residual.ensures.1
+    (answer_refused old c.config.result.now c.args.bucket (c.args.place.now.read + 1) stream _ c.in_err-head.field-0.0
+    c.config.ensures.config c.in_err-head.ensures.refused)
 
 pub returns-clause-ok : goal.returns-clause-ok
 returns-clause-ok g c =
@@ -22,9 +22,9 @@ returns-clause-ok g c =
     let middle = stream_of g.R.Source.remaining c.next_head.new.lines c.next_head.new.source in
     let left = stream_of g.R.Source.remaining c.take_lines.new.lines c.take_lines.new.source in
     let before = c.args.place.now.read in
-    let told = c.in_ok-told.told in
-    on_ok_weaker c.take_lines.result (answer_taken old c.config.result.now c.args.bucket before told stream middle left
-    new c.take_lines.new.place.read c.config.ensures.config c.in_ok-told.ensures.ok) c.take_lines.ensures.ok
+    let head = c.in_ok-head.head in
+    on_ok_weaker c.take_lines.result (answer_taken old c.config.result.now c.args.bucket before head stream middle left
+    new c.take_lines.new.place.read c.config.ensures.config c.in_ok-head.ensures.ok) c.take_lines.ensures.ok
 
 pub returns-clause-refused : goal.returns-clause-refused
 returns-clause-refused g c =
@@ -33,7 +33,7 @@ returns-clause-refused g c =
     let stream = stream_of g.R.Source.remaining c.args.lines.now c.args.source.now in
     let middle = stream_of g.R.Source.remaining c.next_head.new.lines c.next_head.new.source in
     let first = c.args.place.now.read + 1 in
-    let told = c.in_ok-told.told in
-    IfErr-weaker c.take_lines.result (StopsWithin old middle told.count told.distrusts first new) (StopsReply old c.args.bucket first stream new)
-    (λ e. answer_stops old c.config.result.now c.args.bucket first told stream middle new e c.config.ensures.config
-    c.in_ok-told.ensures.ok) c.take_lines.ensures.refused
+    let head = c.in_ok-head.head in
+    IfErr-weaker c.take_lines.result (StopsWithin old middle head.count head.distrusts first new) (StopsReply old c.args.bucket first stream new)
+    (λ e. answer_stops old c.config.result.now c.args.bucket first head stream middle new e c.config.ensures.config
+    c.in_ok-head.ensures.ok) c.take_lines.ensures.refused

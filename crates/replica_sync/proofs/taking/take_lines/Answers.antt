@@ -16,7 +16,7 @@ pub returns-in_err-take_next-clause-refused : goal.returns-in_err-take_next-clau
 returns-in_err-take_next-clause-refused g c =
     refused_by c.from_residual.result
     (StopsWithin (g.C.Closure.state c.args.closure.now).meaning
-    (stream_of g.R.Source.remaining c.args.lines.now c.args.source.now) c.args.told.count c.args.told.distrusts
+    (stream_of g.R.Source.remaining c.args.lines.now c.args.source.now) c.args.head.count c.args.head.distrusts
     c.args.place.now.read (g.C.Closure.state c.take_next.new.closure).meaning)
     c.in_err-take_next.field-0.0 c.from_residual.ensures.1
     (so_far_fails c.next_of-wanted.result.0 _ _ _ _ _ _ _ _ _ _ _ _ _ _ _ _ c.lines.invariant.so_far

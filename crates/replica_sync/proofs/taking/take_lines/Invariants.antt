@@ -7,7 +7,7 @@ use Rattle.replica_sync.proofs.taking.take_lines.Given as goal
 abbrev pub invariant-lines : goal.invariant-lines
 invariant-lines g l = record {
   so_far : SoFar (g.C.Closure.state l.fn.closure).meaning (stream_of g.R.Source.remaining l.fn.lines l.fn.source)
-      l.fn.told.count l.fn.told.distrusts l.fn.place.read
+      l.fn.head.count l.fn.head.distrusts l.fn.place.read
       l.due.count l.due.distrusts (g.C.Closure.state l.closure).meaning (stream_of g.R.Source.remaining l.lines l.source) l.place.last.items l.place.read;
   counted : l.place.read + left_of g.R.Source.budget l.lines l.source ≤ l.fn.place.read + left_of g.R.Source.budget l.fn.lines l.fn.source;
   fault : g.R.Source.has_failed l.source ≡ g.R.Source.has_failed l.fn.source;
