@@ -3,7 +3,8 @@ use Rattle.replica_sync.proofs.ScanFacts.{long-digest, split-digest}
 use Rattle.replica_sync.proofs.scanner.digest_after.Goals as goal
 
 pub returns-then-text-lt64 : goal.returns-then-text-lt64
-returns-then-text-lt64 c = λ digest rest is e. absurd (long-digest c.rest_after-text.result.now digest rest is (c.rest_after-text.ensures _ e) c.if-text-lt64.true)
+returns-then-text-lt64 c = λ digest rest is e.
+    absurd (long-digest c.rest_after-text.result.now digest rest is (c.rest_after-text.ensures _ e) c.if-text-lt64.true)
 
 pub returns : goal.returns
 returns c = λ digest rest is e.
