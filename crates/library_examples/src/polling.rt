@@ -1,5 +1,5 @@
 //! To know when to fetch a domain's bundle next.
-use anyhow::Error;
+use crate::example_error::ExampleError;
 use bundle_view::current;
 use closure_core::Closure;
 use jiff::Timestamp;
@@ -7,7 +7,11 @@ use poll_log::PollLog;
 use std::alloc::Global;
 
 /// Which domains are to be polled twenty seconds after the first one's poll failed.
-pub(crate) fn show<C: Closure>(alloc: Global, closure: &C, out: &mut String) -> Result<(), Error> {
+pub(crate) fn show<C: Closure>(
+    alloc: Global,
+    closure: &C,
+    out: &mut String,
+) -> Result<(), ExampleError> {
     let mut polls = PollLog::new(alloc, closure.config())?;
     let relationships = closure.config().relationships();
     if let Some(first) = relationships.first() {

@@ -1,5 +1,5 @@
 //! To take a bundle that was fetched.
-use anyhow::{Error, bail};
+use crate::example_error::ExampleError;
 use bundle_view::{Verdict, current, observe};
 use closure_core::Closure;
 use jwk_set::{Authority, KeyId};
@@ -12,14 +12,14 @@ pub(crate) fn show<C: Closure>(
     alloc: Global,
     closure: &mut C,
     out: &mut String,
-) -> Result<(), Error> {
+) -> Result<(), ExampleError> {
     let Some(relationship) = closure.config().relationships().first() else {
-        bail!("no relationship");
+        return Err(ExampleError::NoRelationship);
     };
     let domain = relationship.domain.try_clone(alloc)?;
     let endpoint = relationship.endpoint.try_clone(alloc)?;
     let Some(key) = key_of(closure, &domain) else {
-        bail!("no key vouches");
+        return Err(ExampleError::NoKey);
     };
     let served = b"{\"keys\":[],\"spiffe_sequence\":9}";
     let receipt = observe(alloc, closure, &domain, served, &Verdict { endpoint, key })?;

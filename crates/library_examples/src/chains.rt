@@ -1,5 +1,5 @@
 //! To show somebody else why a document is accepted.
-use anyhow::Error;
+use crate::example_error::ExampleError;
 use bundle_view::{current, explain};
 use closure_core::Closure;
 use fed_config::Config;
@@ -7,7 +7,11 @@ use receipt_core::{Receipt, check_chain};
 use std::alloc::Global;
 
 /// For the current document of each domain, the chain of receipts that leads to it.
-pub(crate) fn show<C: Closure>(alloc: Global, closure: &C, out: &mut String) -> Result<(), Error> {
+pub(crate) fn show<C: Closure>(
+    alloc: Global,
+    closure: &C,
+    out: &mut String,
+) -> Result<(), ExampleError> {
     for domain in closure.config().domains() {
         if let Some(document) = current(closure, domain)
             && let Some(chain) = explain(alloc, closure, domain, document)?

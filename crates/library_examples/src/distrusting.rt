@@ -1,5 +1,5 @@
 //! To distrust a key.
-use anyhow::Error;
+use crate::example_error::ExampleError;
 use closure_core::{Closure, Distrusted};
 use std::alloc::Global;
 
@@ -8,7 +8,7 @@ pub(crate) fn show<C: Closure>(
     alloc: Global,
     closure: &mut C,
     out: &mut String,
-) -> Result<(), Error> {
+) -> Result<(), ExampleError> {
     let Some(receipt) = closure.receipts().next() else {
         return Ok(());
     };

@@ -1,20 +1,19 @@
 //! To take receipts from lines.
-use anyhow::Error;
+use crate::example_error::ExampleError;
 use byte_lines::{Line, LineBuf, MemSource, Source};
 use closure_core::{Closure, Taken};
 use fed_config::Config;
 use receipt_core::Receipt;
 use std::alloc::Global;
-use trust_closure::IndexedClosure;
 
 /// A replica of this configuration that holds the receipts of the lines.
-pub(crate) fn replica_of(
+pub(crate) fn replica_of<C: Closure>(
     alloc: Global,
     config: &Config,
     bytes: &[u8],
     out: &mut String,
-) -> Result<IndexedClosure, Error> {
-    let mut closure = IndexedClosure::new(alloc, config)?;
+) -> Result<C, ExampleError> {
+    let mut closure = C::new(alloc, config)?;
     let mut source = MemSource::new(Vec::from_slice(alloc, bytes)?, Vec::new(alloc));
     let mut lines = LineBuf::new(alloc);
     for _ in 0..u64::MAX {
@@ -34,7 +33,7 @@ fn take_next<C: Closure, R: Source>(
     lines: &mut LineBuf,
     source: &mut R,
     out: &mut String,
-) -> Result<bool, Error> {
+) -> Result<bool, ExampleError> {
     match lines.next_line(source)? {
         Line::Text(line) => take_line(alloc, closure, line, out)?,
         Line::TooLong => out.push_str("a line is too long\n")?,
@@ -51,7 +50,7 @@ fn take_line<C: Closure>(
     closure: &mut C,
     line: &[u8],
     out: &mut String,
-) -> Result<(), Error> {
+) -> Result<(), ExampleError> {
     match closure.take(Receipt::read_line(alloc, line)?) {
         Ok(Taken::New { accepted_now }) => writeln!(out, "taken, {accepted_now} accepted now")?,
         Ok(Taken::Already) => out.push_str("held already\n")?,

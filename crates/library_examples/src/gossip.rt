@@ -1,12 +1,16 @@
 //! To take from a replica elsewhere, over a protocol of your own.
-use anyhow::Error;
+use crate::example_error::ExampleError;
 use byte_lines::{LineBuf, MemSink, MemSource};
 use closure_core::Closure;
 use replica_sync::{absorb, answer, have, read_give, read_have, write_answer, write_have};
 use std::alloc::Global;
 
 /// A replica without receipts asks another one about each bucket.
-pub(crate) fn show<C: Closure>(alloc: Global, closure: &C, out: &mut String) -> Result<(), Error> {
+pub(crate) fn show<C: Closure>(
+    alloc: Global,
+    closure: &C,
+    out: &mut String,
+) -> Result<(), ExampleError> {
     let mut asker = C::new(alloc, closure.config())?;
     let mut count = 0usize;
     for bucket in 0..=255 {
@@ -17,7 +21,12 @@ pub(crate) fn show<C: Closure>(alloc: Global, closure: &C, out: &mut String) -> 
 }
 
 /// One question, its answer, and what was new in it. Each message crosses as bytes.
-fn ask<C: Closure>(alloc: Global, asker: &mut C, answerer: &C, bucket: u8) -> Result<usize, Error> {
+fn ask<C: Closure>(
+    alloc: Global,
+    asker: &mut C,
+    answerer: &C,
+    bucket: u8,
+) -> Result<usize, ExampleError> {
     let mut question = MemSink::new(alloc, 100_000)?;
     write_have(alloc, &have(alloc, asker, bucket)?, &mut question)?;
     let reply = reply_to(alloc, answerer, question.as_bytes())?;
@@ -26,7 +35,11 @@ fn ask<C: Closure>(alloc: Global, asker: &mut C, answerer: &C, bucket: u8) -> Re
     Ok(absorb(asker, give)?)
 }
 
-fn reply_to<C: Closure>(alloc: Global, answerer: &C, question: &[u8]) -> Result<MemSink, Error> {
+fn reply_to<C: Closure>(
+    alloc: Global,
+    answerer: &C,
+    question: &[u8],
+) -> Result<MemSink, ExampleError> {
     let mut source = source_of(alloc, question)?;
     let mut reply = MemSink::new(alloc, 100_000)?;
     let asked = read_have(alloc, &mut LineBuf::new(alloc), &mut source)?;
@@ -34,6 +47,6 @@ fn reply_to<C: Closure>(alloc: Global, answerer: &C, question: &[u8]) -> Result<
     Ok(reply)
 }
 
-fn source_of(alloc: Global, bytes: &[u8]) -> Result<MemSource, Error> {
+pub(crate) fn source_of(alloc: Global, bytes: &[u8]) -> Result<MemSource, ExampleError> {
     Ok(MemSource::new(Vec::from_slice(alloc, bytes)?, Vec::new(alloc)))
 }
