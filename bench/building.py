@@ -35,26 +35,24 @@ def built_program():
     return program
 
 
-def build_ours(name, *crates, words=(), text=b"", sources=None, libraries=()):
-    """Builds the program programs/NAME.rt.txt, with the files of programs/NAME/ if there are any, or the program whose
-    files are in `sources`, over the crates, all that they stand on and these libraries of the toolchain, runs it once on
-    the words and the text, and returns where it is."""
+def build_ours(name, *crates, words=(), text=b""):
+    """Builds the program programs/NAME.rt.txt, with the files of programs/NAME/ if there are any, over the crates and all
+    that they stand on, runs it once on the words and the text, and returns where it is."""
     repo = OUT / "repo"
     program = repo / "crates" / f"{name}_bench"
     shutil.rmtree(program / "src", ignore_errors=True)
     (program / "src").mkdir(parents=True)
     lines = {line.split(":")[0]: line for line in (TOP / "crates.txt").read_text().splitlines() if ":" in line}
     needed = below(lines, crates)
-    own = f"{program.name}: {' '.join([*needed, *libraries])}\n"
+    own = f"{program.name}: {' '.join(needed)}\n"
     (repo / "crates.txt").write_text("".join(f"{lines[crate]}\n" for crate in needed) + own)
     shutil.copy(TOP / "HANDLES", repo / "HANDLES")
     if not (repo / ".git").is_dir():
         subprocess.run(["git", "init", "-q", repo], check=True)
     for crate in needed:
         copy_crate(TOP / "crates" / crate, repo / "crates" / crate)
-    if not sources:
-        shutil.copy(BENCH / "programs" / f"{name}.rt.txt", program / "src/main.rt")
-    for file in (sources or BENCH / "programs" / name).glob("*.rt.txt"):
+    shutil.copy(BENCH / "programs" / f"{name}.rt.txt", program / "src/main.rt")
+    for file in (BENCH / "programs" / name).glob("*.rt.txt"):
         shutil.copy(file, program / "src" / file.stem)
     print("proving and building the crates and their benchmark", file=sys.stderr)
     done = subprocess.run(["rt", "run", "--", *words], cwd=program, input=text, capture_output=True)

@@ -6,8 +6,8 @@
 //! `exchange_rows`, `floor_rows`, `receipt_rows` or `command_rows`, and what it does not know it
 //! passes over. So the scripts of those are scripts of this program too.
 //!
-//! `tests/system/calls` preloads a library that counts the allocations inside a call and refuses one of
-//! them, or one and all later ones. Without that library no allocation is refused.
+//! `tests/system/calls` preloads a library that counts the allocations inside a call and refuses
+//! one of them, or one and all later ones. Without that library no allocation is refused.
 #![tactic(auto)]
 
 mod allocations;

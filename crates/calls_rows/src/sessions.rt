@@ -144,8 +144,8 @@ fn written<C: Closure, W: Sink>(asked: Asked<'_>, sink: &mut W) -> Result<Done, 
     Ok(done)
 }
 
-/// Tells of a call that ended otherwise than over devices that never fail: its error, which is to be
-/// the device's, and whether a `pull` holds what the whole lines say that came before.
+/// Tells of a call that ended otherwise than over devices that never fail: its error, which is to
+/// be the device's, and whether a `pull` holds what the whole lines say that came before.
 pub(crate) fn tell_failure<C: Closure>(
     asked: Asked<'_>,
     done: &Done,
@@ -185,7 +185,7 @@ fn tell_cut_pull<C: Closure>(
 }
 
 // Of the answers, one after each whole question that was written, the receipts and records of the
-// whole lines that were given.
+// whole lines that were given, up to a line that is none.
 fn give_whole_lines<C: Closure>(
     asked: Asked<'_>,
     closure: &mut C,
@@ -197,7 +197,10 @@ fn give_whole_lines<C: Closure>(
     let given = given.get(..whole).unwrap_or(b"");
     for line in text_of_lines(given)?.lines() {
         if !line.starts_with("{\"bucket\"") {
-            give(asked.alloc, closure, line.as_bytes())?;
+            match give(asked.alloc, closure, line.as_bytes()) {
+                Err(Stop::Given) => break,
+                given => given?,
+            }
         } else if questions == 0 {
             break;
         } else {

@@ -5,11 +5,12 @@ use crate::held::{closure_of, is_record};
 use crate::refusal::Refusal;
 use crate::stop::Stop;
 use bundle_view::{Verdict, observe};
-use closure_core::{Closure, Distrusted, Refused, Taken};
+use closure_core::{Closure, Distrusted, Refused, TakeError, Taken};
 use fed_config::ConfigId;
 use receipt_core::{Distrust, Receipt};
 use replica_sync::{Give, absorb};
 use spiffe_name::{SpiffeId, TrustDomain};
+use std::alloc::Global;
 
 /// `take = RECEIPT`
 pub(crate) fn take<C: Closure>(
@@ -37,6 +38,41 @@ pub(crate) fn take_within_room<C: Closure>(
         return Err(Stop::NoMemory);
     }
     take(asked, refusal, closure)
+}
+
+/// `leak = RECEIPT`: a wrong body of `take`, which is out of memory once the receipt is held.
+/// `tests/system/calls` wants it to be found.
+pub(crate) fn leak<C: Closure>(
+    asked: Asked<'_>,
+    refusal: Refusal<'_>,
+    closure: &mut C,
+) -> Result<Made, Stop> {
+    let receipt = Receipt::read_line(asked.alloc, asked.text)?;
+    refusal.begin();
+    let taken = take_and_ask(asked.alloc, closure, receipt);
+    let mut made = Made::new(asked.alloc, refusal.end());
+    match taken {
+        Ok(Taken::New { accepted_now }) => made.tell(accepted_now)?,
+        Ok(Taken::Already) => made.tell("held already")?,
+        Err(why) => made.tell(why)?,
+    }
+    Ok(made)
+}
+
+// Where the second call is out of memory, the first one stays.
+fn take_and_ask<C: Closure>(
+    alloc: Global,
+    closure: &mut C,
+    receipt: Receipt,
+) -> Result<Taken, TakeError> {
+    let taken = match closure.take(receipt) {
+        Ok(taken) => taken,
+        Err(refused) => return Err(refused.why),
+    };
+    match Vec::<u8>::with_capacity(alloc, 64) {
+        Ok(_unused) => Ok(taken),
+        Err(_) => Err(TakeError::NoMemory),
+    }
 }
 
 // A receipt that is refused comes back.

@@ -3,8 +3,8 @@ use std::rt::Env;
 
 /// Which allocation inside a call is refused. What stands between `begin` and `end` is the call.
 ///
-/// Both look up a name in the environment. The library that `tests/calls` preloads knows these
-/// names; without it they are not there.
+/// Both look up a name in the environment. The library that `tests/system/calls` preloads knows
+/// these names; without it they are not there.
 #[derive(Clone, Copy)]
 pub(crate) struct Refusal<'a> {
     rt: &'a HostRuntime,

@@ -1,7 +1,7 @@
 //! Each allocation inside a call is refused in turn.
 use crate::answers::Made;
 use crate::asked::Asked;
-use crate::changes::{absorbed, distrust, merge, observed, take, take_within_room};
+use crate::changes::{absorbed, distrust, leak, merge, observed, take, take_within_room};
 use crate::held::{closure_of, lines_of_snapshot, snapshot_of};
 use crate::looks::{explained, found_conflicts, question, reply, reported};
 use crate::readers;
@@ -69,7 +69,7 @@ pub(crate) fn refuse_each(
             refuse_over_both(rt, within, trials, answer)?;
             refuse_over_both(rt, asked, trials, answer)
         }
-        "distrust" | "merge" | "observe" => refuse_over_both(rt, asked, trials, answer),
+        "distrust" | "merge" | "observe" | "leak" => refuse_over_both(rt, asked, trials, answer),
         _ => {
             refuse_in_others(rt, asked, trials, answer)?;
             Ok(None)
@@ -221,6 +221,7 @@ fn call<C: Closure>(asked: Asked<'_>, refusal: Refusal<'_>, closure: &mut C) -> 
     match asked.call {
         "take" => take(asked, refusal, closure),
         "take_within_room" => take_within_room(asked, refusal, closure),
+        "leak" => leak(asked, refusal, closure),
         "distrust" => distrust(asked, refusal, closure),
         "merge" => merge(asked, refusal, closure),
         "observe" => observed(asked, refusal, closure),
