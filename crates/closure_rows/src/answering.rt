@@ -8,7 +8,7 @@ use row_script::{Answers, Row, Rows, Script};
 use std::alloc::{AllocError, Global};
 use trust_closure::IndexedClosure;
 
-impl Rows for World {
+impl<I: Closure + Counting, P: Closure> Rows for World<I, P> {
     fn answer(
         &mut self,
         script: &Script,
@@ -27,8 +27,8 @@ impl Rows for World {
 }
 
 /// Answers a row about no closure or about the index, and returns whether it is one.
-fn answer_alone(
-    world: &mut World,
+fn answer_alone<I: Closure + Counting, P: Closure>(
+    world: &mut World<I, P>,
     script: &Script,
     row: &Row<'_>,
     out: &mut String,
@@ -49,19 +49,37 @@ fn answer_alone(
     Ok(true)
 }
 
+/// A closure over an index, of which the nodes, the edges and the visits are counted.
+pub(crate) trait Counting {
+    /// The nodes, the offer edges and the wait edges.
+    fn sizes(&self) -> (usize, usize, usize);
+
+    /// The visits.
+    fn visit_count(&self) -> usize;
+}
+
+impl Counting for IndexedClosure {
+    fn sizes(&self) -> (usize, usize, usize) {
+        self.index().counts()
+    }
+
+    fn visit_count(&self) -> usize {
+        self.index().visits()
+    }
+}
+
 /// `index`: the nodes, the edges and the visits of the index.
-fn index(here: &IndexedClosure, out: &mut String) -> Result<(), AllocError> {
-    let reach = here.index();
-    let (nodes, offers, waits) = reach.counts();
+fn index<I: Counting>(here: &I, out: &mut String) -> Result<(), AllocError> {
+    let (nodes, offers, waits) = here.sizes();
     writeln!(
         out,
         "nodes {nodes}, offer edges {offers}, wait edges {waits}"
     )?;
-    writeln!(out, "visits {}", reach.visits())
+    writeln!(out, "visits {}", here.visit_count())
 }
 
-fn answer_over_each(
-    world: &mut World,
+fn answer_over_each<I: Closure, P: Closure>(
+    world: &mut World<I, P>,
     script: &Script,
     row: &Row<'_>,
     out: &mut String,
@@ -71,8 +89,8 @@ fn answer_over_each(
     answers.write(out)
 }
 
-fn answer_over_both(
-    world: &mut World,
+fn answer_over_both<I: Closure, P: Closure>(
+    world: &mut World<I, P>,
     script: &Script,
     row: &Row<'_>,
     answers: &mut Answers,

@@ -49,12 +49,19 @@ mod reports;
 mod views;
 mod words;
 
+use answering::Counting;
+use closure_core::Closure;
 use replicas::World;
 use std::io;
+use trust_closure::{IndexedClosure, PlainClosure};
 
 fn main(rt: HostRuntime) -> io::Result<()> {
-    match World::new(rt.alloc()) {
-        Ok(mut world) => row_script::run(&rt, &mut world),
+    run_over::<IndexedClosure, PlainClosure>(&rt)
+}
+
+fn run_over<I: Closure + Counting, P: Closure>(rt: &HostRuntime) -> io::Result<()> {
+    match World::<I, P>::new(rt.alloc()) {
+        Ok(mut world) => row_script::run(rt, &mut world),
         Err(fault) => println!(rt; "{fault}"),
     }
 }

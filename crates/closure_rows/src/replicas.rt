@@ -6,7 +6,6 @@ use fed_config::Config;
 use poll_log::PollLog;
 use row_script::Script;
 use std::alloc::{AllocError, Global};
-use trust_closure::{IndexedClosure, PlainClosure};
 
 /// The replica that rows act on, and the one beside it.
 #[derive(Drop)]
@@ -15,20 +14,22 @@ pub(crate) struct Pair<C> {
     pub(crate) beside: C,
 }
 
-/// What rows leave to the next ones: replicas over each kind of closure, and a log of polls.
+/// What rows leave to the next ones: replicas over each kind of closure, and a log of polls. Which
+/// kinds these are is said in one place, since a function over the closures themselves takes the
+/// prover far longer than one over the trait.
 #[derive(Drop)]
-pub(crate) struct World {
+pub(crate) struct World<I, P> {
     pub(crate) alloc: Global,
-    pub(crate) indexed: Pair<IndexedClosure>,
-    pub(crate) plain: Pair<PlainClosure>,
+    pub(crate) indexed: Pair<I>,
+    pub(crate) plain: Pair<P>,
     pub(crate) log: PollLog,
     /// Whether rows act on the index alone.
     pub(crate) index_only: bool,
 }
 
-impl World {
+impl<I: Closure, P: Closure> World<I, P> {
     /// Replicas of a configuration without domains.
-    pub(crate) fn new(alloc: Global) -> Result<World, RowFault> {
+    pub(crate) fn new(alloc: Global) -> Result<World<I, P>, RowFault> {
         let config = Config::read(alloc, br#"{"relationships":[],"seeds":[]}"#)?;
         Ok(World {
             alloc,
