@@ -299,6 +299,15 @@ int fdatasync(int fd) { SYSTEM_CALL(SYNC, "fdatasync", fd, syscall(SYS_fdatasync
 int ftruncate(int fd, off_t length) { SYSTEM_CALL(CHANGE, "ftruncate", fd, syscall(SYS_ftruncate, fd, length)); }
 int fchmod(int fd, mode_t mode) { SYSTEM_CALL(CHANGE, "fchmod", fd, syscall(SYS_fchmod, fd, mode)); }
 
+int fchown(int fd, uid_t owner, gid_t group) {
+    SYSTEM_CALL(CHANGE, "fchown", fd, syscall(SYS_fchown, fd, owner, group));
+}
+
+int unlink(const char *path) { SYSTEM_CALL(CHANGE, "unlink", -1, syscall(SYS_unlink, path)); }
+int unlinkat(int fd, const char *path, int flags) {
+    SYSTEM_CALL(CHANGE, "unlinkat", fd, syscall(SYS_unlinkat, fd, path, flags));
+}
+
 int rename(const char *from, const char *to) { SYSTEM_CALL(RENAME, "rename", -1, syscall(SYS_rename, from, to)); }
 int renameat(int fd, const char *from, int gd, const char *to) {
     SYSTEM_CALL(RENAME, "renameat", -1, syscall(SYS_renameat2, fd, from, gd, to, 0));

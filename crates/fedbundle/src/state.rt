@@ -8,12 +8,25 @@ use fed_config::Config;
 use replica_core::SyncError;
 use replica_sync::{read_snapshot, write_snapshot};
 use std::alloc::{AllocError, Global};
-use std::fs::{File, Files, OpenFile, OpenOptions};
+use std::fs::{File, Files, Metadata, OpenFile, OpenOptions, Permissions};
 use std::io::BufWriter;
+use std::os::unix::fs::{MetadataExt, OpenOptionsExt, PermissionsExt, fchown};
 use std::{fs, io};
 
 /// The bytes that are gathered before they are written to the file.
 const BUFFER_BYTES: usize = 65_536;
+
+/// The mode of a new file: its owner alone reads and writes it.
+const OWNER_ONLY: u32 = 0o600;
+
+/// The bits of a mode that say who reads, writes and runs a file.
+const ACCESS_BITS: u32 = 0o777;
+
+/// Those of the bits that are not about the file's group.
+const BITS_BUT_GROUP: u32 = 0o707;
+
+/// How often the lock is taken anew because its file was removed or replaced meanwhile.
+const MAX_LOCK_TRIES: u32 = 100;
 
 /// Keeps other commands that write the same state file waiting, until it is dropped or the process
 /// ends. It is an exclusive lock of the file named like the state file with `.lock` after it,
@@ -23,10 +36,12 @@ pub struct StateLock {
     _file: File,
 }
 
-/// Waits until no other command that writes this state file is at work.
+/// Waits until no other command that writes this state file is at work. A lock's file that is not
+/// there is made with the mode 0600, so that no other account can lock it. Where the file was
+/// removed or replaced while it was waited for, the new one is locked.
 ///
 /// # Errors
-/// - [`SyncError::Io`]: the lock's file cannot be made or locked,
+/// - [`SyncError::Io`]: the lock's file cannot be made or locked, or was replaced a hundred times,
 /// - [`SyncError::NoMemory`]: memory ran out.
 pub fn lock_state<R: Files<File = File>>(
     files: &R,
@@ -34,11 +49,14 @@ pub fn lock_state<R: Files<File = File>>(
     path: &str,
 ) -> Result<StateLock, SyncError> {
     let name = with_ending(alloc, path, ".lock")?;
-    let mut options = OpenOptions::new();
-    options.write(true).create(true);
-    let file = told(options.open(files, name.as_str()))?;
-    told(file.lock())?;
-    Ok(StateLock { _file: file })
+    for _ in 0..MAX_LOCK_TRIES {
+        let file = open_lock(files, name.as_str())?;
+        to_sync(file.lock())?;
+        if is_named(files, &file, name.as_str())? {
+            return Ok(StateLock { _file: file });
+        }
+    }
+    Err(SyncError::Io)
 }
 
 /// The closure whose snapshot stands in the file. A file that is not there stands for one that
@@ -66,25 +84,78 @@ pub fn load_state<C: Closure, R: Files>(
 /// fault and wherever the process is killed. No clause says this: it is shown by refusing each call
 /// of the system, and by killing the program before and after each.
 ///
+/// A file that has the name with `.new` is removed first, so that nothing is written through a link
+/// or into a pipe. The new file has the mode and, where the system allows it, the owner and the
+/// group of the state file that it replaces; where it does not, the group has no access. Where
+/// there was no state file, the mode is 0600.
+///
 /// # Errors
 /// - [`SyncError::Io`]: the system refused a step,
 /// - [`SyncError::NoMemory`]: memory ran out.
-pub fn save_state<C: Closure, R: Files>(
+pub fn save_state<C: Closure, R: Files<File = File>>(
     files: &R,
     alloc: Global,
     closure: &C,
     path: &str,
 ) -> Result<(), SyncError> {
     let name = with_ending(alloc, path, ".new")?;
-    let file = told(fs::create(files, name.as_str()))?;
-    let buffer = told(BufWriter::with_capacity(alloc, BUFFER_BYTES, file))?;
+    let file = create_new(files, name.as_str(), path)?;
+    let buffer = to_sync(BufWriter::with_capacity(alloc, BUFFER_BYTES, file))?;
     let mut sink = FromWrite::new(buffer);
     write_snapshot(alloc, closure, &mut sink)?;
     let file = written_out(sink.into_inner())?;
-    told(file.sync_all())?;
+    to_sync(file.sync_all())?;
     drop(file);
-    told(fs::rename(files, name.as_str(), path))?;
+    to_sync(fs::rename(files, name.as_str(), path))?;
     sync_folder(files, path)
+}
+
+fn open_lock<R: Files<File = File>>(files: &R, name: &str) -> Result<File, SyncError> {
+    let mut options = OpenOptions::new();
+    options.write(true).create(true).mode(OWNER_ONLY);
+    to_sync(options.open(files, name))
+}
+
+// Whether the open file is the one that has the name now.
+fn is_named<R: Files>(files: &R, file: &File, name: &str) -> Result<bool, SyncError> {
+    let locked = to_sync(file.metadata())?;
+    let named = found(fs::metadata(files, name))?;
+    Ok(named.is_some_and(|it| (it.dev(), it.ino()) == (locked.dev(), locked.ino())))
+}
+
+// The file that is to replace the one at the path.
+fn create_new<R: Files<File = File>>(files: &R, name: &str, path: &str) -> Result<File, SyncError> {
+    found(fs::remove_file(files, name))?;
+    let mut options = OpenOptions::new();
+    options.write(true).create_new(true).mode(OWNER_ONLY);
+    let file = to_sync(options.open(files, name))?;
+    if let Some(replaced) = found(fs::metadata(files, path))? {
+        take_access(&file, &replaced)?;
+    }
+    Ok(file)
+}
+
+// Gives the file the owner, the group and the mode of another.
+fn take_access(file: &File, other: &Metadata) -> Result<(), SyncError> {
+    let own = to_sync(file.metadata())?;
+    let is_of_same = (own.uid(), own.gid()) == (other.uid(), other.gid());
+    let has_group = is_of_same || fchown(file, Some(other.uid()), Some(other.gid())).is_ok();
+    let bits = if has_group {
+        ACCESS_BITS
+    } else {
+        BITS_BUT_GROUP
+    };
+    let mode = other.permissions().mode() & bits;
+    to_sync(file.set_permissions(Permissions::from_mode(mode)))
+}
+
+// What the system says of a name, or `None` where nothing has the name.
+fn found<T: Drop>(answer: io::Result<T>) -> Result<Option<T>, SyncError> {
+    match answer {
+        Ok(value) => Ok(Some(value)),
+        Err(error) if error.kind() == io::ErrorKind::NotFound => Ok(None),
+        Err(error) => Err(fault_of(&error)),
+    }
 }
 
 // The buffer's file, once the buffer has given it all.
@@ -103,8 +174,8 @@ fn sync_folder<R: Files>(files: &R, path: &str) -> Result<(), SyncError> {
         Some(end) => &path[..end],
         None => ".",
     };
-    let opened = told(fs::open(files, folder))?;
-    told(opened.sync_all())
+    let opened = to_sync(fs::open(files, folder))?;
+    to_sync(opened.sync_all())
 }
 
 fn with_ending(alloc: Global, path: &str, ending: &str) -> Result<String, AllocError> {
@@ -114,7 +185,7 @@ fn with_ending(alloc: Global, path: &str, ending: &str) -> Result<String, AllocE
     Ok(name)
 }
 
-fn told<T: Drop>(answer: io::Result<T>) -> Result<T, SyncError> {
+fn to_sync<T: Drop>(answer: io::Result<T>) -> Result<T, SyncError> {
     match answer {
         Ok(value) => Ok(value),
         Err(error) => Err(fault_of(&error)),

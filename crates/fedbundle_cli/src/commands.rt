@@ -1,16 +1,15 @@
 // The subcommands: each reads its options in their order, then its state, runs the command's
 // function over the streams, and writes its state.
 use crate::exit::Exit;
+use crate::streams::{complaints, input, output, output_line};
 use crate::{command_line, exchange, options};
 use bundle_view::Verdict;
-use byte_lines::{FromRead, FromWrite};
 use fed_config::Config;
 use fedbundle::{
     Call, CommandError, CommandName, StateLock, load_state, lock_state, read_words, run_bundle,
     run_canon, run_distrust, run_explain, run_merge, run_observe, run_polls, run_report,
     save_state,
 };
-use std::io::{Stdin, Stdout};
 use trust_closure::IndexedClosure;
 
 /// What the words ask for, done: the exit status 0, or 1 where an input was refused and the rest is
@@ -80,7 +79,7 @@ fn canon(rt: &HostRuntime, domain: &str) -> Result<u8, Exit> {
 }
 
 fn report(rt: &HostRuntime, config: &Config) -> Result<u8, Exit> {
-    let mut errors = FromWrite::new(rt.stderr());
+    let mut errors = complaints(rt);
     match run_report(
         rt.alloc(),
         config,
@@ -167,7 +166,12 @@ fn observe_on(
 fn merge(rt: &HostRuntime, config: &Config, state: &str) -> Result<u8, Exit> {
     let _lock = lock(rt, state)?;
     let mut closure = load_closure(rt, config, state)?;
-    let merged = run_merge(rt.alloc(), &mut closure, &mut input(rt), &mut output(rt));
+    let merged = run_merge(
+        rt.alloc(),
+        &mut closure,
+        &mut input(rt),
+        &mut output_line(rt),
+    );
     save_after(rt, &closure, state, merged.map_err(Exit::Refused))
 }
 
@@ -205,14 +209,6 @@ fn polls_on(rt: &HostRuntime, closure: &IndexedClosure, now: &str) -> Result<u8,
     let now = options::moment(now)?;
     run_polls(rt.alloc(), closure, now, &mut input(rt), &mut output(rt))?;
     Ok(0)
-}
-
-fn input(rt: &HostRuntime) -> FromRead<Stdin> {
-    FromRead::new(rt.stdin())
-}
-
-pub(crate) fn output(rt: &HostRuntime) -> FromWrite<Stdout> {
-    FromWrite::new(rt.stdout())
 }
 
 pub(crate) fn load_closure(

@@ -2,10 +2,10 @@
 use crate::exit::Exit;
 use fedbundle::CommandError;
 use replica_core::SyncError;
-use std::io;
 use std::io::{ErrorKind, Read, Write};
 use std::net::{SocketAddr, TcpListener, TcpStream};
 use std::time::{Duration, Instant};
+use std::{io, thread};
 
 /// How many seconds a connect may take, and a read or a write in which no byte moves.
 const MAX_IDLE_SECONDS: u64 = 30;
@@ -17,6 +17,9 @@ const MAX_SESSION_SECONDS: u64 = 600;
 /// How often one read or write is begun again after a signal, as when the process was stopped and
 /// goes on, or a debugger was attached.
 const MAX_INTERRUPTIONS: u32 = 1_000_000;
+
+/// How long a failed accept waits, so that faults that come one after another take no processor.
+const PAUSE_MILLIS: u64 = 100;
 
 /// A connection with another replica, for one session.
 #[derive(Drop)]
@@ -40,11 +43,15 @@ pub(crate) fn listen(rt: &HostRuntime, address: SocketAddr) -> Result<TcpListene
     }
 }
 
-/// The connection that the next client makes. How long it is waited for has no limit.
+/// The connection that the next client makes. How long it is waited for has no limit. A fault is
+/// returned after a pause.
 pub(crate) fn accept(rt: &HostRuntime, listener: &TcpListener) -> Result<Connection, CommandError> {
     match accept_stream(rt, listener) {
         Ok(connection) => Ok(connection),
-        Err(error) => Err(fault_of(&error)),
+        Err(error) => {
+            thread::sleep(rt, Duration::from_millis(PAUSE_MILLIS));
+            Err(fault_of(&error))
+        }
     }
 }
 

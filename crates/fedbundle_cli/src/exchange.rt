@@ -1,10 +1,11 @@
 // `serve` and `pull`: a replica's two ends of a session, over sockets. Each loads the state,
 // reads the address, and opens the socket before a session begins; `pull` saves the state at the
 // end.
-use crate::commands::{load_closure, lock, output};
+use crate::commands::{load_closure, lock};
 use crate::connection::{Connection, accept, connect, listen};
 use crate::exit::{Exit, print_fault};
 use crate::options;
+use crate::streams::output_line;
 use byte_lines::{FromRead, FromWrite};
 use fed_config::Config;
 use fedbundle::{CommandError, run_pull, run_serve, save_state, write_served};
@@ -35,7 +36,7 @@ fn serve_all(
     for _ in 0..sessions {
         worst = status_of(rt, serve_next(rt, closure, listener)).max(worst);
     }
-    let written = write_served(u64::from(sessions), &mut output(rt));
+    let written = write_served(u64::from(sessions), &mut output_line(rt));
     status_of(rt, written).max(worst)
 }
 
@@ -82,7 +83,13 @@ fn pull_on(
 ) -> Result<(), CommandError> {
     let mut source = FromRead::new(connection.direction(rt));
     let mut peer = FromWrite::new(connection.direction(rt));
-    run_pull(rt.alloc(), closure, &mut source, &mut peer, &mut output(rt))
+    run_pull(
+        rt.alloc(),
+        closure,
+        &mut source,
+        &mut peer,
+        &mut output_line(rt),
+    )
 }
 
 // The state is written before a fault of the session is reported.

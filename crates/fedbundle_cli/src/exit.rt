@@ -1,5 +1,5 @@
 // Why the program ends before its command is done.
-use byte_lines::FromWrite;
+use crate::streams::complaints;
 use fedbundle::{CommandError, WordsError, status, write_fault};
 use std::alloc::AllocError;
 
@@ -50,7 +50,7 @@ impl From<WordsError> for Exit {
 /// Prints a refusal on standard error, and returns its exit status, or 3 where that is greater and
 /// standard error failed.
 pub(crate) fn print_fault(rt: &HostRuntime, error: &CommandError) -> u8 {
-    let written = write_fault(error, &mut FromWrite::new(rt.stderr())).is_ok();
+    let written = write_fault(error, &mut complaints(rt)).is_ok();
     let status = status(error);
     if written { status } else { status.max(3) }
 }

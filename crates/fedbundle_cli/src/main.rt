@@ -9,18 +9,27 @@ mod connection;
 mod exchange;
 mod exit;
 mod options;
+mod streams;
 
-use byte_lines::{FromWrite, write_all};
+use byte_lines::write_all;
 use exit::Exit;
 use fedbundle::CommandError;
 use std::process::ExitCode;
+use streams::ClosedStreams;
 
 fn main(rt: HostRuntime) -> ExitCode {
-    let ended = match commands::run(&rt) {
+    let ended = match run(&rt) {
         Ok(status) => status,
         Err(exit) => print_exit(&rt, &exit),
     };
     ExitCode::from(ended)
+}
+
+fn run(rt: &HostRuntime) -> Result<u8, Exit> {
+    match ClosedStreams::hold(rt) {
+        Ok(_held) => commands::run(rt),
+        Err(_) => Err(Exit::Refused(CommandError::Io)),
+    }
 }
 
 // Prints on standard error why the program ends, and returns its exit status.
@@ -49,5 +58,5 @@ fn print_clap(rt: &HostRuntime, shown: &clap::Error) -> u8 {
 }
 
 fn write_stderr(rt: &HostRuntime, line: &[u8]) -> bool {
-    write_all(&mut FromWrite::new(rt.stderr()), line).is_ok()
+    write_all(&mut streams::complaints(rt), line).is_ok()
 }
