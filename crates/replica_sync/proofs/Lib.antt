@@ -1,6 +1,7 @@
 mod HeaderFacts
 mod HeldFacts
 mod SnapshotFacts
+mod SoleLineFacts
 mod WritingFacts
 mod FeedFacts
 mod OneFacts

@@ -10,4 +10,5 @@ pub mod Questions
 pub mod Answers
 pub mod Pulling
 pub mod Events
+pub mod SoleLines
 pub mod Inside

@@ -3,7 +3,8 @@
 //!
 //! Snapshots: `header` and `format` are the first and the last line, read and written by
 //! `snapshot_reader` and `snapshot_writer`. First lines of messages: `scanner` guesses their parts,
-//! and `have_line_reader` and `give_header_reader` judge them.
+//! and `have_line_reader` and `give_header_reader` judge them. `sole_line` reads single lines, for
+//! a caller that does not have them in a stream.
 //!
 //! Sessions: `serving` answers one. `pulling` asks, bucket by bucket, and counts; `taking` reads an
 //! answer, line by line. Lines are numbered by how many were read. That number and the bytes that
@@ -28,6 +29,7 @@ mod scanner;
 mod serving;
 mod snapshot_reader;
 mod snapshot_writer;
+mod sole_line;
 mod spelling;
 mod taking;
 
@@ -42,3 +44,4 @@ pub use replica_core::{
 pub use serving::serve_one;
 pub use snapshot_reader::read_snapshot;
 pub use snapshot_writer::write_snapshot;
+pub use sole_line::{read_first_line, read_question_line, take_sole_line, write_first_line};

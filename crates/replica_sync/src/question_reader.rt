@@ -106,7 +106,8 @@ fn next_asked<R: Source>(
     }
 }
 
-fn asked_line(alloc: Global, text: &[u8]) -> Result<VersionedHave, SyncError>
+/// What the line of a question says, of whatever configuration, format and number of buckets.
+pub(crate) fn asked_line(alloc: Global, text: &[u8]) -> Result<VersionedHave, SyncError>
     ensures { MatchResult result (λ a. IsAskedLine text.now (asking_by a)) (IsNoneAsked text.now) }
 {
     match read_have_line(alloc, text)? {
@@ -115,7 +116,8 @@ fn asked_line(alloc: Global, text: &[u8]) -> Result<VersionedHave, SyncError>
     }
 }
 
-fn own_question(config: &Config, asking: VersionedHave) -> Result<Have, SyncError>
+/// The question, where it is of this configuration.
+pub(crate) fn own_question(config: &Config, asking: VersionedHave) -> Result<Have, SyncError>
     ensures { MatchResult result
         (λ h. (h.config ≡ config_id_of config.now) × IsSupportedHave asking h)
         (RefusesVersionedHave config.now asking) }

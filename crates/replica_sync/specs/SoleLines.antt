@@ -1,0 +1,81 @@
+-- Single lines, without the stream that they stand in.
+use Rattle.std.specs.Prelude.{◌≡◌, ◌≢◌, ℕ, ◌+◌, ◌≤◌, ◌⊎◌, List, length}
+use Rattle.fed_config.specs.Configuration.{Configuration, config_id_of}
+use Rattle.receipt_core.specs.Acceptance.{Meaning}
+use Rattle.receipt_core.specs.Limits.{receipt_line_limit}
+use Rattle.closure_core.specs.declared.error.TakeError.{TakeError}
+use Rattle.closure_core.specs.declared.error.TakeError.TheVariants.{NoMemory as NoTakeMemory}
+use Rattle.replica_core.specs.Absorbing.{RefusesEntry, with_entry}
+use Rattle.replica_core.specs.Session.{Question}
+use Rattle.replica_core.specs.declared.entry.Entry.{Entry}
+use Rattle.replica_core.specs.declared.error.SyncError.{SyncError}
+use Rattle.replica_core.specs.declared.error.SyncError.TheVariants.{BadHeader, ConfigDiffers}
+use Rattle.replica_core.specs.declared.error.SyncError.TheVariants.{VersionDiffers, NotCanonical}
+use Rattle.replica_core.specs.declared.error.SyncError.TheVariants.{NotRising, BadCount, Truncated}
+use Rattle.replica_core.specs.declared.error.SyncError.TheVariants.{Refused, Io, NoMemory}
+use Rattle.replica_sync.specs.declared.entry_line.Wanted.TheVariants.{Either}
+use Rattle.replica_sync.specs.declared.format.Format.TheVariants.{First}
+use Rattle.replica_sync.specs.Entries.{IsEntry, IsNoLineOf}
+use Rattle.replica_sync.specs.Messages.{asked_of}
+use Rattle.replica_sync.specs.FirstLines.{IsAskedLine}
+use Rattle.replica_sync.specs.Snapshots.{IsNoHeader, IsOfOther, IsOfOtherFormat, header_line}
+
+-- ---- a receipt or a record
+
+-- It is the line of a receipt or a record, that is held now, and so many receipts are that were not.
+pub record TakesSoleLine (old : Meaning) (text : List ℕ) (new : Meaning) (count : ℕ) : Type 0 where
+  pub entry : Entry
+  pub is : IsEntry Either text entry
+  pub meaning : new ≡ with_entry entry old
+  pub more : length new.held ≡ length old.held + count
+
+-- It is one, and what it says is refused.
+pub record IsRefusedEntry (m : Meaning) (text : List ℕ) (why : TakeError) : Type 0 where
+  pub entry : Entry
+  pub is : IsEntry Either text entry
+  pub cause : RefusesEntry m entry why
+
+-- what is wrong with the line with this number; memory is wanted within the bound of receipts'
+-- lines
+abbrev pub RefusesSoleLine : Meaning → ℕ → List ℕ → SyncError → Type 0
+RefusesSoleLine m number text BadHeader = ⊥
+RefusesSoleLine m number text ConfigDiffers = ⊥
+RefusesSoleLine m number text VersionDiffers = ⊥
+RefusesSoleLine m number text (NotCanonical n) = (n ≡ number) × IsNoLineOf Either text
+RefusesSoleLine m number text (NotRising n) = ⊥
+RefusesSoleLine m number text BadCount = ⊥
+RefusesSoleLine m number text Truncated = ⊥
+RefusesSoleLine m number text (Refused n why) = (n ≡ number) × (why ≢ NoTakeMemory)
+    × IsRefusedEntry m text why
+RefusesSoleLine m number text Io = ⊥
+RefusesSoleLine m number text NoMemory = (length text ≤ receipt_line_limit)
+    ⊎ IsRefusedEntry m text NoTakeMemory
+
+-- Nothing has changed.
+pub record HasRefusedSoleLine (old : Meaning) (number : ℕ) (text : List ℕ) (new : Meaning)
+    (e : SyncError) : Type 0 where
+  pub cause : RefusesSoleLine old number text e
+  pub same : new ≡ old
+
+-- ---- a first line
+
+-- what is wrong with the line where the first one of the format that is written is wanted
+abbrev pub RefusesFirstLine : Configuration → List ℕ → SyncError → Type 0
+RefusesFirstLine config text BadHeader = IsNoHeader text
+RefusesFirstLine config text ConfigDiffers = IsOfOther config text
+RefusesFirstLine config text VersionDiffers = (text ≡ header_line First config)
+    ⊎ IsOfOtherFormat config text
+RefusesFirstLine config text (NotCanonical n) = ⊥
+RefusesFirstLine config text (NotRising n) = ⊥
+RefusesFirstLine config text BadCount = ⊥
+RefusesFirstLine config text Truncated = ⊥
+RefusesFirstLine config text (Refused n why) = ⊥
+RefusesFirstLine config text Io = ⊥
+RefusesFirstLine config text NoMemory = ⊥
+
+-- ---- a question
+
+-- It is the line of this question, which is of the configuration.
+pub record IsQuestionLine (config : Configuration) (text : List ℕ) (q : Question) : Type 0 where
+  pub line : IsAskedLine text (asked_of q)
+  pub own : q.config ≡ config_id_of config

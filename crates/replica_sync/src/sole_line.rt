@@ -1,0 +1,84 @@
+//! Single lines, for a caller that does not have them in a stream: a receipt or a record that
+//! stands anywhere, the first line of a snapshot, and a question.
+ghost use Rattle.std.specs.Prelude.{◌≡◌, IfOk, MatchResult, Some};
+ghost use Rattle.replica_sync.specs.Snapshots.{header_line};
+ghost use Rattle.replica_sync.specs.SoleLines.{HasRefusedSoleLine, RefusesFirstLine};
+ghost use Rattle.replica_sync.specs.SoleLines.{TakesSoleLine, IsQuestionLine};
+ghost use Rattle.replica_sync.specs.FirstLines.{RefusesAsked};
+
+use crate::entry_line::{Wanted, take_line};
+use crate::format::Format;
+use crate::header::{format_of, write_header};
+use crate::question_reader::{asked_line, own_question};
+use closure_core::Closure;
+use fed_config::Config;
+use replica_core::{Have, SyncError};
+use std::alloc::{AllocError, Global};
+
+/// Takes the receipt or the record of distrust whose line this is, wherever it stands. Returns how
+/// many receipts are held now and were not.
+///
+/// # Errors
+/// What is held stays. Errors name the line by this number. Of these the first that holds:
+/// - [`SyncError::NotCanonical`]: it is no line of a record or a receipt, or has more than
+///   8,388,608 bytes,
+/// - [`SyncError::Refused`]: the receipt or the record is not of the configuration, or is one too
+///   many,
+/// - [`SyncError::NoMemory`]: memory ran out.
+pub fn take_sole_line<C: Closure>(
+    alloc: Global,
+    closure: &mut C,
+    number: u64,
+    text: &[u8],
+) -> Result<u64, SyncError>
+    ensures { MatchResult result
+        (TakesSoleLine (C.state closure.old).meaning text.now (C.state closure.new).meaning)
+        (HasRefusedSoleLine (C.state closure.old).meaning number text.now
+        (C.state closure.new).meaning) }
+{
+    take_line(alloc, closure, Wanted::Either, b"".as_slice(), number, text)
+}
+
+/// Reads the first line of a snapshot of this configuration, in the format that is written.
+///
+/// # Errors
+/// Of these the first that holds:
+/// - [`SyncError::BadHeader`]: the line is none,
+/// - [`SyncError::ConfigDiffers`]: it is of another configuration,
+/// - [`SyncError::VersionDiffers`]: it is of another format.
+pub fn read_first_line(config: &Config, text: &[u8]) -> Result<(), SyncError>
+    ensures { MatchResult result (λ done. text.now ≡ header_line Format.Second config.now)
+        (RefusesFirstLine config.now text.now) }
+{
+    match format_of(config, text)? {
+        Format::First => Err(SyncError::VersionDiffers),
+        Format::Second => Ok(()),
+    }
+}
+
+/// The first line of a snapshot of this configuration, in the format that is written. The allocator
+/// may refuse its memory.
+pub fn write_first_line(alloc: Global, config: &Config) -> Result<Vec<u8>, AllocError>
+    ensures { IfOk result (λ text. text.items ≡ header_line Format.Second config.now) }
+{
+    write_header(alloc, config, Format::Second)
+}
+
+/// Reads a question of this configuration from its line, as [`read_have`](crate::read_have) reads
+/// one from a stream.
+///
+/// # Errors
+/// Of these the first that holds:
+/// - [`SyncError::BadHeader`]: the line is no question's, of whatever format and number of buckets,
+///   or its bucket is not below that number, or its ids do not rise strictly,
+/// - [`SyncError::ConfigDiffers`]: it is of another configuration,
+/// - [`SyncError::VersionDiffers`]: it has another format than 2, or another number of buckets than
+///   256,
+/// - [`SyncError::NoMemory`]: memory ran out.
+pub fn read_question_line(alloc: Global, config: &Config, text: &[u8]) -> Result<Have, SyncError>
+    ensures { MatchResult result (IsQuestionLine config.now text.now)
+        (RefusesAsked (Some config.now) text.now) }
+{
+    let asking = asked_line(alloc, text)?;
+    own_question(config, asking)
+}
