@@ -1,2 +1,4 @@
 pub mod CutFacts
+mod JournalFacts
+mod PrefixFacts
 mod StandardFacts

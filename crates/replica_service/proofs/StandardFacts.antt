@@ -1,5 +1,5 @@
 -- What pieces do, said of the definitions: a slip in one of these does not check.
-use Rattle.std.proofs.Common.{◌≡◌, ◌++◌, [], ◌∷◌, ℕ, codes, refl, drop, arith}
+use Rattle.std.proofs.Common.{◌≡◌, ◌++◌, codes, refl, drop, arith}
 use Rattle.byte_lines.specs.Lines.{lines_of, with_line, HasNoFeed}
 use Rattle.replica_service.specs.Pieces.{EndsLine}
 

@@ -1,7 +1,10 @@
 //! What follows from the definitions alone. A call that needs a law calls its function, which does
 //! nothing, and cites what it ensures.
-ghost use Rattle.std.specs.Prelude.{◌≡◌, ◌++◌, [], List, ℕ, drop};
+ghost use Rattle.std.specs.Prelude.{◌≡◌, ◌++◌, [], List, ℕ, drop, take, Some};
 ghost use Rattle.byte_lines.specs.Lines.{HasNoFeed, lines_of, with_line};
+ghost use Rattle.receipt_core.specs.Acceptance.{Meaning};
+ghost use Rattle.replica_core.specs.declared.error.SyncError.{SyncError};
+ghost use Rattle.replica_service.specs.Journal.{ReadsJournal, RefusesJournal};
 ghost use Rattle.replica_service.specs.Pieces.{EndsLine, GoesOn};
 
 /// A line that ends in a piece is the first line of what was kept, of the piece, and of all that
@@ -16,4 +19,14 @@ pub fn cuts()
         → lines_of ((old ++ piece) ++ after) ≡ lines_of (new ++ after) }
     ensures rests { (most : ℕ) (old piece new : List ℕ) → GoesOn most old piece new
         → lines_of (old ++ piece) ≡ record { whole = []; rest = new } }
+{}
+
+/// A kill leaves a beginning of a journal's bytes. Where the whole is read, so is each beginning of
+/// it, as what its whole lines say; and a beginning has no fault that the whole does not have.
+pub fn journals()
+    ensures read { (m now : Meaning) (bytes : List ℕ) (size : ℕ)
+        → ReadsJournal m (Some bytes) now
+        → ((cut : Meaning) × ReadsJournal m (Some (take size bytes)) cut) }
+    ensures refused { (m : Meaning) (bytes : List ℕ) (size : ℕ) (e : SyncError)
+        → RefusesJournal m (Some (take size bytes)) e → RefusesJournal m (Some bytes) e }
 {}

@@ -1,10 +1,15 @@
 //! The decisions of a replica that stays, without a socket, a file or a clock: bytes go in, as the
 //! pieces in which they come, and bytes go out.
 //!
-//! `line_part` makes whole lines out of pieces.
+//! `line_part` makes whole lines out of pieces. `journal_reader` and `journal_writer` have the text
+//! that keeps what came since the last snapshot.
 #![tactic(auto)]
 
+mod journal_reader;
+mod journal_writer;
 pub mod laws;
 mod line_part;
 
+pub use journal_reader::read_journal;
+pub use journal_writer::{begin_journal, push_entry};
 pub use line_part::{LinePart, PieceEnd};

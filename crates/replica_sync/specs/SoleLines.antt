@@ -14,13 +14,17 @@ use Rattle.replica_core.specs.declared.error.SyncError.TheVariants.{VersionDiffe
 use Rattle.replica_core.specs.declared.error.SyncError.TheVariants.{NotRising, BadCount, Truncated}
 use Rattle.replica_core.specs.declared.error.SyncError.TheVariants.{Refused, Io, NoMemory}
 use Rattle.replica_sync.specs.declared.entry_line.Wanted.TheVariants.{Either}
-use Rattle.replica_sync.specs.declared.format.Format.TheVariants.{First}
-use Rattle.replica_sync.specs.Entries.{IsEntry, IsNoLineOf}
+use Rattle.replica_sync.specs.declared.format.Format.TheVariants.{First, Second}
+use Rattle.replica_sync.specs.Entries.{IsEntry, IsNoLineOf, IsWanted}
 use Rattle.replica_sync.specs.Messages.{asked_of}
 use Rattle.replica_sync.specs.FirstLines.{IsAskedLine}
 use Rattle.replica_sync.specs.Snapshots.{IsNoHeader, IsOfOther, IsOfOtherFormat, header_line}
 
 -- ---- a receipt or a record
+
+-- it is a receipt or a record of its form
+abbrev pub IsWellFormed : Entry → Type 0
+IsWellFormed entry = IsWanted Either entry
 
 -- It is the line of a receipt or a record, that is held now, and so many receipts are that were not.
 pub record TakesSoleLine (old : Meaning) (text : List ℕ) (new : Meaning) (count : ℕ) : Type 0 where
@@ -58,6 +62,10 @@ pub record HasRefusedSoleLine (old : Meaning) (number : ℕ) (text : List ℕ) (
   pub same : new ≡ old
 
 -- ---- a first line
+
+-- the first line of a snapshot, in the format that is written
+abbrev pub written_header : Configuration → List ℕ
+written_header config = header_line Second config
 
 -- what is wrong with the line where the first one of the format that is written is wanted
 abbrev pub RefusesFirstLine : Configuration → List ℕ → SyncError → Type 0
