@@ -1,17 +1,21 @@
 -- A beginning of a journal's bytes.
 use Rattle.std.proofs.Common.{◌≡◌, ℕ, ◌==◌, Bool, true, false, List, [], ◌∷◌, ◌++◌, map, take, drop, Some, refl, sym, ap, ◌∙◌, subst}
-use Rattle.std.proofs.Common.{append_assoc, take-append-drop}
+use Rattle.std.proofs.Common.{append_assoc, append-nil, take-append-drop}
 use Rattle.fed_config.specs.Configuration.{Configuration}
-use Rattle.byte_lines.specs.Lines.{Lines, before, lines_of, with_byte}
+use Rattle.byte_lines.specs.Lines.{HasNoFeed, Lines, before, lines_of, with_byte}
 use Rattle.receipt_core.specs.Acceptance.{Meaning}
 use Rattle.replica_core.specs.Absorbing.{with_entries}
 use Rattle.replica_core.specs.declared.entry.Entry.{Entry}
 use Rattle.replica_core.specs.declared.error.SyncError.{SyncError}
 use Rattle.replica_core.specs.declared.error.SyncError.TheVariants.{BadHeader, ConfigDiffers, VersionDiffers, NotCanonical, NotRising, BadCount, Truncated}
 use Rattle.replica_core.specs.declared.error.SyncError.TheVariants.{Refused, Io, NoMemory}
+use Rattle.std.specs.List.{AllByRecursion}
+use Rattle.std.proofs.lemmas.List.Folds.{flat_map-map}
 use Rattle.replica_sync.specs.Entries.{entry_line}
-use Rattle.replica_sync.specs.SoleLines.{written_header}
-use Rattle.replica_service.specs.Journal.{AreEntries, HasBadEntry, HasBadStart, ReadsJournal, ReadsLines, RefusesJournal, RefusesLines}
+use Rattle.replica_sync.specs.Snapshots.{ended, text_of_lines}
+use Rattle.replica_service.proofs.JournalFacts.{whole_of_texts}
+use Rattle.replica_sync.specs.SoleLines.{IsWellFormed, written_header}
+use Rattle.replica_service.specs.Journal.{AreWellFormed, HasBadEntry, HasBadStart, ReadsJournal, ReadsLines, RefusesJournal, RefusesWholeLines, journal_text}
 
 -- ---- the whole lines of more bytes
 
@@ -46,11 +50,11 @@ lines_of_beginning size bytes =
 -- the first of these lines are those of the first entries
 record AreFirst (texts : List (List ℕ)) : Type 0 where
   pub entries : List Entry
-  pub each : AreEntries entries
+  pub each : AreWellFormed entries
   pub spelt : texts ≡ map entry_line entries
 
 -- A beginning of the lines of entries is the lines of a beginning of them.
-first_entries : (texts later : List (List ℕ)) (entries : List Entry) → AreEntries entries → texts ++ later ≡ map entry_line entries → AreFirst texts
+first_entries : (texts later : List (List ℕ)) (entries : List Entry) → AreWellFormed entries → texts ++ later ≡ map entry_line entries → AreFirst texts
 first_entries [] later entries each e = record { entries = []; each = tt; spelt = refl }
 first_entries (text ∷ texts) later [] each e = absurd (cc)
 first_entries (text ∷ texts) later (entry ∷ entries) each e =
@@ -93,7 +97,7 @@ entry_more m texts later e h = record {
 }
 
 -- What is wrong with lines is wrong with more of them.
-refused_more : (m : Meaning) (texts later : List (List ℕ)) (e : SyncError) → RefusesLines m texts e → RefusesLines m (texts ++ later) e
+refused_more : (m : Meaning) (texts later : List (List ℕ)) (e : SyncError) → RefusesWholeLines m texts e → RefusesWholeLines m (texts ++ later) e
 refused_more m texts later BadHeader h = start_more m.config texts later BadHeader h
 refused_more m texts later ConfigDiffers h = start_more m.config texts later ConfigDiffers h
 refused_more m texts later VersionDiffers h = start_more m.config texts later VersionDiffers h
@@ -110,4 +114,26 @@ pub beginning_refused : (m : Meaning) (bytes : List ℕ) (size : ℕ) (e : SyncE
     → RefusesJournal m (Some bytes) e
 beginning_refused m bytes size e h =
     let more = lines_of_beginning size bytes in
-    subst (λ ls. RefusesLines m ls e) (sym more.is) (refused_more m (lines_of (take size bytes)).whole more.later e h)
+    subst (λ ls. RefusesWholeLines m ls e) (sym more.is) (refused_more m (lines_of (take size bytes)).whole more.later e h)
+
+-- ---- what is written
+
+-- The lines of entries have no line feed.
+all_plain : ((entry : Entry) → IsWellFormed entry → HasNoFeed (entry_line entry)) → (entries : List Entry) → AreWellFormed entries
+    → AllByRecursion HasNoFeed (map entry_line entries)
+all_plain plain [] each = tt
+all_plain plain (entry ∷ entries) each = (plain entry each.0, all_plain plain entries each.1)
+
+-- What is written is read as what was appended.
+pub written_read : ((config : Configuration) → HasNoFeed (written_header config)) → ((entry : Entry) → IsWellFormed entry → HasNoFeed (entry_line entry))
+    → (m : Meaning) (entries : List Entry) → AreWellFormed entries
+    → ReadsJournal m (Some (journal_text m.config entries)) (with_entries entries m)
+written_read first plain m entries each =
+    let texts = map entry_line entries in
+    let header = written_header m.config in
+    let bytes : journal_text m.config entries ≡ text_of_lines (header ∷ texts) ++ [] =
+    ap (λ t. ended header ++ t) (sym (flat_map-map ended entry_line entries)) ∙ sym (append-nil (text_of_lines (header ∷ texts))) in
+    let whole : (lines_of (journal_text m.config entries)).whole ≡ header ∷ texts =
+    ap (λ l. (lines_of l).whole) bytes
+    ∙ whole_of_texts (header ∷ texts) [] (first m.config, all_plain plain entries each) ∙ append-nil (header ∷ texts) in
+    subst (λ ls. ReadsLines m ls (with_entries entries m)) (sym whole) (refl, record { entries = entries; each = each; spelt = refl; meaning = refl })

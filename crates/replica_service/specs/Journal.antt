@@ -16,7 +16,8 @@ use Rattle.replica_core.specs.declared.error.SyncError.TheVariants.{NotRising, B
 use Rattle.replica_core.specs.declared.error.SyncError.TheVariants.{Refused, Io, NoMemory}
 use Rattle.replica_sync.specs.Entries.{entry_line}
 use Rattle.replica_sync.specs.Snapshots.{ended}
-use Rattle.replica_sync.specs.SoleLines.{IsWellFormed, RefusesFirstLine, RefusesSoleLine, written_header}
+use Rattle.replica_sync.specs.SoleLines.{IsWellFormed, RefusesFirstLine, RefusesSoleLine}
+use Rattle.replica_sync.specs.SoleLines.{written_header}
 
 -- ---- the text
 
@@ -29,15 +30,15 @@ abbrev pub journal_text : Configuration → List Entry → List ℕ
 journal_text config entries = ended (written_header config) ++ flat_map entry_text entries
 
 -- each is a receipt or a record of its form
-abbrev pub AreEntries : List Entry → Type 0
-AreEntries = AllByRecursion IsWellFormed
+abbrev pub AreWellFormed : List Entry → Type 0
+AreWellFormed = AllByRecursion IsWellFormed
 
 -- ---- what is read
 
 -- These lines are those of entries, and after m these are held too.
 pub record ReadsEntries (m : Meaning) (texts : List (List ℕ)) (new : Meaning) : Type 0 where
   pub entries : List Entry
-  pub each : AreEntries entries
+  pub each : AreWellFormed entries
   pub spelt : texts ≡ map entry_line entries
   pub meaning : new ≡ with_entries entries m
 
@@ -72,25 +73,25 @@ pub record HasBadEntry (m : Meaning) (texts : List (List ℕ)) (e : SyncError) :
   pub before : List Entry
   pub text : List ℕ
   pub later : List (List ℕ)
-  pub each : AreEntries before
+  pub each : AreWellFormed before
   pub valid : IsMeaning (with_entries before m)
   pub is : texts ≡ written_header m.config ∷ (map entry_line before ++ text ∷ later)
   pub cause : RefusesSoleLine (with_entries before m) (length before + 2) text e
 
 -- what is wrong with the first whole line that has a fault; nothing is known of the lines where the
 -- source failed or memory ran out
-abbrev pub RefusesLines : Meaning → List (List ℕ) → SyncError → Type 0
-RefusesLines m texts BadHeader = HasBadStart m.config texts BadHeader
-RefusesLines m texts ConfigDiffers = HasBadStart m.config texts ConfigDiffers
-RefusesLines m texts VersionDiffers = HasBadStart m.config texts VersionDiffers
-RefusesLines m texts (NotCanonical n) = HasBadEntry m texts (NotCanonical n)
-RefusesLines m texts (NotRising n) = ⊥
-RefusesLines m texts BadCount = ⊥
-RefusesLines m texts Truncated = ⊥
-RefusesLines m texts (Refused n why) = HasBadEntry m texts (Refused n why)
-RefusesLines m texts Io = Unit {0}
-RefusesLines m texts NoMemory = Unit {0}
+abbrev pub RefusesWholeLines : Meaning → List (List ℕ) → SyncError → Type 0
+RefusesWholeLines m texts BadHeader = HasBadStart m.config texts BadHeader
+RefusesWholeLines m texts ConfigDiffers = HasBadStart m.config texts ConfigDiffers
+RefusesWholeLines m texts VersionDiffers = HasBadStart m.config texts VersionDiffers
+RefusesWholeLines m texts (NotCanonical n) = HasBadEntry m texts (NotCanonical n)
+RefusesWholeLines m texts (NotRising n) = ⊥
+RefusesWholeLines m texts BadCount = ⊥
+RefusesWholeLines m texts Truncated = ⊥
+RefusesWholeLines m texts (Refused n why) = HasBadEntry m texts (Refused n why)
+RefusesWholeLines m texts Io = Unit {0}
+RefusesWholeLines m texts NoMemory = Unit {0}
 
 abbrev pub RefusesJournal : Meaning → Option (List ℕ) → SyncError → Type 0
 RefusesJournal m None e = ⊤
-RefusesJournal m (Some bytes) e = RefusesLines m (lines_of bytes).whole e
+RefusesJournal m (Some bytes) e = RefusesWholeLines m (lines_of bytes).whole e

@@ -3,8 +3,11 @@
 ghost use Rattle.std.specs.Prelude.{◌≡◌, ◌++◌, [], List, ℕ, drop, take, Some};
 ghost use Rattle.byte_lines.specs.Lines.{HasNoFeed, lines_of, with_line};
 ghost use Rattle.receipt_core.specs.Acceptance.{Meaning};
+ghost use Rattle.replica_core.specs.Absorbing.{with_entries};
+ghost use Rattle.replica_core.specs.declared.entry.Entry.{Entry};
 ghost use Rattle.replica_core.specs.declared.error.SyncError.{SyncError};
-ghost use Rattle.replica_service.specs.Journal.{ReadsJournal, RefusesJournal};
+ghost use Rattle.replica_service.specs.Journal.{AreWellFormed, ReadsJournal, RefusesJournal};
+ghost use Rattle.replica_service.specs.Journal.{journal_text};
 ghost use Rattle.replica_service.specs.Pieces.{EndsLine, GoesOn};
 
 /// A line that ends in a piece is the first line of what was kept, of the piece, and of all that
@@ -21,12 +24,17 @@ pub fn cuts()
         → lines_of (old ++ piece) ≡ record { whole = []; rest = new } }
 {}
 
-/// A kill leaves a beginning of a journal's bytes. Where the whole is read, so is each beginning of
-/// it, as what its whole lines say; and a beginning has no fault that the whole does not have.
+/// The journal that is written of receipts and records is read as these, beside what was held. A
+/// kill leaves a beginning of its bytes: where the whole is read, so is each beginning, as what its
+/// whole lines say; and a beginning has no fault that the whole does not have.
 pub fn journals()
+    ensures written { (m : Meaning) (entries : List Entry) → AreWellFormed entries
+        → ReadsJournal m (Some (journal_text m.config entries)) (with_entries entries m) }
     ensures read { (m now : Meaning) (bytes : List ℕ) (size : ℕ)
         → ReadsJournal m (Some bytes) now
         → ((cut : Meaning) × ReadsJournal m (Some (take size bytes)) cut) }
     ensures refused { (m : Meaning) (bytes : List ℕ) (size : ℕ) (e : SyncError)
         → RefusesJournal m (Some (take size bytes)) e → RefusesJournal m (Some bytes) e }
-{}
+{
+    replica_sync::laws::sole_lines();
+}

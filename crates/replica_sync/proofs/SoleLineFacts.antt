@@ -1,5 +1,8 @@
 -- A line that stands alone is one after no other line.
-use Rattle.std.proofs.Common.{◌≡◌, ℕ, List, [], inl, inr, refl, sym, subst}
+use Rattle.std.proofs.Common.{◌≡◌, ◌≢◌, ℕ, List, [], inl, inr, refl, sym, subst}
+use Rattle.std.proofs.lemmas.List.Elements.{All-from_recursion}
+use Rattle.fed_config.specs.Configuration.{Configuration}
+use Rattle.byte_lines.specs.Lines.{HasNoFeed}
 use Rattle.receipt_core.specs.Receipt.{line, distrust_line}
 use Rattle.receipt_core.specs.Acceptance.{Meaning}
 use Rattle.closure_core.specs.declared.error.TakeError.{TakeError}
@@ -11,7 +14,11 @@ use Rattle.replica_core.specs.declared.error.SyncError.TheVariants.{Refused, Io,
 use Rattle.replica_sync.specs.declared.entry_line.Wanted.TheVariants.{Either}
 use Rattle.replica_sync.specs.Entries.{IsAbove, IsRefused, RefusesEntryLine, entry_line}
 use Rattle.replica_sync.specs.Inside.EntrySteps.{HasRefusedLine, TakesEntryText}
-use Rattle.replica_sync.specs.SoleLines.{HasRefusedSoleLine, IsRefusedEntry, RefusesSoleLine, TakesSoleLine}
+use Rattle.replica_sync.specs.declared.format.Format.TheVariants.{Second}
+use Rattle.replica_sync.specs.Snapshots.{header_line}
+use Rattle.replica_sync.specs.SoleLines.{HasRefusedSoleLine, IsRefusedEntry, IsWellFormed, RefusesSoleLine, TakesSoleLine, written_header}
+use Rattle.replica_sync.proofs.FeedFacts.{feedless_line, feedless_record}
+use Rattle.replica_sync.proofs.DigestFacts.{feedless_first}
 
 -- Each line is above the empty text, which stands for no line before.
 above_none : (entry : Entry) → IsAbove [] (entry_line entry)
@@ -47,3 +54,14 @@ sole_cause m number text NoMemory h = elim h [ inl short ↦ inl short | inr ref
 pub sole_refused : (old : Meaning) (number : ℕ) (text : List ℕ) (new : Meaning) (e : SyncError) → HasRefusedLine Either old [] number text new e
     → HasRefusedSoleLine old number text new e
 sole_refused old number text new e h = record { cause = sole_cause old number text e h.cause; same = h.same }
+
+-- ---- line feeds
+
+-- A first line has none.
+pub first_plain : (config : Configuration) → HasNoFeed (written_header config)
+first_plain config = All-from_recursion (λ b. b ≢ 10) (header_line Second config) (feedless_first Second config)
+
+-- The line of a receipt or a record has none.
+pub entry_plain : (entry : Entry) → IsWellFormed entry → HasNoFeed (entry_line entry)
+entry_plain (Record x) is = All-from_recursion (λ b. b ≢ 10) (distrust_line x) (feedless_record x)
+entry_plain (AReceipt r) is = All-from_recursion (λ b. b ≢ 10) (line r) (feedless_line r is)

@@ -26,7 +26,7 @@ use Rattle.replica_sync.specs.Snapshots.{IsNoHeader, IsOfOther, IsOfOtherFormat,
 abbrev pub IsWellFormed : Entry → Type 0
 IsWellFormed entry = IsWanted Either entry
 
--- It is the line of a receipt or a record, that is held now, and so many receipts are that were not.
+-- It is the line of a receipt or a record, which is held now; so many receipts are that were not.
 pub record TakesSoleLine (old : Meaning) (text : List ℕ) (new : Meaning) (count : ℕ) : Type 0 where
   pub entry : Entry
   pub is : IsEntry Either text entry

@@ -4,6 +4,7 @@ ghost use Rattle.std.specs.Prelude.{◌≡◌, ◌≢◌, ◌++◌, ◌<◌, [],
 ghost use Rattle.std.specs.Prelude.{length, true, ℕ};
 ghost use Rattle.std.specs.Io.KnownBytes.{Consumes};
 ghost use Rattle.fed_config.specs.Configuration.{Configuration, IsConfiguration, config_id_of};
+ghost use Rattle.byte_lines.specs.Lines.{HasNoFeed};
 ghost use Rattle.receipt_core.specs.Acceptance.{Meaning, IsMeaning};
 ghost use Rattle.closure_core.specs.declared.error.TakeError.{TakeError};
 ghost use Rattle.replica_core.specs.Convergence.{AreEvents, HasAll, Settles};
@@ -11,9 +12,11 @@ ghost use Rattle.replica_core.specs.Session.{Question, Reply, question_of, reply
 ghost use Rattle.replica_core.specs.State.{is_within_limits, joined, meaning_of_state};
 ghost use Rattle.replica_core.specs.World.{World, WorldRun, rules_of, rules_in, run_from};
 ghost use Rattle.replica_core.specs.World.{world_after, held_by, followed_by};
+ghost use Rattle.replica_core.specs.declared.entry.Entry.{Entry};
 ghost use Rattle.replica_core.specs.declared.event.Event.{Event};
 ghost use Rattle.replica_core.specs.declared.error.SyncError.{SyncError};
 ghost use Rattle.replica_core.specs.declared.error.SyncError.TheVariants.{Io, NoMemory, Refused};
+ghost use Rattle.replica_sync.specs.Entries.{entry_line};
 ghost use Rattle.replica_sync.specs.Messages.{question_text, reply_text};
 ghost use Rattle.replica_sync.specs.FirstLines.{HasDigestOf};
 ghost use Rattle.replica_sync.specs.Questions.{IsAskable, RefusesQuestion, ServesAll, ServesUpTo};
@@ -22,6 +25,7 @@ ghost use Rattle.replica_sync.specs.SessionRun.{ReadSame, SessionRun, known_run,
 ghost use Rattle.replica_sync.specs.Events.{EndsCut, whole_exchanges};
 ghost use Rattle.replica_sync.specs.Pulling.{HasDistinctIds, Pulls, PullsAll, PullsUpTo};
 ghost use Rattle.replica_sync.specs.Snapshots.{IsSnapshot, RefusesSnapshot, snapshot_text};
+ghost use Rattle.replica_sync.specs.SoleLines.{IsWellFormed, written_header};
 ghost use Rattle.replica_sync.specs.declared.format.Format.TheVariants.{Second};
 ghost use Rattle.replica_sync.specs.declared.pulling.PullFault.{PullFault};
 
@@ -209,4 +213,10 @@ pub fn world_of_sessions()
         → bytes ++ lost ≡ replied ++ rest
         → PullsUpTo (known_run bytes asked) m held e → e ≢ Io → e ≢ NoMemory
         → EndsCut (rules_of m.config n) w i j (state_of held) }
+{}
+
+/// No line of a receipt or a record has a line feed in it, and no first line of a snapshot has one.
+pub fn sole_lines()
+    ensures first { (config : Configuration) → HasNoFeed (written_header config) }
+    ensures entry { (entry : Entry) → IsWellFormed entry → HasNoFeed (entry_line entry) }
 {}

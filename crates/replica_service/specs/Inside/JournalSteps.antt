@@ -15,7 +15,7 @@ use Rattle.replica_core.specs.declared.error.SyncError.TheVariants.{Refused, Io,
 use Rattle.replica_sync.specs.Entries.{entry_line}
 use Rattle.replica_sync.specs.Snapshots.{text_of_lines}
 use Rattle.replica_sync.specs.SoleLines.{RefusesSoleLine, TakesSoleLine, written_header}
-use Rattle.replica_service.specs.Journal.{AreEntries, RefusesJournalStart}
+use Rattle.replica_service.specs.Journal.{AreWellFormed, RefusesJournalStart}
 
 -- ---- the first line
 
@@ -85,7 +85,7 @@ FailsNext m number stream NoMemory = Unit {0}
 -- These are the lines of entries that are held now too, and `left` is what follows them.
 pub record HasReadPart (m : Meaning) (stream : Option (List ℕ)) (entries : List Entry)
     (now : Meaning) (left : Option (List ℕ)) : Type 0 where
-  pub each : AreEntries entries
+  pub each : AreWellFormed entries
   pub plain : AllByRecursion HasNoFeed (map entry_line entries)
   pub text : Consumes stream left (text_of_lines (map entry_line entries))
   pub meaning : now ≡ with_entries entries m

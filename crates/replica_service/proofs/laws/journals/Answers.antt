@@ -1,5 +1,8 @@
-use Rattle.replica_service.proofs.PrefixFacts.{beginning_read, beginning_refused}
+use Rattle.replica_service.proofs.PrefixFacts.{beginning_read, beginning_refused, written_read}
 use Rattle.replica_service.proofs.laws.journals.Goals as goal
+
+pub returns-clause-written : goal.returns-clause-written
+returns-clause-written c = written_read c.sole_lines.ensures.first c.sole_lines.ensures.entry
 
 pub returns-clause-read : goal.returns-clause-read
 returns-clause-read c = beginning_read
