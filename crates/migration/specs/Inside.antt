@@ -1,0 +1,2 @@
+-- What carrying has done so far.
+pub mod Carrying
