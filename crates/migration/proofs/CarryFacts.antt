@@ -1,5 +1,6 @@
 -- Carrying over, item by item.
-use Rattle.std.proofs.Common.{◌≡◌, ℕ, ◌+◌, ◌<◌, ◌≤◌, List, [], ◌∷◌, ◌++◌, length, ◌⊎◌, inl, inr, Option, take, codes, refl, sym, ap, ◌∙◌, subst, arith, append_assoc, append-nil}
+use Rattle.std.proofs.Common.{◌≡◌, ℕ, ◌+◌, ◌<◌, ◌≤◌, List, [], ◌∷◌, ◌++◌, length, ◌⊎◌, inl}
+use Rattle.std.proofs.Common.{inr, Option, take, codes, refl, sym, ap, ◌∙◌, subst, arith, append_assoc, append-nil}
 use Rattle.std.specs.Prelude.{Contains, ◌↔◌, Result, IfOk}
 use Rattle.std.specs.List.{AllByRecursion, concat}
 use Rattle.std.specs.Io.KnownBytes.{Appends}
@@ -433,7 +434,8 @@ stops_receipts choice k kr kc m kept a b d n er ec first stops =
       begun = (
         length (concat one.lines) + two.begun.0,
         subst (Appends a d)
-            (sym (ap (take (length (concat one.lines) + two.begun.0)) (concat-append one.lines two.lines) ∙ take-append-add (concat one.lines) (concat two.lines) two.begun.0))
+            (sym (ap (take (length (concat one.lines) + two.begun.0)) (concat-append one.lines two.lines)
+            ∙ take-append-add (concat one.lines) (concat two.lines) two.begun.0))
             (Appends-trans a b d (concat one.lines) (take two.begun.0 (concat two.lines)) one.written two.begun.1),
       );
     }

@@ -1,6 +1,7 @@
 -- What of the sets of a replica goes with it to another configuration, and what is reported of the
 -- rest.
-use Rattle.std.specs.Prelude.{◌≡◌, ℕ, ◌++◌, ◌⊎◌, ◌↔◌, List, [], ◌∷◌, length, codes, Contains, Option}
+use Rattle.std.specs.Prelude.{◌≡◌, ℕ, ◌++◌, ◌⊎◌, ◌↔◌, List, [], ◌∷◌, length, codes, Contains}
+use Rattle.std.specs.Prelude.{Option}
 use Rattle.std.specs.List.{concat}
 use Rattle.std.specs.Io.KnownBytes.{Appends}
 use Rattle.hex.specs.Hex.{encode_lower}

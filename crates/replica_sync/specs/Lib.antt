@@ -2,6 +2,7 @@
 -- the steps of reading, writing and sessions.
 pub mod Entries
 pub mod Snapshots
+pub mod WrittenSnapshot
 pub mod Writing
 pub mod Messages
 pub mod FirstLines

@@ -22,8 +22,8 @@ pub record GoesAlong {A : Type 0} (goes : A → Type 0) (item : A) (old new : Li
   pub unwritten : sink.after ≡ sink.before
 
 -- The item stays behind, and its line was written.
-pub record StaysBehind {A : Type 0} (goes : A → Type 0) (reports : A → List ℕ → Type 0) (item : A) (old new : List A)
-    (sink : SinkRun) : Type 0 where
+pub record StaysBehind {A : Type 0} (goes : A → Type 0) (reports : A → List ℕ → Type 0) (item : A)
+    (old new : List A) (sink : SinkRun) : Type 0 where
   pub stays : goes item → ⊥
   pub same : new ≡ old
   pub line : List ℕ
@@ -31,7 +31,8 @@ pub record StaysBehind {A : Type 0} (goes : A → Type 0) (reports : A → List 
   pub written : Appends sink.before sink.after line
 
 -- One of both, and n lines were written.
-abbrev pub SortsItem : {A : Type 0} → (A → Type 0) → (A → List ℕ → Type 0) → A → List A → List A → SinkRun → ℕ → Type 0
+abbrev pub SortsItem : {A : Type 0} → (A → Type 0) → (A → List ℕ → Type 0) → A → List A → List A
+    → SinkRun → ℕ → Type 0
 SortsItem goes reports item old new sink n = (GoesAlong goes item old new sink × (n ≡ 0))
     ⊎ (StaysBehind goes reports item old new sink × (n ≡ 1))
 
@@ -42,8 +43,8 @@ StopsAtItem reports item sink = (sink.after ≡ sink.before)
 
 -- Of these items exactly those that go along are kept, and the lines of the others were written, n
 -- of them.
-pub record HasSorted {A : Type 0} (goes : A → Type 0) (reports : A → List ℕ → Type 0) (items kept : List A) (sink : SinkRun)
-    (n : ℕ) : Type 0 where
+pub record HasSorted {A : Type 0} (goes : A → Type 0) (reports : A → List ℕ → Type 0)
+    (items kept : List A) (sink : SinkRun) (n : ℕ) : Type 0 where
   pub members : (a : A) → (Contains kept a ↔ (Contains items a × goes a))
   pub few : length kept ≤ length items
   pub lines : List (List ℕ)
@@ -52,8 +53,8 @@ pub record HasSorted {A : Type 0} (goes : A → Type 0) (reports : A → List �
   pub counted : n ≡ length lines
 
 -- A beginning of the lines of the first of these items was written.
-pub record StopsSorting {A : Type 0} (goes : A → Type 0) (reports : A → List ℕ → Type 0) (items : List A)
-    (sink : SinkRun) : Type 0 where
+pub record StopsSorting {A : Type 0} (goes : A → Type 0) (reports : A → List ℕ → Type 0)
+    (items : List A) (sink : SinkRun) : Type 0 where
   pub first : List A
   pub later : List A
   pub front : items ≡ first ++ later

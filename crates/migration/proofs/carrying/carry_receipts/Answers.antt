@@ -40,7 +40,8 @@ overflow_add-count g c =
     let x : Receipt = c.in-Some.receipt.now in
     let all : c.into_iter-receipt-iterator.result ≡ (g.C.Closure.state c.args.held.now).meaning.held = first_of (cc, search rules) in
     let now = (g.C.Closure.state c.carry_receipt.new.closure).meaning.held in
-    let item = subst (λ (k : Configuration). SortsItem (IsFitting k) (ReportsReceipt k) x (g.C.Closure.state c.receipts.closure).meaning.held now (sink_run then later)
+    let item = subst (λ (k : Configuration). SortsItem (IsFitting k) (ReportsReceipt k) x
+    (g.C.Closure.state c.receipts.closure).meaning.held now (sink_run then later)
     c.in_ok-count.field-0) c.receipts.invariant.config c.in_ok-count.ensures.ok in
     let low = sorted_fits _ _ c.into_iter-receipt-iterator.result c.receipts.receipt-iterator c.next.new.self
     (g.C.Closure.state c.receipts.closure).meaning.held now x (sink_run start then) (sink_run then later) c.receipts.count c.in_ok-count.field-0
@@ -61,7 +62,8 @@ receipts-preserved g c =
       sorted = sorted_more (IsFitting k) (ReportsReceipt k) c.into_iter-receipt-iterator.result c.receipts.receipt-iterator c.next.new.self
           (g.C.Closure.state c.receipts.closure).meaning.held now x start then later c.receipts.count c.in_ok-count.field-0
           c.in-Some.ensures.steps c.receipts.invariant.sorted
-          (subst (λ (k : Configuration). SortsItem (IsFitting k) (ReportsReceipt k) x (g.C.Closure.state c.receipts.closure).meaning.held now (sink_run then later)
+          (subst (λ (k : Configuration). SortsItem (IsFitting k) (ReportsReceipt k) x
+          (g.C.Closure.state c.receipts.closure).meaning.held now (sink_run then later)
           c.in_ok-count.field-0) c.receipts.invariant.config c.in_ok-count.ensures.ok);
       config = c.in_ok-count.ensures.config ∙ c.receipts.invariant.config;
       records = c.in_ok-count.ensures.records ∙ c.receipts.invariant.records;
@@ -75,7 +77,8 @@ returns-clause-ok g c =
     let kept = (g.C.Closure.state c.receipts.closure).meaning.held in
     let all : c.into_iter-receipt-iterator.result ≡ (g.C.Closure.state c.args.held.now).meaning.held = first_of (cc, search rules) in
     subst (λ (items : List Receipt). HasSorted (IsFitting k) (ReportsReceipt k) items kept sink c.receipts.count) all
-    (sorted_all (IsFitting k) (ReportsReceipt k) c.into_iter-receipt-iterator.result c.receipts.receipt-iterator kept sink c.receipts.count c.in-None.ensures.steps.0
+    (sorted_all (IsFitting k) (ReportsReceipt k)
+    c.into_iter-receipt-iterator.result c.receipts.receipt-iterator kept sink c.receipts.count c.in-None.ensures.steps.0
     c.receipts.invariant.sorted)
 
 pub returns-clause-few : goal.returns-clause-few

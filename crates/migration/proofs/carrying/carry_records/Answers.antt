@@ -10,7 +10,8 @@ pub records-init : goal.records-init
 records-init g c =
     let k = (g.C.Closure.state c.args.closure.now).meaning.config in
     record {
-      sorted = sorted_none (λ (y : Distrust). HasDomain k y.domain) (ReportsRecord k) c.into_iter-domain-iterator.result (g.C.Closure.state c.args.closure.now).meaning.records
+      sorted = sorted_none (λ (y : Distrust). HasDomain k y.domain) (ReportsRecord k)
+          c.into_iter-domain-iterator.result (g.C.Closure.state c.args.closure.now).meaning.records
           (g.E.Sink.contents c.args.lines.now) c.requires.none;
       config = refl;
       held = refl;
@@ -26,7 +27,8 @@ returns-in_err-count-clause-stops g c =
     let x : Distrust = record { domain = c.in-Some.domain.now; key = c.in-Some.key.now } in
     let all : c.into_iter-domain-iterator.result ≡ (g.C.Closure.state c.args.held.now).meaning.records = first_of (cc, search rules) in
     λ bad. subst (λ (items : List Distrust). StopsSorting (λ (y : Distrust). HasDomain k y.domain) (ReportsRecord k) items (sink_run start later)) all
-    (sorted_stops (λ (y : Distrust). HasDomain k y.domain) (ReportsRecord k) c.into_iter-domain-iterator.result c.records.domain-iterator c.next.new.self
+    (sorted_stops (λ (y : Distrust). HasDomain k y.domain) (ReportsRecord k)
+    c.into_iter-domain-iterator.result c.records.domain-iterator c.next.new.self
     (g.C.Closure.state c.records.closure).meaning.records x start then later c.records.count c.in-Some.ensures.steps c.records.invariant.sorted
     (subst (λ (k : Configuration). StopsAtItem (ReportsRecord k) x (sink_run then later)) c.records.invariant.config (c.in_err-count.ensures.stops refl)))
 
@@ -39,7 +41,8 @@ overflow_add-count g c =
     let x : Distrust = record { domain = c.in-Some.domain.now; key = c.in-Some.key.now } in
     let all : c.into_iter-domain-iterator.result ≡ (g.C.Closure.state c.args.held.now).meaning.records = first_of (cc, search rules) in
     let now = (g.C.Closure.state c.carry_record.new.closure).meaning.records in
-    let item = subst (λ (k : Configuration). SortsItem (λ (y : Distrust). HasDomain k y.domain) (ReportsRecord k) x (g.C.Closure.state c.records.closure).meaning.records now (sink_run then later)
+    let item = subst (λ (k : Configuration). SortsItem (λ (y : Distrust). HasDomain k y.domain) (ReportsRecord k) x
+    (g.C.Closure.state c.records.closure).meaning.records now (sink_run then later)
     c.in_ok-count.field-0) c.records.invariant.config c.in_ok-count.ensures.ok in
     let low = sorted_fits _ _ c.into_iter-domain-iterator.result c.records.domain-iterator c.next.new.self
     (g.C.Closure.state c.records.closure).meaning.records now x (sink_run start then) (sink_run then later) c.records.count c.in_ok-count.field-0
@@ -57,10 +60,12 @@ records-preserved g c =
     let x : Distrust = record { domain = c.in-Some.domain.now; key = c.in-Some.key.now } in
     let now = (g.C.Closure.state c.carry_record.new.closure).meaning.records in
     record {
-      sorted = sorted_more (λ (y : Distrust). HasDomain k y.domain) (ReportsRecord k) c.into_iter-domain-iterator.result c.records.domain-iterator c.next.new.self
+      sorted = sorted_more (λ (y : Distrust). HasDomain k y.domain) (ReportsRecord k)
+          c.into_iter-domain-iterator.result c.records.domain-iterator c.next.new.self
           (g.C.Closure.state c.records.closure).meaning.records now x start then later c.records.count c.in_ok-count.field-0
           c.in-Some.ensures.steps c.records.invariant.sorted
-          (subst (λ (k : Configuration). SortsItem (λ (y : Distrust). HasDomain k y.domain) (ReportsRecord k) x (g.C.Closure.state c.records.closure).meaning.records now (sink_run then later)
+          (subst (λ (k : Configuration). SortsItem (λ (y : Distrust). HasDomain k y.domain) (ReportsRecord k) x
+          (g.C.Closure.state c.records.closure).meaning.records now (sink_run then later)
           c.in_ok-count.field-0) c.records.invariant.config c.in_ok-count.ensures.ok);
       config = c.in_ok-count.ensures.config ∙ c.records.invariant.config;
       held = c.in_ok-count.ensures.held ∙ c.records.invariant.held;
@@ -74,7 +79,8 @@ returns-clause-ok g c =
     let kept = (g.C.Closure.state c.records.closure).meaning.records in
     let all : c.into_iter-domain-iterator.result ≡ (g.C.Closure.state c.args.held.now).meaning.records = first_of (cc, search rules) in
     subst (λ (items : List Distrust). HasSorted (λ (y : Distrust). HasDomain k y.domain) (ReportsRecord k) items kept sink c.records.count) all
-    (sorted_all (λ (y : Distrust). HasDomain k y.domain) (ReportsRecord k) c.into_iter-domain-iterator.result c.records.domain-iterator kept sink c.records.count c.in-None.ensures.steps.0
+    (sorted_all (λ (y : Distrust). HasDomain k y.domain) (ReportsRecord k)
+    c.into_iter-domain-iterator.result c.records.domain-iterator kept sink c.records.count c.in-None.ensures.steps.0
     c.records.invariant.sorted)
 
 pub returns-clause-few : goal.returns-clause-few
