@@ -16,7 +16,7 @@ use Rattle.replica_core.specs.declared.error.SyncError.TheVariants.{NotCanonical
 use Rattle.replica_core.specs.declared.error.SyncError.TheVariants.{Refused}
 use Rattle.replica_core.specs.declared.error.SyncError.TheVariants.{Io as StreamFailed}
 use Rattle.replica_core.specs.declared.error.SyncError.TheVariants.{NoMemory as NoMemoryForStream}
-use Rattle.fedbundle.specs.Errors.{of_line, of_report, of_read}
+use Rattle.fedbundle.specs.Errors.{of_line, of_report, of_read, of_snapshot}
 use Rattle.fedbundle.specs.declared.error.CommandError.TheVariants.{Io}
 use Rattle.fedbundle.specs.declared.run_error.RunError.TheVariants.{Io as RunIo}
 
@@ -47,3 +47,16 @@ stream_sound T BadCount new old unless fault = fault
 stream_sound T Truncated new old unless fault = fault
 stream_sound T (Refused n why) new old unless fault = fault
 stream_sound T NoMemoryForStream new old unless fault = fault
+
+-- a snapshot's writer reports a failed device exactly where that error, as a device's, does
+pub snapshot_fault : (T U : Type 0) (e : SyncError) → is_io {T = T} (Err e) ≡ is_source_fault {T = U} (Err (of_snapshot e))
+snapshot_fault T U StreamFailed = refl
+snapshot_fault T U BadHeader = refl
+snapshot_fault T U ConfigDiffers = refl
+snapshot_fault T U VersionDiffers = refl
+snapshot_fault T U (NotCanonical n) = refl
+snapshot_fault T U (NotRising n) = refl
+snapshot_fault T U BadCount = refl
+snapshot_fault T U Truncated = refl
+snapshot_fault T U (Refused n why) = refl
+snapshot_fault T U NoMemoryForStream = refl

@@ -7,3 +7,4 @@ mod PollsFacts
 mod SessionsFacts
 mod DeviceFacts
 mod CommandFacts
+mod MigrateFacts

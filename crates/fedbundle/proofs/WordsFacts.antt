@@ -38,6 +38,7 @@ plain_leaf command.Bundle = refl
 plain_leaf command.Explain = refl
 plain_leaf command.Observe = refl
 plain_leaf command.Merge = refl
+plain_leaf command.Migrate = refl
 plain_leaf command.Polls = refl
 plain_leaf command.Distrust = refl
 plain_leaf command.Serve = refl

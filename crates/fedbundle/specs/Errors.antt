@@ -5,6 +5,8 @@ use Rattle.byte_lines.specs.declared.error.DeviceError.TheVariants.{NoMemory as 
 use Rattle.bundle_view.specs.declared.error.ReportError.{ReportError}
 use Rattle.bundle_view.specs.declared.error.ReportError.TheVariants.{Io as SinkFailed}
 use Rattle.bundle_view.specs.declared.error.ReportError.TheVariants.{NoMemory as NoMemoryForReport}
+use Rattle.replica_core.specs.declared.error.SyncError.{SyncError}
+use Rattle.replica_core.specs.declared.error.SyncError.TheVariants.{Io as StreamIo}
 use Rattle.fedbundle.specs.declared.error.CommandError.{CommandError}
 use Rattle.fedbundle.specs.declared.error.CommandError.TheVariants.{Full, NoMemory, Io}
 use Rattle.fedbundle.specs.declared.run_error.RunError.{RunError}
@@ -26,6 +28,11 @@ of_report NoMemoryForReport = RunNoMemory
 abbrev pub of_read : DeviceError → CommandError
 of_read DeviceIo = Io
 of_read DeviceNoMemory = NoMemory
+
+-- the error for a snapshot that was not written, as that of a device: its writer knows no other
+abbrev pub of_snapshot : SyncError → DeviceError
+of_snapshot StreamIo = DeviceIo
+of_snapshot e = DeviceNoMemory
 
 -- the error for a run that gave no report
 abbrev pub of_run : RunError → CommandError

@@ -10,6 +10,7 @@ pub mod Distrust
 pub mod Explain
 pub mod Fault
 pub mod Merge
+pub mod Migrate
 pub mod Observe
 pub mod Polls
 pub mod Pull

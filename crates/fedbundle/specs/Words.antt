@@ -1,14 +1,16 @@
 -- The words of the command line, as clap's definition of a command reads them.
-use Rattle.std.specs.Prelude.{◌≡◌, ℕ, true, List, [], ◌∷◌, map, fold, codes, Option, Some}
+use Rattle.std.specs.Prelude.{Bool, true, false, if◌then◌else◌}
+use Rattle.std.specs.Prelude.{◌≡◌, ℕ, List, [], ◌∷◌, map, fold, codes, Option, Some}
 use Rattle.clap.specs.Words.{App, Row, Rule, Text, first_of, new_app, new_rule, subcommand_of}
 use Rattle.clap.specs.Words.{with_rule, with_subcommand}
-use Rattle.clap.specs.declared.builder.action.ArgAction.TheVariants.{Set}
+use Rattle.clap.specs.declared.builder.action.ArgAction.TheVariants.{Set, SetTrue}
 use Rattle.fedbundle.specs.declared.command_name.CommandName.{CommandName}
 use Rattle.fedbundle.specs.declared.command_name.CommandName.TheVariants as command
 use Rattle.fedbundle.specs.declared.command_name.OptionName.{OptionName}
 use Rattle.fedbundle.specs.declared.command_name.OptionName.TheVariants.{Config, State, Domain}
 use Rattle.fedbundle.specs.declared.command_name.OptionName.TheVariants.{Endpoint, Key, Now, Listen}
 use Rattle.fedbundle.specs.declared.command_name.OptionName.TheVariants.{Sessions, Peer}
+use Rattle.fedbundle.specs.declared.command_name.OptionName.TheVariants.{To, RecordsOnly}
 
 abbrev pub option_text : OptionName → List ℕ
 option_text Config = codes "config"
@@ -20,6 +22,13 @@ option_text Now = codes "now"
 option_text Listen = codes "listen"
 option_text Sessions = codes "sessions"
 option_text Peer = codes "peer"
+option_text To = codes "to"
+option_text RecordsOnly = codes "records-only"
+
+-- it has no text after it
+abbrev pub is_flag : OptionName → Bool
+is_flag RecordsOnly = true
+is_flag option = false
 
 abbrev pub name_text : CommandName → List ℕ
 name_text command.Canon = codes "canon"
@@ -28,6 +37,7 @@ name_text command.Bundle = codes "bundle"
 name_text command.Explain = codes "explain"
 name_text command.Observe = codes "observe"
 name_text command.Merge = codes "merge"
+name_text command.Migrate = codes "migrate"
 name_text command.Polls = codes "polls"
 name_text command.Distrust = codes "distrust"
 name_text command.Serve = codes "serve"
@@ -40,6 +50,7 @@ options_of command.Bundle = Config ∷ State ∷ Domain ∷ []
 options_of command.Explain = Config ∷ State ∷ Domain ∷ []
 options_of command.Observe = Config ∷ State ∷ Domain ∷ Endpoint ∷ Key ∷ []
 options_of command.Merge = Config ∷ State ∷ []
+options_of command.Migrate = Config ∷ State ∷ To ∷ RecordsOnly ∷ []
 options_of command.Polls = Config ∷ State ∷ Now ∷ []
 options_of command.Distrust = Config ∷ State ∷ Domain ∷ Key ∷ []
 options_of command.Serve = Config ∷ State ∷ Listen ∷ Sessions ∷ []
@@ -47,14 +58,24 @@ options_of command.Pull = Config ∷ State ∷ Peer ∷ []
 
 abbrev pub all_names : List CommandName
 all_names = command.Canon ∷ command.Report ∷ command.Bundle ∷ command.Explain ∷ command.Observe
-    ∷ command.Merge ∷ command.Polls ∷ command.Distrust ∷ command.Serve ∷ command.Pull ∷ []
+    ∷ command.Merge ∷ command.Migrate ∷ command.Polls ∷ command.Distrust ∷ command.Serve
+    ∷ command.Pull ∷ []
 
 -- ---- the command, as clap knows it
 
 -- an option with one text, which may be left out
-abbrev pub rule_of_option : OptionName → Rule
-rule_of_option option = record (new_rule (option_text option))
+abbrev pub text_rule : OptionName → Rule
+text_rule option = record (new_rule (option_text option))
     { long = Some (option_text option); action = Some Set; value_names = 1 }
+
+-- an option without a text: clap takes it for one with the text `true`, and with the text `false`
+-- where it is left out
+abbrev pub flag_rule : OptionName → Rule
+flag_rule option = record (new_rule (option_text option))
+    { long = Some (option_text option); action = Some SetTrue }
+
+abbrev pub rule_of_option : OptionName → Rule
+rule_of_option option = if is_flag option then flag_rule option else text_rule option
 
 abbrev pub with_option : App → OptionName → App
 with_option app option = with_rule app (rule_of_option option)

@@ -1,8 +1,9 @@
-//! The subcommands, and the options of each, all of which are required.
+//! The subcommands, and the options of each. All are required but the flags, which have the text
+//! `true` where they are given and else `false`.
 ghost use Rattle.std.specs.Prelude.{◌≡◌, List};
-ghost use Rattle.fedbundle.specs.Words.{option_text, name_text, options_of};
+ghost use Rattle.fedbundle.specs.Words.{is_flag, option_text, name_text, options_of};
 
-/// An option, which has one text.
+/// An option, which has one text, or a flag.
 #[derive(Clone, Copy, Debug, PartialEq, Eq)]
 pub enum OptionName {
     Config,
@@ -14,6 +15,8 @@ pub enum OptionName {
     Listen,
     Sessions,
     Peer,
+    To,
+    RecordsOnly,
 }
 
 /// A subcommand.
@@ -31,6 +34,8 @@ pub enum CommandName {
     Observe,
     /// Takes what a snapshot holds.
     Merge,
+    /// Prints what goes along to another configuration.
+    Migrate,
     /// Prints when each bundle is to be fetched next.
     Polls,
     /// Distrusts a key.
@@ -42,13 +47,14 @@ pub enum CommandName {
 }
 
 /// All subcommands, in the order in which help lists them.
-pub(crate) static COMMANDS: [CommandName; 10] = [
+pub(crate) static COMMANDS: [CommandName; 11] = [
     CommandName::Canon,
     CommandName::Report,
     CommandName::Bundle,
     CommandName::Explain,
     CommandName::Observe,
     CommandName::Merge,
+    CommandName::Migrate,
     CommandName::Polls,
     CommandName::Distrust,
     CommandName::Serve,
@@ -70,7 +76,16 @@ impl OptionName {
             OptionName::Listen => "listen",
             OptionName::Sessions => "sessions",
             OptionName::Peer => "peer",
+            OptionName::To => "to",
+            OptionName::RecordsOnly => "records-only",
         }
+    }
+
+    /// Whether it is a flag, which has no text after it.
+    pub fn is_flag(self) -> bool
+        ensures { result ≡ is_flag self }
+    {
+        matches!(self, OptionName::RecordsOnly)
     }
 }
 
@@ -88,6 +103,13 @@ static OBSERVE: [OptionName; 5] = [
     OptionName::Domain,
     OptionName::Endpoint,
     OptionName::Key,
+];
+
+static MIGRATE: [OptionName; 4] = [
+    OptionName::Config,
+    OptionName::State,
+    OptionName::To,
+    OptionName::RecordsOnly,
 ];
 
 static POLLS: [OptionName; 3] = [OptionName::Config, OptionName::State, OptionName::Now];
@@ -120,6 +142,7 @@ impl CommandName {
             CommandName::Explain => "explain",
             CommandName::Observe => "observe",
             CommandName::Merge => "merge",
+            CommandName::Migrate => "migrate",
             CommandName::Polls => "polls",
             CommandName::Distrust => "distrust",
             CommandName::Serve => "serve",
@@ -138,6 +161,7 @@ impl CommandName {
             CommandName::Explain => STATE_DOMAIN.as_slice(),
             CommandName::Observe => OBSERVE.as_slice(),
             CommandName::Merge => STATE.as_slice(),
+            CommandName::Migrate => MIGRATE.as_slice(),
             CommandName::Polls => POLLS.as_slice(),
             CommandName::Distrust => DISTRUST.as_slice(),
             CommandName::Serve => SERVE.as_slice(),

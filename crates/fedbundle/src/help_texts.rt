@@ -80,6 +80,19 @@ only where the exit status is 0.
 Ends with 0; with 1 where anything read is refused or the two together are too many. Then
 nothing is taken, and the state file is left as it was.";
 
+const MIGRATE_NOTES: &str = "\
+Reads the configuration, the state file, and the other configuration of --to, and nothing
+from standard input.
+
+Writes to standard output the state file under the other configuration: the receipts that
+fit it, and the records of distrust whose domain it has; with --records-only the records
+alone. Writes to standard error a line for each record and each receipt that is left out,
+`left out record <key id> of <domain>: <cause>` or `left out receipt <receipt id> of
+<domain>: <cause>`. It writes no file. Replicas that held the same print the same.
+
+Ends with 0; with 1 where something was left out, and the rest is printed; with 1 and
+nothing printed where anything read is refused.";
+
 const POLLS_NOTES: &str = "\
 Reads the configuration, the state file, and from standard input the polls so far in their
 order, a line each: `<domain> ok <seconds>` or `<domain> fail <seconds>`, with a domain
@@ -148,6 +161,8 @@ impl OptionName {
             OptionName::Listen => "ADDRESS",
             OptionName::Sessions => "COUNT",
             OptionName::Peer => "ADDRESS",
+            OptionName::To => "FILE",
+            OptionName::RecordsOnly => "",
         }
     }
 
@@ -167,6 +182,8 @@ impl OptionName {
             OptionName::Sessions => "How many sessions to serve, from 1 to 1000000",
             OptionName::Peer =>
                 "The address at which the other replica serves: an IP address and a port",
+            OptionName::To => "The other configuration, as JSON with the same limits",
+            OptionName::RecordsOnly => "Takes the records of distrust alone, and no receipt",
         }
     }
 }
@@ -189,6 +206,7 @@ impl CommandName {
                 "Takes the bundle document on standard input, as it was fetched, and prints its receipt"
             }
             CommandName::Merge => "Takes what the snapshot on standard input holds",
+            CommandName::Migrate => "Prints the state file for another configuration",
             CommandName::Polls => {
                 "Reads poll lines on standard input and prints when each bundle is to be fetched next"
             }
@@ -213,6 +231,9 @@ impl CommandName {
                 "fedbundle observe --config <FILE> --state <FILE> --domain <DOMAIN> --endpoint <SPIFFE_ID> --key <KEY_ID>"
             }
             CommandName::Merge => "fedbundle merge --config <FILE> --state <FILE>",
+            CommandName::Migrate => {
+                "fedbundle migrate --config <FILE> --state <FILE> --to <FILE> [--records-only]"
+            }
             CommandName::Polls => "fedbundle polls --config <FILE> --state <FILE> --now <SECONDS>",
             CommandName::Distrust => {
                 "fedbundle distrust --config <FILE> --state <FILE> --domain <DOMAIN> --key <KEY_ID>"
@@ -233,6 +254,7 @@ impl CommandName {
             CommandName::Explain => EXPLAIN_NOTES,
             CommandName::Observe => OBSERVE_NOTES,
             CommandName::Merge => MERGE_NOTES,
+            CommandName::Migrate => MIGRATE_NOTES,
             CommandName::Polls => POLLS_NOTES,
             CommandName::Distrust => DISTRUST_NOTES,
             CommandName::Serve => SERVE_NOTES,

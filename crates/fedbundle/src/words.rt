@@ -31,7 +31,7 @@ pub enum WordsError {
 
 /// Reads the words after the program's name, as `clap` reads them for the command with these
 /// subcommands, each of whose options has one text: the subcommand, and the text of each of its
-/// options, all of which it wants.
+/// options, all of which it wants. A flag's text is `true` where it is given, and else `false`.
 ///
 /// # Errors
 /// - [`WordsError::Words`]: `clap` refuses the words, or they ask for help or for the version,
@@ -113,11 +113,14 @@ fn argument<'a>(alloc: Global, option: OptionName) -> Arg<'a>
     ensures rule { rule_of result ≡ rule_of_option option }
     ensures local { result.global ≡ false }
 {
-    Arg::new(alloc, option.text())
+    let named = Arg::new(alloc, option.text())
         .long(option.text())
-        .value_name(option.value_name())
-        .help(option.about())
-        .action(ArgAction::Set)
+        .help(option.about());
+    if option.is_flag() {
+        named.action(ArgAction::SetTrue)
+    } else {
+        named.value_name(option.value_name()).action(ArgAction::Set)
+    }
 }
 
 fn name_of(word: &str) -> Option<CommandName>

@@ -1,0 +1,74 @@
+//! `migrate`: what is held, printed as a snapshot under another configuration.
+ghost use Rattle.std.specs.Prelude.{◌≡◌, ◌||◌, IfOk, OnOk};
+ghost use Rattle.std.specs.Io.KnownBytes.{Appends};
+ghost use Rattle.byte_lines.specs.Device.{AppendsBeginning, is_source_fault};
+ghost use Rattle.replica_sync.specs.WrittenSnapshot.{written_snapshot};
+ghost use Rattle.fedbundle.specs.CommandRun.{device_run};
+ghost use Rattle.fedbundle.specs.Errors.{of_snapshot};
+ghost use Rattle.fedbundle.specs.Migrate.{RunsMigrate, move_to};
+
+use crate::error::CommandError;
+use byte_lines::{DeviceError, Sink};
+use closure_core::Closure;
+use fed_config::Config;
+use migration::{Choice, carry};
+use replica_core::SyncError;
+use replica_sync::write_snapshot;
+use std::alloc::Global;
+
+/// Writes on `sink` the snapshot, under the configuration `to`, of what is held and goes along: the
+/// receipts that fit it, where they are chosen, and the records of distrust whose domain it has. Of
+/// each other record and chosen receipt it writes a line on `complaints`, as
+/// [`migration::carry`] does, and before the snapshot. Returns how many lines these are.
+///
+/// The snapshot depends on the configuration `to` and on the sets that are held alone: replicas
+/// that held the same print the same.
+///
+/// # Errors
+/// A beginning of the lines was written on `complaints`.
+/// - `Io`: `complaints` failed, and nothing was written on `sink`; or `sink` failed after a
+///   beginning of the snapshot,
+/// - `NoMemory`: memory ran out, before the snapshot or after a beginning of it.
+pub fn run_migrate<C: Closure, W: Sink, E: Sink>(
+    alloc: Global,
+    closure: &C,
+    to: &Config,
+    choice: Choice,
+    sink: &mut W,
+    complaints: &mut E,
+) -> Result<u64, CommandError>
+    ensures { RunsMigrate (move_to choice to.now (C.state closure.now).meaning)
+        (device_run W.contents W.has_failed sink.old sink.new)
+        (device_run E.contents E.has_failed complaints.old complaints.new) result }
+{
+    let carried = carry(alloc, closure, to, choice, complaints)?;
+    print_snapshot(alloc, &carried.closure, sink)?;
+    Ok(carried.left_out)
+}
+
+fn print_snapshot<C: Closure, W: Sink>(
+    alloc: Global,
+    closure: &C,
+    sink: &mut W,
+) -> Result<(), DeviceError>
+    ensures ok { OnOk result (Appends (W.contents sink.old) (W.contents sink.new)
+        (written_snapshot (C.state closure.now).meaning)) }
+    ensures beginning { AppendsBeginning (W.contents sink.old) (W.contents sink.new)
+        (written_snapshot (C.state closure.now).meaning) }
+    ensures fault { W.has_failed sink.new ≡ (is_source_fault result || W.has_failed sink.old) }
+{
+    match write_snapshot(alloc, closure, sink) {
+        Ok(()) => Ok(()),
+        Err(error) => Err(device_error(error)),
+    }
+}
+
+// A snapshot is not written since the sink failed, or for want of memory alone.
+fn device_error(error: SyncError) -> DeviceError
+    ensures { result ≡ of_snapshot error }
+{
+    match error {
+        SyncError::Io => DeviceError::Io,
+        _ => DeviceError::NoMemory,
+    }
+}
