@@ -7,9 +7,11 @@ use bundle_view::Verdict;
 use fed_config::Config;
 use fedbundle::{
     Call, CommandError, CommandName, StateLock, load_state, lock_state, read_words, run_bundle,
-    run_canon, run_distrust, run_explain, run_merge, run_observe, run_polls, run_report,
-    save_state,
+    run_canon, run_distrust, run_explain, run_merge, run_migrate, run_observe, run_polls,
+    run_report, save_state,
 };
+use migration::Choice;
+use std::io::{Stdin, Stdout};
 use trust_closure::IndexedClosure;
 
 /// What the words ask for, done: the exit status 0, or 1 where an input was refused and the rest is
@@ -40,12 +42,13 @@ fn carry_out(rt: &HostRuntime, call: &Call<'_>) -> Result<u8, Exit> {
     }
 }
 
-// The paths of the configuration and of the state are the first options of all commands but
-// `canon`.
+// The paths of the configuration and of the state, and of a second configuration, are the first
+// options of all commands but `canon`.
 fn has_empty_path(call: &Call<'_>) -> bool {
     let paths = match call.name {
         CommandName::Canon => 0,
         CommandName::Report => 1,
+        CommandName::Migrate => 3,
         _ => 2,
     };
     call.texts.iter().take(paths).any(|path| path.is_empty())
@@ -60,6 +63,9 @@ fn carry_out_under(
     match (name, given) {
         (CommandName::Report, []) => report(rt, config),
         (CommandName::Merge, [state]) => merge(rt, config, state),
+        (CommandName::Migrate, [state, to, records_only]) => {
+            migrate(rt, config, state, to, records_only)
+        }
         (CommandName::Bundle, [state, domain]) => bundle(rt, config, state, domain),
         (CommandName::Explain, [state, domain]) => explain(rt, config, state, domain),
         (CommandName::Polls, [state, now]) => polls(rt, config, state, now),
@@ -173,6 +179,35 @@ fn merge(rt: &HostRuntime, config: &Config, state: &str) -> Result<u8, Exit> {
         &mut output_line(rt),
     );
     save_after(rt, &closure, state, merged.map_err(Exit::Refused))
+}
+
+// The other configuration is read after the state, as each further option is.
+fn migrate(
+    rt: &HostRuntime,
+    config: &Config,
+    state: &str,
+    to: &str,
+    records_only: &str,
+) -> Result<u8, Exit> {
+    let closure = load_closure(rt, config, state)?;
+    let to = options::config(rt, rt.alloc(), to)?;
+    let choice = if records_only == "true" {
+        Choice::RecordsOnly
+    } else {
+        Choice::All
+    };
+    let mut errors = FromWrite::new(rt.stderr());
+    match run_migrate(
+        rt.alloc(),
+        &closure,
+        &to,
+        choice,
+        &mut output(rt),
+        &mut errors,
+    )? {
+        0 => Ok(0),
+        _ => Ok(1),
+    }
 }
 
 fn distrust(
