@@ -10,11 +10,12 @@ use closure_core::Closure;
 use fed_config::Config;
 use fedbundle::{
     Call, CommandError, CommandName, RunError, WordsError, read_sessions, read_words, run_bundle,
-    run_canon, run_distrust, run_explain, run_merge, run_observe, run_polls, run_pull, run_report,
-    run_report_with, run_serve, status, write_fault, write_served,
+    run_canon, run_distrust, run_explain, run_merge, run_migrate, run_observe, run_polls, run_pull,
+    run_report, run_report_with, run_serve, status, write_fault, write_served,
 };
 use jiff::Timestamp;
 use jwk_set::KeyId;
+use migration::Choice;
 use poll_log::read_seconds;
 use replica_sync::{read_snapshot, write_snapshot};
 use row_script::Script;
@@ -248,6 +249,9 @@ fn do_asked<C: Closure>(
             observe(case, closure, domain, endpoint, key, devices)
         }
         (CommandName::Merge, []) => run_merge(case.alloc, closure, input, output),
+        (CommandName::Migrate, [to, records_only]) => {
+            migrate(case, closure, to, records_only, devices)
+        }
         (CommandName::Polls, [now]) => polls(case, closure, now, devices),
         (CommandName::Distrust, [domain, key]) => distrust(case, closure, domain, key),
         (CommandName::Serve, [_, _]) => serve(case, closure, devices),
@@ -256,6 +260,29 @@ fn do_asked<C: Closure>(
         }
         _ => Err(CommandError::Full),
     }
+}
+
+// A line of what is left out makes the exit status 1.
+fn migrate<C: Closure>(
+    case: &Case<'_>,
+    closure: &C,
+    to: &str,
+    records_only: &str,
+    devices: &mut Devices,
+) -> Result<(), CommandError> {
+    let Some(to) = case.script.text(to) else {
+        return Err(CommandError::Io);
+    };
+    let to = Config::read(case.alloc, to)?;
+    let choice = if records_only == "true" {
+        Choice::RecordsOnly
+    } else {
+        Choice::All
+    };
+    let (output, errors) = (&mut devices.output, &mut devices.errors);
+    let count = run_migrate(case.alloc, closure, &to, choice, output, errors)?;
+    devices.status = if count == 0 { 0 } else { 1 };
+    Ok(())
 }
 
 fn bundle<C: Closure>(

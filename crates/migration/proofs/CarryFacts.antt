@@ -19,6 +19,7 @@ use Rattle.receipt_core.specs.Receipt.{Receipt, IsReceipt, receipt_cmp, with_rec
 use Rattle.receipt_core.specs.Sets.{AreSets, Always}
 use Rattle.receipt_core.specs.declared.distrust.Distrust.{Distrust}
 use Rattle.receipt_core.proofs.RisingFacts.{Has-from_contains, each_has}
+use Rattle.receipt_core.proofs.SearchFacts.{one_relationship}
 use Rattle.closure_core.specs.Changes.{HeldAndRoom, TakesOk, Distrusts}
 use Rattle.closure_core.specs.Refusals.{IsOfUnknownDomain, IsOfWrongEndpoint}
 use Rattle.closure_core.specs.declared.outcome.Taken.{Taken}
@@ -26,7 +27,6 @@ use Rattle.closure_core.specs.declared.outcome.Taken.TheVariants.{New as TakenNe
 use Rattle.closure_core.specs.declared.outcome.Distrusted.{Distrusted}
 use Rattle.closure_core.specs.declared.outcome.Distrusted.TheVariants.{New as DistrustedNew, Already as DistrustedAlready}
 use Rattle.closure_core.proofs.RisingFacts.{with_item_longer}
-use Rattle.bundle_view.proofs.ObserveFacts.{one_relationship}
 use Rattle.migration.specs.Carry.{AreLeftOut, ReportsReceipt, ReportsRecord, left_record, left_receipt, chosen_receipts}
 use Rattle.migration.specs.Carry.{AreLinesOf, CarriesOver, StopsCarrying, carry_run}
 use Rattle.migration.specs.declared.carrying.Choice.{Choice}
@@ -147,7 +147,7 @@ wrong_stays old new r before after result form wrong same wrote =
     IfOk-weaker result _ _ (λ n w. inr (
       record {
         stays = λ fits. wrong.other (ap (λ (x : Relationship). x.endpoint)
-            (one_relationship old.config r.domain wrong.relationship fits.relationship form wrong.has fits.has wrong.domain fits.domain) ∙ fits.endpoint);
+            (one_relationship old.config wrong.relationship fits.relationship form wrong.has fits.has (wrong.domain ∙ sym fits.domain)) ∙ fits.endpoint);
         same = ap (λ (m : Meaning). m.held) same;
         line = left_receipt r (codes ": wrong endpoint\n");
         reported = inr (wrong, refl);
