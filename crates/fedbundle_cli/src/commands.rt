@@ -11,7 +11,6 @@ use fedbundle::{
     run_report, save_state,
 };
 use migration::Choice;
-use std::io::{Stdin, Stdout};
 use trust_closure::IndexedClosure;
 
 /// What the words ask for, done: the exit status 0, or 1 where an input was refused and the rest is
@@ -196,7 +195,7 @@ fn migrate(
     } else {
         Choice::All
     };
-    let mut errors = FromWrite::new(rt.stderr());
+    let mut errors = complaints(rt);
     match run_migrate(
         rt.alloc(),
         &closure,

@@ -19,7 +19,7 @@ use Rattle.replica_core.specs.declared.error.SyncError.TheVariants.{BadHeader, C
 use Rattle.replica_core.specs.declared.error.SyncError.TheVariants.{Refused, Io, NoMemory}
 use Rattle.replica_sync.specs.Entries.{entry_line}
 use Rattle.replica_sync.specs.Snapshots.{ended, text_of_lines}
-use Rattle.replica_sync.specs.SoleLines.{HasRefusedSoleLine, IsWellFormed, RefusesFirstLine, RefusesSoleLine, written_header}
+use Rattle.replica_sync.specs.SoleLines.{HasRefusedSoleLine, IsWellFormed, RefusesSoleHeader, RefusesSoleLine, written_header}
 use Rattle.replica_service.specs.Journal.{HasBadEntry, HasBadStart, ReadsJournal, ReadsLines, RefusesJournal, RefusesJournalStart}
 use Rattle.replica_service.specs.Inside.JournalSteps.{FailsBehindLines, FailsNext, FailsStart, FindsStart, HasReadAll, HasReadPart, StepsOn, StepsThroughJournal}
 
@@ -168,7 +168,7 @@ next_refused old new number stream after text NoMemory line h = tt
 
 -- A refusal of the line is one of the first line.
 pub first_refused : (config : Configuration) (stream after : Option (List ℕ)) (text : List ℕ) (e : SyncError) → HasLine stream after text
-    → RefusesFirstLine config text e → FailsStart config stream e
+    → RefusesSoleHeader config text e → FailsStart config stream e
 first_refused config stream after text BadHeader line h = record { text = text; after = after; is = line; cause = inr h }
 first_refused config stream after text ConfigDiffers line h = record { text = text; after = after; is = line; cause = inr h }
 first_refused config stream after text VersionDiffers line h = record { text = text; after = after; is = line; cause = inr h }

@@ -16,7 +16,7 @@ use Rattle.replica_core.specs.declared.error.SyncError.TheVariants.{NotRising, B
 use Rattle.replica_core.specs.declared.error.SyncError.TheVariants.{Refused, Io, NoMemory}
 use Rattle.replica_sync.specs.Entries.{entry_line}
 use Rattle.replica_sync.specs.Snapshots.{ended}
-use Rattle.replica_sync.specs.SoleLines.{IsWellFormed, RefusesFirstLine, RefusesSoleLine}
+use Rattle.replica_sync.specs.SoleLines.{IsWellFormed, RefusesSoleHeader, RefusesSoleLine}
 use Rattle.replica_sync.specs.SoleLines.{written_header}
 
 -- ---- the text
@@ -57,7 +57,7 @@ ReadsJournal m (Some bytes) new = ReadsLines m (lines_of bytes).whole new
 -- what is wrong with the first line; one that is too long is none
 abbrev pub RefusesJournalStart : Configuration → List ℕ → SyncError → Type 0
 RefusesJournalStart config text e = ((e ≡ BadHeader) × (line_limit < length text))
-    ⊎ RefusesFirstLine config text e
+    ⊎ RefusesSoleHeader config text e
 
 -- The first line has this fault.
 pub record HasBadStart (config : Configuration) (texts : List (List ℕ))

@@ -68,18 +68,12 @@ abbrev pub written_header : Configuration → List ℕ
 written_header config = header_line Second config
 
 -- what is wrong with the line where the first one of the format that is written is wanted
-abbrev pub RefusesFirstLine : Configuration → List ℕ → SyncError → Type 0
-RefusesFirstLine config text BadHeader = IsNoHeader text
-RefusesFirstLine config text ConfigDiffers = IsOfOther config text
-RefusesFirstLine config text VersionDiffers = (text ≡ header_line First config)
+abbrev pub RefusesSoleHeader : Configuration → List ℕ → SyncError → Type 0
+RefusesSoleHeader config text BadHeader = IsNoHeader text
+RefusesSoleHeader config text ConfigDiffers = IsOfOther config text
+RefusesSoleHeader config text VersionDiffers = (text ≡ header_line First config)
     ⊎ IsOfOtherFormat config text
-RefusesFirstLine config text (NotCanonical n) = ⊥
-RefusesFirstLine config text (NotRising n) = ⊥
-RefusesFirstLine config text BadCount = ⊥
-RefusesFirstLine config text Truncated = ⊥
-RefusesFirstLine config text (Refused n why) = ⊥
-RefusesFirstLine config text Io = ⊥
-RefusesFirstLine config text NoMemory = ⊥
+RefusesSoleHeader config text _ = ⊥
 
 -- ---- a question
 

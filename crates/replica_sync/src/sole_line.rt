@@ -2,7 +2,7 @@
 //! stands anywhere, the first line of a snapshot, and a question.
 ghost use Rattle.std.specs.Prelude.{◌≡◌, IfOk, MatchResult, Some};
 ghost use Rattle.replica_sync.specs.Snapshots.{header_line};
-ghost use Rattle.replica_sync.specs.SoleLines.{HasRefusedSoleLine, RefusesFirstLine};
+ghost use Rattle.replica_sync.specs.SoleLines.{HasRefusedSoleLine, RefusesSoleHeader};
 ghost use Rattle.replica_sync.specs.SoleLines.{TakesSoleLine, IsQuestionLine};
 ghost use Rattle.replica_sync.specs.FirstLines.{RefusesAsked};
 
@@ -48,7 +48,7 @@ pub fn take_sole_line<C: Closure>(
 /// - [`SyncError::VersionDiffers`]: it is of another format.
 pub fn read_first_line(config: &Config, text: &[u8]) -> Result<(), SyncError>
     ensures { MatchResult result (λ done. text.now ≡ header_line Format.Second config.now)
-        (RefusesFirstLine config.now text.now) }
+        (RefusesSoleHeader config.now text.now) }
 {
     match format_of(config, text)? {
         Format::First => Err(SyncError::VersionDiffers),
