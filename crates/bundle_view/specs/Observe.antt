@@ -124,7 +124,7 @@ RefusesTaking m fetched NoMemory = IsVouchedFor m fetched.domain fetched.verdict
     × (length fetched.bytes ≤ document_limit)
 RefusesTaking m fetched e = ⊥
 
--- want of memory is the same wherever it is met
+-- out of memory is the same wherever it is met
 abbrev pub of_document : DocError → ObserveError
 of_document NoMemoryToRead = Take NoMemory
 of_document e = Document e

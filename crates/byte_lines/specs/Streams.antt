@@ -37,7 +37,7 @@ pub record TakesLine {S : Type 0} (remaining : S → Option (List ℕ)) (budget 
   -- the line is the first of the stream, and the stream loses it
   pub finds : IfOk result
       (FindsLine (stream_of remaining old before) (stream_of remaining new after))
-  -- want of memory loses no byte
+  -- out of memory loses no byte
   pub keeps : IsErrOf result NoMemory
       → Keeps (stream_of remaining old before) (stream_of remaining new after)
   -- the stream never grows

@@ -37,7 +37,7 @@ abbrev pub TellsMoment : Option ℕ → Option Standing → List ℕ → Type 0
 TellsMoment hint s answer = (t : Timestamp) × IsNext hint s (Ok (Some t))
     × (answer ≡ seconds_text t)
 
--- what is told of a domain's next poll: that it is due, that it is past the range of moments, or
+-- what is printed of a domain's next poll: that it is due, that it is past the range of moments, or
 -- else its moment
 abbrev pub TellsNext : Option ℕ → Option Standing → ℤ → List ℕ → Type 0
 TellsNext hint s now answer =

@@ -1,4 +1,4 @@
--- What a run of `report` does. `complaints` is the sink of what is told of single lines.
+-- What a run of `report` does. `complaints` is the sink of what is reported of single lines.
 use Rattle.std.specs.Prelude.{◌≡◌, ℕ, ◌≤◌, ◌⊎◌, List, [], length, flat_map, Option, IfSome}
 use Rattle.std.specs.Prelude.{Result, Ok, Err, IsErrOf}
 use Rattle.std.specs.Io.KnownBytes.{Appends}
@@ -35,7 +35,7 @@ pub record CutsReport (sink : DeviceRun) (c : Configuration) (lines : Lines) : T
   pub taken : AreTaken c lines.whole receipts
   pub begun : BeginsReport (meaning_of_receipts c receipts) sink.before sink.after
 
--- ---- what is told
+-- ---- what is reported
 
 -- All complaints of the lines were told, n of them.
 pub record TellsAll (complaints : DeviceRun) (c : Configuration) (lines : Lines)

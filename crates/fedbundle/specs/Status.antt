@@ -20,7 +20,7 @@ status_of_sync NoMemoryToSync = 4
 status_of_sync SyncIo = 3
 status_of_sync e = 1
 
--- 4 for want of memory of any kind, 3 for a failed device, else 1
+-- 4 for out of memory of any kind, 3 for a failed device, else 1
 abbrev pub status_of : CommandError → ℕ
 status_of (Name NoMemoryForName) = 4
 status_of (Name e) = 1

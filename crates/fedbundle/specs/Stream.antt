@@ -1,5 +1,5 @@
 -- What the lines of a stream come to under a configuration: the receipts that are taken, and what
--- is told of the others.
+-- is reported of the others.
 use Rattle.std.specs.Prelude.{◌≡◌, ℕ, ◌+◌, ◌<◌, ◌≤◌, ◌⊎◌, ◌++◌, List, length, codes, decimal}
 use Rattle.std.specs.Prelude.{Contains, Some, slice_get}
 use Rattle.std.specs.declared.cmp.Ordering.{Ordering}
@@ -40,7 +40,7 @@ pub record OverfillStore (c : Configuration) (texts : List (List ℕ)) : Type 0 
   pub each : (r : Receipt) → Contains some r → IsTaken c texts r
   pub many : receipt_limit < length some
 
--- ---- what is told
+-- ---- what is reported
 
 -- a line without a receipt that fits, and the cause
 abbrev pub IsRefusedLine : Configuration → List ℕ → LineFault → Type 0

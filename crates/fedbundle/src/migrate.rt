@@ -63,7 +63,7 @@ fn print_snapshot<C: Closure, W: Sink>(
     }
 }
 
-// A snapshot is not written since the sink failed, or for want of memory alone.
+// A snapshot is not written only where the sink failed or memory ran out.
 fn device_error(error: SyncError) -> DeviceError
     ensures { result ≡ of_snapshot error }
 {

@@ -21,7 +21,7 @@ ReadsSeconds text (Some n) = (text ≡ signed_decimal n) × FitsSigned w64 n
 
 -- ---- a line
 
--- a poll as it is told: its moment in seconds since the Unix epoch
+-- a poll as it is written: its moment in seconds since the Unix epoch
 pub record ToldPoll : Type 0 where
   pub domain : List ℕ
   pub ok : Bool
