@@ -178,6 +178,18 @@ class Run:
         return replace(self, files=files if state is None else {**files, "state": state})
 
 
+def as_journal(state):
+    """The journal of what a snapshot holds: all its lines but the last, which has the counts."""
+    return b"".join(state.splitlines(keepends=True)[:-1])
+
+
+def journaled(run):
+    """The same run where the journal has what the state file had, and there is no state file."""
+    files = {name: text for name, text in run.files.items() if name != "state"}
+    files["state.journal"] = as_journal(run.files["state"])
+    return replace(run, name=f"{run.name} of a journal", files=files)
+
+
 @dataclass
 class Seen:
     """What a run showed: how it ended (below 0: by that signal), what it wrote, and what it left."""

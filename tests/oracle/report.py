@@ -1,10 +1,13 @@
 #!/usr/bin/env python3
-"""Prints what `fedbundle report --config CONFIG` prints for the receipts on standard input.
+"""Prints what `fedbundle report --config CONFIG` prints for the receipts on standard input, or with `--state STATE` for
+what a state file holds.
 
 It is written from the rules alone, with Python's own json and hashlib and with canon.py, and shares nothing with the
-program. It takes a configuration that is well formed and lines that are receipts which fit it, and refuses nothing.
+program. It takes a configuration that is well formed, and lines that are receipts which fit it or a state file under it,
+and refuses nothing.
 
 usage: report.py CONFIG <RECEIPTS.jsonl
+       report.py CONFIG STATE
 """
 import hashlib
 import json
@@ -20,7 +23,8 @@ class Document:
         text, name, *keys = canon(domain, value).decode().splitlines()
         self.domain, self.value, self.text = domain, value, text
         self.id = name.removeprefix("id ")
-        self.keys = {key.removeprefix("key ") for key in keys}
+        self.ordered_keys = [key.removeprefix("key ") for key in keys]
+        self.keys = set(self.ordered_keys)
         self.sequence = value.get("spiffe_sequence")
         self.authorities = json.loads(text)["keys"]
 
@@ -31,18 +35,19 @@ class Document:
         return f"{self.id} sequence {'none' if self.sequence is None else self.sequence}"
 
 
-def vouches(document, receipt):
+def vouches(document, receipt, distrusted):
     endpoint = receipt["endpoint"].removeprefix("spiffe://").split("/")[0]
-    return document.domain == endpoint and document.id == receipt["voucher"] and receipt["key"] in document.keys
+    is_named = document.domain == endpoint and document.id == receipt["voucher"] and receipt["key"] in document.keys
+    return is_named and (endpoint, receipt["key"]) not in distrusted
 
 
-def accepted_of(config, receipts):
+def accepted_of(config, receipts, distrusted):
     """The least set that has the seeds and, with a document, those that it vouches for; and the number of receipts that
     nothing in it vouches for."""
     accepted = {(seed["domain"], d.text): d for seed in config["seeds"] for d in [Document(seed["domain"], seed["bundle"])]}
     pending, grown = list(receipts), True
     while grown:
-        released = [r for r in pending if any(vouches(d, r) for d in accepted.values())]
+        released = [r for r in pending if any(vouches(d, r, distrusted) for d in accepted.values())]
         pending = [r for r in pending if r not in released]
         grown = bool(released)
         for r in released:
@@ -67,8 +72,10 @@ def conflict_lines(documents):
 
 
 def report(config, lines):
-    receipts = [json.loads(line) for line in set(lines)]
-    accepted, pending = accepted_of(config, receipts)
+    told = [json.loads(line) for line in set(lines)]
+    receipts = [r for r in told if "doc" in r]
+    distrusted = {(r["domain"], r["distrust"]) for r in told if "distrust" in r}
+    accepted, pending = accepted_of(config, receipts, distrusted)
     yield f"config {config_id(config)}"
     yield f"receipts {len(receipts)} pending {pending}"
     named = {r["domain"] for r in config["relationships"]} | {s["domain"] for s in config["seeds"]}
@@ -80,10 +87,16 @@ def report(config, lines):
         for d in documents:
             yield f"  accepted {d.told()} authorities {len(d.authorities)}"
         yield from conflict_lines(documents)
+        yield from (f"  distrust {key}" for of, key in sorted(distrusted) if of == domain)
 
 
 if __name__ == "__main__":
     with open(sys.argv[1], encoding="utf-8") as file:
         configuration = json.load(file)
-    for line in report(configuration, sys.stdin.read().splitlines()):
+    if len(sys.argv) == 2:
+        told_lines = sys.stdin.read().splitlines()
+    else:
+        with open(sys.argv[2], encoding="utf-8") as file:
+            told_lines = file.read().splitlines()[1:-1]
+    for line in report(configuration, told_lines):
         print(line)

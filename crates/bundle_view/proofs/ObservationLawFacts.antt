@@ -1,5 +1,5 @@
 -- One receipt of an observation, and one cause of a refusal
-use Rattle.std.proofs.Common.{◌≡◌, ℕ, inl, inr, List, Some, None, refl, sym, ap, ◌∙◌, subst}
+use Rattle.std.proofs.Common.{◌≡◌, inl, inr, List, Some, None, refl, sym, ap, ◌∙◌, subst}
 use Rattle.bundle_doc.specs.Bundle.{Bundle, HasKeyId}
 use Rattle.bundle_doc.proofs.BundleFacts.{one_document}
 use Rattle.bundle_doc.proofs.RefusalFacts.{one_cause as one_cause_of_bytes, refused_none}

@@ -12,7 +12,6 @@ use Rattle.bundle_doc.specs.declared.error.DocError.TheVariants.{BadRefreshHint,
 use Rattle.bundle_doc.specs.declared.error.DocError.TheVariants.{NoMemory as NoMemoryToRead}
 use Rattle.fed_config.specs.Configuration.{Configuration, IsConfiguration}
 use Rattle.fed_config.specs.declared.relationship.Relationship.{Relationship}
-use Rattle.receipt_core.specs.declared.distrust.Distrust.{Distrust}
 use Rattle.receipt_core.specs.Receipt.{Receipt, IsReceipt, Pair, pair_of, receipt_cmp, with_receipt}
 use Rattle.receipt_core.specs.Order.{receipt_total}
 use Rattle.receipt_core.specs.Sets.{AreSets}
@@ -36,20 +35,8 @@ use Rattle.bundle_view.specs.Inside.Observing.{IsVoucher, HasKept, HasNotKept}
 use Rattle.bundle_view.specs.declared.observation.Verdict.{Verdict}
 use Rattle.bundle_view.specs.declared.observe_error.ObserveError.{ObserveError}
 use Rattle.bundle_view.specs.declared.observe_error.ObserveError.TheVariants.{NoRelationship, WrongEndpoint, Take}
-use Rattle.closure_core.proofs.ContainsFacts.{contains_later, contains_cases}
 
 -- ---- a record that is another one is passed over
-
--- a record that is not the one sought is passed over: the step of the loop in `is_distrusted`
-pub passed_over : (all ahead rest : List Distrust) (first x : Distrust) → ahead ≡ first ∷ rest → (first ≡ x → ⊥)
-    → (Contains ahead x ↔ Contains all x) → Contains rest x ↔ Contains all x
-passed_over all ahead rest first x e other same = (
-  λ later. same.0 (subst (λ (xs : List Distrust). Contains xs x) (sym e) (contains_later first rest x later)),
-  λ has. elim (contains_cases first rest x (subst (λ (xs : List Distrust). Contains xs x) e (same.1 has))) [
-    | inl here ↦ absurd (other here)
-    | inr later ↦ later
-  ],
-)
 
 -- ---- what is vouched for and held is accepted
 

@@ -33,15 +33,19 @@ greater_rank keys more = refl
 
 -- ---- a current document is no lower than another where it is the same or greater
 
+-- nothing is lower than no document
 no_lower_than_none : (later : Option Bundle) → IsNoLower None later
 no_lower_than_none later = tt
 
+-- a greater sequence number is no lower
 greater_is_no_lower : (keys more : List Authority) → IsNoLower (Some (document keys (Some 1) None)) (Some (document more (Some 2) None))
 greater_is_no_lower keys more h = cc
 
+-- a smaller one is lower
 lower_is_lower : (keys more : List Authority) → IsNoLower (Some (document keys (Some 2) None)) (Some (document more (Some 1) None)) → ⊥
 lower_is_lower keys more h = h refl
 
+-- no document is lower than any
 none_is_lower : (d : Bundle) → IsNoLower (Some d) None → ⊥
 none_is_lower d h = h
 

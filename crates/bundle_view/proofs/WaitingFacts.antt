@@ -1,70 +1,16 @@
 -- Receipts whose key is not distrusted, in the order of what they need
-use Rattle.std.proofs.Common.{◌≡◌, ℕ, zero, suc, ◌+◌, ◌<◌, ◌≤◌, ◌⊎◌, inl, inr, true, false, List, [], ◌∷◌, ◌++◌, length}
-use Rattle.std.proofs.Common.{get_or, Result, Ok, Err, Less, Equal, Greater, arith, refl, sym, ap, ◌∙◌, subst}
-use Rattle.std.proofs.Common.{length-append, add-one}
-use Rattle.std.specs.Prelude.{Contains, ◌↔◌, is_ok}
-use Rattle.std.specs.declared.cmp.Ordering.{Ordering}
-use Rattle.std.specs.Ordering.{is_lt}
-use Rattle.std.specs.List.Sorted.{IsStrictlySortedBy, IsSorted, IsBinarySearchResult, IsSearchInRange, IsPermutation}
-use Rattle.std.proofs.lemmas.Bool.{both_ways, cases_lt}
-use Rattle.std.proofs.lemmas.Cmp.{tied_itself}
-use Rattle.std.proofs.lemmas.List.Sorted.{searchable_from_sorted, Contains-permutation, IsPermutation-sym, length_permutation}
+use Rattle.std.proofs.Common.{◌≡◌, ◌+◌, ◌≤◌, ◌⊎◌, inl, inr, List, [], ◌∷◌, ◌++◌, length}
+use Rattle.std.proofs.Common.{arith, sym, ap, subst}
+use Rattle.std.proofs.Common.{length-append}
+use Rattle.std.specs.Prelude.{Contains}
+use Rattle.std.specs.List.Sorted.{IsPermutation}
+use Rattle.std.proofs.lemmas.List.Sorted.{Contains-permutation, IsPermutation-sym, length_permutation}
 use Rattle.std.proofs.lemmas.List.Elements.{Contains-append_left, Contains-push, Contains-push_cases}
 use Rattle.receipt_core.specs.declared.distrust.Distrust.{Distrust}
-use Rattle.receipt_core.specs.Receipt.{Receipt, distrust_cmp}
-use Rattle.receipt_core.specs.Order.{distrust_total}
+use Rattle.receipt_core.specs.Receipt.{Receipt}
 use Rattle.receipt_core.specs.Acceptance.{Meaning, distrust_of}
-use Rattle.receipt_core.proofs.LineFacts.{one_distrust}
 use Rattle.bundle_view.specs.Inside.Search.{AreTrusted}
 use Rattle.closure_core.proofs.ContainsFacts.{contains_first, contains_later, contains_none, contains_cases}
-use Rattle.bundle_view.proofs.RisingListFacts.{rising_first, rising_rest, not_both}
-
--- ---- a record is among those that rise
-
--- in rising records none is less than the one before it
-next_above : (xs : List Distrust) (k : ℕ) (d : Distrust) → IsStrictlySortedBy distrust_cmp xs → suc k < length xs
-    → is_lt (distrust_cmp (get_or xs (suc k) d) (get_or xs k d)) ≡ false
-next_above [] k d rising l = absurd (omega (arith, l))
-next_above (x ∷ []) k d rising l = absurd (omega (arith, l))
-next_above (x ∷ y ∷ ys) zero d rising l =
-    not_less (distrust_cmp y x) (λ e. not_both distrust_total x y
-    (rising_first distrust_cmp x (y ∷ ys) y rising (contains_first y ys)) e)
-  where
-    not_less : (o : Ordering) → (o ≡ Less → ⊥) → is_lt o ≡ false
-    not_less Less h = absurd (h refl)
-    not_less Equal h = refl
-    not_less Greater h = refl
-next_above (x ∷ y ∷ ys) (suc k) d rising l = next_above (y ∷ ys) k d (rising_rest distrust_cmp x (y ∷ ys) rising) (omega (arith, l))
-
--- rising records are sorted, as a binary search asks for
-sorted_records : (xs : List Distrust) → IsStrictlySortedBy distrust_cmp xs → IsSorted distrust_cmp xs
-sorted_records xs rising k d low l =
-    subst (λ n. is_lt (distrust_cmp (get_or xs n d) (get_or xs k d)) ≡ false) (sym (add-one k))
-    (next_above xs k d rising (omega (arith, l)))
-
--- a binary search decides whether a record is there
-pub found_record : (xs : List Distrust) (x : Distrust) (r : Result ℕ ℕ) → IsStrictlySortedBy distrust_cmp xs
-    → IsSearchInRange r (length xs) → IsBinarySearchResult (λ y. distrust_cmp y x) xs r
-    → (is_ok r ≡ true) ↔ Contains xs x
-found_record xs x (Ok k) rising l here = (λ e. (k, l, one_distrust (get_or xs k x) x (here x)), λ has. refl)
-found_record xs x (Err k) rising l parts = (
-  λ e. absurd (both_ways false refl e),
-  λ has.
-      let split = parts (searchable_from_sorted distrust_total (λ (y : Distrust). y) xs x (sorted_records xs rising)) in
-      absurd (elim (cases_lt has.0 k) [
-        | inl below ↦ less_not_equal (distrust_cmp (get_or xs has.0 x) x) (split.0 has.0 x (omega arith) below) (same has.0 has.2)
-        | inr above ↦ greater_not_equal (distrust_cmp (get_or xs has.0 x) x) (split.1 has.0 x above has.1) (same has.0 has.2)
-      ]),
-)
-  where
-    same : (k : ℕ) → get_or xs k x ≡ x → distrust_cmp (get_or xs k x) x ≡ Equal
-    same k e = ap (λ y. distrust_cmp y x) e ∙ tied_itself distrust_total x
-
-    less_not_equal : (o : Ordering) → o ≡ Less → o ≡ Equal → ⊥
-    less_not_equal o p q = cc
-
-    greater_not_equal : (o : Ordering) → o ≡ Greater → o ≡ Equal → ⊥
-    greater_not_equal o p q = cc
 
 -- ---- receipts one after another
 

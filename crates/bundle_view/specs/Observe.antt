@@ -107,7 +107,7 @@ pub record HasObserved (old : Meaning) (fetched : FetchedBundle) (new : Meaning)
 abbrev pub RefusesEndpoint : Configuration → List ℕ → Id → ObserveError → Type 0
 RefusesEndpoint c domain endpoint NoRelationship = IsRelationshipOf c domain None
 RefusesEndpoint c domain endpoint WrongEndpoint = HasOtherEndpoint c domain endpoint
-RefusesEndpoint c domain endpoint e = ⊥
+RefusesEndpoint c domain endpoint _ = ⊥
 
 -- what the verdict is refused for
 abbrev pub RefusesVerdict : Meaning → List ℕ → Verdict → ObserveError → Type 0
@@ -122,7 +122,7 @@ abbrev pub RefusesTaking : Meaning → FetchedBundle → TakeError → Type 0
 RefusesTaking m fetched Full = (r : Receipt) × IsObservation m fetched r × IsOneTooMany m r
 RefusesTaking m fetched NoMemory = IsVouchedFor m fetched.domain fetched.verdict
     × (length fetched.bytes ≤ document_limit)
-RefusesTaking m fetched e = ⊥
+RefusesTaking m fetched _ = ⊥
 
 -- out of memory is the same wherever it is met
 abbrev pub of_document : DocError → ObserveError

@@ -1,13 +1,13 @@
 //! What is made of the bytes that an endpoint served, and of TLS's verdict on the endpoint. In
 //! order: the relationship and its endpoint, the current document of the endpoint's trust domain,
 //! the key in it, the records of distrust, the bytes, and then the receipt.
-ghost use Rattle.std.specs.Prelude.{◌≡◌, ◌↔◌, IsTrue, MatchResult, Contains};
+ghost use Rattle.std.specs.Prelude.{MatchResult};
 ghost use Rattle.fed_config.specs.Configuration.{IsConfiguration};
 ghost use Rattle.receipt_core.specs.Acceptance.{IsMeaning};
 ghost use Rattle.receipt_core.specs.Receipt.{IsReceipt};
 ghost use Rattle.bundle_view.specs.Observe.{HasNotObserved, HasObserved, IsEndpointOf};
 ghost use Rattle.bundle_view.specs.Observe.{RefusesEndpoint, RefusesVerdict};
-ghost use Rattle.bundle_view.specs.Inside.Observing.{HasKept, HasNotKept, IsVoucher, distrust};
+ghost use Rattle.bundle_view.specs.Inside.Observing.{HasKept, HasNotKept, IsVoucher};
 
 use crate::current_document::current;
 use crate::observe_error::ObserveError;
@@ -95,7 +95,7 @@ fn find_voucher<C: Closure>(
     if !voucher.has_key(&verdict.key) {
         return Err(ObserveError::KeyNotInCurrent);
     }
-    if is_distrusted(closure, home, &verdict.key) {
+    if closure.is_distrusted(home, verdict.key) {
         return Err(ObserveError::KeyNotInCurrent);
     }
     Ok(voucher.id(home))
@@ -118,26 +118,6 @@ fn check_endpoint(
     } else {
         Err(ObserveError::WrongEndpoint)
     }
-}
-
-/// Whether the key is distrusted in the domain.
-fn is_distrusted<C: Closure>(closure: &C, domain: &TrustDomain, key: &KeyId) -> bool
-    ensures { IsTrue result
-        ↔ Contains (C.state closure.now).meaning.records
-        (record { domain = domain.now; key = key.now }) }
-{
-    for (of, distrusted) in closure.distrusts() {
-        if is_record(of, distrusted, domain, key) {
-            return true;
-        }
-    }
-    false
-}
-
-fn is_record(of: &TrustDomain, distrusted: &KeyId, domain: &TrustDomain, key: &KeyId) -> bool
-    ensures { IsTrue result ↔ (distrust of.now distrusted.now ≡ distrust domain.now key.now) }
-{
-    distrusted == key && of.as_str() == domain.as_str()
 }
 
 /// Takes the receipt, and returns a copy of it, which is made before: so nothing is refused once it

@@ -6,9 +6,8 @@ use Rattle.std.proofs.lemmas.List.Elements.{All-append, All-take}
 use Rattle.std.specs.Io.KnownBytes.{Keeps, Consumes, IsAtEnd, prepend_known}
 use Rattle.byte_lines.specs.Lines.{HasNoFeed, HasLine, HasNoLine, HasMore}
 use Rattle.byte_lines.specs.Inside.Ahead.{AtFeed}
-use Rattle.byte_lines.specs.Streams.{stream_of, left_of}
+use Rattle.byte_lines.specs.Streams.{StreamState}
 use Rattle.byte_lines.specs.Inside.Steps.{TakesFound, SkipsText}
-use Rattle.byte_lines.specs.declared.line_buf.LineBuf.{LineBuf}
 use Rattle.byte_lines.specs.declared.line_buf.Found.{Found}
 use Rattle.byte_lines.specs.declared.error.DeviceError.{DeviceError}
 use Rattle.byte_lines.specs.declared.error.DeviceError.TheVariants.{Io}
@@ -61,19 +60,16 @@ pub spent_on : (front old new : List ℕ) (before after total : ℕ) → length 
 spent_on front old new before after total spent less = omega (arith, length-append front old, length-append front new)
 
 -- after a fault of the source only that the stream has not grown is claimed
-pub TakesFound-io : {S : Type 0} (remaining : S → Option (List ℕ)) (budget : S
-    → ℕ) (old : LineBuf) (before : S) (new : LineBuf) (after : S) (result : Result Found DeviceError) (e : DeviceError)
-    → result ≡ Err e → e ≡ Io → left_of budget new after ≤ left_of budget old before → TakesFound remaining budget old before new after result
-TakesFound-io remaining budget old before new after result e is io spends =
-    subst (TakesFound remaining budget old before new after) (sym (is ∙ ap Err io)) (record { finds = tt; keeps = λ bad. cc; spends = spends; falls = tt })
+pub TakesFound-io : (old new : StreamState) (given : List ℕ) (result : Result Found DeviceError) (e : DeviceError)
+    → result ≡ Err e → e ≡ Io → new.bound ≤ old.bound → TakesFound old new given result
+TakesFound-io old new given result e is io spends =
+    subst (TakesFound old new given) (sym (is ∙ ap Err io)) (record { finds = tt; keeps = λ bad. cc; spends = spends; falls = tt })
 
 -- out of memory the stream is kept
-pub TakesFound-memory : {S : Type 0} (remaining : S → Option (List ℕ)) (budget : S
-    → ℕ) (old : LineBuf) (before : S) (new : LineBuf) (after : S) (result : Result Found DeviceError) (e : DeviceError)
-    → result ≡ Err e → Keeps (stream_of remaining old before) (stream_of remaining new after) → left_of budget new after ≤ left_of budget old before
-    → TakesFound remaining budget old before new after result
-TakesFound-memory remaining budget old before new after result e is keeps spends =
-    subst (TakesFound remaining budget old before new after) (sym is) (record { finds = tt; keeps = λ _. keeps; spends = spends; falls = tt })
+pub TakesFound-memory : (old new : StreamState) (given : List ℕ) (result : Result Found DeviceError) (e : DeviceError)
+    → result ≡ Err e → Keeps old.bytes new.bytes → new.bound ≤ old.bound → TakesFound old new given result
+TakesFound-memory old new given result e is keeps spends =
+    subst (TakesFound old new given) (sym is) (record { finds = tt; keeps = λ _. keeps; spends = spends; falls = tt })
 
 -- the length of bytes that begin with a line
 pub length_line : (bytes text rest : List ℕ) → bytes ≡ text ++ (10 ∷ rest) → length bytes ≡ length text + suc (length rest)

@@ -7,7 +7,7 @@ use Rattle.std.proofs.lemmas.Bool.{ne_eqb, eqb-true, eq-eqb}
 use Rattle.std.proofs.lemmas.List.{take_all, get_or-take, drop-take}
 use Rattle.std.proofs.lemmas.List.Elements.{All-append, All-drop}
 use Rattle.std.proofs.lemmas.Grind.{get_or_default_zero}
-use Rattle.std.specs.Io.KnownBytes.{Keeps, Consumes, IsAtEnd, prepend_known}
+use Rattle.std.specs.Io.KnownBytes.{Keeps, Consumes, prepend_known}
 use Rattle.std.proofs.KnownBytes.{Consumes-trans, Consumes-kept}
 use Rattle.memchr.specs.Find.{IsFirstByte, Nowhere, Passes, is_byte}
 use Rattle.byte_lines.specs.Lines.{Lines, lines_of, with_byte, with_line, HasNoFeed, HasLine, HasNoLine, HasMore}
@@ -131,12 +131,6 @@ went_to_feed a b bs place went feed =
           went.parts (feed.plain, Consumes-feed bs front rest b feed.parts),
     )
 
--- a stream that ends after a text without a line feed has no line
-pub HasNoLine-end : (a b : Option (List ℕ)) (text : List ℕ) → HasNoFeed text → Consumes a b text → IsAtEnd b → HasNoLine a
-HasNoLine-end None b text plain passed end = tt
-HasNoLine-end (Some x) None text plain passed end = absurd passed
-HasNoLine-end (Some x) (Some y) text plain passed end = subst HasNoFeed (sym (passed ∙ ap (λ l. text ++ l) end ∙ append-nil text)) plain
-
 -- a stream has no line where a text without a line feed was taken and no line follows
 pub HasNoLine-after : (a b : Option (List ℕ)) (text : List ℕ) → HasNoFeed text → Consumes a b text → HasNoLine b → HasNoLine a
 HasNoLine-after None b text plain passed none = tt
@@ -148,8 +142,3 @@ pub HasMore-text : (a b : Option (List ℕ)) (text : List ℕ) → 0 < length te
 HasMore-text None b text some passed = tt
 HasMore-text (Some x) None text some passed = absurd passed
 HasMore-text (Some x) (Some y) text some passed = omega (arith, ap length passed, length-append text y)
-
--- with nothing kept a stream is at its end where its source is
-pub IsAtEnd-empty : (bs : List ℕ) (a : Option (List ℕ)) → bs ≡ [] → IsAtEnd a → IsAtEnd (prepend_known bs a)
-IsAtEnd-empty bs None none end = tt
-IsAtEnd-empty bs (Some x) none end = ap (λ l. l ++ x) none ∙ end

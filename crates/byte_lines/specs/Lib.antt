@@ -1,8 +1,9 @@
--- What a caller cites stands in the first six; `Inside` has what a line buffer does step by step.
+-- What a caller cites stands in the first seven; `Inside` has what a line buffer does step by step.
 pub mod Limits
 pub mod Device
 pub mod Lines
 pub mod Streams
+pub mod Loan
 pub mod Adaptor
 pub mod Memory
 pub mod Fuse

@@ -31,17 +31,25 @@ FindsLine old new TooLong = ((text : List ℕ) × HasLine old new text × (line_
 FindsLine old new Cut = HasNoLine old × HasMore old × IsAtEnd new
 FindsLine old new End = IsAtEnd old × IsAtEnd new
 
--- what a call of `next_line` does to a buffer and its source
-pub record TakesLine {S : Type 0} (remaining : S → Option (List ℕ)) (budget : S → ℕ) (old : LineBuf)
-    (before : S) (new : LineBuf) (after : S) (result : Result Line DeviceError) : Type 0 where
+-- a buffer and its source together
+pub record StreamState : Type 0 where
+  -- the stream, where the source can tell its bytes
+  pub bytes : Option (List ℕ)
+  -- the stream has at most so many bytes
+  pub bound : ℕ
+
+abbrev pub state_of_stream : {S : Type 0} → (S → Option (List ℕ)) → (S → ℕ) → LineBuf → S
+    → StreamState
+state_of_stream remaining budget lines source =
+    record { bytes = stream_of remaining lines source; bound = left_of budget lines source }
+
+-- what a call of `next_line` does to the stream
+pub record TakesLine (old new : StreamState) (result : Result Line DeviceError) : Type 0 where
   -- the line is the first of the stream, and the stream loses it
-  pub finds : IfOk result
-      (FindsLine (stream_of remaining old before) (stream_of remaining new after))
+  pub finds : IfOk result (FindsLine old.bytes new.bytes)
   -- out of memory loses no byte
-  pub keeps : IsErrOf result NoMemory
-      → Keeps (stream_of remaining old before) (stream_of remaining new after)
+  pub keeps : IsErrOf result NoMemory → Keeps old.bytes new.bytes
   -- the stream never grows
-  pub spends : left_of budget new after ≤ left_of budget old before
+  pub spends : new.bound ≤ old.bound
   -- and it shrinks wherever it has not come to its end
-  pub falls : IfOk result
-      (λ line. (line ≡ End → ⊥) → left_of budget new after < left_of budget old before)
+  pub falls : IfOk result (λ line. (line ≡ End → ⊥) → new.bound < old.bound)

@@ -3,7 +3,6 @@ ghost use Rattle.std.specs.Prelude.{◌≡◌, ◌+◌, ◌-◌, ◌<◌, ◌≤
 ghost use Rattle.std.specs.Prelude.{[], length, take, drop, is_err, IfOk, OnOk, OnErr, IsErrOf};
 ghost use Rattle.std.specs.Prelude.{vec_len};
 ghost use Rattle.std.specs.Borrow.{sem};
-ghost use Rattle.std.specs.Io.BufRead.{Rests};
 ghost use Rattle.std.specs.Io.KnownBytes.{Keeps, Consumes, IsAtEnd};
 ghost use Rattle.byte_lines.specs.Device.{is_source_fault};
 ghost use Rattle.byte_lines.specs.Lines.{HasNoFeed};
@@ -44,9 +43,9 @@ pub struct LineBuf {
 }
 
 impl LineBuf {
-    ghost use Rattle.byte_lines.specs.contracts.line_buf.LineBuf.{the_row};
+    ghost use Rattle.byte_lines.specs.Loan.{IsGivenBack};
     ghost use Rattle.byte_lines.specs.Inside.Ahead.{ahead_of, chunk_room};
-    ghost use Rattle.byte_lines.specs.Streams.{kept, stream_of, left_of, TakesLine};
+    ghost use Rattle.byte_lines.specs.Streams.{kept, state_of_stream, TakesLine};
     ghost use Rattle.byte_lines.specs.Inside.Steps.{TakesFound, GathersLine};
 
     /// A buffer that keeps nothing yet. No memory is taken before the first line is asked for.
@@ -69,8 +68,9 @@ impl LineBuf {
     /// fault are given before it is. After `Io` nothing is said of what remains. `NoMemory` where
     /// the allocator refused: no byte is lost, and the next call begins at the same line.
     pub fn next_line<R: Source>(&mut self, source: &mut R) -> Result<Line<'_>, DeviceError>
-        ensures* takes { sem 𝓛 (Rests the_row self.entry (λ new.
-            TakesLine R.remaining R.budget self.old source.old new source.new result)) }
+        ensures* takes { sem 𝓛 (IsGivenBack self.entry (λ new. TakesLine
+            (state_of_stream R.remaining R.budget self.old source.old)
+            (state_of_stream R.remaining R.budget new source.new) result)) }
         ensures lines_first { is_source_fault result ≡ true → HasNoFeed (kept self.old) }
         ensures fault { R.has_failed source.new
             ≡ (is_source_fault result || R.has_failed source.old) }
@@ -85,8 +85,8 @@ impl LineBuf {
 
     // The same without the line itself, which is then the one that was given.
     fn advance<R: Source>(&mut self, source: &mut R) -> Result<Found, DeviceError>
-        ensures takes { TakesFound R.remaining R.budget self.old source.old self.new source.new
-            result }
+        ensures takes { TakesFound (state_of_stream R.remaining R.budget self.old source.old)
+            (state_of_stream R.remaining R.budget self.new source.new) self.new.line.items result }
         ensures lines_first { is_source_fault result ≡ true → HasNoFeed (kept self.old) }
         ensures fault { R.has_failed source.new
             ≡ (is_source_fault result || R.has_failed source.old) }

@@ -41,9 +41,7 @@ pub record IsOfWrongEndpoint (c : Configuration) (r : Receipt) : Type 0 where
 abbrev pub RefusesFit : Configuration → Receipt → TakeError → Type 0
 RefusesFit c r UnknownDomain = IsOfUnknownDomain c r
 RefusesFit c r WrongEndpoint = IsOfWrongEndpoint c r
-RefusesFit c r Full = ⊥
-RefusesFit c r NoMemory = ⊥
-RefusesFit c r ConfigDiffers = ⊥
+RefusesFit c r _ = ⊥
 
 -- ---- one receipt
 
@@ -69,7 +67,7 @@ RefusesReceipt m room r UnknownDomain = IsOfUnknownDomain m.config r
 RefusesReceipt m room r WrongEndpoint = IsOfWrongEndpoint m.config r
 RefusesReceipt m room r Full = IsOneTooMany m r
 RefusesReceipt m room r NoMemory = WantsMemory m room r
-RefusesReceipt m room r ConfigDiffers = ⊥
+RefusesReceipt m room r _ = ⊥
 
 -- ---- one record of distrust
 
@@ -81,10 +79,8 @@ pub record IsOneRecordTooMany (m : Meaning) (x : Distrust) : Type 0 where
 
 abbrev pub RefusesDistrust : Meaning → Distrust → TakeError → Type 0
 RefusesDistrust m x UnknownDomain = HasDomain m.config x.domain → ⊥
-RefusesDistrust m x WrongEndpoint = ⊥
 RefusesDistrust m x Full = IsOneRecordTooMany m x
-RefusesDistrust m x NoMemory = ⊥
-RefusesDistrust m x ConfigDiffers = ⊥
+RefusesDistrust m x _ = ⊥
 
 -- ---- another closure
 

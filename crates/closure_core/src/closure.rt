@@ -14,6 +14,12 @@ use receipt_core::Receipt;
 use spiffe_name::TrustDomain;
 use std::alloc::{AllocError, Global};
 
+/// The most receipts that are held.
+pub const MOST_RECEIPTS: usize = 65_536;
+
+/// The most records of distrust that are held.
+pub const MOST_RECORDS: usize = 4_096;
+
 /// Memory ran out.
 pub type NoMemory = AllocError;
 

@@ -4,14 +4,16 @@
 
 mod closure;
 mod error;
+mod fit;
 pub mod laws;
 mod lent;
 mod nodes;
 mod outcome;
 mod record;
 
-pub use closure::{Closure, NoMemory};
+pub use closure::{Closure, MOST_RECEIPTS, MOST_RECORDS, NoMemory};
 pub use error::TakeError;
+pub use fit::check_fit;
 pub use lent::{Accepted, Distrusts, Receipts};
 pub use nodes::{document_at, domain_at};
 pub use outcome::{Distrusted, Refused, Taken};

@@ -4,9 +4,10 @@
 //! A file's name is the name of a text; where no text has the name, the file is not there.
 use crate::devices::{AMPLE_ROOM, Devices};
 use crate::words::split_words;
-use bundle_view::Verdict;
+use bundle_view::{Verdict, write_report};
 use byte_lines::{FromRead, MemSink, write_all};
 use closure_core::Closure;
+use config_view::{write_config, write_config_difference};
 use fed_config::Config;
 use fedbundle::{
     Call, CommandError, CommandName, RunError, WordsError, read_sessions, read_words, run_bundle,
@@ -46,7 +47,7 @@ impl Case<'_> {
 #[derive(Clone, Copy)]
 struct Asked<'a> {
     name: CommandName,
-    given: &'a [&'a str],
+    given: &'a [Option<&'a str>],
 }
 
 /// Carries out what the words ask for, over the devices.
@@ -97,12 +98,12 @@ fn do_call<C: Closure>(
     devices: &mut Devices,
 ) -> Result<(), CommandError> {
     match (call.name, call.texts.as_slice()) {
-        (CommandName::Canon, [domain]) => canon(case, domain, devices),
-        (CommandName::Serve, [_, _, _, sessions]) if read_sessions(sessions).is_none() => {
+        (CommandName::Canon, [Some(domain)]) => canon(case, domain, devices),
+        (CommandName::Serve, [_, _, _, Some(sessions), _]) if read_sessions(sessions).is_none() => {
             tell(b"fedbundle: usage\n", 2, devices);
             Ok(())
         }
-        (name, [config, given @ ..]) => {
+        (name, [Some(config), given @ ..]) => {
             do_under::<C>(case, Asked { name, given }, config, devices)
         }
         _ => Err(CommandError::Full),
@@ -134,13 +135,36 @@ fn do_under_config<C: Closure>(
     devices: &mut Devices,
 ) -> Result<(), CommandError> {
     match (asked.name, asked.given) {
-        (CommandName::Report, []) => report::<C>(case, config, devices),
-        (name, [state, given @ ..]) => {
+        (CommandName::Config, [None]) => print_config(case.alloc, config, devices),
+        (CommandName::Config, [Some(with)]) => compare_configs(case, config, with, devices),
+        (CommandName::Report, [None]) => report::<C>(case, config, devices),
+        (name, [Some(state), given @ ..]) => {
             let file = case.script.text(state);
             do_over_file::<C>(case, Asked { name, given }, config, file, devices)
         }
         _ => Err(CommandError::Full),
     }
+}
+
+fn print_config(alloc: Global, config: &Config, devices: &mut Devices) -> Result<(), CommandError> {
+    write_config(alloc, config, &mut devices.output)?;
+    Ok(())
+}
+
+// Two digests make the exit status 1.
+fn compare_configs(
+    case: &Case<'_>,
+    config: &Config,
+    with: &str,
+    devices: &mut Devices,
+) -> Result<(), CommandError> {
+    let Some(with) = case.script.text(with) else {
+        return Err(CommandError::Io);
+    };
+    let with = Config::read(case.alloc, with)?;
+    let is_same = write_config_difference(case.alloc, config, &with, &mut devices.output)?;
+    devices.status = u8::from(!is_same);
+    Ok(())
 }
 
 // A line that is refused makes the exit status 1.
@@ -243,23 +267,36 @@ fn do_asked<C: Closure>(
 ) -> Result<(), CommandError> {
     let (input, output) = (&mut devices.input, &mut devices.output);
     match (asked.name, asked.given) {
-        (CommandName::Bundle, [domain]) => bundle(case, closure, domain, devices),
-        (CommandName::Explain, [domain]) => explain(case, closure, domain, devices),
-        (CommandName::Observe, [domain, endpoint, key]) => {
+        (CommandName::Report, []) => report_held(case.alloc, closure, devices),
+        (CommandName::Bundle, [Some(domain), _]) => bundle(case, closure, domain, devices),
+        (CommandName::Explain, [Some(domain), _]) => explain(case, closure, domain, devices),
+        (CommandName::Observe, [Some(domain), Some(endpoint), Some(key), ..]) => {
             observe(case, closure, domain, endpoint, key, devices)
         }
-        (CommandName::Merge, []) => run_merge(case.alloc, closure, input, output),
-        (CommandName::Migrate, [to, records_only]) => {
+        (CommandName::Merge, _) => run_merge(case.alloc, closure, input, output),
+        (CommandName::Migrate, [Some(to), Some(records_only)]) => {
             migrate(case, closure, to, records_only, devices)
         }
-        (CommandName::Polls, [now]) => polls(case, closure, now, devices),
-        (CommandName::Distrust, [domain, key]) => distrust(case, closure, domain, key),
-        (CommandName::Serve, [_, _]) => serve(case, closure, devices),
-        (CommandName::Pull, [_]) => {
+        (CommandName::Polls, [Some(now), _]) => polls(case, closure, now, devices),
+        (CommandName::Distrust, [Some(domain), Some(key), ..]) => distrust(
+            case, closure, domain, key,
+        ),
+        (CommandName::Serve, _) => serve(case, closure, devices),
+        (CommandName::Pull, _) => {
             run_pull(case.alloc, closure, input, &mut devices.sent, output)
         }
         _ => Err(CommandError::Full),
     }
+}
+
+// Of what the state file holds.
+fn report_held<C: Closure>(
+    alloc: Global,
+    closure: &C,
+    devices: &mut Devices,
+) -> Result<(), CommandError> {
+    write_report(alloc, closure, &mut devices.output).map_err(RunError::from)?;
+    Ok(())
 }
 
 // A line of what is left out makes the exit status 1.

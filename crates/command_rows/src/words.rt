@@ -31,8 +31,8 @@ pub(crate) fn split_words<'a>(alloc: Global, words: &'a str) -> Result<Vec<&'a s
         .collect(alloc)
 }
 
-/// Tells what the words ask for, on a line: the subcommand and the texts of its options; or that it
-/// is not said whole, or that the words are refused.
+/// Tells what the words ask for, on a line: the subcommand and the texts of its options, `-` for
+/// one that is left out; or that it is not said whole, or that the words are refused.
 pub(crate) fn answer_words(
     alloc: Global,
     script: &Script,
@@ -57,7 +57,7 @@ fn show_call(call: &Call<'_>, answer: &mut String) -> Result<(), AllocError> {
     answer.push_str(call.name.text())?;
     for text in call.texts.as_slice() {
         answer.push_str(" ")?;
-        answer.push_str(text)?;
+        answer.push_str(text.unwrap_or("-"))?;
     }
     answer.push_str("\n")
 }

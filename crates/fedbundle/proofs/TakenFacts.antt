@@ -1,14 +1,10 @@
 -- Which receipts are taken, line by line.
-use Rattle.std.proofs.Common.{◌≡◌, ℕ, ◌+◌, List, [], ◌∷◌, ◌++◌, length, ◌⊎◌, inl, inr, refl, sym, ap, ◌∙◌, subst, arith}
+use Rattle.std.proofs.Common.{◌≡◌, ℕ, ◌+◌, List, [], ◌∷◌, ◌++◌, length, inl, inr, refl, sym, ap, ◌∙◌, subst, arith}
 use Rattle.std.specs.Prelude.{Contains}
-use Rattle.std.specs.declared.cmp.Ordering.{Ordering}
-use Rattle.std.specs.declared.cmp.Ordering.TheVariants.{Less}
-use Rattle.std.specs.Ordering.{nat_cmp}
-use Rattle.std.specs.Cmp.Lexicographic.{slice_cmp, nat_list_cmp_total}
 use Rattle.std.specs.List.{AllByRecursion}
 use Rattle.std.specs.List.Sorted.{IsStrictlySortedBy}
 use Rattle.std.proofs.lemmas.List.Elements.{Contains-append_left, Contains-push, Contains-push_cases}
-use Rattle.fed_config.specs.Configuration.{Configuration, IsConfiguration, relationship_cmp}
+use Rattle.fed_config.specs.Configuration.{Configuration, IsConfiguration}
 use Rattle.fed_config.specs.declared.relationship.Relationship.{Relationship}
 use Rattle.receipt_core.specs.Acceptance.{IsFitting}
 use Rattle.receipt_core.specs.Line.{IsLine}
@@ -17,42 +13,11 @@ use Rattle.receipt_core.specs.Receipt.{Receipt, IsReceipt, line, receipt_cmp, wi
 use Rattle.receipt_core.specs.Sets.{AreSets}
 use Rattle.receipt_core.proofs.LineFacts.{one_line, one_receipt}
 use Rattle.receipt_core.proofs.ReadFacts.{length-line}
-use Rattle.receipt_core.proofs.RisingFacts.{Has, Has-from_contains, Contains-from_has, each_has, all_from_has, AreSets-from_total}
-use Rattle.bundle_view.proofs.RisingListFacts.{not_below_itself}
+use Rattle.receipt_core.proofs.SearchFacts.{one_relationship}
+use Rattle.receipt_core.proofs.RisingFacts.{Contains-from_has, all_from_has, AreSets-from_total}
 use Rattle.fedbundle.specs.Stream.{IsTaken, AreTaken, IsRefusedLine}
 use Rattle.fedbundle.specs.declared.complaint.LineFault.{LineFault}
 use Rattle.fedbundle.specs.declared.complaint.LineFault.TheVariants.{NotCanonical, TooLong, UnknownDomain, WrongEndpoint, Cut}
-
--- ---- one relationship a domain
-
--- of two items of a rising list one is below the other, or they are equal
-either_below : {A : Type 0} (cmp : A → A → Ordering) (xs : List A) (a b : A) → IsStrictlySortedBy cmp xs → Has xs a → Has xs b
-    → (a ≡ b) ⊎ ((cmp a b ≡ Less) ⊎ (cmp b a ≡ Less))
-unfolding IsStrictlySortedBy
-either_below cmp [] a b rising p q = absurd p
-either_below cmp (x ∷ xs) a b rising p q = elim p [
-  | inl e ↦ elim q [
-    | inl f ↦ inl (sym e ∙ f)
-    | inr later ↦ inr (inl (subst (λ z. cmp z b ≡ Less) e (each_has (λ y. cmp x y ≡ Less) xs b rising.0 later)))
-  ]
-  | inr later ↦ elim q [
-    | inl f ↦ inr (inr (subst (λ z. cmp z a ≡ Less) f (each_has (λ y. cmp x y ≡ Less) xs a rising.0 later)))
-    | inr too ↦ either_below cmp xs a b rising.1 later too
-  ]
-]
-
--- a domain has one relationship at most
-one_relationship : (c : Configuration) (a b : Relationship) → IsConfiguration c → Contains c.relationships a
-    → Contains c.relationships b → a.domain ≡ b.domain → a ≡ b
-one_relationship c a b is p q same =
-    elim (either_below relationship_cmp c.relationships a b is.rising_relationships
-    (Has-from_contains c.relationships a p) (Has-from_contains c.relationships b q)) [
-      | inl e ↦ e
-      | inr apart ↦ elim apart [
-        | inl below ↦ absurd (not_below_itself nat_list_cmp_total a.domain (subst (λ d. slice_cmp nat_cmp a.domain d ≡ Less) (sym same) below))
-        | inr above ↦ absurd (not_below_itself nat_list_cmp_total a.domain (subst (λ d. slice_cmp nat_cmp d a.domain ≡ Less) (sym same) above))
-      ]
-    ]
 
 -- ---- what is refused is not taken
 

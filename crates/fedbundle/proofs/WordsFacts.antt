@@ -1,12 +1,15 @@
 -- Building the command, and what it takes out of words
 use Rattle.std.proofs.Common.{rules, ◌≡◌, ℕ, ◌+◌, ◌<◌, Bool, true, false, ◌&&◌, not, List, [], ◌∷◌, ◌++◌, map, length}
-use Rattle.std.proofs.Common.{get_or, drop, drop-cons, add-one, fold, Option, Some, None, option_map, unwrap_or, refl}
+use Rattle.std.proofs.Common.{get_or, drop, take, drop-cons, add-one, fold, Option, Some, None, is_some, option_map, unwrap_or, refl}
 use Rattle.std.proofs.Common.{sym, ap, ◌∙◌, append_assoc}
-use Rattle.std.proofs.lemmas.List.{map-append}
+use Rattle.std.proofs.lemmas.List.Folds.{list_all_at, list_all_more}
+use Rattle.std.specs.List.{list_all}
 use Rattle.clap.specs.Words.{Row, Text, is_simple}
 use Rattle.fedbundle.specs.declared.command_name.CommandName.{CommandName}
 use Rattle.fedbundle.specs.declared.command_name.CommandName.TheVariants as command
-use Rattle.fedbundle.specs.Words.{leaf, the_command}
+use Rattle.fedbundle.specs.declared.command_name.OptionName.{OptionName}
+use Rattle.fedbundle.specs.declared.command_name.OptionName.TheVariants.{At}
+use Rattle.fedbundle.specs.Words.{given, is_settled, is_settled_in, leaf, the_command}
 
 -- what is left is the next item and what is left after it
 next_at : {X : Type 0} (xs : List X) (k : ℕ) (x : X) → k < length xs → x ≡ get_or xs k x → drop k xs ≡ x ∷ drop (k + 1) xs
@@ -17,14 +20,34 @@ pub fold_more : {X Y : Type 0} (f : Y → X → Y) (xs : List X) (k : ℕ) (x : 
     → (o n : Y) → n ≡ f o x → fold f n (drop (k + 1) xs) ≡ fold f o (drop k xs)
 fold_more f xs k x low is o n e = ap (λ y. fold f y (drop (k + 1) xs)) e ∙ ap (fold f o) (sym (next_at xs k x low is))
 
--- one more option's text was found: the step of the loop in `texts_of`
+-- one more option's text was looked up: the step of the loop in `texts_of`
 pub texts_more : {X : Type 0} (g : X → Option Text) (xs : List X) (k : ℕ) (x : X) → k < length xs → x ≡ get_or xs k x
-    → (o n : List Text) (t : Text) → n ≡ o ++ t ∷ [] → g x ≡ Some t
-    → map Some n ++ map g (drop (k + 1) xs) ≡ map Some o ++ map g (drop k xs)
+    → (o n : List (Option Text)) (t : Option Text) → n ≡ o ++ t ∷ [] → g x ≡ t
+    → n ++ map g (drop (k + 1) xs) ≡ o ++ map g (drop k xs)
 texts_more g xs k x low is o n t e found =
-    ap (λ ts. map Some ts ++ map g (drop (k + 1) xs)) e ∙ ap (λ ts. ts ++ map g (drop (k + 1) xs)) (map-append Some o (t ∷ []))
-    ∙ append_assoc (map Some o) (Some t ∷ []) (map g (drop (k + 1) xs)) ∙ (λ i. map Some o ++ (sym found i ∷ map g (drop (k + 1) xs)))
-    ∙ ap (λ ys. map Some o ++ map g ys) (sym (next_at xs k x low is))
+    ap (λ ts. ts ++ map g (drop (k + 1) xs)) e
+    ∙ append_assoc o (t ∷ []) (map g (drop (k + 1) xs)) ∙ (λ i. o ++ (sym found i ∷ map g (drop (k + 1) xs)))
+    ∙ ap (λ ys. o ++ map g ys) (sym (next_at xs k x low is))
+
+-- the option whose text was looked up has a text just where the rows give it one
+pub has_text : {X : Type 0} (f : X → Text) (o : Option X) (t : Option Text) → option_map f o ≡ t → is_some t ≡ is_some o
+has_text f None t e = ap is_some (sym e)
+has_text f (Some x) t e = ap is_some (sym e)
+
+-- what the code finds of an option is what the rows say of it
+pub settled_as : (rows : List Row) (option : OptionName) (at given_text : Bool) → is_some (given rows At) ≡ at
+    → is_some (given rows option) ≡ given_text → is_settled at given_text option ≡ is_settled_in rows option
+settled_as rows option at given_text e f = λ i. is_settled (sym e i) (sym f i) option
+
+-- one more option is settled: the step of the loop in `are_settled`
+pub settled_more : {X : Type 0} (p : X → Bool) (xs : List X) (k : ℕ) (x : X) → k < length xs → x ≡ get_or xs k x
+    → list_all p (take k xs) ≡ true → p x ≡ true → list_all p (take (k + 1) xs) ≡ true
+settled_more p xs k x low is before now = list_all_more p xs k x low ∙ (λ i. before i && p (sym is i)) ∙ now
+
+-- one option is not settled: the loop in `are_settled` ends there
+pub one_unsettled : {X : Type 0} (p : X → Bool) (xs : List X) (k : ℕ) (x : X) → k < length xs → x ≡ get_or xs k x
+    → p x ≡ false → list_all p xs ≡ false
+one_unsettled p xs k x low is fails = list_all_at p xs k x low (ap p (sym is) ∙ fails)
 
 -- a plain command has no global argument
 pub no_globals : (a b g r : Bool) → (a && (b && (not g && r))) ≡ true → g ≡ false
@@ -33,12 +56,14 @@ no_globals a b g r e = search rules
 -- each subcommand is a plain one, so it has no global argument
 pub plain_leaf : (n : CommandName) → (leaf n).top.is_plain ≡ true
 plain_leaf command.Canon = refl
+plain_leaf command.Config = refl
 plain_leaf command.Report = refl
 plain_leaf command.Bundle = refl
 plain_leaf command.Explain = refl
 plain_leaf command.Observe = refl
 plain_leaf command.Merge = refl
 plain_leaf command.Migrate = refl
+plain_leaf command.Reseed = refl
 plain_leaf command.Polls = refl
 plain_leaf command.Distrust = refl
 plain_leaf command.Serve = refl

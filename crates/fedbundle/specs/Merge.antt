@@ -7,7 +7,7 @@ use Rattle.replica_sync.specs.Snapshots.{IsSnapshot, RefusesSnapshot}
 use Rattle.replica_core.specs.declared.error.SyncError.{SyncError}
 use Rattle.replica_core.specs.declared.error.SyncError.TheVariants.{Io as StreamFailed}
 use Rattle.fedbundle.specs.CommandRun.{CommandRun, StateRun, IsReadOut, PrintsText, WritesNothing}
-use Rattle.fedbundle.specs.CommandRun.{CutsOff, HasFailed}
+use Rattle.fedbundle.specs.CommandRun.{DeviceRun, CutsOff, HasFailed}
 use Rattle.fedbundle.specs.Counts.{counted}
 use Rattle.fedbundle.specs.declared.error.CommandError.{CommandError}
 use Rattle.fedbundle.specs.declared.error.CommandError.TheVariants.{Sync, Take, Io}
@@ -57,3 +57,30 @@ RunsMerge run state (Err Io) = CutsMerge run state
 RunsMerge run state (Err (Sync why)) = RefusesStream run state why
 RunsMerge run state (Err (Take why)) = RefusesOther run state why
 RunsMerge run state (Err _) = ⊥
+
+-- ---- what another closure holds, taken
+
+-- What both hold is held, and how many of the receipts were not was written and nothing else.
+pub record PrintsJoin (other : Meaning) (sink : DeviceRun) (state : StateRun) : Type 0 where
+  pub count : ℕ
+  pub merged : HasMerged state.old.meaning other state.new.meaning count
+  pub written : PrintsText sink (count_text count)
+
+-- What both hold is held, and the sink failed after a beginning of the number's line.
+pub record CutsJoin (other : Meaning) (sink : DeviceRun) (state : StateRun) : Type 0 where
+  pub count : ℕ
+  pub merged : HasMerged state.old.meaning other state.new.meaning count
+  pub cut : CutsOff sink (count_text count)
+
+-- Nothing is taken, for this cause, and nothing was written.
+pub record RefusesJoin (other : Meaning) (sink : DeviceRun) (state : StateRun)
+    (why : TakeError) : Type 0 where
+  pub refused : HasRefusedMerge state.old other state.new why
+  pub unwritten : WritesNothing sink
+
+-- by the answer, one of these; there is no other error
+abbrev pub TakesOther : Meaning → DeviceRun → StateRun → Result (Unit {0}) CommandError → Type 0
+TakesOther other sink state (Ok _) = PrintsJoin other sink state
+TakesOther other sink state (Err Io) = CutsJoin other sink state
+TakesOther other sink state (Err (Take why)) = RefusesJoin other sink state why
+TakesOther other sink state (Err _) = ⊥

@@ -13,6 +13,7 @@ use Rattle.replica_core.specs.declared.error.SyncError.TheVariants.{Io as SyncIo
 use Rattle.fedbundle.specs.declared.error.CommandError.{CommandError}
 use Rattle.fedbundle.specs.declared.error.CommandError.TheVariants.{Name, Document, Config, Take}
 use Rattle.fedbundle.specs.declared.error.CommandError.TheVariants.{Observe, Poll, Sync, Pull, Full}
+use Rattle.fedbundle.specs.declared.error.CommandError.TheVariants.{Journal}
 use Rattle.fedbundle.specs.declared.error.CommandError.TheVariants.{NoMemory, Io}
 
 abbrev pub status_of_sync : SyncError → ℕ
@@ -36,6 +37,7 @@ status_of (Poll NoMemoryToPoll) = 4
 status_of (Poll PollIo) = 3
 status_of (Poll e) = 1
 status_of (Sync why) = status_of_sync why
+status_of (Journal why) = status_of_sync why
 status_of (Pull fault) = status_of_sync fault.why
 status_of Full = 1
 status_of NoMemory = 4

@@ -1,6 +1,7 @@
 -- The words of the command line, as clap's definition of a command reads them.
-use Rattle.std.specs.Prelude.{Bool, true, false, if◌then◌else◌}
-use Rattle.std.specs.Prelude.{◌≡◌, ℕ, List, [], ◌∷◌, map, fold, codes, Option, Some}
+use Rattle.std.specs.Prelude.{Bool, true, false, ◌&&◌, ◌||◌, not, if◌then◌else◌}
+use Rattle.std.specs.Prelude.{◌≡◌, ℕ, List, [], ◌∷◌, map, fold, codes, Option, Some, is_some}
+use Rattle.std.specs.List.{list_all}
 use Rattle.clap.specs.Words.{App, Row, Rule, Text, first_of, new_app, new_rule, subcommand_of}
 use Rattle.clap.specs.Words.{with_rule, with_subcommand}
 use Rattle.clap.specs.declared.builder.action.ArgAction.TheVariants.{Set, SetTrue}
@@ -11,6 +12,9 @@ use Rattle.fedbundle.specs.declared.command_name.OptionName.TheVariants.{Config,
 use Rattle.fedbundle.specs.declared.command_name.OptionName.TheVariants.{Endpoint, Key, Now, Listen}
 use Rattle.fedbundle.specs.declared.command_name.OptionName.TheVariants.{Sessions, Peer}
 use Rattle.fedbundle.specs.declared.command_name.OptionName.TheVariants.{To, RecordsOnly}
+use Rattle.fedbundle.specs.declared.command_name.OptionName.TheVariants.{OptionalState, With}
+use Rattle.fedbundle.specs.declared.command_name.OptionName.TheVariants.{At, Wait, MostBytes}
+use Rattle.fedbundle.specs.declared.command_name.OptionName.TheVariants.{Allow, Verbose}
 
 abbrev pub option_text : OptionName → List ℕ
 option_text Config = codes "config"
@@ -24,20 +28,46 @@ option_text Sessions = codes "sessions"
 option_text Peer = codes "peer"
 option_text To = codes "to"
 option_text RecordsOnly = codes "records-only"
+option_text OptionalState = codes "state"
+option_text With = codes "with"
+option_text At = codes "at"
+option_text Wait = codes "wait"
+option_text MostBytes = codes "most-bytes"
+option_text Allow = codes "allow"
+option_text Verbose = codes "verbose"
 
 -- it has no text after it
 abbrev pub is_flag : OptionName → Bool
 is_flag RecordsOnly = true
+is_flag Verbose = true
 is_flag option = false
+
+-- the words may leave it out
+abbrev pub may_be_left_out : OptionName → Bool
+may_be_left_out OptionalState = true
+may_be_left_out With = true
+may_be_left_out At = true
+may_be_left_out Wait = true
+may_be_left_out MostBytes = true
+may_be_left_out Allow = true
+may_be_left_out option = false
+
+-- it names a file that a running replica has itself, so words with `--at` leave it out
+abbrev pub is_place : OptionName → Bool
+is_place Config = true
+is_place State = true
+is_place option = false
 
 abbrev pub name_text : CommandName → List ℕ
 name_text command.Canon = codes "canon"
+name_text command.Config = codes "config"
 name_text command.Report = codes "report"
 name_text command.Bundle = codes "bundle"
 name_text command.Explain = codes "explain"
 name_text command.Observe = codes "observe"
 name_text command.Merge = codes "merge"
 name_text command.Migrate = codes "migrate"
+name_text command.Reseed = codes "reseed"
 name_text command.Polls = codes "polls"
 name_text command.Distrust = codes "distrust"
 name_text command.Serve = codes "serve"
@@ -45,21 +75,23 @@ name_text command.Pull = codes "pull"
 
 abbrev pub options_of : CommandName → List OptionName
 options_of command.Canon = Domain ∷ []
-options_of command.Report = Config ∷ []
-options_of command.Bundle = Config ∷ State ∷ Domain ∷ []
-options_of command.Explain = Config ∷ State ∷ Domain ∷ []
-options_of command.Observe = Config ∷ State ∷ Domain ∷ Endpoint ∷ Key ∷ []
-options_of command.Merge = Config ∷ State ∷ []
+options_of command.Config = Config ∷ With ∷ []
+options_of command.Report = Config ∷ OptionalState ∷ []
+options_of command.Bundle = Config ∷ State ∷ Domain ∷ Verbose ∷ []
+options_of command.Explain = Config ∷ State ∷ Domain ∷ Verbose ∷ []
+options_of command.Observe = Config ∷ State ∷ Domain ∷ Endpoint ∷ Key ∷ Wait ∷ Verbose ∷ []
+options_of command.Merge = Config ∷ State ∷ Wait ∷ MostBytes ∷ Verbose ∷ []
 options_of command.Migrate = Config ∷ State ∷ To ∷ RecordsOnly ∷ []
-options_of command.Polls = Config ∷ State ∷ Now ∷ []
-options_of command.Distrust = Config ∷ State ∷ Domain ∷ Key ∷ []
-options_of command.Serve = Config ∷ State ∷ Listen ∷ Sessions ∷ []
-options_of command.Pull = Config ∷ State ∷ Peer ∷ []
+options_of command.Reseed = Config ∷ State ∷ Allow ∷ Verbose ∷ []
+options_of command.Polls = Config ∷ State ∷ Now ∷ Verbose ∷ []
+options_of command.Distrust = Config ∷ State ∷ Domain ∷ Key ∷ Wait ∷ Verbose ∷ []
+options_of command.Serve = Config ∷ State ∷ Listen ∷ Sessions ∷ Verbose ∷ []
+options_of command.Pull = Config ∷ State ∷ Peer ∷ Wait ∷ MostBytes ∷ Verbose ∷ []
 
 abbrev pub all_names : List CommandName
-all_names = command.Canon ∷ command.Report ∷ command.Bundle ∷ command.Explain ∷ command.Observe
-    ∷ command.Merge ∷ command.Migrate ∷ command.Polls ∷ command.Distrust ∷ command.Serve
-    ∷ command.Pull ∷ []
+all_names = command.Canon ∷ command.Config ∷ command.Report ∷ command.Bundle ∷ command.Explain
+    ∷ command.Observe ∷ command.Merge ∷ command.Migrate ∷ command.Reseed ∷ command.Polls
+    ∷ command.Distrust ∷ command.Serve ∷ command.Pull ∷ []
 
 -- ---- the command, as clap knows it
 
@@ -102,8 +134,21 @@ the_command = fold with_name bare_app all_names
 abbrev pub given : List Row → OptionName → Option Text
 given rows option = first_of (option_text option) rows
 
--- The words name the subcommand, and give each of its options its text.
-pub record Calls (words : List Text) (name : CommandName) (texts : List Text) : Type 0 where
+-- Whether an option may stand as it does, with a text or without one. With `--at` the words leave
+-- out the places, and without it they give them.
+abbrev pub is_settled : (at has_text : Bool) → OptionName → Bool
+is_settled at has_text option =
+    if at && is_place option then not has_text else (has_text || may_be_left_out option)
+
+abbrev pub is_settled_in : List Row → OptionName → Bool
+is_settled_in rows option =
+    is_settled (is_some (given rows At)) (is_some (given rows option)) option
+
+-- The words name the subcommand, give each of its options its text, and leave out none that it
+-- wants.
+pub record Calls (words : List Text) (name : CommandName) (texts : List (Option Text))
+    : Type 0 where
   pub rows : List Row
   pub entered : subcommand_of the_command words ≡ Some (name_text name, rows)
-  pub given : map (given rows) (options_of name) ≡ map Some texts
+  pub given : map (given rows) (options_of name) ≡ texts
+  pub settled : list_all (is_settled_in rows) (options_of name) ≡ true

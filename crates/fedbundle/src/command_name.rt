@@ -1,7 +1,8 @@
-//! The subcommands, and the options of each. All are required but the flags, which have the text
-//! `true` where they are given and else `false`.
+//! The subcommands, and the options of each. A flag has the text `true` where it is given and else
+//! `false`; of the others some may be left out.
 ghost use Rattle.std.specs.Prelude.{◌≡◌, List};
-ghost use Rattle.fedbundle.specs.Words.{is_flag, option_text, name_text, options_of};
+ghost use Rattle.fedbundle.specs.Words.{is_flag, is_place, may_be_left_out, option_text};
+ghost use Rattle.fedbundle.specs.Words.{name_text, options_of};
 
 /// An option, which has one text, or a flag.
 #[derive(Clone, Copy, Debug, PartialEq, Eq)]
@@ -17,6 +18,14 @@ pub enum OptionName {
     Peer,
     To,
     RecordsOnly,
+    /// The state where the command does without one, too.
+    OptionalState,
+    With,
+    At,
+    Wait,
+    MostBytes,
+    Allow,
+    Verbose,
 }
 
 /// A subcommand.
@@ -24,6 +33,8 @@ pub enum OptionName {
 pub enum CommandName {
     /// Prints a bundle document in its canonical form, with its ids.
     Canon,
+    /// Prints what a configuration says, or where two differ.
+    Config,
     /// Prints what a replica that took the receipts accepts.
     Report,
     /// Prints the current bundle of a domain.
@@ -36,6 +47,8 @@ pub enum CommandName {
     Merge,
     /// Prints what goes along to another configuration.
     Migrate,
+    /// Prints a configuration whose seeds are the current bundles.
+    Reseed,
     /// Prints when each bundle is to be fetched next.
     Polls,
     /// Distrusts a key.
@@ -47,14 +60,16 @@ pub enum CommandName {
 }
 
 /// All subcommands, in the order in which help lists them.
-pub(crate) static COMMANDS: [CommandName; 11] = [
+pub(crate) static COMMANDS: [CommandName; 13] = [
     CommandName::Canon,
+    CommandName::Config,
     CommandName::Report,
     CommandName::Bundle,
     CommandName::Explain,
     CommandName::Observe,
     CommandName::Merge,
     CommandName::Migrate,
+    CommandName::Reseed,
     CommandName::Polls,
     CommandName::Distrust,
     CommandName::Serve,
@@ -78,6 +93,13 @@ impl OptionName {
             OptionName::Peer => "peer",
             OptionName::To => "to",
             OptionName::RecordsOnly => "records-only",
+            OptionName::OptionalState => "state",
+            OptionName::With => "with",
+            OptionName::At => "at",
+            OptionName::Wait => "wait",
+            OptionName::MostBytes => "most-bytes",
+            OptionName::Allow => "allow",
+            OptionName::Verbose => "verbose",
         }
     }
 
@@ -85,24 +107,61 @@ impl OptionName {
     pub fn is_flag(self) -> bool
         ensures { result ≡ is_flag self }
     {
-        matches!(self, OptionName::RecordsOnly)
+        matches!(self, OptionName::RecordsOnly | OptionName::Verbose)
+    }
+
+    /// Whether the words may leave it out.
+    pub fn may_be_left_out(self) -> bool
+        ensures { result ≡ may_be_left_out self }
+    {
+        matches!(
+            self,
+            OptionName::OptionalState
+                | OptionName::With
+                | OptionName::At
+                | OptionName::Wait
+                | OptionName::MostBytes
+                | OptionName::Allow
+        )
+    }
+
+    /// Whether it names a file that a running replica has itself: words with `--at` leave it out.
+    pub fn is_place(self) -> bool
+        ensures { result ≡ is_place self }
+    {
+        matches!(self, OptionName::Config | OptionName::State)
     }
 }
 
 static DOMAIN: [OptionName; 1] = [OptionName::Domain];
 
-static CONFIG: [OptionName; 1] = [OptionName::Config];
+static CONFIG: [OptionName; 2] = [OptionName::Config, OptionName::With];
 
-static STATE: [OptionName; 2] = [OptionName::Config, OptionName::State];
+static REPORT: [OptionName; 2] = [OptionName::Config, OptionName::OptionalState];
 
-static STATE_DOMAIN: [OptionName; 3] = [OptionName::Config, OptionName::State, OptionName::Domain];
+static STATE_DOMAIN: [OptionName; 4] = [
+    OptionName::Config,
+    OptionName::State,
+    OptionName::Domain,
+    OptionName::Verbose,
+];
 
-static OBSERVE: [OptionName; 5] = [
+static OBSERVE: [OptionName; 7] = [
     OptionName::Config,
     OptionName::State,
     OptionName::Domain,
     OptionName::Endpoint,
     OptionName::Key,
+    OptionName::Wait,
+    OptionName::Verbose,
+];
+
+static MERGE: [OptionName; 5] = [
+    OptionName::Config,
+    OptionName::State,
+    OptionName::Wait,
+    OptionName::MostBytes,
+    OptionName::Verbose,
 ];
 
 static MIGRATE: [OptionName; 4] = [
@@ -112,23 +171,45 @@ static MIGRATE: [OptionName; 4] = [
     OptionName::RecordsOnly,
 ];
 
-static POLLS: [OptionName; 3] = [OptionName::Config, OptionName::State, OptionName::Now];
+static RESEED: [OptionName; 4] = [
+    OptionName::Config,
+    OptionName::State,
+    OptionName::Allow,
+    OptionName::Verbose,
+];
 
-static DISTRUST: [OptionName; 4] = [
+static POLLS: [OptionName; 4] = [
+    OptionName::Config,
+    OptionName::State,
+    OptionName::Now,
+    OptionName::Verbose,
+];
+
+static DISTRUST: [OptionName; 6] = [
     OptionName::Config,
     OptionName::State,
     OptionName::Domain,
     OptionName::Key,
+    OptionName::Wait,
+    OptionName::Verbose,
 ];
 
-static SERVE: [OptionName; 4] = [
+static SERVE: [OptionName; 5] = [
     OptionName::Config,
     OptionName::State,
     OptionName::Listen,
     OptionName::Sessions,
+    OptionName::Verbose,
 ];
 
-static PULL: [OptionName; 3] = [OptionName::Config, OptionName::State, OptionName::Peer];
+static PULL: [OptionName; 6] = [
+    OptionName::Config,
+    OptionName::State,
+    OptionName::Peer,
+    OptionName::Wait,
+    OptionName::MostBytes,
+    OptionName::Verbose,
+];
 
 impl CommandName {
     /// The subcommand's word.
@@ -137,12 +218,14 @@ impl CommandName {
     {
         match self {
             CommandName::Canon => "canon",
+            CommandName::Config => "config",
             CommandName::Report => "report",
             CommandName::Bundle => "bundle",
             CommandName::Explain => "explain",
             CommandName::Observe => "observe",
             CommandName::Merge => "merge",
             CommandName::Migrate => "migrate",
+            CommandName::Reseed => "reseed",
             CommandName::Polls => "polls",
             CommandName::Distrust => "distrust",
             CommandName::Serve => "serve",
@@ -156,12 +239,14 @@ impl CommandName {
     {
         match self {
             CommandName::Canon => DOMAIN.as_slice(),
-            CommandName::Report => CONFIG.as_slice(),
+            CommandName::Config => CONFIG.as_slice(),
+            CommandName::Report => REPORT.as_slice(),
             CommandName::Bundle => STATE_DOMAIN.as_slice(),
             CommandName::Explain => STATE_DOMAIN.as_slice(),
             CommandName::Observe => OBSERVE.as_slice(),
-            CommandName::Merge => STATE.as_slice(),
+            CommandName::Merge => MERGE.as_slice(),
             CommandName::Migrate => MIGRATE.as_slice(),
+            CommandName::Reseed => RESEED.as_slice(),
             CommandName::Polls => POLLS.as_slice(),
             CommandName::Distrust => DISTRUST.as_slice(),
             CommandName::Serve => SERVE.as_slice(),

@@ -44,6 +44,9 @@ pub enum CommandError {
     /// A snapshot, a state file or a message of another replica is refused.
     #[error("{0}")]
     Sync(SyncError),
+    /// The journal beside a state file is refused.
+    #[error("journal: {0}")]
+    Journal(SyncError),
     /// A session with another replica ended before its last answer was taken.
     #[error("{0}")]
     Pull(PullFault),
@@ -75,7 +78,7 @@ pub fn status(error: &CommandError) -> u8
         CommandError::Io => 3,
         CommandError::Name(_) | CommandError::Document(_) | CommandError::Config(_) => 1,
         CommandError::Take(_) | CommandError::Observe(_) | CommandError::Poll(_) => 1,
-        CommandError::Sync(why) => sync_status(why),
+        CommandError::Sync(why) | CommandError::Journal(why) => sync_status(why),
         CommandError::Pull(fault) => sync_status(&fault.why),
         CommandError::Full => 1,
     }

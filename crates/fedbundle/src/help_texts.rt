@@ -25,17 +25,32 @@ for each X.509 authority a line `key` with its key id. It writes no file.
 Ends with 0; with 1 where the document or the name of the domain is refused, and then
 nothing is printed.";
 
+const CONFIG_NOTES: &str = "\
+Reads the configuration, and with --with another one, and nothing from standard input.
+
+Writes to standard output a line `config` with the configuration's digest, and then its
+relationships, its trust domains and its seeds, a line each; with --with the lines that
+only the first configuration has, each after `- `, and then those that only the other
+has, each after `+ `. It writes no file. Replicas exchange receipts only under equal
+configurations, which have one digest.
+
+Ends with 0; with 1 where two configurations have two digests; with 1 and nothing printed
+where one is refused.";
+
 const REPORT_NOTES: &str = "\
-Reads the configuration, and from standard input receipts, each a line of at most
-8,388,608 bytes, as `observe` prints them. At most 65,536 different ones are taken.
+Reads the configuration. With --state it reads the state file, and nothing from standard
+input. Without it, it reads from standard input receipts, each a line of at most 8,388,608
+bytes, as `observe` prints them. At most 65,536 different ones are taken, and no record of
+distrust is known.
 
 Writes to standard output the report: the configuration's digest, how many receipts are
 held and how many of them are pending, and for each domain its current document, its
-accepted documents and their conflicts. Writes to standard error the number of each line
-that is not taken, and why. It writes no file.
+accepted documents, their conflicts and the keys that are distrusted there. Writes to
+standard error the number of each line that is not taken, and why. It writes no file.
 
 Ends with 0; with 1 where a line was not taken, and the report is printed all the same;
-with 1 and no report where the configuration is refused or too many receipts fit it.";
+with 1 and no report where the configuration or the state is refused or too many receipts
+fit.";
 
 const BUNDLE_NOTES: &str = "\
 Reads the configuration and the state file, and nothing from standard input.
@@ -92,6 +107,17 @@ alone. Writes to standard error a line for each record and each receipt that is 
 
 Ends with 0; with 1 where something was left out, and the rest is printed; with 1 and
 nothing printed where anything read is refused.";
+
+const RESEED_NOTES: &str = "\
+Reads the configuration and the state file, and nothing from standard input.
+
+Writes to standard output the configuration with the same relationships, whose seeds are
+the current bundles. It writes no file. The records of distrust go along by `migrate
+--records-only`.
+
+Ends with 0; with 1 where anything read is refused, or where a current bundle lists a
+distrusted key or another bundle has its sequence: then each such domain, but for the one
+of --allow, has a line on standard error, and nothing else is printed.";
 
 const POLLS_NOTES: &str = "\
 Reads the configuration, the state file, and from standard input the polls so far in their
@@ -163,6 +189,13 @@ impl OptionName {
             OptionName::Peer => "ADDRESS",
             OptionName::To => "FILE",
             OptionName::RecordsOnly => "",
+            OptionName::OptionalState => "FILE",
+            OptionName::With => "FILE",
+            OptionName::At => "PATH",
+            OptionName::Wait => "SECONDS",
+            OptionName::MostBytes => "BYTES",
+            OptionName::Allow => "DOMAIN",
+            OptionName::Verbose => "",
         }
     }
 
@@ -184,6 +217,15 @@ impl OptionName {
                 "The address at which the other replica serves: an IP address and a port",
             OptionName::To => "The other configuration, as JSON with the same limits",
             OptionName::RecordsOnly => "Takes the records of distrust alone, and no receipt",
+            OptionName::OptionalState => "The state file, in place of standard input",
+            OptionName::With => "What to compare with, as JSON with the same limits",
+            OptionName::At => "The socket of a running replica, in place of the two files",
+            OptionName::Wait =>
+                "How long to wait for the state's lock, from 0 to 86400 seconds [60]",
+            OptionName::MostBytes =>
+                "How many bytes to take at most, with those of the state file [4294967296]",
+            OptionName::Allow => "A domain whose current bundle may be a seed in any case",
+            OptionName::Verbose => "Says more on standard error",
         }
     }
 }
@@ -195,8 +237,9 @@ impl CommandName {
             CommandName::Canon => {
                 "Prints the bundle document on standard input in its canonical form, with its ids"
             }
+            CommandName::Config => "Prints what a configuration says, or where two differ",
             CommandName::Report => {
-                "Reads receipt lines on standard input and prints what they make a replica accept"
+                "Prints what receipts make a replica accept: those of the state file, or of standard input"
             }
             CommandName::Bundle => "Prints the current bundle of a domain",
             CommandName::Explain => {
@@ -207,6 +250,7 @@ impl CommandName {
             }
             CommandName::Merge => "Takes what the snapshot on standard input holds",
             CommandName::Migrate => "Prints the state file for another configuration",
+            CommandName::Reseed => "Prints a configuration whose seeds are the current bundles",
             CommandName::Polls => {
                 "Reads poll lines on standard input and prints when each bundle is to be fetched next"
             }
@@ -220,28 +264,38 @@ impl CommandName {
     pub(crate) fn usage<'a>(self) -> &'a str {
         match self {
             CommandName::Canon => "fedbundle canon --domain <DOMAIN>",
-            CommandName::Report => "fedbundle report --config <FILE>",
+            CommandName::Config => "fedbundle config --config <FILE> [--with <FILE>]",
+            CommandName::Report => "fedbundle report --config <FILE> [--state <FILE>]",
             CommandName::Bundle => {
-                "fedbundle bundle --config <FILE> --state <FILE> --domain <DOMAIN>"
+                "fedbundle bundle --config <FILE> --state <FILE> --domain <DOMAIN> [--verbose]"
             }
             CommandName::Explain => {
-                "fedbundle explain --config <FILE> --state <FILE> --domain <DOMAIN>"
+                "fedbundle explain --config <FILE> --state <FILE> --domain <DOMAIN> [--verbose]"
             }
             CommandName::Observe => {
-                "fedbundle observe --config <FILE> --state <FILE> --domain <DOMAIN> --endpoint <SPIFFE_ID> --key <KEY_ID>"
+                "fedbundle observe --config <FILE> --state <FILE> --domain <DOMAIN> --endpoint <SPIFFE_ID> --key <KEY_ID> [--wait <SECONDS>] [--verbose]"
             }
-            CommandName::Merge => "fedbundle merge --config <FILE> --state <FILE>",
+            CommandName::Merge => {
+                "fedbundle merge --config <FILE> --state <FILE> [--wait <SECONDS>] [--most-bytes <BYTES>] [--verbose]"
+            }
             CommandName::Migrate => {
                 "fedbundle migrate --config <FILE> --state <FILE> --to <FILE> [--records-only]"
             }
-            CommandName::Polls => "fedbundle polls --config <FILE> --state <FILE> --now <SECONDS>",
+            CommandName::Reseed => {
+                "fedbundle reseed --config <FILE> --state <FILE> [--allow <DOMAIN>] [--verbose]"
+            }
+            CommandName::Polls => {
+                "fedbundle polls --config <FILE> --state <FILE> --now <SECONDS> [--verbose]"
+            }
             CommandName::Distrust => {
-                "fedbundle distrust --config <FILE> --state <FILE> --domain <DOMAIN> --key <KEY_ID>"
+                "fedbundle distrust --config <FILE> --state <FILE> --domain <DOMAIN> --key <KEY_ID> [--wait <SECONDS>] [--verbose]"
             }
             CommandName::Serve => {
-                "fedbundle serve --config <FILE> --state <FILE> --listen <ADDRESS> --sessions <COUNT>"
+                "fedbundle serve --config <FILE> --state <FILE> --listen <ADDRESS> --sessions <COUNT> [--verbose]"
             }
-            CommandName::Pull => "fedbundle pull --config <FILE> --state <FILE> --peer <ADDRESS>",
+            CommandName::Pull => {
+                "fedbundle pull --config <FILE> --state <FILE> --peer <ADDRESS> [--wait <SECONDS>] [--most-bytes <BYTES>] [--verbose]"
+            }
         }
     }
 
@@ -249,12 +303,14 @@ impl CommandName {
     pub(crate) fn notes<'a>(self) -> &'a str {
         match self {
             CommandName::Canon => CANON_NOTES,
+            CommandName::Config => CONFIG_NOTES,
             CommandName::Report => REPORT_NOTES,
             CommandName::Bundle => BUNDLE_NOTES,
             CommandName::Explain => EXPLAIN_NOTES,
             CommandName::Observe => OBSERVE_NOTES,
             CommandName::Merge => MERGE_NOTES,
             CommandName::Migrate => MIGRATE_NOTES,
+            CommandName::Reseed => RESEED_NOTES,
             CommandName::Polls => POLLS_NOTES,
             CommandName::Distrust => DISTRUST_NOTES,
             CommandName::Serve => SERVE_NOTES,

@@ -1,7 +1,7 @@
-//! `merge`: what a snapshot holds, taken into what is held.
+//! `merge`: what a snapshot holds, taken into what is held; read and taken in one call, or in two.
 ghost use Rattle.std.specs.Prelude.{◌≡◌, IsErrOf};
 ghost use Rattle.fedbundle.specs.CommandRun.{device_run, run_of, state_run};
-ghost use Rattle.fedbundle.specs.Merge.{RunsMerge};
+ghost use Rattle.fedbundle.specs.Merge.{RunsMerge, TakesOther};
 ghost use Rattle.fedbundle.specs.declared.error.CommandError.TheVariants.{Io, Sync};
 ghost use Rattle.replica_core.specs.declared.error.SyncError.TheVariants.{Io as DeviceFailed};
 
@@ -37,7 +37,28 @@ pub fn run_merge<C: Closure, R: Source, W: Sink>(
     ensures sink_sound { (IsErrOf result Io → ⊥) → W.has_failed sink.new ≡ W.has_failed sink.old }
 {
     let other: C = read_snapshot(alloc, closure.config(), source)?;
-    let count = closure.merge(&other)?;
+    take_other(closure, &other, sink)
+}
+
+/// Takes all receipts and records of distrust of another closure, and writes a line `new` with how
+/// many of the receipts were not held.
+///
+/// # Errors
+/// `Take` where what the other holds is not taken: then what is held is as it was, and nothing was
+/// written. `Io` where the sink failed: then it is taken, and a beginning of the line was written.
+pub fn take_other<C: Closure, W: Sink>(
+    closure: &mut C,
+    other: &C,
+    sink: &mut W,
+) -> Result<(), CommandError>
+    ensures takes { TakesOther (C.state other.now).meaning
+        (device_run W.contents W.has_failed sink.old sink.new)
+        (state_run (C.state closure.old) (C.state closure.new)) result }
+
+    // Where no fault of the sink is reported, none was passed over.
+    ensures sink_sound { (IsErrOf result Io → ⊥) → W.has_failed sink.new ≡ W.has_failed sink.old }
+{
+    let count = closure.merge(other)?;
     write_counted(b"new ", count as u64, sink)?;
     Ok(())
 }

@@ -8,7 +8,7 @@ use fed_config::Config;
 use replica_core::SyncError;
 use replica_sync::{read_snapshot, write_snapshot};
 use std::alloc::{AllocError, Global};
-use std::fs::{File, Files, Metadata, OpenFile, OpenOptions, Permissions};
+use std::fs::{File, Files, Metadata, OpenFile, OpenOptions, Permissions, TryLockError};
 use std::io::BufWriter;
 use std::os::unix::fs::{MetadataExt, OpenOptionsExt, PermissionsExt, fchown};
 use std::{fs, io};
@@ -36,27 +36,67 @@ pub struct StateLock {
     _file: File,
 }
 
-/// Waits until no other command that writes this state file is at work. A lock's file that is not
-/// there is made with the mode 0600, so that no other account can lock it. Where the file was
-/// removed or replaced while it was waited for, the new one is locked.
+/// Takes the lock, or returns `None` at once where another command that writes this state file is
+/// at work. A lock's file that is not there is made with the mode 0600, so that no other account
+/// can lock it. Where the file was removed or replaced meanwhile, the new one is locked.
 ///
 /// # Errors
 /// - [`SyncError::Io`]: the lock's file cannot be made or locked, or was replaced a hundred times,
 /// - [`SyncError::NoMemory`]: memory ran out.
-pub fn lock_state<R: Files<File = File>>(
+pub fn try_lock_state<R: Files<File = File>>(
     files: &R,
     alloc: Global,
     path: &str,
-) -> Result<StateLock, SyncError> {
+) -> Result<Option<StateLock>, SyncError> {
     let name = with_ending(alloc, path, ".lock")?;
     for _ in 0..MAX_LOCK_TRIES {
         let file = open_lock(files, name.as_str())?;
-        to_sync(file.lock())?;
+        if !has_locked(&file)? {
+            return Ok(None);
+        }
         if is_named(files, &file, name.as_str())? {
-            return Ok(StateLock { _file: file });
+            return Ok(Some(StateLock { _file: file }));
         }
     }
     Err(SyncError::Io)
+}
+
+/// How many bytes the state file has, or `None` where there is none.
+///
+/// # Errors
+/// Where the system does not say: `NoMemory` if memory ran out, and else `Io`.
+pub fn state_bytes<R: Files>(files: &R, path: &str) -> Result<Option<u64>, SyncError> {
+    Ok(found(fs::metadata(files, path))?.map(|state| state.len()))
+}
+
+/// The state file as it was found, or that there was none. The file is kept open, so that the
+/// system gives its number to no other file.
+#[derive(Drop)]
+pub struct SeenState {
+    file: Option<File>,
+}
+
+/// Remembers which state file there is.
+///
+/// # Errors
+/// Where the file is there and cannot be opened, `NoMemory` if the system says that memory ran out,
+/// and else `Io`.
+pub fn see_state<R: Files<File = File>>(files: &R, path: &str) -> Result<SeenState, SyncError> {
+    let file = found(fs::open(files, path))?;
+    Ok(SeenState { file })
+}
+
+impl SeenState {
+    /// Whether no command has written the state file since: each gives it to a new file.
+    ///
+    /// # Errors
+    /// Where the system does not say: `NoMemory` if memory ran out, and else `Io`.
+    pub fn is_last<R: Files>(&self, files: &R, path: &str) -> Result<bool, SyncError> {
+        match &self.file {
+            Some(file) => is_named(files, file, path),
+            None => Ok(found(fs::metadata(files, path))?.is_none()),
+        }
+    }
 }
 
 /// The closure whose snapshot stands in the file. A file that is not there stands for one that
@@ -65,7 +105,7 @@ pub fn lock_state<R: Files<File = File>>(
 /// # Errors
 /// Those of [`read_snapshot`]. Where the file is there and cannot be opened, `NoMemory` if the
 /// system says that memory ran out, and else `Io`.
-pub fn load_state<C: Closure, R: Files>(
+pub(crate) fn load_snapshot<C: Closure, R: Files>(
     files: &R,
     alloc: Global,
     config: &Config,
@@ -92,7 +132,7 @@ pub fn load_state<C: Closure, R: Files>(
 /// # Errors
 /// - [`SyncError::Io`]: the system refused a step,
 /// - [`SyncError::NoMemory`]: memory ran out.
-pub fn save_state<C: Closure, R: Files<File = File>>(
+pub(crate) fn save_snapshot<C: Closure, R: Files<File = File>>(
     files: &R,
     alloc: Global,
     closure: &C,
@@ -116,11 +156,20 @@ fn open_lock<R: Files<File = File>>(files: &R, name: &str) -> Result<File, SyncE
     to_sync(options.open(files, name))
 }
 
+// Whether the file is locked now; else another open of it has the lock.
+fn has_locked(file: &File) -> Result<bool, SyncError> {
+    match file.try_lock() {
+        Ok(()) => Ok(true),
+        Err(TryLockError::WouldBlock) => Ok(false),
+        Err(TryLockError::Error(error)) => Err(fault_of(&error)),
+    }
+}
+
 // Whether the open file is the one that has the name now.
 fn is_named<R: Files>(files: &R, file: &File, name: &str) -> Result<bool, SyncError> {
-    let locked = to_sync(file.metadata())?;
+    let own = to_sync(file.metadata())?;
     let named = found(fs::metadata(files, name))?;
-    Ok(named.is_some_and(|it| (it.dev(), it.ino()) == (locked.dev(), locked.ino())))
+    Ok(named.is_some_and(|it| (it.dev(), it.ino()) == (own.dev(), own.ino())))
 }
 
 // The file that is to replace the one at the path.
@@ -150,7 +199,7 @@ fn take_access(file: &File, other: &Metadata) -> Result<(), SyncError> {
 }
 
 // What the system says of a name, or `None` where nothing has the name.
-fn found<T: Drop>(answer: io::Result<T>) -> Result<Option<T>, SyncError> {
+pub(crate) fn found<T: Drop>(answer: io::Result<T>) -> Result<Option<T>, SyncError> {
     match answer {
         Ok(value) => Ok(Some(value)),
         Err(error) if error.kind() == io::ErrorKind::NotFound => Ok(None),
@@ -178,7 +227,7 @@ fn sync_folder<R: Files>(files: &R, path: &str) -> Result<(), SyncError> {
     to_sync(opened.sync_all())
 }
 
-fn with_ending(alloc: Global, path: &str, ending: &str) -> Result<String, AllocError> {
+pub(crate) fn with_ending(alloc: Global, path: &str, ending: &str) -> Result<String, AllocError> {
     let mut name = String::new(alloc);
     name.push_str(path)?;
     name.push_str(ending)?;
@@ -193,7 +242,7 @@ fn to_sync<T: Drop>(answer: io::Result<T>) -> Result<T, SyncError> {
 }
 
 // Of all faults of the system lack of memory alone has a name of its own.
-fn fault_of(error: &io::Error) -> SyncError {
+pub(crate) fn fault_of(error: &io::Error) -> SyncError {
     match error.kind() {
         io::ErrorKind::OutOfMemory => SyncError::NoMemory,
         _ => SyncError::Io,

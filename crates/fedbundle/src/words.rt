@@ -1,7 +1,9 @@
 //! Reads the words of the command line. `specs/Words` has the command as `clap` knows it.
-ghost use Rattle.std.specs.Prelude.{◌≡◌, ℕ, false, Some, IfOk, IfSome, map};
+ghost use Rattle.std.specs.Prelude.{◌≡◌, ℕ, false, IfOk, IfSome, map, option_map};
+ghost use Rattle.std.specs.List.{list_all};
 ghost use Rattle.clap.specs.Words.{app_of, found_of, rule_of, rows_of};
-ghost use Rattle.fedbundle.specs.Words.{Calls, given, leaf, name_text, rule_of_option, the_command};
+ghost use Rattle.fedbundle.specs.Words.{Calls, given, is_settled, is_settled_in, leaf, name_text};
+ghost use Rattle.fedbundle.specs.Words.{rule_of_option, the_command};
 
 use crate::command_name::{COMMANDS, CommandName, OptionName};
 use crate::help_texts;
@@ -14,8 +16,9 @@ use std::alloc::{AllocError, AllocFailed, Global};
 pub struct Call<'a> {
     /// The subcommand.
     pub name: CommandName,
-    /// The texts of its options, in the order of [`CommandName::options`].
-    pub texts: Vec<&'a str>,
+    /// The texts of its options, in the order of [`CommandName::options`]: none for an option that
+    /// the words leave out.
+    pub texts: Vec<Option<&'a str>>,
 }
 
 /// Why words are no call.
@@ -31,16 +34,17 @@ pub enum WordsError {
 
 /// Reads the words after the program's name, as `clap` reads them for the command with these
 /// subcommands, each of whose options has one text: the subcommand, and the text of each of its
-/// options, all of which it wants. A flag's text is `true` where it is given, and else `false`.
+/// options. A flag's text is `true` where it is given, and else `false`. Words with `--at` leave
+/// out `--config` and `--state`, which a running replica has itself.
 ///
 /// # Errors
 /// - [`WordsError::Words`]: `clap` refuses the words, or they ask for help or for the version,
-/// - [`WordsError::Usage`]: `clap` takes the words, and the subcommand or an option of it is
-///   missing,
+/// - [`WordsError::Usage`]: `clap` takes the words, and the subcommand or an option that it wants
+///   is missing, or `--at` stands beside a file,
 /// - [`WordsError::NoMemory`]: memory ran out.
 pub fn read_words<'a>(alloc: Global, words: &'a [&'a str]) -> Result<Call<'a>, WordsError>
     ensures { IfOk result (λ call. Calls (map (λ w. w.now) words.now) call.name
-        (map (λ t. t.now) call.texts.items)) }
+        (map (option_map (λ t. t.now)) call.texts.items)) }
 {
     let matches = command(alloc)?.try_get_matches_from(words)?;
     let Some((word, options)) = matches.subcommand() else {
@@ -49,7 +53,11 @@ pub fn read_words<'a>(alloc: Global, words: &'a [&'a str]) -> Result<Call<'a>, W
     let Some(name) = name_of(word) else {
         return Err(WordsError::Usage);
     };
-    let texts = texts_of(alloc, options, name.options())?;
+    let wanted = name.options();
+    if !are_settled(options, wanted) {
+        return Err(WordsError::Usage);
+    }
+    let texts = texts_of(alloc, options, wanted)?;
     Ok(Call { name, texts })
 }
 
@@ -129,20 +137,40 @@ fn name_of(word: &str) -> Option<CommandName>
     COMMANDS.iter().find(|name| name.text() == word).copied()
 }
 
+// Whether each option may stand as it does.
+fn are_settled(matches: &ArgMatches<'_>, options: &[OptionName]) -> bool
+    ensures { result ≡ list_all (is_settled_in (rows_of (found_of matches.now))) options.now }
+{
+    let at = matches.get_str(OptionName::At.text()).is_some();
+    'options: for &option in options {
+        if !is_settled(at, matches.get_str(option.text()).is_some(), option) {
+            return false;
+        }
+    }
+    true
+}
+
+fn is_settled(at: bool, has_text: bool, option: OptionName) -> bool
+    ensures { result ≡ is_settled at has_text option }
+{
+    if at && option.is_place() {
+        !has_text
+    } else {
+        has_text || option.may_be_left_out()
+    }
+}
+
 fn texts_of<'a>(
     alloc: Global,
     matches: &ArgMatches<'a>,
     options: &[OptionName],
-) -> Result<Vec<&'a str>, WordsError>
+) -> Result<Vec<Option<&'a str>>, AllocError>
     ensures { IfOk result (λ texts. map (given (rows_of (found_of matches.now))) options.now
-        ≡ map Some (map (λ t. t.now) texts.items)) }
+        ≡ map (option_map (λ t. t.now)) texts.items) }
 {
     let mut texts = Vec::new(alloc);
     'options: for &option in options {
-        let Some(text) = matches.get_str(option.text()) else {
-            return Err(WordsError::Usage);
-        };
-        texts.push(text)?;
+        texts.push(matches.get_str(option.text()))?;
     }
     Ok(texts)
 }

@@ -1,16 +1,24 @@
 // The subcommands: each reads its options in their order, then its state, runs the command's
-// function over the streams, and writes its state.
+// function over the streams, and writes its state. What a command takes is read before it takes the
+// lock of the state, and a fault of that is reported after those of the lock, the state and the
+// options.
 use crate::exit::Exit;
+use crate::keeping::{Keeping, keeping_of, load, lock, look, room_left, save};
+use crate::limited::Limited;
+use crate::options::{given, wanted};
 use crate::streams::{complaints, input, output, output_line};
-use crate::{command_line, exchange, options};
+use crate::{anew, command_line, exchange, options, printing};
+use bundle_doc::MAX_DOCUMENT_BYTES;
 use bundle_view::Verdict;
+use byte_lines::{FromRead, MemSource, read_up_to};
 use fed_config::Config;
 use fedbundle::{
-    Call, CommandError, CommandName, StateLock, load_state, lock_state, read_words, run_bundle,
-    run_canon, run_distrust, run_explain, run_merge, run_migrate, run_observe, run_polls,
-    run_report, save_state,
+    Call, CommandError, CommandName, OptionName, read_words, run_bundle, run_canon, run_distrust,
+    run_explain, run_migrate, run_observe, run_polls, run_report, take_other,
 };
 use migration::Choice;
+use replica_sync::read_snapshot;
+use std::io::Read;
 use trust_closure::IndexedClosure;
 
 /// What the words ask for, done: the exit status 0, or 1 where an input was refused and the rest is
@@ -26,54 +34,54 @@ fn carry_out(rt: &HostRuntime, call: &Call<'_>) -> Result<u8, Exit> {
     if has_empty_path(call) {
         return Err(Exit::Usage);
     }
-    match (call.name, call.texts.as_slice()) {
-        (CommandName::Canon, [domain]) => canon(rt, domain),
-        (CommandName::Serve, [config, state, address, sessions]) => {
-            let sessions = options::sessions(sessions)?;
-            let config = options::config(rt, rt.alloc(), config)?;
-            exchange::serve(rt, &config, state, address, sessions)
-        }
-        (name, [config, given @ ..]) => {
-            let config = options::config(rt, rt.alloc(), config)?;
-            carry_out_under(rt, name, &config, given)
-        }
-        _ => Err(Exit::Usage),
+    options::manner_of(call)?;
+    match call.name {
+        CommandName::Canon => canon(rt, wanted(call, OptionName::Domain)?),
+        CommandName::Serve => serve(rt, call),
+        _ => carry_out_with(rt, call),
     }
 }
 
-// The paths of the configuration and of the state, and of a second configuration, are the first
-// options of all commands but `canon`.
 fn has_empty_path(call: &Call<'_>) -> bool {
-    let paths = match call.name {
-        CommandName::Canon => 0,
-        CommandName::Report => 1,
-        CommandName::Migrate => 3,
-        _ => 2,
-    };
-    call.texts.iter().take(paths).any(|path| path.is_empty())
+    let paths = [
+        OptionName::Config,
+        OptionName::State,
+        OptionName::OptionalState,
+        OptionName::To,
+        OptionName::With,
+    ];
+    paths.iter().any(|option| given(call, *option) == Some(""))
 }
 
-fn carry_out_under(
-    rt: &HostRuntime,
-    name: CommandName,
-    config: &Config,
-    given: &[&str],
-) -> Result<u8, Exit> {
-    match (name, given) {
-        (CommandName::Report, []) => report(rt, config),
-        (CommandName::Merge, [state]) => merge(rt, config, state),
-        (CommandName::Migrate, [state, to, records_only]) => {
-            migrate(rt, config, state, to, records_only)
-        }
-        (CommandName::Bundle, [state, domain]) => bundle(rt, config, state, domain),
-        (CommandName::Explain, [state, domain]) => explain(rt, config, state, domain),
-        (CommandName::Polls, [state, now]) => polls(rt, config, state, now),
-        (CommandName::Pull, [state, address]) => exchange::pull(rt, config, state, address),
-        (CommandName::Distrust, [state, domain, key]) => distrust(rt, config, state, domain, key),
-        (CommandName::Observe, [state, domain, endpoint, key]) => {
-            observe(rt, config, state, domain, endpoint, key)
-        }
-        _ => Err(Exit::Usage),
+fn serve(rt: &HostRuntime, call: &Call<'_>) -> Result<u8, Exit> {
+    let sessions = options::sessions(wanted(call, OptionName::Sessions)?)?;
+    let config = config_of(rt, call)?;
+    exchange::serve(rt, &config, call, sessions)
+}
+
+fn carry_out_with(rt: &HostRuntime, call: &Call<'_>) -> Result<u8, Exit> {
+    let config = config_of(rt, call)?;
+    carry_out_under(rt, &config, call)
+}
+
+fn config_of(rt: &HostRuntime, call: &Call<'_>) -> Result<Config, Exit> {
+    Ok(options::config(rt, rt.alloc(), wanted(call, OptionName::Config)?)?)
+}
+
+fn carry_out_under(rt: &HostRuntime, config: &Config, call: &Call<'_>) -> Result<u8, Exit> {
+    match call.name {
+        CommandName::Canon | CommandName::Serve => Err(Exit::Usage),
+        CommandName::Config => printing::config(rt, config, call),
+        CommandName::Report => report(rt, config, call),
+        CommandName::Bundle => bundle(rt, config, call),
+        CommandName::Explain => explain(rt, config, call),
+        CommandName::Observe => observe(rt, config, call),
+        CommandName::Merge => merge(rt, config, call),
+        CommandName::Migrate => migrate(rt, config, call),
+        CommandName::Reseed => anew::reseed(rt, config, call),
+        CommandName::Polls => polls(rt, config, call),
+        CommandName::Distrust => distrust(rt, config, call),
+        CommandName::Pull => exchange::pull(rt, config, call),
     }
 }
 
@@ -83,7 +91,14 @@ fn canon(rt: &HostRuntime, domain: &str) -> Result<u8, Exit> {
     Ok(0)
 }
 
-fn report(rt: &HostRuntime, config: &Config) -> Result<u8, Exit> {
+fn report(rt: &HostRuntime, config: &Config, call: &Call<'_>) -> Result<u8, Exit> {
+    match given(call, OptionName::OptionalState) {
+        Some(path) => printing::report_state(rt, config, path),
+        None => report_lines(rt, config),
+    }
+}
+
+fn report_lines(rt: &HostRuntime, config: &Config) -> Result<u8, Exit> {
     let mut errors = complaints(rt);
     match run_report(
         rt.alloc(),
@@ -98,9 +113,9 @@ fn report(rt: &HostRuntime, config: &Config) -> Result<u8, Exit> {
     }
 }
 
-fn bundle(rt: &HostRuntime, config: &Config, state: &str, domain: &str) -> Result<u8, Exit> {
-    let closure = load_closure(rt, config, state)?;
-    bundle_on(rt, &closure, domain)
+fn bundle(rt: &HostRuntime, config: &Config, call: &Call<'_>) -> Result<u8, Exit> {
+    let closure = look(rt, config, keeping_of(call)?)?;
+    bundle_on(rt, &closure, wanted(call, OptionName::Domain)?)
 }
 
 fn bundle_on(rt: &HostRuntime, closure: &IndexedClosure, domain: &str) -> Result<u8, Exit> {
@@ -112,9 +127,9 @@ fn bundle_on(rt: &HostRuntime, closure: &IndexedClosure, domain: &str) -> Result
     }
 }
 
-fn explain(rt: &HostRuntime, config: &Config, state: &str, domain: &str) -> Result<u8, Exit> {
-    let closure = load_closure(rt, config, state)?;
-    explain_on(rt, &closure, domain)
+fn explain(rt: &HostRuntime, config: &Config, call: &Call<'_>) -> Result<u8, Exit> {
+    let closure = look(rt, config, keeping_of(call)?)?;
+    explain_on(rt, &closure, wanted(call, OptionName::Domain)?)
 }
 
 fn explain_on(rt: &HostRuntime, closure: &IndexedClosure, domain: &str) -> Result<u8, Exit> {
@@ -132,65 +147,106 @@ fn explain_on(rt: &HostRuntime, closure: &IndexedClosure, domain: &str) -> Resul
     }
 }
 
-fn observe(
+fn observe(rt: &HostRuntime, config: &Config, call: &Call<'_>) -> Result<u8, Exit> {
+    let bytes = observe_read(rt);
+    observe_bytes(rt, config, call, bytes)
+}
+
+fn observe_read(rt: &HostRuntime) -> Result<Vec<u8>, CommandError> {
+    Ok(read_up_to(rt.alloc(), &mut input(rt), MAX_DOCUMENT_BYTES + 1)?)
+}
+
+fn observe_bytes(
     rt: &HostRuntime,
     config: &Config,
-    state: &str,
-    domain: &str,
-    endpoint: &str,
-    key: &str,
+    call: &Call<'_>,
+    bytes: Result<Vec<u8>, CommandError>,
 ) -> Result<u8, Exit> {
+    let state = keeping_of(call)?;
     let _lock = lock(rt, state)?;
-    let mut closure = load_closure(rt, config, state)?;
-    let observed = observe_on(rt, &mut closure, domain, endpoint, key);
-    save_after(rt, &closure, state, observed)
+    let mut closure = load(rt, config, state.path)?;
+    observe_on(rt, &mut closure, call, bytes)?;
+    save(rt, &closure, state.path)?;
+    Ok(0)
 }
 
 fn observe_on(
     rt: &HostRuntime,
     closure: &mut IndexedClosure,
-    domain: &str,
-    endpoint: &str,
-    key: &str,
+    call: &Call<'_>,
+    bytes: Result<Vec<u8>, CommandError>,
 ) -> Result<(), Exit> {
-    let domain = options::domain(rt.alloc(), domain)?;
-    let endpoint = options::endpoint(rt.alloc(), endpoint)?;
-    let key = options::key(key)?;
-    let verdict = Verdict { endpoint, key };
+    let domain = options::domain(rt.alloc(), wanted(call, OptionName::Domain)?)?;
+    let verdict = read_verdict(rt, call)?;
+    let mut source = MemSource::new(bytes?, Vec::new(rt.alloc()));
     run_observe(
         rt.alloc(),
         closure,
         &domain,
         &verdict,
-        &mut input(rt),
+        &mut source,
         &mut output(rt),
     )?;
     Ok(())
 }
 
-fn merge(rt: &HostRuntime, config: &Config, state: &str) -> Result<u8, Exit> {
+fn read_verdict(rt: &HostRuntime, call: &Call<'_>) -> Result<Verdict, Exit> {
+    let endpoint = options::endpoint(rt.alloc(), wanted(call, OptionName::Endpoint)?)?;
+    let key = options::key(wanted(call, OptionName::Key)?)?;
+    Ok(Verdict { endpoint, key })
+}
+
+fn merge(rt: &HostRuntime, config: &Config, call: &Call<'_>) -> Result<u8, Exit> {
+    let state = keeping_of(call)?;
+    let other = read_other(rt, config, room_left(rt, state));
+    merge_read(rt, config, state, other)
+}
+
+fn read_other(rt: &HostRuntime, config: &Config, most_bytes: u64) -> Result<IndexedClosure, Exit> {
+    let mut limited = Limited::new(rt.stdin(), most_bytes);
+    match read_from(rt, config, &mut limited) {
+        Ok(other) => Ok(other),
+        Err(_) if limited.has_passed() => Err(Exit::TooManyBytes),
+        Err(error) => Err(Exit::Refused(error)),
+    }
+}
+
+fn read_from<R: Read>(
+    rt: &HostRuntime,
+    config: &Config,
+    reader: &mut R,
+) -> Result<IndexedClosure, CommandError> {
+    Ok(read_snapshot(rt.alloc(), config, &mut FromRead::new(reader))?)
+}
+
+fn merge_read(
+    rt: &HostRuntime,
+    config: &Config,
+    state: Keeping<'_>,
+    other: Result<IndexedClosure, Exit>,
+) -> Result<u8, Exit> {
     let _lock = lock(rt, state)?;
-    let mut closure = load_closure(rt, config, state)?;
-    let merged = run_merge(
-        rt.alloc(),
-        &mut closure,
-        &mut input(rt),
-        &mut output_line(rt),
-    );
-    save_after(rt, &closure, state, merged.map_err(Exit::Refused))
+    let mut closure = load(rt, config, state.path)?;
+    take_and_save(rt, &mut closure, other, state.path)
+}
+
+fn take_and_save(
+    rt: &HostRuntime,
+    closure: &mut IndexedClosure,
+    other: Result<IndexedClosure, Exit>,
+    path: &str,
+) -> Result<u8, Exit> {
+    let other = other?;
+    take_other(closure, &other, &mut output_line(rt))?;
+    save(rt, closure, path)?;
+    Ok(0)
 }
 
 // The other configuration is read after the state, as each further option is.
-fn migrate(
-    rt: &HostRuntime,
-    config: &Config,
-    state: &str,
-    to: &str,
-    records_only: &str,
-) -> Result<u8, Exit> {
-    let closure = load_closure(rt, config, state)?;
-    let to = options::config(rt, rt.alloc(), to)?;
-    let choice = if records_only == "true" {
+fn migrate(rt: &HostRuntime, config: &Config, call: &Call<'_>) -> Result<u8, Exit> {
+    let closure = load(rt, config, wanted(call, OptionName::State)?)?;
+    let to = options::config(rt, rt.alloc(), wanted(call, OptionName::To)?)?;
+    let choice = if given(call, OptionName::RecordsOnly) == Some("true") {
         Choice::RecordsOnly
     } else {
         Choice::All
@@ -209,64 +265,33 @@ fn migrate(
     }
 }
 
-fn distrust(
-    rt: &HostRuntime,
-    config: &Config,
-    state: &str,
-    domain: &str,
-    key: &str,
-) -> Result<u8, Exit> {
+fn distrust(rt: &HostRuntime, config: &Config, call: &Call<'_>) -> Result<u8, Exit> {
+    let state = keeping_of(call)?;
     let _lock = lock(rt, state)?;
-    let mut closure = load_closure(rt, config, state)?;
-    let distrusted = distrust_on(rt, &mut closure, domain, key);
-    save_after(rt, &closure, state, distrusted)
+    let mut closure = load(rt, config, state.path)?;
+    distrust_on(rt, &mut closure, call)?;
+    save(rt, &closure, state.path)?;
+    Ok(0)
 }
 
 fn distrust_on(
     rt: &HostRuntime,
     closure: &mut IndexedClosure,
-    domain: &str,
-    key: &str,
+    call: &Call<'_>,
 ) -> Result<(), Exit> {
-    let domain = options::domain(rt.alloc(), domain)?;
-    let key = options::key(key)?;
+    let domain = options::domain(rt.alloc(), wanted(call, OptionName::Domain)?)?;
+    let key = options::key(wanted(call, OptionName::Key)?)?;
     run_distrust(closure, &domain, key)?;
     Ok(())
 }
 
-fn polls(rt: &HostRuntime, config: &Config, state: &str, now: &str) -> Result<u8, Exit> {
-    let closure = load_closure(rt, config, state)?;
-    polls_on(rt, &closure, now)
+fn polls(rt: &HostRuntime, config: &Config, call: &Call<'_>) -> Result<u8, Exit> {
+    let closure = look(rt, config, keeping_of(call)?)?;
+    polls_on(rt, &closure, wanted(call, OptionName::Now)?)
 }
 
 fn polls_on(rt: &HostRuntime, closure: &IndexedClosure, now: &str) -> Result<u8, Exit> {
     let now = options::moment(now)?;
     run_polls(rt.alloc(), closure, now, &mut input(rt), &mut output(rt))?;
     Ok(0)
-}
-
-pub(crate) fn load_closure(
-    rt: &HostRuntime,
-    config: &Config,
-    state: &str,
-) -> Result<IndexedClosure, CommandError> {
-    Ok(load_state(rt, rt.alloc(), config, state)?)
-}
-
-pub(crate) fn lock(rt: &HostRuntime, state: &str) -> Result<StateLock, CommandError> {
-    Ok(lock_state(rt, rt.alloc(), state)?)
-}
-
-// Writes the state where the command is done.
-fn save_after(
-    rt: &HostRuntime,
-    closure: &IndexedClosure,
-    state: &str,
-    done: Result<(), Exit>,
-) -> Result<u8, Exit> {
-    done?;
-    match save_state(rt, rt.alloc(), closure, state) {
-        Ok(()) => Ok(0),
-        Err(error) => Err(Exit::Refused(CommandError::Sync(error))),
-    }
 }

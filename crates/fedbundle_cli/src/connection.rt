@@ -25,6 +25,7 @@ const PAUSE_MILLIS: u64 = 100;
 #[derive(Drop)]
 pub(crate) struct Connection {
     stream: TcpStream,
+    peer: SocketAddr,
     deadline: Instant,
 }
 
@@ -64,6 +65,11 @@ pub(crate) fn connect(rt: &HostRuntime, address: SocketAddr) -> Result<Connectio
 }
 
 impl Connection {
+    /// The address of the other side.
+    pub(crate) fn peer(&self) -> SocketAddr {
+        self.peer
+    }
+
     /// A direction of the connection; either serves for both.
     pub(crate) fn direction<'a>(&'a self, rt: &'a HostRuntime) -> Direction<'a> {
         Direction {
@@ -129,24 +135,28 @@ fn fault_of(error: &io::Error) -> CommandError {
 }
 
 fn accept_stream(rt: &HostRuntime, listener: &TcpListener) -> io::Result<Connection> {
-    let (stream, _) = listener.accept()?;
-    with_timeouts(rt, stream)
+    let (stream, peer) = listener.accept()?;
+    with_timeouts(rt, stream, peer)
 }
 
 fn connect_stream(rt: &HostRuntime, address: SocketAddr) -> io::Result<Connection> {
     let idle = Duration::from_secs(MAX_IDLE_SECONDS);
     let stream = TcpStream::connect_timeout(rt, &address, idle)?;
-    with_timeouts(rt, stream)
+    with_timeouts(rt, stream, address)
 }
 
 // A session whose time begins now. Each write goes out at once, since the other side waits for it.
-fn with_timeouts(rt: &HostRuntime, stream: TcpStream) -> io::Result<Connection> {
+fn with_timeouts(rt: &HostRuntime, stream: TcpStream, peer: SocketAddr) -> io::Result<Connection> {
     let idle = Duration::from_secs(MAX_IDLE_SECONDS);
     stream.set_nodelay(true)?;
     stream.set_read_timeout(Some(idle))?;
     stream.set_write_timeout(Some(idle))?;
     match Instant::now(rt)?.checked_add(Duration::from_secs(MAX_SESSION_SECONDS)) {
-        Some(deadline) => Ok(Connection { stream, deadline }),
+        Some(deadline) => Ok(Connection {
+            stream,
+            peer,
+            deadline,
+        }),
         None => Err(io::Error::from(ErrorKind::TimedOut)),
     }
 }

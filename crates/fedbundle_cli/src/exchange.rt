@@ -1,87 +1,167 @@
 // `serve` and `pull`: a replica's two ends of a session, over sockets. Each loads the state,
 // reads the address, and opens the socket before a session begins; `pull` saves the state at the
 // end.
-use crate::commands::{load_closure, lock};
 use crate::connection::{Connection, accept, connect, listen};
-use crate::exit::{Exit, print_fault};
+use crate::exit::{Exit, print_exit};
+use crate::keeping::{Keeping, keeping_of, load, lock, look, room_left, save};
+use crate::limited::Limited;
 use crate::options;
-use crate::streams::output_line;
+use crate::streams::{error_lines, output_line};
 use byte_lines::{FromRead, FromWrite};
 use fed_config::Config;
-use fedbundle::{CommandError, run_pull, run_serve, save_state, write_served};
-use std::net::TcpListener;
-use trust_closure::IndexedClosure;
+use fedbundle::{
+    Call, CommandError, OptionName, SeenState, journal_path, run_pull, run_serve, see_state,
+    write_served,
+};
+use std::io::{Read, Write};
+use std::net::{SocketAddr, TcpListener};
+use std::{fs, io};
+use trust_closure::{Closure, IndexedClosure};
+
+/// How many sessions are served, and whether each is spoken of.
+#[derive(Clone, Copy)]
+struct Service {
+    sessions: u32,
+    is_verbose: bool,
+}
 
 /// Serves this many sessions, one after another, with what the state file holds at the start. The
 /// fault of a session is reported at its end, and the greatest exit status of all is returned.
 pub(crate) fn serve(
     rt: &HostRuntime,
     config: &Config,
-    state: &str,
-    address: &str,
+    call: &Call<'_>,
     sessions: u32,
 ) -> Result<u8, Exit> {
-    let closure = load_closure(rt, config, state)?;
-    let listener = listen(rt, options::address(address)?)?;
-    Ok(serve_all(rt, &closure, &listener, sessions))
+    let state = keeping_of(call)?;
+    let closure = look(rt, config, state)?;
+    let address = options::address(options::wanted(call, OptionName::Listen)?)?;
+    let listener = listen(rt, address)?;
+    let is_verbose = state.manner.is_verbose;
+    if is_verbose {
+        say_listening(rt, address);
+    }
+    let service = Service {
+        sessions,
+        is_verbose,
+    };
+    Ok(serve_all(rt, &closure, &listener, service))
 }
 
 fn serve_all(
     rt: &HostRuntime,
     closure: &IndexedClosure,
     listener: &TcpListener,
-    sessions: u32,
+    service: Service,
 ) -> u8 {
     let mut worst = 0;
-    for _ in 0..sessions {
-        worst = status_of(rt, serve_next(rt, closure, listener)).max(worst);
+    for _ in 0..service.sessions {
+        let served = serve_next(rt, closure, listener, service.is_verbose);
+        worst = status_of(rt, served).max(worst);
     }
-    let written = write_served(u64::from(sessions), &mut output_line(rt));
-    status_of(rt, written).max(worst)
+    let written = write_served(u64::from(service.sessions), &mut output_line(rt));
+    status_of(rt, written.map_err(Exit::Refused)).max(worst)
 }
 
 fn serve_next(
     rt: &HostRuntime,
     closure: &IndexedClosure,
     listener: &TcpListener,
-) -> Result<(), CommandError> {
+    is_verbose: bool,
+) -> Result<(), Exit> {
     let connection = accept(rt, listener)?;
-    serve_on(rt, closure, &connection)
+    if is_verbose {
+        say_coming(rt, connection.peer());
+    }
+    let count = serve_on(rt, closure, &connection)?;
+    if is_verbose {
+        say_given(rt, connection.peer(), count);
+    }
+    Ok(())
 }
 
 fn serve_on(
     rt: &HostRuntime,
     closure: &IndexedClosure,
     connection: &Connection,
-) -> Result<(), CommandError> {
+) -> Result<u64, CommandError> {
     let mut source = FromRead::new(connection.direction(rt));
     let mut sink = FromWrite::new(connection.direction(rt));
-    run_serve(rt.alloc(), closure, &mut source, &mut sink)?;
-    Ok(())
+    run_serve(rt.alloc(), closure, &mut source, &mut sink)
+}
+
+// In these three, that it cannot be said changes nothing.
+fn say_listening(rt: &HostRuntime, address: SocketAddr) {
+    let mut lines = error_lines(rt);
+    let _ = writeln!(lines, "fedbundle: listens at {address}");
+    if !address.ip().is_loopback() {
+        let _ = writeln!(
+            lines,
+            "fedbundle: warning: {address} is no loopback address: whoever reaches it is given all"
+        );
+    }
+}
+
+fn say_coming(rt: &HostRuntime, peer: SocketAddr) {
+    let _ = writeln!(error_lines(rt), "fedbundle: {peer} came");
+}
+
+fn say_given(rt: &HostRuntime, peer: SocketAddr, answers: u64) {
+    let _ = writeln!(
+        error_lines(rt),
+        "fedbundle: {peer} was given {answers} answers"
+    );
+}
+
+/// What is held when a session begins, and the file that it is of.
+#[derive(Drop)]
+struct Begun {
+    closure: IndexedClosure,
+    file: SeenState,
 }
 
 /// Takes what the replica at the address has, and writes the state, also where the session ends
-/// with a fault. Where there is no connection the state file stays as it is.
-pub(crate) fn pull(
-    rt: &HostRuntime,
-    config: &Config,
-    state: &str,
-    address: &str,
-) -> Result<u8, Exit> {
-    let _lock = lock(rt, state)?;
-    let mut closure = load_closure(rt, config, state)?;
-    let connection = connect(rt, options::address(address)?)?;
-    let pulled = pull_on(rt, &mut closure, &connection);
-    drop(connection);
-    Ok(save_pulled(rt, &closure, state, pulled))
+/// with a fault. Where there is no connection the state file stays as it is. The state is locked
+/// while it is loaded and while it is written, and not while the other replica answers.
+pub(crate) fn pull(rt: &HostRuntime, config: &Config, call: &Call<'_>) -> Result<u8, Exit> {
+    let state = keeping_of(call)?;
+    let mut begun = begin(rt, config, state)?;
+    let address = options::address(options::wanted(call, OptionName::Peer)?)?;
+    let connection = connect(rt, address)?;
+    let pulled = end_session(rt, &mut begun.closure, connection, room_left(rt, state));
+    Ok(end_pull(rt, config, state, &begun, pulled))
 }
 
-fn pull_on(
+fn begin(rt: &HostRuntime, config: &Config, state: Keeping<'_>) -> Result<Begun, Exit> {
+    let _lock = lock(rt, state)?;
+    let closure = load(rt, config, state.path)?;
+    match see_state(rt, state.path) {
+        Ok(file) => Ok(Begun { closure, file }),
+        Err(error) => Err(Exit::Refused(CommandError::Sync(error))),
+    }
+}
+
+fn end_session(
     rt: &HostRuntime,
     closure: &mut IndexedClosure,
+    connection: Connection,
+    most_bytes: u64,
+) -> Result<(), Exit> {
+    let mut answers = Limited::new(connection.direction(rt), most_bytes);
+    match pull_on(rt, closure, &mut answers, &connection) {
+        Ok(()) => Ok(()),
+        Err(_) if answers.has_passed() => Err(Exit::TooManyBytes),
+        Err(error) => Err(Exit::Refused(error)),
+    }
+}
+
+fn pull_on<R: Read>(
+    rt: &HostRuntime,
+    closure: &mut IndexedClosure,
+    answers: &mut R,
     connection: &Connection,
 ) -> Result<(), CommandError> {
-    let mut source = FromRead::new(connection.direction(rt));
+    let mut source = FromRead::new(answers);
     let mut peer = FromWrite::new(connection.direction(rt));
     run_pull(
         rt.alloc(),
@@ -93,21 +173,70 @@ fn pull_on(
 }
 
 // The state is written before a fault of the session is reported.
-fn save_pulled(
+fn end_pull(
     rt: &HostRuntime,
-    closure: &IndexedClosure,
-    state: &str,
-    pulled: Result<(), CommandError>,
+    config: &Config,
+    state: Keeping<'_>,
+    begun: &Begun,
+    pulled: Result<(), Exit>,
 ) -> u8 {
-    let saved = save_state(rt, rt.alloc(), closure, state);
+    let saved = end_saving(rt, config, state, begun);
     let ended = status_of(rt, pulled);
-    status_of(rt, saved.map_err(CommandError::Sync)).max(ended)
+    status_of(rt, saved).max(ended)
+}
+
+// Where another command has written the state meanwhile, or there is a journal, what was pulled is
+// joined to that.
+fn end_saving(
+    rt: &HostRuntime,
+    config: &Config,
+    state: Keeping<'_>,
+    begun: &Begun,
+) -> Result<(), Exit> {
+    let _lock = lock(rt, state)?;
+    if is_as_begun(rt, &begun.file, state.path)? {
+        save(rt, &begun.closure, state.path)
+    } else {
+        join(rt, config, state.path, &begun.closure)
+    }
+}
+
+fn is_as_begun(rt: &HostRuntime, file: &SeenState, path: &str) -> Result<bool, Exit> {
+    if has_journal(rt, path)? {
+        return Ok(false);
+    }
+    match file.is_last(rt, path) {
+        Ok(is_last) => Ok(is_last),
+        Err(error) => Err(Exit::Refused(CommandError::Sync(error))),
+    }
+}
+
+// A journal of which the system does not say whether it is there is found when it is read.
+fn has_journal(rt: &HostRuntime, path: &str) -> Result<bool, Exit> {
+    let name = journal_path(rt.alloc(), path)?;
+    match fs::metadata(rt, name.as_str()) {
+        Ok(_) => Ok(true),
+        Err(error) => Ok(error.kind() != io::ErrorKind::NotFound),
+    }
+}
+
+fn join(
+    rt: &HostRuntime,
+    config: &Config,
+    path: &str,
+    pulled: &IndexedClosure,
+) -> Result<(), Exit> {
+    let mut held = load(rt, config, path)?;
+    match held.merge(pulled) {
+        Ok(_) => save(rt, &held, path),
+        Err(why) => Err(Exit::Refused(CommandError::Take(why))),
+    }
 }
 
 // The exit status of what was done, where a fault is reported.
-fn status_of(rt: &HostRuntime, done: Result<(), CommandError>) -> u8 {
+fn status_of(rt: &HostRuntime, done: Result<(), Exit>) -> u8 {
     match done {
         Ok(()) => 0,
-        Err(error) => print_fault(rt, &error),
+        Err(exit) => print_exit(rt, &exit),
     }
 }

@@ -1,5 +1,6 @@
 // Why the program ends before its command is done.
 use crate::streams::complaints;
+use byte_lines::write_all;
 use fedbundle::{CommandError, WordsError, status, write_fault};
 use std::alloc::AllocError;
 
@@ -9,7 +10,7 @@ pub(crate) enum Exit {
     /// The words are not those of a command, or ask for its help or version.
     Words(clap::Error),
     /// A word is not text, the subcommand or an option is missing, the path of a file is empty, or
-    /// `--sessions` is not a number from 1 to 1,000,000.
+    /// a number is none or out of its range.
     Usage,
     /// `--key` is not 64 lower-case hexadecimal digits.
     BadKey,
@@ -21,6 +22,10 @@ pub(crate) enum Exit {
     NoBundle,
     /// The document is not accepted.
     NotAccepted,
+    /// Another command had the lock of the state for the whole time.
+    Locked,
+    /// More bytes would be held than the limit says.
+    TooManyBytes,
     /// The command was refused.
     Refused(CommandError),
 }
@@ -45,6 +50,37 @@ impl From<WordsError> for Exit {
             WordsError::NoMemory => Exit::Refused(CommandError::NoMemory),
         }
     }
+}
+
+/// Prints on standard error why the program ends, and returns its exit status.
+pub(crate) fn print_exit(rt: &HostRuntime, exit: &Exit) -> u8 {
+    let (status, written) = match exit {
+        Exit::Words(error) if error.use_stderr() => (2, error.print(rt).is_ok()),
+        Exit::Words(error) => return print_clap(rt, error),
+        Exit::Usage => (2, write_stderr(rt, b"fedbundle: usage\n")),
+        Exit::BadKey => (1, write_stderr(rt, b"fedbundle: bad key\n")),
+        Exit::BadMoment => (1, write_stderr(rt, b"fedbundle: bad moment\n")),
+        Exit::BadAddress => (1, write_stderr(rt, b"fedbundle: bad address\n")),
+        Exit::NoBundle => (1, write_stderr(rt, b"fedbundle: no current bundle\n")),
+        Exit::NotAccepted => (1, write_stderr(rt, b"fedbundle: not accepted\n")),
+        Exit::Locked => (3, write_stderr(rt, b"fedbundle: locked\n")),
+        Exit::TooManyBytes => (1, write_stderr(rt, b"fedbundle: too many bytes\n")),
+        Exit::Refused(error) => return print_fault(rt, error),
+    };
+    if written { status } else { status.max(3) }
+}
+
+// Shows help or the version on standard output, and returns the exit status.
+fn print_clap(rt: &HostRuntime, shown: &clap::Error) -> u8 {
+    if shown.print(rt).is_ok() {
+        0
+    } else {
+        print_fault(rt, &CommandError::Io)
+    }
+}
+
+fn write_stderr(rt: &HostRuntime, line: &[u8]) -> bool {
+    write_all(&mut complaints(rt), line).is_ok()
 }
 
 /// Prints a refusal on standard error, and returns its exit status, or 3 where that is greater and

@@ -3,16 +3,19 @@
 // are safety and, where the system's calls return, that it returns.
 #![tactic(auto)]
 
+mod anew;
 mod command_line;
 mod commands;
 mod connection;
 mod exchange;
 mod exit;
+mod keeping;
+mod limited;
 mod options;
+mod printing;
 mod streams;
 
-use byte_lines::write_all;
-use exit::Exit;
+use exit::{Exit, print_exit};
 use fedbundle::CommandError;
 use std::process::ExitCode;
 use streams::ClosedStreams;
@@ -30,33 +33,4 @@ fn run(rt: &HostRuntime) -> Result<u8, Exit> {
         Ok(_held) => commands::run(rt),
         Err(_) => Err(Exit::Refused(CommandError::Io)),
     }
-}
-
-// Prints on standard error why the program ends, and returns its exit status.
-fn print_exit(rt: &HostRuntime, exit: &Exit) -> u8 {
-    let (status, written) = match exit {
-        Exit::Words(error) if error.use_stderr() => (2, error.print(rt).is_ok()),
-        Exit::Words(error) => return print_clap(rt, error),
-        Exit::Usage => (2, write_stderr(rt, b"fedbundle: usage\n")),
-        Exit::BadKey => (1, write_stderr(rt, b"fedbundle: bad key\n")),
-        Exit::BadMoment => (1, write_stderr(rt, b"fedbundle: bad moment\n")),
-        Exit::BadAddress => (1, write_stderr(rt, b"fedbundle: bad address\n")),
-        Exit::NoBundle => (1, write_stderr(rt, b"fedbundle: no current bundle\n")),
-        Exit::NotAccepted => (1, write_stderr(rt, b"fedbundle: not accepted\n")),
-        Exit::Refused(error) => return exit::print_fault(rt, error),
-    };
-    if written { status } else { status.max(3) }
-}
-
-// Shows help or the version on standard output, and returns the exit status.
-fn print_clap(rt: &HostRuntime, shown: &clap::Error) -> u8 {
-    if shown.print(rt).is_ok() {
-        0
-    } else {
-        exit::print_fault(rt, &CommandError::Io)
-    }
-}
-
-fn write_stderr(rt: &HostRuntime, line: &[u8]) -> bool {
-    write_all(&mut streams::complaints(rt), line).is_ok()
 }

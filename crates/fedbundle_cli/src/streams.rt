@@ -92,8 +92,13 @@ impl<W: Write + Drop> Write for WholeLines<W> {
 }
 
 /// Standard error, to which each line goes at once.
+pub(crate) fn error_lines(rt: &HostRuntime) -> WholeLines<Stderr> {
+    WholeLines::new(rt.stderr())
+}
+
+/// The same, as a sink.
 pub(crate) fn complaints(rt: &HostRuntime) -> FromWrite<WholeLines<Stderr>> {
-    FromWrite::new(WholeLines::new(rt.stderr()))
+    FromWrite::new(error_lines(rt))
 }
 
 /// Standard output for one line, which goes out at once.

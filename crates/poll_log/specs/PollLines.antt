@@ -8,7 +8,7 @@ use Rattle.jiff.specs.Words.{IsTimestampNanos, nanos_of_seconds}
 use Rattle.byte_lines.specs.Lines.{Lines, lines_of}
 use Rattle.poll_log.specs.Polling.{Poll, Standing, log_of}
 use Rattle.poll_log.specs.declared.error.PollError.{PollError}
-use Rattle.poll_log.specs.declared.error.PollError.TheVariants.{NoRelationship, PastRange, NoMemory}
+use Rattle.poll_log.specs.declared.error.PollError.TheVariants.{NoMemory}
 use Rattle.poll_log.specs.declared.error.PollError.TheVariants.{BadLine, BadMoment, Io}
 
 -- ---- a moment
@@ -105,5 +105,4 @@ RefusesPolls domains bytes (BadMoment n) = FirstBad domains (lines_of bytes).who
     (TellsNoMoment domains)
 RefusesPolls domains bytes NoMemory = ⊤
 RefusesPolls domains bytes Io = ⊤
-RefusesPolls domains bytes NoRelationship = ⊥
-RefusesPolls domains bytes PastRange = ⊥
+RefusesPolls domains bytes _ = ⊥

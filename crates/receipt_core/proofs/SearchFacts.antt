@@ -52,9 +52,11 @@ module _ {A : Type 0} {R : A → A → Ordering} (o : IsTotalOrder R) where
 
 -- ---- one relationship with a domain
 
+-- a domain does not come before itself
 less_itself : (d : List ℕ) → domain_cmp d d ≡ Less → ⊥
 less_itself d h = let tied : domain_cmp d d ≡ Equal = tied_itself nat_list_cmp_total d in cc
 
+-- rising relationships have only one with a domain
 one_of : (xs : List Relationship) (x y : Relationship) → IsStrictlySortedBy relationship_cmp xs → Has xs x → Has xs y
     → x.domain ≡ y.domain → x ≡ y
 one_of [] x y rising p q e = absurd p

@@ -55,6 +55,7 @@ pub line_of_served : line (record served { document = record { authorities = [];
 unfolding line escape_byte encode_with
 line_of_served = refl
 
+-- a record's line: the key in lower-case digits, then the domain
 pub line_of_distrust : distrust_line (record { domain = codes "a.example"; key = record { 0 = 10 ∷ 255 ∷ [] } })
     ≡ codes "{\"distrust\":\"0aff\",\"domain\":\"a.example\"}"
 unfolding distrust_line escape_byte encode_with
@@ -62,12 +63,15 @@ line_of_distrust = refl
 
 -- ---- a domain a, which vouches for b, which vouches for c
 
+-- an X.509 authority whose certificate is the bytes abc
 abbrev abc : Authority
 abc = X509 (Rsa (codes "AQ") (codes "Aw")) (codes "abc")
 
+-- its key id
 abbrev abc_key : KeyId
 abc_key = record { 0 = sha256 (codes "abc") }
 
+-- a document with that authority, which can vouch
 abbrev vouching : Bundle
 vouching = record { authorities = Jwt (codes "k") (Rsa (codes "AQ") (codes "Aw")) ∷ abc ∷ []; rank = None; hint = None }
 
@@ -81,18 +85,23 @@ noted domain of = record {
   key = abc_key;
 }
 
+-- a vouches for b
 abbrev from_a : Receipt
 from_a = noted (codes "b") (codes "a")
 
+-- b vouches for c
 abbrev from_b : Receipt
 from_b = noted (codes "c") (codes "b")
 
+-- a relationship that a receipt fits
 abbrev relationship : Receipt → Relationship
 relationship r = record { domain = r.domain; endpoint = r.endpoint; url = [] }
 
+-- the document is configured for a
 abbrev seed : Seed
 seed = record { domain = codes "a"; document = vouching }
 
+-- a configuration of both relationships and the seed
 abbrev config : Configuration
 config = record { relationships = relationship from_a ∷ relationship from_b ∷ []; seeds = seed ∷ [] }
 
@@ -102,6 +111,7 @@ below x y less e = let same : x ≡ y = ap (λ xs. get_or xs 0 0) e in omega (ar
 
 -- ---- fitting
 
+-- a receipt fits by its domain and its endpoint
 pub fits : IsFitting config from_b
 fits = record { relationship = relationship from_b; has = (1, lit< tt, refl); domain = refl; endpoint = refl }
 
@@ -133,16 +143,20 @@ pub id_of_signing : doc_id_of (codes "a") signing
 unfolding escape_byte
 id_of_signing = refl
 
+-- the document under a domain
 abbrev vouching_for : List ℕ → Pair
 vouching_for domain = record { domain = domain; document = vouching }
 
+-- the document vouches for a receipt where the key is not distrusted
 vouches_under : (records : List Distrust) (domain of : List ℕ) → (Contains records (distrust_of of (noted domain of)) → ⊥)
     → Vouches records (vouching_for of) (noted domain of)
 vouches_under records domain of trusted = record { endpoint = refl; voucher = refl; key = (1, abc, lit< tt, refl, refl); trusted = trusted }
 
+-- no records have no record
 none_has : (x : Distrust) → Contains [] x → ⊥
 none_has x h = Has-from_contains [] x h
 
+-- the configured document vouches where there are no records
 pub vouches : Vouches [] (vouching_for (codes "a")) from_a
 vouches = vouches_under [] (codes "b") (codes "a") (none_has _)
 
@@ -175,6 +189,7 @@ no_key h = elim (Has-from_contains signing.authorities h.key.1 (h.key.0, h.key.2
 
 -- ---- chains
 
+-- a receipt for which the seed vouches is a chain
 pub one_receipt : IsChain config [] (from_a ∷ [])
 one_receipt = record {
   some = lit< tt;
@@ -196,6 +211,7 @@ two_receipts = record {
   );
 }
 
+-- no receipts are no chain
 pub no_receipt : IsChain config [] [] → ⊥
 no_receipt h = absurd (omega (arith, h.some))
 
@@ -206,9 +222,11 @@ without_the_first h = elim (Has-from_contains config.seeds h.seed h.configured) 
   | inr none ↦ absurd none
 ]
 
+-- nothing vouches where no document is configured
 pub without_a_seed : IsChain (record { relationships = config.relationships; seeds = [] }) [] (from_a ∷ []) → ⊥
 without_a_seed h = Has-from_contains [] h.seed h.configured
 
+-- no receipt fits where there is no relationship
 pub without_a_relationship : IsChain (record { relationships = []; seeds = seed ∷ [] }) [] (from_a ∷ []) → ⊥
 without_a_relationship h = Has-from_contains [] h.leads.0.relationship h.leads.0.has
 

@@ -70,7 +70,8 @@ quiet-admits rules P Q place (Save i) h = tt
 quiet-admits rules P Q place (Restart i) h = h
 
 -- A quiet event also keeps what is so of all that is held, saved and was ever sent.
-pub quiet-admits_all : (rules : Rules) (P : Receipt → Type 0) (Q : Distrust → Type 0) (place : ℕ) (event : Event) → IsQuiet place event → Admits rules P Q 0 ⊤ event
+pub quiet-admits_all : (rules : Rules) (P : Receipt → Type 0) (Q : Distrust → Type 0) (place : ℕ) (event : Event) → IsQuiet place event
+    → Admits rules P Q 0 ⊤ event
 quiet-admits_all rules P Q place (Take i r) h = absurd h
 quiet-admits_all rules P Q place (Revoke i x) h = absurd h
 quiet-admits_all rules P Q place (Ask i b) h = tt

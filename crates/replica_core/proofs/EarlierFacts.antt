@@ -4,9 +4,8 @@ use Rattle.std.proofs.Common.{take, drop, get_or, refl, sym, ap, ◌∙◌, subs
 use Rattle.std.proofs.lemmas.List.Edits.{length-insert, get_or-insert_below, get_or-insert_at, get_or-insert_above}
 use Rattle.std.specs.Prelude.{slice_get, Option, Some, None, IfSome}
 use Rattle.std.specs.declared.cmp.Ordering.{Ordering}
-use Rattle.std.specs.declared.cmp.Ordering.TheVariants.{Less, Equal, Greater}
 use Rattle.std.specs.Ordering.{eq_by_cmp, is_eq}
-use Rattle.std.specs.Cmp.{IsTotalOrder, IsEquivalence, Equal-is, eq_by_cmp_equiv}
+use Rattle.std.specs.Cmp.{IsTotalOrder, IsEquivalence, eq_by_cmp_equiv}
 use Rattle.std.specs.List.{All, insert, list_any}
 use Rattle.std.specs.List.Sorted.{IsStrictlySortedBy}
 use Rattle.std.proofs.lemmas.Bool.{cases_lt}
@@ -173,9 +172,3 @@ front-next {T} old new items i here same count =
     let whole : new.items ≡ items = same ∙ ap (λ (f : Front T). f.items) here in
     let more : new.count ≡ i + 1 = count ∙ ap (λ (f : Front T). f.count + 1) here in
     λ k. record { items = whole k; count = more k }
-
--- The loop's next item is the one that comes next.
-pub front-at : {T : Type 0} (front : Front T) (items : List T) (i : ℕ) (x : T) → front ≡ record { items = items; count = i } → i < length items
-    → get_or items i x ≡ x → slice_get front.items front.count ≡ Some x
-front-at {T} front items i x here low at =
-    subst (λ (f : Front T). slice_get f.items f.count ≡ Some x) (sym here) (slice_get-get_or items i x low ∙ ap (λ y. Some y) at)

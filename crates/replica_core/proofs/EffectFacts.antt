@@ -26,6 +26,7 @@ gains-held past event i gain e t =
     ∙ ap (λ b. (gained b w i (joined (w.now i) gain)).now i) t
     ∙ at-here i (joined (w.now i) gain) w.now
 
+-- A receipt that fits is gained by the replica that takes it.
 pub takes-held : (past : WorldRun) (i : ℕ) (r : Receipt) → i < past.replicas → IsFitting past.config r → Gains past (Take i r) i (only_receipt r)
 takes-held past i r l fits =
     let rules = rules_in past in
@@ -33,6 +34,7 @@ takes-held past i r l fits =
     (ap (λ b. where_so b (gains i (only_receipt r)))
     (and_from (is_replica rules i) (rules.fits r) (replica-true rules i l) (fits-to past.config r fits)))
 
+-- A record of a domain of the configuration is gained by the replica that distrusts the key.
 pub revokes-held : (past : WorldRun) (i : ℕ) (x : Distrust) → i < past.replicas → HasDomain past.config x.domain → Gains past (Revoke i x) i (only_record x)
 revokes-held past i x l known =
     let rules = rules_in past in
@@ -40,6 +42,7 @@ revokes-held past i x l known =
     (ap (λ b. where_so b (gains i (only_record x)))
     (and_from (is_replica rules i) (rules.knows x.domain) (replica-true rules i l) (knows-to past.config x.domain known)))
 
+-- What an answer has is gained by the replica that absorbs it.
 pub absorbs-held : (past : WorldRun) (i place : ℕ) (content : State) → i < past.replicas → HasAnswer past place content
     → Gains past (Absorb i place) i content
 absorbs-held past i place content l sent =
@@ -47,6 +50,7 @@ absorbs-held past i place content l sent =
     (ap (λ b. where_so b (takes_whole i (slice_get (world_after past).sent place))) (replica-true (rules_in past) i l)
     ∙ ap (takes_whole i) sent.2)
 
+-- The first lines of an answer are gained by the replica that takes these.
 pub parts-held : (past : WorldRun) (i place count : ℕ) (content : State) → i < past.replicas → HasAnswer past place content
     → Gains past (Part i place count) i (first_of count content)
 parts-held past i place count content l sent =
@@ -54,6 +58,7 @@ parts-held past i place count content l sent =
     (ap (λ b. where_so b (takes_part i count (slice_get (world_after past).sent place))) (replica-true (rules_in past) i l)
     ∙ ap (takes_part i count) sent.2)
 
+-- What another replica holds is gained by the replica that joins it.
 pub joins-held : (past : WorldRun) (i j : ℕ) → i < past.replicas → j < past.replicas → Gains past (Join i j) i (held_by past j)
 joins-held past i j l m =
     let rules = rules_in past in

@@ -1,12 +1,14 @@
 -- What one exchange about a bucket gives.
-use Rattle.std.proofs.Common.{◌≡◌, ℕ, ◌<◌, ◌≤◌, inl, inr, Bool, true, ◌&&◌, nat_le, List, [], length, map, refl, sym, ap, ◌∙◌, subst, le-leb, eq-eqb}
+use Rattle.std.proofs.Common.{◌≡◌, ℕ, ◌<◌, ◌≤◌, inl, inr, Bool, true, ◌&&◌, nat_le, List, [], ◌∷◌, ◌++◌, length, map, Option}
+use Rattle.std.proofs.Common.{refl, sym, ap, ◌∙◌, subst, le-leb, eq-eqb}
 use Rattle.std.specs.Prelude.{Contains, filter, slice_get, Some, not, bytes_eq}
 use Rattle.std.specs.List.{AllByRecursion}
 use Rattle.std.proofs.lemmas.Bool.{cases_Bool, and_from}
 use Rattle.std.proofs.lemmas.Slice.Eq.{bytes_eq-Decides}
 use Rattle.receipt_core.specs.Receipt.{Receipt, IsReceipt, IsDistrust, receipt_id_of}
 use Rattle.replica_core.specs.State.{State, id_cmp, joined, is_within_limits, bucket_of_id, is_of_bucket, is_named, ids_held, receipts_lacking}
-use Rattle.replica_core.specs.World.{question, answer, World, Rules, sends, where_so, replies, takes_whole, gained, apply, happens, is_replica}
+use Rattle.replica_core.specs.World.{Message, question, answer, World, Rules, with_state, sends, where_so, replies}
+use Rattle.replica_core.specs.World.{takes_whole, gained, apply, happens, is_replica}
 use Rattle.replica_core.specs.Convergence.{Inquiry, IsInquiry, Exchange, at_question, at_answer, at_taking, after_taking, HasAll, IsPartOf}
 use Rattle.replica_core.specs.declared.event.Event.{Event}
 use Rattle.replica_core.specs.declared.event.Event.TheVariants.{Ask, Answer, Absorb}
@@ -14,37 +16,61 @@ use Rattle.replica_core.proofs.ContainsFacts.{filter-from, filter-to, map-from, 
 use Rattle.replica_core.proofs.JoinLawFacts.{Laws, Keeps, joined-only}
 use Rattle.replica_core.proofs.EventFacts.{at-here, part-trans, part-event, part-run, sent-stays, replica-true}
 
+-- ---- one event
+
+-- the world with one message more
+abbrev pub with_message : World → Message → World
+with_message w message = record w { sent = w.sent ++ message ∷ [] }
+
+-- what a replica answers to a question about the bucket that names the ids
+abbrev pub content_of : State → ℕ → List (List ℕ) → State
+content_of state b ids = record { held = receipts_lacking state b ids; records = state.records }
+
+-- A replica that asks sends a question.
+pub asked-is : (rules : Rules) (w : World) (i b : ℕ) → i < rules.replicas → b ≤ 255
+    → happens rules w (Ask i b) ≡ with_message w (question i b (ids_held (w.now i) b))
+asked-is rules w i b l m =
+    ap (λ (t : Bool). apply w (where_so t (sends (question i b (ids_held (w.now i) b)))))
+    (and_from (is_replica rules i) (nat_le b 255) (replica-true rules i l) (le-leb b 255 m))
+
+-- A replica that answers a question sends what it has of it.
+pub answered-is : (rules : Rules) (w : World) (i j b k : ℕ) (ids : List (List ℕ)) → j < rules.replicas → slice_get w.sent k ≡ Some (question i b ids)
+    → happens rules w (Answer j k) ≡ with_message w (answer j k (content_of (w.now j) b ids))
+answered-is rules w i j b k ids l e =
+    ap (λ (t : Bool). apply w (where_so t (replies (w.now j) j k (slice_get w.sent k)))) (replica-true rules j l)
+    ∙ ap (λ (f : Option Message). apply w (replies (w.now j) j k f)) e
+
+-- A replica that takes an answer within the limits joins its content.
+pub absorbed-is : (rules : Rules) (w : World) (i j n k : ℕ) (content : State) → i < rules.replicas → slice_get w.sent n ≡ Some (answer j k content)
+    → is_within_limits (joined (w.now i) content) ≡ true
+    → happens rules w (Absorb i n) ≡ with_state w i (joined (w.now i) content)
+absorbed-is rules w i j n k content l e t =
+    ap (λ (b : Bool). apply w (where_so b (takes_whole i (slice_get w.sent n)))) (replica-true rules i l)
+    ∙ ap (λ (f : Option Message). apply w (takes_whole i f)) e
+    ∙ ap (λ (b : Bool). gained b w i (joined (w.now i) content)) t
+
 -- the question stands at its place
 pub asked-here : (rules : Rules) (w : World) (i b : ℕ) → i < rules.replicas → b ≤ 255
     → slice_get (happens rules w (Ask i b)).sent (length w.sent) ≡ Some (question i b (ids_held (w.now i) b))
 asked-here rules w i b l m =
-    let e : (is_replica rules i && nat_le b 255) ≡ true = and_from (is_replica rules i) (nat_le b 255) (replica-true rules i l) (le-leb b 255 m) in
-    ap (λ t. slice_get (apply w (where_so t (sends (question i b (ids_held (w.now i) b))))).sent (length w.sent)) e
-    ∙ get-new w.sent (question i b (ids_held (w.now i) b))
-
--- what a replica answers to a question about the bucket that names the ids
-abbrev content_of : State → ℕ → List (List ℕ) → State
-content_of state b ids = record { held = receipts_lacking state b ids; records = state.records }
+    ap (λ (v : World). slice_get v.sent (length w.sent)) (asked-is rules w i b l m) ∙ get-new w.sent (question i b (ids_held (w.now i) b))
 
 -- The answer stands at its place.
 answered-here : (rules : Rules) (w : World) (i j b k : ℕ) (ids : List (List ℕ)) → j < rules.replicas → slice_get w.sent k ≡ Some (question i b ids)
     → slice_get (happens rules w (Answer j k)).sent (length w.sent) ≡ Some (answer j k (content_of (w.now j) b ids))
 answered-here rules w i j b k ids l e =
-    ap (λ t. slice_get (apply w (where_so t (replies (w.now j) j k (slice_get w.sent k)))).sent (length w.sent)) (replica-true rules j l)
-    ∙ ap (λ f. slice_get (apply w (replies (w.now j) j k f)).sent (length w.sent)) e
-    ∙ get-new w.sent (answer j k (content_of (w.now j) b ids))
+    ap (λ (v : World). slice_get v.sent (length w.sent)) (answered-is rules w i j b k ids l e) ∙ get-new w.sent (answer j k (content_of (w.now j) b ids))
 
 -- The taking of an answer within the limits joins its content.
 absorbed-here : (rules : Rules) (w : World) (i j n k : ℕ) (content : State) → i < rules.replicas → slice_get w.sent n ≡ Some (answer j k content)
     → is_within_limits (joined (w.now i) content) ≡ true → (happens rules w (Absorb i n)).now i ≡ joined (w.now i) content
 absorbed-here rules w i j n k content l e t =
-    ap (λ b. (apply w (where_so b (takes_whole i (slice_get w.sent n)))).now i) (replica-true rules i l)
-    ∙ ap (λ f. (apply w (takes_whole i f)).now i) e
-    ∙ ap (λ b. (gained b w i (joined (w.now i) content)).now i) t
-    ∙ at-here i (joined (w.now i) content) w.now
+    ap (λ (v : World). v.now i) (absorbed-is rules w i j n k content l e t) ∙ at-here i (joined (w.now i) content) w.now
+
+-- ---- what an exchange gives
 
 -- an id that a question names is that of a receipt that the asker held
-named-held : (state : State) (b : ℕ) (r : Receipt) → is_named (ids_held state b) r ≡ true
+pub named-held : (state : State) (b : ℕ) (r : Receipt) → is_named (ids_held state b) r ≡ true
     → (s : Receipt) × Contains state.held s × (receipt_id_of s ≡ receipt_id_of r)
 named-held state b r e =
     let found = any-from (λ id. bytes_eq id (receipt_id_of r)) (ids_held state b) e in
@@ -57,7 +83,7 @@ named-held state b r e =
     ]
 
 -- whether the receipt is of the bucket and not among those that the asker named
-abbrev lacking : State → ℕ → Receipt → Bool
+abbrev pub lacking : State → ℕ → Receipt → Bool
 lacking asking b r = is_of_bucket b r && not (is_named (ids_held asking b) r)
 
 -- the asker held what it named, and takes the others
@@ -97,7 +123,8 @@ exchange-gives laws rules start inquiry events is x forms own =
     let u = at_taking rules start x.course in
     let q : slice_get v.sent x.course.question_place ≡ Some (question i b (ids_held (w.now i) b)) =
     sent-stays rules x.course.asked (happens rules w (Ask i b)) x.course.question_place (question i b (ids_held (w.now i) b))
-    (subst (λ k. slice_get (happens rules w (Ask i b)).sent k ≡ Some (question i b (ids_held (w.now i) b))) (sym x.asked_at) (asked-here rules w i b is.asker is.bucket))
+    (subst (λ k. slice_get (happens rules w (Ask i b)).sent k ≡ Some (question i b (ids_held (w.now i) b))) (sym x.asked_at)
+    (asked-here rules w i b is.asker is.bucket))
     in
     let a : slice_get u.sent x.course.answer_place ≡ Some (answer j x.course.question_place (content_of (v.now j) b (ids_held (w.now i) b))) =
     sent-stays rules x.course.answered (happens rules v (Answer j x.course.question_place)) x.course.answer_place

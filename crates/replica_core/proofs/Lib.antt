@@ -3,11 +3,11 @@ pub mod RisingListFacts
 pub mod FitFacts
 mod JoinLawFacts
 mod WorldJoins
-mod EventFacts
+pub mod EventFacts
 mod KeptFacts
 mod Provenance
 mod StateFacts
-mod ExchangeFacts
+pub mod ExchangeFacts
 pub mod BucketFacts
 mod AgreementFacts
 mod WorldLawFacts

@@ -1,19 +1,17 @@
 -- Whether an item is held, and whether there is a place for it.
 use Rattle.std.proofs.Common.{◌≡◌, ◌≢◌, ℕ, ◌+◌, ◌-◌, ◌<◌, ◌≤◌, inl, inr, Bool, true, false, ◌||◌, List, [], ◌∷◌, length}
-use Rattle.std.proofs.Common.{refl, sym, ap, ◌∙◌, subst, arith, eq-eqb}
-use Rattle.std.specs.Prelude.{◌↔◌, Contains, IsTrue, slice_index_or}
+use Rattle.std.proofs.Common.{refl, sym, ap, ◌∙◌, subst, arith}
+use Rattle.std.specs.Prelude.{◌↔◌, Contains, IsTrue}
 use Rattle.std.specs.declared.cmp.Ordering.{Ordering}
 use Rattle.std.specs.declared.cmp.Ordering.TheVariants.{Less, Equal, Greater}
 use Rattle.std.specs.List.{AllByRecursion, list_any}
 use Rattle.std.specs.Ordering.{eq_by_cmp, is_eq}
 use Rattle.std.specs.Cmp.{Equal-is, tied_itself}
 use Rattle.receipt_core.specs.declared.distrust.Distrust.{Distrust}
-use Rattle.receipt_core.specs.Receipt.{Receipt, receipt_id_of}
-use Rattle.closure_core.specs.AcceptedList.{is_in_bucket, receipts_in}
 use Rattle.receipt_core.specs.Rising.{placed, with_item, with_items}
 use Rattle.receipt_core.specs.Sets.{AreSets, Always}
 use Rattle.replica_core.specs.Inside.Places.{HasPlaces, HasNoPlace, HasPlace}
-use Rattle.replica_core.proofs.ContainsFacts.{contains-here, contains-later, contains-cases, contains-none, each-from, any-from, filter-from, filter-to}
+use Rattle.replica_core.proofs.ContainsFacts.{contains-cases, contains-none, each-from, any-from}
 
 -- What a test denies does not hold.
 pub refuted : (b : Bool) (Q : Type 0) → b ≡ false → IsTrue b ↔ Q → Q → ⊥

@@ -14,7 +14,7 @@ use Rattle.closure_core.specs.Changes.{empty_of}
 use Rattle.replica_core.specs.State.{State, no_state, joined, is_within_limits, receipts_lacking, first_of, meaning_of_state}
 use Rattle.replica_core.specs.Session.{state_of}
 use Rattle.replica_core.specs.World.{Message, question, answer, World, rules_of, Effect, gains, sends, saves, restarts, where_so, replies, takes_whole}
-use Rattle.replica_core.specs.World.{takes_part, at_replica, gained, apply, happens, is_replica, is_fitting, is_known, AreOf}
+use Rattle.replica_core.specs.World.{takes_part, at_replica, gained, apply, happens, is_replica, is_fitting, is_known, AreOf, MeansState}
 use Rattle.replica_core.specs.Inside.Playing.{message_of, answered, asked, CanHold, CanHoldRecords, IsSound, Plays, StandsForEvent}
 use Rattle.replica_core.specs.declared.event.Event.{Event}
 use Rattle.replica_core.specs.declared.event.Event.TheVariants.{Take, Revoke, Answer, Absorb, Part, Join}
@@ -49,8 +49,8 @@ module _ {A : Type 0} (meaning : A → Meaning) (config : Configuration) (n : �
       → Plays meaning config n new (apply w (where_so (is_replica (rules_of config n) i) (sends message)))
   plays-sends old new w i told message l h held saved sent says sound =
       subst (λ b. Plays meaning config n new (apply w (where_so b (sends message)))) (sym (replica-true (rules_of config n) i l)) (record {
-        held = subst (λ closures. AreOf meaning config n closures w.now) (sym held) h.held;
-        saved = subst (λ closures. AreOf meaning config n closures w.saved) (sym saved) h.saved;
+        held = subst (λ closures. AreOf (MeansState meaning config) n closures w.now) (sym held) h.held;
+        saved = subst (λ closures. AreOf (MeansState meaning config) n closures w.saved) (sym saved) h.saved;
         sent = ap (map message_of) sent ∙ map-append message_of old.sent.items (told ∷ []) ∙ (λ ι. h.sent ι ++ says ι ∷ []);
         sound = all-more (IsSound config) w.sent message h.sound sound;
       })
@@ -58,15 +58,16 @@ module _ {A : Type 0} (meaning : A → Meaning) (config : Configuration) (n : �
   -- The closures still stand for the world after a replica saved.
   pub plays-saves : (b : Bool) (old new : Playing A) (w : World) (i : ℕ) → Plays meaning config n old w
       → new.held.items ≡ old.held.items → new.sent.items ≡ old.sent.items
-      → AreOf meaning config n new.saved.items (cond b (at_replica i (w.now i) w.saved) w.saved) → Plays meaning config n new (apply w (where_so b (saves i)))
+      → AreOf (MeansState meaning config) n new.saved.items (cond b (at_replica i (w.now i) w.saved) w.saved) → Plays meaning config n new
+      (apply w (where_so b (saves i)))
   plays-saves true old new w i h held sent saved = record {
-    held = subst (λ closures. AreOf meaning config n closures w.now) (sym held) h.held;
+    held = subst (λ closures. AreOf (MeansState meaning config) n closures w.now) (sym held) h.held;
     saved = saved;
     sent = ap (map message_of) sent ∙ h.sent;
     sound = h.sound;
   }
   plays-saves false old new w i h held sent saved = record {
-    held = subst (λ closures. AreOf meaning config n closures w.now) (sym held) h.held;
+    held = subst (λ closures. AreOf (MeansState meaning config) n closures w.now) (sym held) h.held;
     saved = saved;
     sent = ap (map message_of) sent ∙ h.sent;
     sound = h.sound;
@@ -75,16 +76,17 @@ module _ {A : Type 0} (meaning : A → Meaning) (config : Configuration) (n : �
   -- The closures still stand for the world after a replica restarted.
   pub plays-restarts : (b : Bool) (old new : Playing A) (w : World) (i : ℕ) → Plays meaning config n old w
       → new.saved.items ≡ old.saved.items → new.sent.items ≡ old.sent.items
-      → AreOf meaning config n new.held.items (cond b (at_replica i (w.saved i) w.now) w.now) → Plays meaning config n new (apply w (where_so b (restarts i)))
+      → AreOf (MeansState meaning config) n new.held.items (cond b (at_replica i (w.saved i) w.now) w.now) → Plays meaning config n new
+      (apply w (where_so b (restarts i)))
   plays-restarts true old new w i h saved sent held = record {
     held = held;
-    saved = subst (λ closures. AreOf meaning config n closures w.saved) (sym saved) h.saved;
+    saved = subst (λ closures. AreOf (MeansState meaning config) n closures w.saved) (sym saved) h.saved;
     sent = ap (map message_of) sent ∙ h.sent;
     sound = h.sound;
   }
   plays-restarts false old new w i h saved sent held = record {
     held = held;
-    saved = subst (λ closures. AreOf meaning config n closures w.saved) (sym saved) h.saved;
+    saved = subst (λ closures. AreOf (MeansState meaning config) n closures w.saved) (sym saved) h.saved;
     sent = ap (map message_of) sent ∙ h.sent;
     sound = h.sound;
   }
@@ -268,7 +270,7 @@ answer-follows meaning config n old new w i k m bucket ids told l p e valid a sa
 
 -- A closure means what the state of its number says.
 pub here : {A : Type 0} (meaning : A → Meaning) (config : Configuration) (n : ℕ) (closures given : List A) (states : ℕ
-    → State) (i : ℕ) (c : A) → AreOf meaning config n closures states → given ≡ closures → i < length given
+    → State) (i : ℕ) (c : A) → AreOf (MeansState meaning config) n closures states → given ≡ closures → i < length given
     → c ≡ get_or given i c → (i < n) × (meaning c ≡ meaning_of_state config (states i))
 here meaning config n closures given states i c h e l f =
     let inside : i < n = omega (arith, l, ap length e, h.count) in

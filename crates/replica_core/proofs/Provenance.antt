@@ -37,6 +37,7 @@ next : (past : WorldRun) (before : List Event) (event : Event)
     → run (rules_in past) (before ++ event ∷ []) ≡ happens (rules_in past) (run (rules_in past) before) event
 next past before event = fold-append (happens (rules_in past)) empty_world before (event ∷ [])
 
+-- A receipt that a replica takes has this event as its source.
 taken-sources : (laws : Laws) (past : WorldRun) (before after : List Event) (i : ℕ) (r : Receipt) → past.events ≡ before ++ Take i r ∷ after
     → HasSources past (run (rules_in past) before) → HasSources past (happens (rules_in past) (run (rules_in past) before) (Take i r))
 taken-sources laws past before after i r order h =
@@ -63,6 +64,7 @@ taken-sources laws past before after i r order h =
     ])
     (λ x c held. absurd (contains-none x c)))
 
+-- A record of a key that a replica distrusts has this event as its source.
 revoked-sources : (laws : Laws) (past : WorldRun) (before after : List Event) (i : ℕ) (x : Distrust) → past.events ≡ before ++ Revoke i x ∷ after
     → HasSources past (run (rules_in past) before) → HasSources past (happens (rules_in past) (run (rules_in past) before) (Revoke i x))
 revoked-sources laws past before after i x order h =
@@ -120,11 +122,14 @@ rest-sources laws past before (event ∷ rest) order h =
     (rest-sources laws past (before ++ event ∷ []) rest (order ∙ sym (append_assoc before (event ∷ []) rest))
     (subst (HasSources past) (sym one) (event-sources laws past before rest event order h)))
 
+-- All that is held, saved and sent in the end has its sources.
 all-sources : (laws : Laws) (past : WorldRun) → HasSources past (world_after past)
 all-sources laws past = rest-sources laws past [] past.events refl (empty-kept (WasTaken past) (WasRevoked past) 0 ⊤)
 
+-- What a replica holds was taken or distrusted somewhere before.
 pub now-comes : (laws : Laws) (past : WorldRun) (i : ℕ) → ComesFrom past (held_by past i)
 now-comes laws past i = let h = (all-sources laws past).now i in record { receipts = h.receipts; distrusts = h.records }
 
+-- So was what it saved.
 pub saved-comes : (laws : Laws) (past : WorldRun) (i : ℕ) → ComesFrom past (saved_by past i)
 saved-comes laws past i = let h = (all-sources laws past).saved tt i in record { receipts = h.receipts; distrusts = h.records }

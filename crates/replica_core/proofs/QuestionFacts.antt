@@ -21,7 +21,7 @@ use Rattle.std.specs.declared.cmp.Ordering.{Ordering}
 use Rattle.std.specs.Ordering.{nat_cmp}
 use Rattle.std.specs.Cmp.Lexicographic.{slice_cmp}
 use Rattle.receipt_core.specs.declared.receipt_id.ReceiptId.{ReceiptId}
-use Rattle.receipt_core.specs.Receipt.{Receipt, receipt_id_of}
+use Rattle.receipt_core.specs.Receipt.{receipt_id_of}
 use Rattle.std.specs.List.{filter}
 use Rattle.replica_core.specs.State.{State, id_cmp, ids_held, is_of_bucket}
 

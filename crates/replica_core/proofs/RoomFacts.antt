@@ -1,6 +1,7 @@
 -- The room that receipts take: that of those that are not held, each counted once.
-use Rattle.std.proofs.Common.{◌≡◌, ℕ, zero, suc, ◌+◌, ◌-◌, ◌^◌, ◌<◌, ◌≤◌, ◌⊎◌, inl, inr, true, false, List, [], ◌∷◌, ◌++◌, length, take, get_or, refl, sym, ap, ◌∙◌, subst, arith}
-use Rattle.std.specs.Prelude.{Contains, Option, Some, None, sum_by, slice_get}
+use Rattle.std.proofs.Common.{◌≡◌, ℕ, zero, suc, ◌+◌, ◌^◌, ◌<◌, ◌≤◌, ◌⊎◌, inl, inr, true, false, List}
+use Rattle.std.proofs.Common.{[], ◌∷◌, length, take, get_or, refl, sym, ap, ◌∙◌, subst, arith}
+use Rattle.std.specs.Prelude.{Contains, Option, Some, None}
 use Rattle.std.specs.declared.cmp.Ordering.{Ordering}
 use Rattle.std.specs.declared.cmp.Ordering.TheVariants.{Less, Equal, Greater}
 use Rattle.std.specs.List.{AllByRecursion}
@@ -76,22 +77,6 @@ pub record IsCounted (m : Meaning) (rs : List Receipt) (i count offers : ℕ) : 
   pub offers_are : offers_count (with_items receipt_cmp (take i rs) m.held) ≡ offers_count m.held + offers
   pub some : ((count ≡ 0) × (offers ≡ 0)) ⊎ BringsNew m rs
 
--- Before the first receipt there is none.
-take_none : (rs : List Receipt) → take 0 rs ≡ []
-take_none [] = refl
-take_none (r ∷ rs) = refl
-
--- Of no receipts none is new: the loop's beginning.
-pub counted-none : (m : Meaning) (rs : List Receipt) → IsCounted m rs 0 0 0
-counted-none m rs =
-    let none : take 0 rs ≡ [] = take_none rs in
-    record {
-      forms = subst (AllByRecursion IsReceipt) (sym none) tt;
-      count_is = ap (λ (xs : List Receipt). length (with_items receipt_cmp xs m.held)) none ∙ omega arith;
-      offers_are = ap (λ (xs : List Receipt). offers_count (with_items receipt_cmp xs m.held)) none ∙ omega arith;
-      some = inl (refl, refl);
-    }
-
 module _ (sets : AreSets IsReceipt receipt_cmp) (m : Meaning) (is : IsMeaning m) (rs : List Receipt) (i count offers : ℕ)
     (so : IsCounted m rs i count offers) (r : Receipt) (low : i < length rs) (at : get_or rs i r ≡ r) (form : IsReceipt r) where
   -- The set with one receipt more.
@@ -148,18 +133,8 @@ module _ (sets : AreSets IsReceipt receipt_cmp) (m : Meaning) (is : IsMeaning m)
 -- The same count, under other names of its numbers.
 pub counted-as : (m : Meaning) (rs : List Receipt) (i count offers many much : ℕ) → many ≡ count → much ≡ offers → IsCounted m rs i count offers
     → IsCounted m rs i many much
-counted-as m rs i count offers many much first second so = subst (λ n. IsCounted m rs i n much) (sym first) (subst (λ n. IsCounted m rs i count n) (sym second) so)
-
--- All of them are counted: the loop's end.
-pub counted-all : (m : Meaning) (rs : List Receipt) (i count offers : ℕ) → IsCounted m rs i count offers → take i rs ≡ rs → CountsNew m rs (Some (count, offers))
-counted-all m rs i count offers so all =
-    let many : length (with_items receipt_cmp rs m.held) ≡ length m.held + count =
-    ap (λ (xs : List Receipt). length (with_items receipt_cmp xs m.held)) (sym all) ∙ so.count_is in
-    let much : offers_count (with_items receipt_cmp rs m.held) ≡ offers_count m.held + offers =
-    ap (λ (xs : List Receipt). offers_count (with_items receipt_cmp xs m.held)) (sym all) ∙ so.offers_are in
-    let receipts : length (with_items receipt_cmp rs m.held) - length m.held ≡ count = omega (arith, many) in
-    let theirs : offers_count (with_items receipt_cmp rs m.held) - offers_count m.held ≡ offers = omega (arith, much) in
-    ((λ j. record { receipts = receipts j; offers = theirs j }), so.some)
+counted-as m rs i count offers many much first second so = subst (λ n. IsCounted m rs i n much) (sym first)
+    (subst (λ n. IsCounted m rs i count n) (sym second) so)
 
 -- ---- room for what was counted
 

@@ -1,5 +1,5 @@
 -- A worked proof that replicas settle: of two, one takes a receipt, and then each has the other's whole answer about every bucket.
-use Rattle.std.proofs.Common.{◌≡◌, ◌≢◌, ℕ, zero, suc, ◌+◌, ◌*◌, ◌<◌, ◌≤◌, ◌⊎◌, inl, inr, Bool, true, false, ◌&&◌, nat_le, List, [], ◌∷◌, ◌++◌}
+use Rattle.std.proofs.Common.{◌≡◌, ℕ, zero, suc, ◌+◌, ◌*◌, ◌<◌, ◌≤◌, inl, inr, Bool, true, false, ◌&&◌, nat_le, List, [], ◌∷◌, ◌++◌}
 use Rattle.std.proofs.Common.{length, length-append, append_assoc, append-nil, arith, refl, sym, ap, ap₂, ◌∙◌, subst, le-leb}
 use Rattle.std.specs.Prelude.{Contains, slice_get, Option, Some, None, ⊤}
 use Rattle.std.specs.List.{AllByRecursion}
@@ -17,7 +17,7 @@ use Rattle.replica_core.specs.State.{State, joined, is_within_limits, ids_held, 
 use Rattle.replica_core.specs.World.{Message, question, answer, World, empty_world, Rules, Effect, sends, gains, where_so, replies, takes_whole, apply, happens}
 use Rattle.replica_core.specs.World.{run_from, is_replica}
 use Rattle.replica_core.specs.World.{WorldRun, rules_in, world_after, held_by, followed_by}
-use Rattle.replica_core.specs.Convergence.{Inquiry, IsInquiry, Exchange, Settles, IsQuiet, only_receipt, AreEvents}
+use Rattle.replica_core.specs.Convergence.{Inquiry, IsInquiry, Exchange, Settles, IsQuiet, only_receipt}
 use Rattle.replica_core.specs.declared.event.Event.{Event}
 use Rattle.replica_core.specs.declared.event.Event.TheVariants.{Take, Ask, Answer, Absorb, Restart}
 use Rattle.replica_core.proofs.ContainsFacts.{contains-here, contains-later, contains-none, each-from}
@@ -39,6 +39,7 @@ use Rattle.replica_core.proofs.WorldLawFacts.{agreed}
 abbrev turn : (i j b place : ℕ) → List Event
 turn i j b place = Ask i b ∷ Answer j place ∷ Absorb i (place + 1) ∷ []
 
+-- both ask each other about a bucket
 abbrev round : ℕ → List Event
 round k = turn 0 1 k (4 * k) ++ turn 1 0 k (4 * k + 2)
 
@@ -47,9 +48,11 @@ rounds : ℕ → List Event
 rounds zero = []
 rounds (suc k) = rounds k ++ round k
 
+-- No event of a round takes a receipt, distrusts a key or restarts.
 quiet-round : (k : ℕ) → AllByRecursion (IsQuiet 0) (round k)
 quiet-round k = (tt, (tt, (omega arith, (tt, (tt, (omega arith, tt))))))
 
+-- Nor does one of all rounds.
 quiet-rounds : (k : ℕ) → AllByRecursion (IsQuiet 0) (rounds k)
 unfolding rounds
 quiet-rounds zero = tt
@@ -73,18 +76,22 @@ round-among (suc k) b l =
 
 -- ---- how many messages are sent
 
+-- An effect that sends nothing sends nothing where it does not happen either.
 where-sent : (b : Bool) (w : World) (effect : Effect) → (apply w effect).sent ≡ w.sent → (apply w (where_so b effect)).sent ≡ w.sent
 where-sent true w effect e = e
 where-sent false w effect e = refl
 
+-- A gain sends nothing.
 gains-sent : (w : World) (i : ℕ) (gain : State) → (apply w (gains i gain)).sent ≡ w.sent
 gains-sent w i gain = sent-gained (is_within_limits (joined (w.now i) gain)) w i (joined (w.now i) gain)
 
+-- Nor does the taking of an answer.
 whole-sent : (w : World) (i : ℕ) (found : Option Message) → (apply w (takes_whole i found)).sent ≡ w.sent
 whole-sent w i None = refl
 whole-sent w i (Some (question asker bucket ids)) = refl
 whole-sent w i (Some (answer answerer place content)) = gains-sent w i content
 
+-- A question is one message more.
 ask-sends : (rules : Rules) (w : World) (i b : ℕ) → i < rules.replicas → b ≤ 255 → length (happens rules w (Ask i b)).sent ≡ length w.sent + 1
 ask-sends rules w i b l m =
     let q = question i b (ids_held (w.now i) b) in
@@ -92,6 +99,7 @@ ask-sends rules w i b l m =
     (and_from (is_replica rules i) (nat_le b 255) (replica-true rules i l) (le-leb b 255 m))
     ∙ length-append w.sent (q ∷ [])
 
+-- So is an answer.
 answer-sends : (rules : Rules) (w : World) (i j b k : ℕ) (ids : List (List ℕ)) → j < rules.replicas → slice_get w.sent k ≡ Some (question i b ids)
     → length (happens rules w (Answer j k)).sent ≡ length w.sent + 1
 answer-sends rules w i j b k ids l e =
@@ -99,6 +107,7 @@ answer-sends rules w i j b k ids l e =
     ∙ ap (λ f. length (apply w (replies (w.now j) j k f)).sent) e
     ∙ length-append w.sent (answer j k (record { held = receipts_lacking (w.now j) b ids; records = (w.now j).records }) ∷ [])
 
+-- A question, its answer and the taking of it are two messages more.
 turn-sends : (rules : Rules) (w : World) (i j b place : ℕ) → i < rules.replicas → j < rules.replicas → b ≤ 255 → length w.sent ≡ place
     → length (run_from rules w (turn i j b place)).sent ≡ place + 2
 turn-sends rules w i j b place l m n size =
@@ -112,6 +121,7 @@ turn-sends rules w i j b place l m n size =
     ap length (where-sent (is_replica rules i) u (takes_whole i (slice_get u.sent (place + 1))) (whole-sent u i (slice_get u.sent (place + 1)))) in
     omega (arith, asked, answered, taken, size)
 
+-- A round is four.
 round-sends : (rules : Rules) (w : World) (k : ℕ) → 2 ≤ rules.replicas → k ≤ 255 → length w.sent ≡ 4 * k → length (run_from rules w (round k)).sent ≡ 4 * k + 4
 round-sends rules w k two few size =
     let first = turn-sends rules w 0 1 k (4 * k) (omega (arith, two)) (omega (arith, two)) few size in
@@ -119,6 +129,7 @@ round-sends rules w k two few size =
     let second = turn-sends rules v 1 0 k (4 * k + 2) (omega (arith, two)) (omega (arith, two)) few first in
     second ∙ omega arith
 
+-- So many rounds are four times as many.
 rounds-sends : (rules : Rules) (w : World) (k : ℕ) → 2 ≤ rules.replicas → k ≤ 256 → length w.sent ≡ 0 → length (run_from rules w (rounds k)).sent ≡ 4 * k
 unfolding rounds
 rounds-sends rules w zero two few none = none
@@ -140,6 +151,7 @@ one-rising a (r ∷ s ∷ rs) rising same =
     let tied : receipt_cmp r s ≡ Equal = ap (receipt_cmp r) (sym both) ∙ tied_itself receipt_total r in
     absurd (cc)
 
+-- Records that contain nothing are none.
 none-in : (xs : List Distrust) → ((x : Distrust) → Contains xs x → ⊥) → length xs ≡ 0
 none-in [] none = refl
 none-in (x ∷ xs) none = absurd (none x (contains-here x xs))
@@ -149,12 +161,14 @@ record IsOnly (a : Receipt) (w : World) : Type 0 where
   kept : IsKept (λ r. r ≡ a) (λ x. ⊥) 0 ⊤ w
   tidy : Throughout (λ i state. IsTidy state) w
 
+-- A quiet event brings no other receipt.
 only-event : (rules : Rules) (a : Receipt) (w : World) (event : Event) → IsQuiet 0 event → IsOnly a w → IsOnly a (happens rules w event)
 only-event rules a w event q h = record {
   kept = kept-event joins (λ r. r ≡ a) (λ x. ⊥) 0 ⊤ rules w event h.kept (quiet-admits_all rules (λ r. r ≡ a) (λ x. ⊥) 0 event q);
   tidy = throughout-event rules (λ i state. IsTidy state) (tidy-kept joins rules) w event h.tidy;
 }
 
+-- Nor do quiet events one after another.
 only-run : (rules : Rules) (a : Receipt) (events : List Event) (w : World) → AllByRecursion (IsQuiet 0) events → IsOnly a w → IsOnly a (run_from rules w events)
 only-run rules a [] w q h = h
 only-run rules a (event ∷ events) w q h = only-run rules a events (happens rules w event) q.1 (only-event rules a w event q.0 h)
@@ -233,17 +247,21 @@ second-exchanges rules a w q k two all is one-asks zero-answers h none =
 abbrev one_given : Configuration → Receipt → WorldRun
 one_given config a = record { config = config; replicas = 2; events = Take 0 a ∷ [] }
 
+-- After the first event only the given receipt is anywhere.
 only-given : (config : Configuration) (a : Receipt) → IsOnly a (world_after (one_given config a))
 only-given config a = record {
   kept = kept-event joins (λ r. r ≡ a) (λ x. ⊥) 0 ⊤ (rules_in (one_given config a)) empty_world (Take 0 a) (empty-kept (λ r. r ≡ a) (λ x. ⊥) 0 ⊤) (λ i f. refl);
-  tidy = throughout-event (rules_in (one_given config a)) (λ i state. IsTidy state) (tidy-kept joins (rules_in (one_given config a))) empty_world (Take 0 a) tidy-empty;
+  tidy = throughout-event (rules_in (one_given config a)) (λ i state. IsTidy state) (tidy-kept joins (rules_in (one_given config a))) empty_world
+      (Take 0 a) tidy-empty;
 }
 
+-- No message was sent then.
 none-sent : (config : Configuration) (a : Receipt) → length (world_after (one_given config a)).sent ≡ 0
 none-sent config a =
     let rules = rules_in (one_given config a) in
     ap length (where-sent (is_replica rules 0 && rules.fits a) empty_world (gains 0 (only_receipt a)) (gains-sent empty_world 0 (only_receipt a)))
 
+-- All rounds are what it takes to settle.
 settles : (config : Configuration) (a : Receipt) (k : ℕ) → k ≡ 256 → Settles (rules_in (one_given config a)) (world_after (one_given config a)) (rounds k)
 settles config a k all =
     let rules = rules_in (one_given config a) in

@@ -233,5 +233,6 @@ late_answer-differs a p = differs ((run three (late_answer a)).now 1) ((run thre
 
 -- ---- one takes all that another holds
 
+-- the receipts and the record of all three
 joined_to-same : (a b : Receipt) (x : Distrust) → AreApart a b x → (run three (starts a b x ++ (Join 1 2 ∷ Join 0 1 ∷ []))).now 0 ≡ all_of a b x
 joined_to-same a b x h = simp (h.less, h.greater)

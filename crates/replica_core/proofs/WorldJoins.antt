@@ -7,6 +7,7 @@ use Rattle.receipt_core.proofs.LineFacts.{one_receipt, one_distrust}
 use Rattle.receipt_core.proofs.RisingFacts.{AreSets-from_total}
 use Rattle.replica_core.proofs.JoinLawFacts.{Laws, joins-of}
 
+-- the laws by which receipts and records are joined
 pub joins : Laws
 joins = record {
   receipts = joins-of receipt_cmp IsReceipt IsReceipt (λ r h. h) (AreSets-from_total IsReceipt receipt_cmp receipt_total one_receipt);

@@ -151,15 +151,13 @@ pub record HasAll (bucket : ℕ) (given taken : State) : Type 0 where
 -- no receipt is taken and no key distrusted, nobody restarts, and what was sent before the place is
 -- not taken
 abbrev pub IsQuiet : ℕ → Event → Type 0
-IsQuiet place (Take i r) = ⊥
-IsQuiet place (Revoke i x) = ⊥
 IsQuiet place (Ask i b) = ⊤
 IsQuiet place (Answer j k) = ⊤
 IsQuiet place (Absorb i k) = place ≤ k
 IsQuiet place (Part i k m) = place ≤ k
 IsQuiet place (Join i j) = ⊤
 IsQuiet place (Save i) = ⊤
-IsQuiet place (Restart i) = ⊥
+IsQuiet place _ = ⊥
 
 -- Since a moment it is quiet, no two receipts that were held anywhere then have one id, and each
 -- replica has had, from each other one, its whole answer about each bucket.

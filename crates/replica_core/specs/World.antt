@@ -164,9 +164,12 @@ followed_by past since = record past { events = past.events ++ since }
 
 -- ---- closures in memory
 
+-- the closure means a replica of the configuration that holds what the state says
+abbrev pub MeansState : {A : Type 0} → (A → Meaning) → Configuration → A → State → Type 0
+MeansState meaning config c state = meaning c ≡ meaning_of_state config state
+
 -- There are so many closures, and each means what the state of its number says.
-pub record AreOf {A : Type 0} (meaning : A → Meaning) (config : Configuration) (n : ℕ)
-    (closures : List A) (states : ℕ → State) : Type 0 where
+pub record AreOf {A : Type 0} (Means : A → State → Type 0) (n : ℕ) (closures : List A)
+    (states : ℕ → State) : Type 0 where
   pub count : length closures ≡ n
-  pub each : (i : ℕ) (c : A) → i < n
-      → meaning (slice_index_or closures i c) ≡ meaning_of_state config (states i)
+  pub each : (i : ℕ) (c : A) → i < n → Means (slice_index_or closures i c) (states i)

@@ -1,24 +1,14 @@
 //! Which records and receipts a closure would refuse, were it given one after another: the first
 //! one is found without any change.
-ghost use Rattle.std.specs.Prelude.{◌≡◌, ◌+◌, ◌^◌, ◌<◌, List, MatchOption, MatchResult, length};
+ghost use Rattle.std.specs.Prelude.{◌≡◌, ◌+◌, ◌^◌, ◌<◌, List, MatchOption, length};
 ghost use Rattle.receipt_core.specs.declared.distrust.Distrust.{Distrust};
-ghost use Rattle.receipt_core.specs.Receipt.{IsReceipt};
-ghost use Rattle.receipt_core.specs.Acceptance.{IsFitting};
-ghost use Rattle.closure_core.specs.Refusals.{RefusesFit};
 ghost use Rattle.replica_core.specs.Absorbing.{AreWelcome, IsFirstRefused, of_records, of_receipts};
 
 use crate::earlier::Earlier;
 use crate::places::{place_for_receipt, place_for_record};
-use closure_core::{Closure, TakeError};
-use fed_config::Config;
+use closure_core::{Closure, MOST_RECEIPTS, MOST_RECORDS, TakeError, check_fit};
 use receipt_core::{Distrust, Receipt};
 use std::alloc::Global;
-
-/// The most records of distrust that are held.
-const MOST_RECORDS: usize = 4_096;
-
-/// The most receipts that are held.
-const MOST_RECEIPTS: usize = 65_536;
 
 /// Which of the records is the first that is not welcome, where the first has number 2, and why it
 /// is not.
@@ -72,7 +62,7 @@ pub(crate) fn first_receipt<C: Closure>(
     let mut before = Earlier::new(alloc, receipts);
     let mut place: usize = 0;
     for receipt in receipts {
-        if let Err(why) = fit(config, receipt) {
+        if let Err(why) = check_fit(config, receipt) {
             return Some((place as u64 + 2, why));
         }
         let left = receipts.len() - place;
@@ -83,20 +73,4 @@ pub(crate) fn first_receipt<C: Closure>(
         place += 1;
     }
     None
-}
-
-// Whether the receipt's domain has a relationship, and that has the receipt's endpoint.
-fn fit(config: &Config, receipt: &Receipt) -> Result<(), TakeError>
-    ensures fits { MatchResult result (λ _. IsFitting config.now receipt.now)
-        (RefusesFit config.now receipt.now) }
-    ensures form { IsReceipt receipt.now }
-{
-    let Some(relationship) = config.relationship(receipt.domain()) else {
-        return Err(TakeError::UnknownDomain);
-    };
-    if relationship.endpoint.as_str() == receipt.endpoint().as_str() {
-        Ok(())
-    } else {
-        Err(TakeError::WrongEndpoint)
-    }
 }

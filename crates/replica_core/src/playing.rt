@@ -4,7 +4,7 @@ ghost use Rattle.fed_config.specs.Configuration.{Configuration};
 ghost use Rattle.replica_core.specs.State.{State, no_state};
 ghost use Rattle.replica_core.specs.Session.{state_of, question_of};
 ghost use Rattle.replica_core.specs.World.{World, empty_world, apply, gains, where_so, rules_of};
-ghost use Rattle.replica_core.specs.World.{is_replica, at_replica, AreOf};
+ghost use Rattle.replica_core.specs.World.{is_replica, at_replica, AreOf, MeansState};
 ghost use Rattle.replica_core.specs.Inside.Playing.{Plays, StandsForEvent};
 ghost use Rattle.replica_core.specs.declared.event.Event.{Event};
 
@@ -41,7 +41,7 @@ pub(crate) fn start<C: Closure>(
 }
 
 fn empty_closures<C: Closure>(alloc: Global, config: &Config, n: usize) -> Result<Vec<C>, NoMemory>
-    ensures { IfOk result (λ v. AreOf (λ c. (C.state c).meaning) config.now n v.items
+    ensures { IfOk result (λ v. AreOf (MeansState (λ c. (C.state c).meaning) config.now) n v.items
         (λ i. no_state)) }
 {
     let mut closures = Vec::new(alloc);
@@ -256,9 +256,9 @@ fn copy_at<C: Closure>(
     place: usize,
 ) -> Result<(), NoMemory>
     ensures { (config : Configuration) (n : ℕ) (given states : ℕ → State)
-        → AreOf (λ c. (C.state c).meaning) config n from.now.items given
-        → AreOf (λ c. (C.state c).meaning) config n to.old.items states
-        → OnOk result (AreOf (λ c. (C.state c).meaning) config n to.new.items
+        → AreOf (MeansState (λ c. (C.state c).meaning) config) n from.now.items given
+        → AreOf (MeansState (λ c. (C.state c).meaning) config) n to.old.items states
+        → OnOk result (AreOf (MeansState (λ c. (C.state c).meaning) config) n to.new.items
         (cond (nat_le (place + 1) n) (at_replica place (given place) states) states)) }
 {
     if place < from.len() && place < to.len() {

@@ -1,6 +1,6 @@
 //! Lists of events, played on replicas in memory, with one arm for each event.
 ghost use Rattle.std.specs.Prelude.{IfOk, OnOk};
-ghost use Rattle.replica_core.specs.World.{rules_of, run, AreOf};
+ghost use Rattle.replica_core.specs.World.{rules_of, run, AreOf, MeansState};
 ghost use Rattle.replica_core.specs.Inside.Playing.{StandsForEvent};
 
 use crate::event::Event;
@@ -28,8 +28,8 @@ pub fn run_world<C: Closure>(
     n: usize,
     events: &[Event],
 ) -> Result<Vec<C>, NoMemory>
-    ensures { IfOk result (λ closures. AreOf (λ c. (C.state c).meaning) config.now n closures.items
-        (run (rules_of config.now n) events.now).now) }
+    ensures { IfOk result (λ closures. AreOf (MeansState (λ c. (C.state c).meaning) config.now) n
+        closures.items (run (rules_of config.now n) events.now).now) }
 {
     let mut playing: Playing<C> = start(alloc, config, n)?;
     for event in events {

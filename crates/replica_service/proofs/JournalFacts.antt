@@ -21,7 +21,8 @@ use Rattle.replica_sync.specs.Entries.{entry_line}
 use Rattle.replica_sync.specs.Snapshots.{ended, text_of_lines}
 use Rattle.replica_sync.specs.SoleLines.{HasRefusedSoleLine, IsWellFormed, RefusesSoleHeader, RefusesSoleLine, written_header}
 use Rattle.replica_service.specs.Journal.{HasBadEntry, HasBadStart, ReadsJournal, ReadsLines, RefusesJournal, RefusesJournalStart}
-use Rattle.replica_service.specs.Inside.JournalSteps.{FailsBehindLines, FailsNext, FailsStart, FindsStart, HasReadAll, HasReadPart, StepsOn, StepsThroughJournal}
+use Rattle.replica_service.specs.Inside.JournalSteps.{FailsBehindLines, FailsNext, FailsStart, FindsStart, HasReadAll, HasReadPart}
+use Rattle.replica_service.specs.Inside.JournalSteps.{StepsOn, StepsThroughJournal}
 
 -- ---- lines of a stream
 
@@ -154,7 +155,7 @@ read_fails m stream read now left e so_far valid fails =
 
 -- A refusal of the line is one of the next line.
 pub next_refused : (old new : Meaning) (number : ℕ) (stream after : Option (List ℕ)) (text : List ℕ) (e : SyncError) → HasLine stream after text
-    → HasRefusedSoleLine old number text new e → FailsNext old number stream e
+    → HasRefusedSoleLine old (record { number = number; text = text }) new e → FailsNext old number stream e
 next_refused old new number stream after text BadHeader line h = absurd h.cause
 next_refused old new number stream after text ConfigDiffers line h = absurd h.cause
 next_refused old new number stream after text VersionDiffers line h = absurd h.cause

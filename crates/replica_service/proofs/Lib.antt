@@ -1,4 +1,5 @@
 pub mod CutFacts
 mod JournalFacts
+mod ServingFacts
 mod PrefixFacts
 mod StandardFacts

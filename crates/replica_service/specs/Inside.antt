@@ -1,2 +1,3 @@
--- How a journal is read, line by line
+-- How a journal is read, line by line, and how pieces are taken
 pub mod JournalSteps
+pub mod ServingSteps

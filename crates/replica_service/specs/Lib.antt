@@ -1,4 +1,5 @@
--- What a caller cites stands in the first two; `Inside` has the steps of reading.
+-- What a caller cites stands in the first three; `Inside` has the steps of reading.
 pub mod Pieces
 pub mod Journal
+pub mod Serving
 pub mod Inside

@@ -1,15 +1,19 @@
 //! The decisions of a replica that stays, without a socket, a file or a clock: bytes go in, as the
 //! pieces in which they come, and bytes go out.
 //!
-//! `line_part` makes whole lines out of pieces. `journal_reader` and `journal_writer` have the text
-//! that keeps what came since the last snapshot.
+//! `line_part` makes whole lines out of pieces. `serving` answers the haves that come in them, and
+//! `text_sink` keeps an answer. `journal_reader` and `journal_writer` have the text that keeps what
+//! came since the last snapshot.
 #![tactic(auto)]
 
 mod journal_reader;
 mod journal_writer;
 pub mod laws;
 mod line_part;
+mod serving;
+mod text_sink;
 
 pub use journal_reader::read_journal;
 pub use journal_writer::{begin_journal, push_entry};
 pub use line_part::{LinePart, PieceEnd};
+pub use serving::Serving;

@@ -12,8 +12,8 @@ use std::alloc::{AllocError, Global};
 pub enum PieceEnd {
     /// Within a line: all of the piece is kept.
     Within,
-    /// A line ended in it. So many of its bytes were taken: those up to the line's line feed, and
-    /// that one. The others belong to the lines after it, and are to be given again.
+    /// A line ended in it. This is the number of bytes that were taken: those up to the line's line
+    /// feed, and that one. The others belong to the lines after it, and are to be given again.
     Line(usize),
     /// It makes the line longer than it may be. Nothing of it was taken.
     TooLong,

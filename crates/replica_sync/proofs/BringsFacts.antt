@@ -1,10 +1,9 @@
 -- A whole pull brings all that the other side held.
-use Rattle.std.proofs.Common.{◌≡◌, ◌∙◌, ℕ, ◌+◌, ◌<◌, ◌≤◌, ◌&&◌, ◌⊎◌, inl, inr, Bool, true, List, [], ◌∷◌, ◌++◌, length, map}
+use Rattle.std.proofs.Common.{◌≡◌, ◌∙◌, ℕ, ◌+◌, ◌<◌, ◌≤◌, ◌⊎◌, inl, inr, true, List, [], ◌∷◌, ◌++◌, length}
 use Rattle.std.proofs.Common.{refl, sym, ap, subst, arith, eq-eqb, append-nil}
-use Rattle.std.specs.Prelude.{Contains, filter, not, bytes_eq}
+use Rattle.std.specs.Prelude.{Contains, not}
 use Rattle.std.specs.List.{AllByRecursion}
 use Rattle.std.proofs.lemmas.Bool.{and_from, cases_Bool, cases_lt}
-use Rattle.std.proofs.lemmas.Slice.Eq.{bytes_eq-Decides}
 use Rattle.fed_config.specs.Configuration.{Configuration, config_id_of}
 use Rattle.receipt_core.specs.Order.{receipt_total, distrust_total}
 use Rattle.receipt_core.specs.declared.distrust.Distrust.{Distrust}
@@ -12,10 +11,11 @@ use Rattle.receipt_core.specs.Receipt.{Receipt, IsDistrust, IsReceipt, distrust_
 use Rattle.receipt_core.specs.Acceptance.{Meaning, IsMeaning}
 use Rattle.receipt_core.proofs.RisingFacts.{Contains-from_has, Has, Has-from_contains, same_members, with_items-has, with_items-keeps, with_items-new}
 use Rattle.replica_core.specs.Convergence.{HasAll}
-use Rattle.replica_core.specs.State.{State, bucket_of_id, id_cmp, ids_held, is_named, is_of_bucket, joined, meaning_of_state, receipts_lacking}
+use Rattle.replica_core.specs.State.{State, bucket_of_id, ids_held, is_named, is_of_bucket, joined, meaning_of_state, receipts_lacking}
 use Rattle.replica_core.specs.Session.{Reply, reply_of, state_of}
 use Rattle.replica_core.proofs.BucketFacts.{bucket-small}
-use Rattle.replica_core.proofs.ContainsFacts.{any-from, each-from, each-to, filter-from, filter-to, map-from}
+use Rattle.replica_core.proofs.ExchangeFacts.{lacking, named-held}
+use Rattle.replica_core.proofs.ContainsFacts.{each-from, each-to, filter-from, filter-to}
 use Rattle.replica_sync.specs.SessionRun.{known_run}
 use Rattle.replica_sync.specs.Pulling.{HasDistinctIds, PullsAll, after_replies, question_in}
 use Rattle.replica_sync.specs.Questions.{ServesAll}
@@ -33,25 +33,10 @@ record HasId (state : State) (r : Receipt) : Type 0 where
   pub id : receipt_id_of it ≡ receipt_id_of r
 
 -- an id that a question names is that of a receipt that the asker holds
-named-held : (state : State) (bucket : ℕ) (r : Receipt) → is_named (ids_held state bucket) r ≡ true → HasId state r
-named-held state bucket r named =
-    let own = filter (is_of_bucket bucket) state.held in
-    let found = any-from (λ id. bytes_eq id (receipt_id_of r)) (ids_held state bucket) named in
-    let same : found.0 ≡ receipt_id_of r = (bytes_eq-Decides found.0 (receipt_id_of r)).0 found.2 in
-    elim (with_items-has id_cmp (map receipt_id_of own) [] found.0 (Has-from_contains (ids_held state bucket) found.0 found.1)) [
-      | inl has ↦
-          let source = map-from receipt_id_of own found.0 (Contains-from_has (map receipt_id_of own) found.0 has) in
-          record {
-            it = source.0;
-            held = Has-from_contains state.held source.0 (filter-from (is_of_bucket bucket) state.held source.0 source.1).0;
-            id = source.2 ∙ same;
-          }
-      | inr none ↦ absurd none
-    ]
-
--- whether the receipt is of the bucket, and none that the question names
-abbrev lacking : State → ℕ → Receipt → Bool
-lacking state bucket r = is_of_bucket bucket r && not (is_named (ids_held state bucket) r)
+has-id : (state : State) (bucket : ℕ) (r : Receipt) → is_named (ids_held state bucket) r ≡ true → HasId state r
+has-id state bucket r named =
+    let source = named-held state bucket r named in
+    record { it = source.0; held = Has-from_contains state.held source.0 source.1; id = source.2 }
 
 -- the receipts that the answer of the other gives are receipts
 given-receipts : (c : Configuration) (k : Meaning) (state : State) (bucket : ℕ) → IsMeaning k
@@ -67,7 +52,7 @@ answer-brings c k state bucket r valid own has here =
     let gain = (reply_of k (question_in c state bucket)).content in
     elim (cases_Bool (is_named (ids_held state bucket) r)) [
       | inl named ↦
-          let known = named-held state bucket r named in
+          let known = has-id state bucket r named in
           record { it = known.it; held = with_items-keeps receipt_cmp gain.held state.held known.it known.held; id = known.id }
       | inr unnamed ↦
           let sent : Contains gain.held r =

@@ -221,6 +221,7 @@ record AreOfOne (count distrusts : ℕ) (content other : State) (left rest : Lis
   pub follows : text_of_lines (content_lines content) ++ left ≡ text_of_lines (content_lines other) ++ rest
   pub lines : content_lines content ++ (lines_of left).whole ≡ content_lines other ++ (lines_of rest).whole
 
+-- Both readings may change places.
 turned-round : (count distrusts : ℕ) (content other : State) (left rest : List ℕ) → AreOfOne count distrusts content other left rest
     → AreOfOne count distrusts other content rest left
 turned-round count distrusts content other left rest one =
@@ -240,6 +241,7 @@ record AreAlike (content other : State) (left rest : List ℕ) : Type 0 where
   pub same : content ≡ other
   pub follows : left ≡ rest
 
+-- Readings with as many lines have the same content and the same rest.
 alike : (count distrusts : ℕ) (content other : State) (left rest : List ℕ) → AreOfOne count distrusts content other left rest
     → length (content_lines content) ≡ length (content_lines other) → AreAlike content other left rest
 alike count distrusts content other left rest one size =
@@ -279,6 +281,7 @@ record IsBoth (count distrusts count_too distrusts_too : ℕ) (content other : S
   pub records : distrusts ≡ distrusts_too
   pub one : AreOfOne count_too distrusts_too content other left rest
 
+-- Two beginnings of one answer are readings of one text.
 of-one : (bytes : List ℕ) (count distrusts count_too distrusts_too : ℕ) (content other : State) (left rest : List ℕ)
     → AnswerBegins None (Some bytes) count distrusts content (Some left) → AnswerBegins None (Some bytes) count_too distrusts_too other (Some rest)
     → IsBoth count distrusts count_too distrusts_too content other left rest

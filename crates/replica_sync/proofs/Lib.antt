@@ -20,12 +20,12 @@ mod FeedlessFacts
 mod AskableFacts
 mod ContentFacts
 mod GatherFacts
-mod AnswerFacts
+pub mod AnswerFacts
 mod GiveFacts
 mod WrittenPieceFacts
 mod ServingFacts
-mod TakingFacts
-mod PullingFacts
+pub mod TakingFacts
+pub mod PullingFacts
 mod WelcomeFacts
 mod SessionFacts
 mod OwnMessageFacts

@@ -35,33 +35,40 @@ use Rattle.replica_sync.proofs.IdListFacts.{later_text, length-quoted}
 
 -- ---- digests
 
+-- A digest consists of bytes.
 octets-of : (text : List ℕ) → AllByRecursion (λ b. b < 256) (sha256 text)
 unfolding sha256
 octets-of text = digest-bytes _ 8
 
+-- What SHA-256 gives has the form of a digest.
 digest-of : (text : List ℕ) → IsDigest (sha256 text)
 digest-of text = record { size = length-sha256 text; octets = octets-of text }
 
+-- So has the digest of a configuration.
 config-digest : (c : Configuration) → IsDigest (config_id_of c)
 unfolding config_id_of
 config-digest c = digest-of _
 
+-- So has the id of a receipt.
 id-digest : (r : Receipt) → IsDigest (receipt_id_of r)
 unfolding receipt_id_of
 id-digest r = digest-of (line r)
 
+-- So have the ids of receipts.
 all-ids : (rs : List Receipt) → AllByRecursion IsDigest (map receipt_id_of rs)
 all-ids [] = tt
 all-ids (r ∷ rs) = (id-digest r, all-ids rs)
 
 -- ---- how long a set is
 
+-- An item that is put into a list makes it longer by one at most.
 placed-few : {A : Type 0} (o : Ordering) (item head : A) (rest longer : List A) → length longer ≤ length rest + 1
     → length (placed o item head rest longer) ≤ length (head ∷ rest) + 1
 placed-few Less item head rest longer h = omega arith
 placed-few Equal item head rest longer h = omega arith
 placed-few Greater item head rest longer h = omega (arith, h)
 
+-- So does one that is put into a set.
 one-longer : {A : Type 0} (cmp : A → A → Ordering) (item : A) (set : List A) → length (with_item cmp item set) ≤ length set + 1
 one-longer cmp item [] = omega arith
 one-longer cmp item (head ∷ rest) = placed-few (cmp item head) item head rest (with_item cmp item rest) (one-longer cmp item rest)
@@ -74,9 +81,11 @@ no-longer cmp (x ∷ items) set =
     let one = one-longer cmp x set in
     omega (arith, later, one)
 
+-- A filter keeps no more than there were.
 kept-few : {A : Type 0} (p : A → Bool) (xs : List A) → length (filter p xs) ≤ length xs
 kept-few p xs = let kept = length-filter p xs in let few = count_by-le-length p xs in omega (arith, kept, few)
 
+-- A question names at most 65,536 ids.
 few-ids : (m : Meaning) (bucket : ℕ) → IsMeaning m → length (ids_held (state_of m) bucket) ≤ 65536
 few-ids m bucket valid =
     let kept = filter (is_of_bucket bucket) m.held in
@@ -97,6 +106,7 @@ length-later (id ∷ ids) h =
     let both = length-append (codes "," ++ quoted id) (later_text ids) in
     omega (arith, one, rest, both)
 
+-- An id takes 67 bytes of the line, with its quotes and its comma.
 length-ids : (ids : List (List ℕ)) → AllByRecursion IsDigest ids → length (join_by quoted (codes ",") ids) ≤ 67 * length ids
 length-ids [] h = omega arith
 length-ids (id ∷ ids) h =
@@ -105,6 +115,7 @@ length-ids (id ∷ ids) h =
     let both = length-append (quoted id) (later_text ids) in
     omega (arith, one, rest, both)
 
+-- How long the line of a question is, piece by piece.
 asked-length : (b c f i k : List ℕ)
     → length (codes "{\"bucket\":" ++
     (b ++ (codes ",\"config\":\"" ++ (c ++ (codes "\",\"format\":" ++
@@ -112,6 +123,7 @@ asked-length : (b c f i k : List ℕ)
     ≡ length b + length c + length f + length i + length k + 49
 asked-length b c f i k = simp length-append (omega arith)
 
+-- The line of a question is within the bound of lines.
 short-asked : (q : Question) → q.bucket < 256 → IsDigest q.config → AllByRecursion IsDigest q.ids → length q.ids ≤ 65536
     → length (asked_text (asked_of q)) ≤ 8388608
 unfolding asked_text
@@ -124,14 +136,17 @@ short-asked q below config ids few =
     let buckets = short-number 256 (omega arith) in
     omega (arith, whole, bucket, digest, format, list, buckets, few)
 
+-- Ids are ordered as their bytes are.
 id-total : IsTotalOrder id_cmp
 id-total = on_texts (λ (t : List ℕ). t)
 
+-- The ids that a question names have the form of digests.
 ids-digests : (state : State) (bucket : ℕ) → AllByRecursion IsDigest (ids_held state bucket)
 ids-digests state bucket =
     with_items-all IsDigest id_cmp (map receipt_id_of (filter (is_of_bucket bucket) state.held)) []
     (all-ids (filter (is_of_bucket bucket) state.held)) tt
 
+-- The ids that a question names rise.
 ids-rising : (state : State) (bucket : ℕ) → IsStrictlySortedBy id_cmp (ids_held state bucket)
 ids-rising state bucket =
     with_items-rising id_cmp id-total (map receipt_id_of (filter (is_of_bucket bucket) state.held)) [] (rising_nil id_cmp)
@@ -152,10 +167,12 @@ askable-question m bucket valid below = record {
 
 -- ---- answers
 
+-- One step of `filter-all`, for either outcome of the test.
 kept-all : {A : Type 0} (P : A → Type 0) (b : Bool) (x : A) (xs : List A) → P x → AllByRecursion P xs → AllByRecursion P (cond b (x ∷ xs) xs)
 kept-all P true x xs p h = (p, h)
 kept-all P false x xs p h = h
 
+-- What holds of all items holds of those that a filter keeps.
 filter-all : {A : Type 0} (P : A → Type 0) (p : A → Bool) (xs : List A) → AllByRecursion P xs → AllByRecursion P (filter p xs)
 filter-all P p [] h = tt
 filter-all P p (x ∷ xs) h = kept-all P (p x) x (filter p xs) h.0 (filter-all P p xs h.1)
@@ -178,6 +195,7 @@ kept-meaning m p valid = record {
 abbrev given : Meaning → Question → Meaning
 given m q = record { config = m.config; held = receipts_lacking (state_of m) q.bucket q.ids; records = m.records }
 
+-- What an answer gives can be held.
 given-meaning : (m : Meaning) (q : Question) → IsMeaning m → IsMeaning (given m q)
 given-meaning m q valid = kept-meaning m _ valid
 

@@ -25,7 +25,7 @@ use Rattle.replica_sync.proofs.SnapshotFacts.{consumes_both}
 use Rattle.replica_sync.specs.Messages.{question_text, reply_text}
 use Rattle.replica_sync.specs.Questions.{IsWritten}
 use Rattle.replica_sync.specs.Pulling.{AreReplies, IsReply, PullsAll, PullsUpTo, Session, after_replies, line_count, question_in, questions_of}
-use Rattle.replica_sync.specs.Inside.Taking.{StopsReply, TakesReply}
+use Rattle.replica_sync.specs.Inside.Taking.{AskedUpTo, StopsReply, TakesReply}
 use Rattle.replica_sync.proofs.WrittenPieceFacts.{begins-second}
 
 -- ---- one answer more
@@ -61,15 +61,6 @@ lines_more (first ∷ replies) reply = let later = lines_more replies reply in o
 -- The text of one item more comes last.
 texts_more : {A : Type 0} (text : A → List ℕ) (items : List A) (item : A) → flat_map text (items ++ item ∷ []) ≡ flat_map text items ++ text item
 texts_more text items item = flat_map-append text items (item ∷ []) ∙ ap (λ (t : List ℕ). flat_map text items ++ t) (append-nil (text item))
-
--- The buckets before this one were asked about, and all that was answered is held.
-pub record AskedUpTo (old : Meaning) (stream before : Option (List ℕ)) (bucket : ℕ) (now : Meaning) (left after : Option (List ℕ)) (read : ℕ) : Type 0 where
-  pub replies : List Reply
-  pub session : Session old.config stream replies left
-  pub number : length replies ≡ bucket
-  pub meaning : now ≡ meaning_of_state old.config (after_replies (state_of old) replies)
-  pub asked : Appends before after (flat_map question_text (questions_of old.config 0 (state_of old) replies))
-  pub read_is : read ≡ line_count replies
 
 -- After one answer more the next bucket comes, with all in the words of the definitions.
 more_at : (old : Meaning) (stream before : Option (List ℕ)) (bucket : ℕ) (now : Meaning) (left after : Option (List ℕ))

@@ -154,6 +154,7 @@ pub record HoldsAnswers (config : Configuration) (from state : State) (replies o
   pub valid : IsMeaning (meaning_of_state config (after_replies from replies))
   pub at : state ≡ after_replies from others
 
+-- What holds all answers holds the first one.
 first-holds : (config : Configuration) (from state : State) (r : Reply) (replies : List Reply)
     → HoldsAnswers config from state (r ∷ replies) [] → HoldsAnswer config state r.content
 first-holds config from state r replies h =
@@ -165,6 +166,7 @@ first-holds config from state r replies h =
           (within-after (joined from r.content) replies) (rising-joined from r.content h.rising) h.valid;
     })
 
+-- It holds the later ones after the first one.
 later-holds : (config : Configuration) (from state : State) (r o : Reply) (replies others : List Reply) → r ≡ o
     → HoldsAnswers config from state (r ∷ replies) (o ∷ others) → HoldsAnswers config (joined from r.content) state replies others
 later-holds config from state r o replies others same h = record {

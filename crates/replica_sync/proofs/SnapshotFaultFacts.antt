@@ -61,6 +61,7 @@ long-header config text e long h = absurd h
 abbrev HeaderCause : Configuration → List ℕ → SyncError → Type 0
 HeaderCause config text e = ((e ≡ BadHeader) × (8388608 < length text)) ⊎ RefusesHeader config text e
 
+-- A first line has one cause of refusal.
 one-header-cause : (config : Configuration) (text : List ℕ) (d e : SyncError) → HeaderCause config text d → HeaderCause config text e → d ≡ e
 one-header-cause config text d e (inl p) (inl q) = p.0 ∙ sym q.0
 one-header-cause config text d e (inl p) (inr q) = p.0 ∙ long-header config text e p.1 q
@@ -232,6 +233,7 @@ record AreOfOne (format : Format) (m k : Meaning) (left rest : List ℕ) : Type 
   pub follows : text_of_lines (held_lines m) ++ left ≡ text_of_lines (held_lines k) ++ rest
   pub lines : held_lines m ++ (lines_of left).whole ≡ held_lines k ++ (lines_of rest).whole
 
+-- Both readings may change places.
 turned-round : (format : Format) (m k : Meaning) (left rest : List ℕ) → AreOfOne format m k left rest → AreOfOne format k m rest left
 turned-round format m k left rest one = record {
   fits = one.fits_too;
@@ -276,6 +278,7 @@ record AreAlike (m k : Meaning) (left rest : List ℕ) : Type 0 where
   pub same : m ≡ k
   pub follows : left ≡ rest
 
+-- Readings with as many lines have the same content and the same rest.
 alike : (format : Format) (m k : Meaning) (left rest : List ℕ) → AreOfOne format m k left rest → length (held_lines m) ≡ length (held_lines k)
     → AreAlike m k left rest
 alike format m k left rest one size =
@@ -314,6 +317,7 @@ record IsBoth (f g : Format) (m k : Meaning) (left rest : List ℕ) : Type 0 whe
   pub formats : f ≡ g
   pub one : AreOfOne g m k left rest
 
+-- Two beginnings of one snapshot are readings of one text.
 of-one : (config : Configuration) (bytes : List ℕ) (f g : Format) (m k : Meaning) (left rest : List ℕ) → IsConfiguration config
     → Begins config (Some bytes) f m (Some left) → Begins config (Some bytes) g k (Some rest) → IsBoth f g m k left rest
 of-one config bytes f g m k left rest is b j =
@@ -337,6 +341,7 @@ of-one config bytes f g m k left rest is b j =
       };
     }
 
+-- Two faults after the first line are one.
 two-after : (config : Configuration) (bytes : List ℕ) (d e : SyncError) → IsConfiguration config → d ≢ Io → d ≢ NoMemory → e ≢ Io → e ≢ NoMemory
     → HasFaultAfter config (Some bytes) d → HasFaultAfter config (Some bytes) e → d ≡ e
 two-after config bytes d e is c l n j h k = by-rests h.left k.left h.begins k.begins h.cause k.cause
@@ -350,6 +355,7 @@ two-after config bytes d e is c l n j h k = by-rests h.left k.left h.begins k.be
         one-after k.format h.m k.m left rest d e both.one l j
         (subst (λ (x : Format). NextCause x h.m left d) both.formats (at-next h.format h.m left d c l p)) (at-next k.format k.m rest e n j q)
 
+-- A refused first line leaves no fault after it.
 first-or-after : (config : Configuration) (bytes : List ℕ) (d e : SyncError) → d ≢ Io → d ≢ NoMemory → RefusesFirst config (Some bytes) d
     → HasFaultAfter config (Some bytes) e → ⊥
 first-or-after config bytes d e calm ample first h = by-rest h.left h.begins

@@ -52,7 +52,7 @@ sole_cause m number text NoMemory h = elim h [ inl short ↦ inl short | inr ref
 
 -- A refusal after no line is one of a line alone.
 pub sole_refused : (old : Meaning) (number : ℕ) (text : List ℕ) (new : Meaning) (e : SyncError) → HasRefusedLine Either old [] number text new e
-    → HasRefusedSoleLine old number text new e
+    → HasRefusedSoleLine old (record { number = number; text = text }) new e
 sole_refused old number text new e h = record { cause = sole_cause old number text e h.cause; same = h.same }
 
 -- ---- line feeds

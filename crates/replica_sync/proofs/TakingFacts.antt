@@ -24,25 +24,14 @@ use Rattle.replica_sync.proofs.HeldFacts.{text_cmp, last_pushed}
 use Rattle.replica_sync.specs.Answers.{content_lines, IsBegun, IsContent, RefusesNextEntry, Wants, next_entry_number}
 use Rattle.replica_sync.specs.Inside.Gathering.{pushed}
 use Rattle.replica_sync.specs.Pulling.{refused_line}
-use Rattle.replica_sync.specs.Inside.Taking.{meaning_gained, HasNotTaken, HasTakenPart, IsNextOf, RefusesTakingLine, StopsWithin, TakesNext}
+use Rattle.replica_sync.specs.Inside.Taking.{meaning_gained, HasNotTaken, HasTakenPart, IsNextOf, RefusesTakingLine, StopsWithin, TakenSoFar, TakesNext}
 use Rattle.replica_sync.proofs.ContentFacts.{HasPlace, all_pushed, consumes_one, gained_pushed, lines_pushed, rising_pushed}
 
 -- ---- so much of an answer
 
--- This part of the answer is taken, these numbers of lines are still to come, and the last line and
--- the number of lines so far are known.
-pub record SoFar (old : Meaning) (stream : Option (List ℕ)) (count distrusts first receipts records : ℕ) (now : Meaning)
-    (left : Option (List ℕ)) (last : List ℕ) (read : ℕ) : Type 0 where
-  pub content : State
-  pub taken : HasTakenPart old stream count distrusts content now left
-  pub last_is : last ≡ last_of (content_lines content)
-  pub receipts_due : length content.held + receipts ≡ count
-  pub records_due : length content.records + records ≡ distrusts
-  pub read_is : read ≡ first + length content.records + length content.held
-
 -- Before the first line nothing is taken.
 pub so_far_none : (old : Meaning) (stream : Option (List ℕ)) (count distrusts first : ℕ) (last : List ℕ) → last ≡ []
-    → SoFar old stream count distrusts first count distrusts old stream last first
+    → TakenSoFar old stream count distrusts first count distrusts old stream last first
 so_far_none old stream count distrusts first last none = record {
   content = no_state;
   taken = record {
@@ -173,10 +162,10 @@ last_taken wanted count distrusts content now new text number begun w taken =
 pub so_far_more : (wanted : Wanted) (old : Meaning) (stream : Option (List ℕ))
     (count distrusts first receipts records receipts_then records_then : ℕ) (now new : Meaning)
     (left after : Option (List ℕ)) (last text : List ℕ) (read then : ℕ)
-    → SoFar old stream count distrusts first receipts records now left last read
+    → TakenSoFar old stream count distrusts first receipts records now left last read
     → IsNextOf receipts records wanted receipts_then records_then → TakesNext wanted now last left new text after
     → then ≡ read + 1
-    → SoFar old stream count distrusts first receipts_then records_then new after text then
+    → TakenSoFar old stream count distrusts first receipts_then records_then new after text then
 so_far_more wanted old stream count distrusts first receipts records receipts_then records_then now new left after last
     text read then so_far next takes is_then =
     let content = so_far.content in
@@ -259,7 +248,7 @@ bad_next wanted old first count distrusts content now last number left after NoM
 pub so_far_fails : (wanted : Wanted) (old : Meaning) (stream : Option (List ℕ))
     (count distrusts first receipts records receipts_then records_then : ℕ) (now new : Meaning)
     (left after : Option (List ℕ)) (last : List ℕ) (read : ℕ) (e : SyncError)
-    → SoFar old stream count distrusts first receipts records now left last read
+    → TakenSoFar old stream count distrusts first receipts records now left last read
     → IsNextOf receipts records wanted receipts_then records_then
     → HasNotTaken wanted now last (read + 1) left new after e
     → StopsWithin old stream count distrusts first new e

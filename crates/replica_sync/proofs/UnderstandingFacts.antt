@@ -43,6 +43,7 @@ abbrev pub AskInTurn : Configuration → ℕ → List Question → Type 0
 AskInTurn config bucket [] = Unit {0}
 AskInTurn config bucket (q ∷ qs) = (q.bucket ≡ bucket) × (IsQuestionOf config q × AskInTurn config (bucket + 1) qs)
 
+-- What a replica asks is a question of its configuration.
 pub own-question : (c : Configuration) (state : State) (bucket : ℕ) → IsMeaning (meaning_of_state c state) → bucket < 256
     → IsQuestionOf c (question_in c state bucket)
 own-question c state bucket valid below = record { askable = askable-question (meaning_of_state c state) bucket valid below; own = refl }
@@ -69,6 +70,7 @@ in-turn c bucket state (r ∷ replies) later rising valid few next =
 own-of : (c d : Configuration) (q : Question) → config_id_of c ≡ config_id_of d → IsQuestionOf c q → IsQuestionOf d q
 own-of c d q same is = record { askable = is.askable; own = is.own ∙ same }
 
+-- Questions that are asked in turn are of each configuration with this digest.
 each-own : (c d : Configuration) (bucket : ℕ) (qs : List Question) → config_id_of c ≡ config_id_of d
     → AskInTurn c bucket qs → AllByRecursion (IsQuestionOf d) qs
 each-own c d bucket [] same h = tt
@@ -89,6 +91,7 @@ pub record HasAskedInTurn (m : Meaning) (asked : List ℕ) (questions : List Que
   pub each : AskInTurn m.config 0 questions
   pub text : asked ≡ flat_map question_text questions
 
+-- A whole pull has asked about all buckets in turn.
 pub whole-asked : (m held : Meaning) (stream : Option (List ℕ)) (asked : List ℕ) → IsMeaning m → IsMeaning held
     → (all : PullsAll (session_run stream (Some []) (Some asked)) m held) → HasAskedInTurn m asked (all-asked m all.replies ++ [])
 whole-asked m held stream asked valid kept all =
@@ -115,6 +118,7 @@ written-whole (Refused n why) old new text calm ample h = h
 written-whole Io old new text calm ample h = absurd (calm refl)
 written-whole NoMemory old new text calm ample h = absurd (ample refl)
 
+-- A pull that broke off has asked about the first buckets in turn.
 pub part-asked : (m held : Meaning) (stream : Option (List ℕ)) (asked : List ℕ) (e : SyncError) → IsMeaning m → IsMeaning held
     → e ≢ Io → e ≢ NoMemory → (part : PullsUpTo (session_run stream (Some []) (Some asked)) m held e)
     → HasAskedInTurn m asked (all-asked m part.replies ++ last-asked m part.replies)
@@ -154,6 +158,7 @@ pull-served m k held stream asked (Err fault) before after e valid kept same fin
 
 -- ---- what is answered
 
+-- what the other side answers to the questions
 abbrev pub all-replies : Meaning → List Question → List Reply
 all-replies k questions = map (reply_of k) questions
 
@@ -175,10 +180,12 @@ replied-is m k asked replied count questions same asks all =
     (sym asks.text ∙ all.text) in
     all.written ∙ ap (replies_text k) (sym one) ∙ sym (flat_map-map reply_text (reply_of k) questions)
 
+-- There are as many questions as replies.
 pub length-asked : (c : Configuration) (bucket : ℕ) (state : State) (rs : List Reply) → length (questions_of c bucket state rs) ≡ length rs
 length-asked c bucket state [] = refl
 length-asked c bucket state (r ∷ rs) = let later = length-asked c (bucket + 1) (joined state r.content) rs in omega (arith, later)
 
+-- A pull that broke off had a reply to its last question, or had none.
 answered-or-not : (m k held : Meaning) (asked replied rest : List ℕ) (count : ℕ) (e : SyncError)
     → IsMeaning m → IsMeaning k → IsMeaning held → config_id_of m.config ≡ config_id_of k.config
     → ServesAll (known_run asked replied) k count → (part : PullsUpTo (known_run (replied ++ rest) asked) m held e)
@@ -209,10 +216,12 @@ answered-pulled m k held asked replied rest count e valid other kept same all pa
 
 -- ---- what two replicas hold together
 
+-- One step of `filter-has`, for either outcome of the test.
 filter-kept : {A : Type 0} (b : Bool) (x : A) (xs ys : List A) (a : A) → (Has ys a → Has xs a) → Has (cond b (x ∷ ys) ys) a → Has (x ∷ xs) a
 filter-kept true x xs ys a later h = elim h [ inl e ↦ inl e | inr k ↦ inr (later k) ]
 filter-kept false x xs ys a later h = inr (later h)
 
+-- What a filter keeps was there.
 filter-has : {A : Type 0} (p : A → Bool) (xs : List A) (a : A) → Has (filter p xs) a → Has xs a
 filter-has p [] a h = h
 filter-has p (x ∷ xs) a h = filter-kept (p x) x xs (filter p xs) a (filter-has p xs a) h
@@ -230,6 +239,7 @@ receipt-of-either state k (q ∷ qs) r h =
       | inr there ↦ inr there
     ]
 
+-- A record that is held after replies was held before, or the other side holds it.
 pub record-of-either : (state : State) (k : Meaning) (qs : List Question) (x : Distrust)
     → Has (after_replies state (all-replies k qs)).records x → Has state.records x ⊎ Has k.records x
 record-of-either state k [] x h = inl h

@@ -31,6 +31,7 @@ use Rattle.replica_sync.proofs.PullingFacts.{longer_with_items}
 
 -- ---- what is held only grows
 
+-- both sets are kept as rising lists
 pub record IsRisingState (state : State) : Type 0 where
   pub receipts : IsStrictlySortedBy receipt_cmp state.held
   pub records : IsStrictlySortedBy distrust_cmp state.records
@@ -42,15 +43,18 @@ pub record IsWithin (small large : State) : Type 0 where
   pub few : length small.held ≤ length large.held
   pub few_records : length small.records ≤ length large.records
 
+-- The sets of a replica are.
 pub rising-meaning : (m : Meaning) → IsMeaning m → IsRisingState (state_of m)
 rising-meaning m valid = record { receipts = valid.rising; records = valid.records_rising }
 
+-- A join keeps that.
 pub rising-joined : (state gain : State) → IsRisingState state → IsRisingState (joined state gain)
 rising-joined state gain rising = record {
   receipts = with_items-rising receipt_cmp receipt_total gain.held state.held rising.receipts;
   records = with_items-rising distrust_cmp distrust_total gain.records state.records rising.records;
 }
 
+-- A state is within each of its joins.
 pub within-joined : (state gain : State) → IsWithin state (joined state gain)
 within-joined state gain = record {
   receipts = λ r h. with_items-keeps receipt_cmp gain.held state.held r h;
@@ -59,9 +63,11 @@ within-joined state gain = record {
   few_records = longer_with_items distrust_cmp gain.records state.records;
 }
 
+-- A state is within itself.
 pub within-itself : (state : State) → IsWithin state state
 within-itself state = record { receipts = λ r h. h; records = λ x h. h; few = omega arith; few_records = omega arith }
 
+-- What is within a state that is within another is within that.
 within-both : (a b c : State) → IsWithin a b → IsWithin b c → IsWithin a c
 within-both a b c p q = record {
   receipts = λ r h. q.receipts r (p.receipts r h);
@@ -70,10 +76,12 @@ within-both a b c p q = record {
   few_records = let first = p.few_records in let second = q.few_records in omega (arith, first, second);
 }
 
+-- Replies keep the sets rising.
 pub rising-after : (state : State) (replies : List Reply) → IsRisingState state → IsRisingState (after_replies state replies)
 rising-after state [] rising = rising
 rising-after state (r ∷ replies) rising = rising-after (joined state r.content) replies (rising-joined state r.content rising)
 
+-- A state is within what it is after replies.
 pub within-after : (state : State) (replies : List Reply) → IsWithin state (after_replies state replies)
 within-after state [] = within-itself state
 within-after state (r ∷ replies) =
@@ -102,9 +110,11 @@ record IsSplit {A : Type 0} (whole front : List A) (item : A) : Type 0 where
   pub later : List A
   pub parts : whole ≡ front ++ item ∷ later
 
+-- The same split behind one more item that both lists have.
 one-further : {A : Type 0} (x y item : A) (xs ys : List A) → x ≡ y → IsSplit xs ys item → IsSplit (x ∷ xs) (y ∷ ys) item
 one-further x y item xs ys same split = record { later = split.later; parts = λ i. same i ∷ split.parts i }
 
+-- Lines that go on after those of some receipts are those of a list that goes on so.
 split-receipts : (whole front : List Receipt) (r : Receipt) (later : List (List ℕ)) → AllByRecursion IsReceipt whole
     → AllByRecursion IsReceipt front → IsReceipt r → map line whole ≡ map line front ++ line r ∷ later → IsSplit whole front r
 split-receipts [] [] r later ps qs is e = absurd (cc)
@@ -158,6 +168,7 @@ record-after (z ∷ zs) (y ∷ ys) rs front x later p q h k is e =
 
 -- ---- there is room for it
 
+-- A list has the item between its parts.
 has-middle : {A : Type 0} (front : List A) (item : A) (later : List A) → Has (front ++ item ∷ later) item
 has-middle [] item later = inl refl
 has-middle (y ∷ front) item later = inr (has-middle front item later)
@@ -173,9 +184,11 @@ longer-set P cmp exact whole front set item split is all absent =
     let same = ap length (ap (λ xs. with_items cmp xs set) split.parts ∙ fold-append (λ old x. with_item cmp x old) set front (item ∷ split.later)) in
     omega (arith, one, more, same)
 
+-- Receipts that are equal in their order are one.
 pub exact-receipts : IsExactOn IsReceipt receipt_cmp
 exact-receipts a b p q e = one_receipt a b p q e
 
+-- Records that are equal in their order are one.
 pub exact-records : IsExactOn IsDistrust distrust_cmp
 exact-records a b p q e = one_distrust a b e
 

@@ -1,7 +1,7 @@
 -- What a pull holds is what its replica holds in a world where the same was asked, answered and taken.
-use Rattle.std.proofs.Common.{◌≡◌, ◌≢◌, ◌∙◌, ℕ, ◌+◌, ◌-◌, ◌*◌, ◌<◌, ◌≤◌, Bool, true, cond, List, [], ◌∷◌, ◌++◌, length, map, take, inl}
+use Rattle.std.proofs.Common.{◌≡◌, ◌≢◌, ◌∙◌, ℕ, ◌+◌, ◌-◌, ◌*◌, ◌<◌, ◌≤◌, Bool, true, List, [], ◌∷◌, ◌++◌, length, map, take, inl}
 use Rattle.std.proofs.Common.{inr, refl, sym, ap, subst}
-use Rattle.std.proofs.Common.{arith, le-leb, eq-eqb, ne_eqb, append-nil, append_assoc, length-append, Option, None, Some, nat_le}
+use Rattle.std.proofs.Common.{arith, le-leb, append-nil, append_assoc, length-append, Option, None, Some}
 use Rattle.std.specs.Prelude.{slice_get}
 use Rattle.std.proofs.lemmas.Bool.{and_from, cases_lt}
 use Rattle.std.specs.List.{AllByRecursion}
@@ -13,19 +13,21 @@ use Rattle.receipt_core.specs.declared.distrust.Distrust.{Distrust}
 use Rattle.receipt_core.specs.Receipt.{Receipt, IsDistrust, IsReceipt, distrust_line, line}
 use Rattle.receipt_core.proofs.LineFacts.{one_line, one_record}
 use Rattle.receipt_core.specs.Acceptance.{Meaning, IsMeaning}
-use Rattle.replica_core.specs.State.{State, first_of, ids_held, is_within_limits, joined, meaning_of_state, no_state, receipts_lacking}
+use Rattle.replica_core.specs.State.{State, first_of, ids_held, is_within_limits, joined, meaning_of_state, no_state}
 use Rattle.replica_core.specs.Session.{Question, Reply, reply_of, state_of}
-use Rattle.replica_core.specs.World.{Message, Rules, World, answer, apply, at_replica, gained, happens, is_replica, question, replies, rules_of, run_from}
-use Rattle.replica_core.specs.World.{sends, takes_part, takes_whole, where_so, with_state}
+use Rattle.replica_core.specs.World.{Message, Rules, World, answer, apply, gained, happens, question, replies, rules_of, run_from}
+use Rattle.replica_core.specs.World.{takes_part, where_so, with_state}
 use Rattle.replica_core.specs.declared.event.Event.TheVariants.{Ask, Answer, Absorb, Part}
 use Rattle.replica_core.proofs.ContainsFacts.{get-new}
+use Rattle.replica_core.proofs.EventFacts.{at-here, at-other, replica-true}
+use Rattle.replica_core.proofs.ExchangeFacts.{absorbed-is, answered-is, asked-is, content_of, with_message}
 use Rattle.replica_core.specs.declared.error.SyncError.{SyncError}
 use Rattle.replica_core.specs.declared.error.SyncError.TheVariants.{Io, NoMemory}
 use Rattle.replica_sync.specs.SessionRun.{known_run}
 use Rattle.replica_sync.specs.Snapshots.{ended, text_of_lines}
 use Rattle.replica_sync.specs.Messages.{reply_text}
 use Rattle.replica_sync.specs.Answers.{AnswerBegins, content_lines}
-use Rattle.replica_sync.specs.Events.{EndsCut, cut_exchange, whole_exchange, whole_exchanges}
+use Rattle.replica_sync.specs.Events.{EndsCut, Link, cut_exchange, whole_exchange, whole_exchanges}
 use Rattle.replica_sync.specs.Pulling.{AreReplies, IsReply, PullsAll, PullsUpTo, RefusesAnswer, after_replies, line_count, question_in, questions_of}
 use Rattle.replica_sync.specs.Questions.{ServesAll}
 use Rattle.replica_sync.proofs.SessionFacts.{both-replies, joined-texts, reply_texts}
@@ -37,42 +39,11 @@ use Rattle.replica_sync.proofs.WelcomeFacts.{IsWithin, meaning-within, rising-af
 
 -- ---- one event
 
-replica-true : (rules : Rules) (i : ℕ) → i < rules.replicas → is_replica rules i ≡ true
-replica-true rules i l = le-leb (i + 1) rules.replicas (omega (arith, l))
+-- i pulls from j
+abbrev link_of : ℕ → ℕ → Link
+link_of i j = record { puller = i; server = j }
 
-at-here : (i : ℕ) (state : State) (states : ℕ → State) → at_replica i state states i ≡ state
-at-here i state states = ap (λ (b : Bool). cond b state (states i)) (eq-eqb i i refl)
-
-at-other : (i j : ℕ) (state : State) (states : ℕ → State) → j ≢ i → at_replica i state states j ≡ states j
-at-other i j state states apart = ap (λ (b : Bool). cond b state (states j)) (ne_eqb j i apart)
-
--- the world with one message more
-abbrev with_message : World → Message → World
-with_message w message = record w { sent = w.sent ++ message ∷ [] }
-
-asked-is : (rules : Rules) (w : World) (i b : ℕ) → i < rules.replicas → b ≤ 255
-    → happens rules w (Ask i b) ≡ with_message w (question i b (ids_held (w.now i) b))
-asked-is rules w i b l m =
-    ap (λ (t : Bool). apply w (where_so t (sends (question i b (ids_held (w.now i) b)))))
-    (and_from (is_replica rules i) (nat_le b 255) (replica-true rules i l) (le-leb b 255 m))
-
-abbrev content_from : State → ℕ → List (List ℕ) → State
-content_from state b ids = record { held = receipts_lacking state b ids; records = state.records }
-
-answered-is : (rules : Rules) (w : World) (i j b k : ℕ) (ids : List (List ℕ)) → j < rules.replicas → slice_get w.sent k ≡ Some (question i b ids)
-    → happens rules w (Answer j k) ≡ with_message w (answer j k (content_from (w.now j) b ids))
-answered-is rules w i j b k ids l e =
-    ap (λ (t : Bool). apply w (where_so t (replies (w.now j) j k (slice_get w.sent k)))) (replica-true rules j l)
-    ∙ ap (λ (f : Option Message). apply w (replies (w.now j) j k f)) e
-
-absorbed-is : (rules : Rules) (w : World) (i j n k : ℕ) (content : State) → i < rules.replicas → slice_get w.sent n ≡ Some (answer j k content)
-    → is_within_limits (joined (w.now i) content) ≡ true
-    → happens rules w (Absorb i n) ≡ with_state w i (joined (w.now i) content)
-absorbed-is rules w i j n k content l e t =
-    ap (λ (b : Bool). apply w (where_so b (takes_whole i (slice_get w.sent n)))) (replica-true rules i l)
-    ∙ ap (λ (f : Option Message). apply w (takes_whole i f)) e
-    ∙ ap (λ (b : Bool). gained b w i (joined (w.now i) content)) t
-
+-- A replica that takes the first lines of an answer within the limits joins these.
 part-is : (rules : Rules) (w : World) (i j n k count : ℕ) (content : State) → i < rules.replicas → slice_get w.sent n ≡ Some (answer j k content)
     → is_within_limits (joined (w.now i) (first_of count content)) ≡ true
     → happens rules w (Part i n count) ≡ with_state w i (joined (w.now i) (first_of count content))
@@ -88,7 +59,7 @@ module _ (rules : Rules) (i j : ℕ) (l : i < rules.replicas) (n : j < rules.rep
   the_question = question i bucket (ids_held (w.now i) bucket)
 
   abbrev the_content : State
-  the_content = content_from (w.now j) bucket (ids_held (w.now i) bucket)
+  the_content = content_of (w.now j) bucket (ids_held (w.now i) bucket)
 
   abbrev asked_world : World
   asked_world = with_message w the_question
@@ -108,13 +79,13 @@ module _ (rules : Rules) (i j : ℕ) (l : i < rules.replicas) (n : j < rules.rep
       (get-new (w.sent ++ the_question ∷ []) (answer j (length w.sent) the_content))
 
   pub whole-is : is_within_limits (joined (w.now i) the_content) ≡ true
-      → run_from rules w (whole_exchange i j bucket (length w.sent)) ≡ with_state answered_world i (joined (w.now i) the_content)
+      → run_from rules w (whole_exchange (link_of i j) bucket (length w.sent)) ≡ with_state answered_world i (joined (w.now i) the_content)
   whole-is t =
       ap (λ (v : World). happens rules v (Absorb i (length w.sent + 1))) to-answered
       ∙ absorbed-is rules answered_world i j (length w.sent + 1) (length w.sent) the_content l answer-there t
 
   pub cut-is : (count : ℕ) → is_within_limits (joined (w.now i) (first_of count the_content)) ≡ true
-      → run_from rules w (cut_exchange i j bucket (length w.sent) count) ≡ with_state answered_world i (joined (w.now i) (first_of count the_content))
+      → run_from rules w (cut_exchange (link_of i j) bucket (length w.sent) count) ≡ with_state answered_world i (joined (w.now i) (first_of count the_content))
   cut-is count t =
       ap (λ (v : World). happens rules v (Part i (length w.sent + 1) count)) to-answered
       ∙ part-is rules answered_world i j (length w.sent + 1) (length w.sent) count the_content l answer-there t
@@ -143,6 +114,7 @@ pub record IsSmall (state : State) : Type 0 where
   pub receipts : length state.held ≤ 65536
   pub records : length state.records ≤ 4096
 
+-- What is within a state within the limits is within the limits.
 small-within : (small large : State) → IsWithin small large → IsSmall large → is_within_limits small ≡ true
 small-within small large part is =
     let less = part.few in
@@ -152,19 +124,20 @@ small-within small large part is =
     and_from _ _ (le-leb (length small.held) 65536 (omega (arith, less, few)))
     (le-leb (length small.records) 4096 (omega (arith, less_records, few_records)))
 
+-- What is answered in the world is what the reply has.
 same-content : (i j : ℕ) (c : Configuration) (k : Meaning) (w : World) (state : State) (sent bucket : ℕ) (r : Reply) → IsAt i j k w state sent
-    → r ≡ reply_of k (question_in c state bucket) → content_from (w.now j) bucket (ids_held (w.now i) bucket) ≡ r.content
+    → r ≡ reply_of k (question_in c state bucket) → content_of (w.now j) bucket (ids_held (w.now i) bucket) ≡ r.content
 same-content i j c k w state sent bucket r at is =
-    (λ t. content_from (at.there t) bucket (ids_held (at.here t) bucket)) ∙ sym (ap (λ (a : Reply). a.content) is)
+    (λ t. content_of (at.there t) bucket (ids_held (at.here t) bucket)) ∙ sym (ap (λ (a : Reply). a.content) is)
 
 module _ (rules : Rules) (i j : ℕ) (l : i < rules.replicas) (n : j < rules.replicas) (apart : j ≢ i) (c : Configuration) (k : Meaning) where
   one-exchange : (w : World) (state : State) (sent bucket : ℕ) (r : Reply) → IsAt i j k w state sent
       → r ≡ reply_of k (question_in c state bucket) → bucket ≤ 255 → is_within_limits (joined state r.content) ≡ true
-      → IsAt i j k (run_from rules w (whole_exchange i j bucket sent)) (joined state r.content) (sent + 2)
+      → IsAt i j k (run_from rules w (whole_exchange (link_of i j) bucket sent)) (joined state r.content) (sent + 2)
   one-exchange w state sent bucket r at is low room =
       let content = same-content i j c k w state sent bucket r at is in
       let taken : joined (w.now i) (the_content rules i j l n w bucket low) ≡ joined state r.content = (λ t. joined (at.here t) (content t)) in
-      let run = ap (λ (s : ℕ). run_from rules w (whole_exchange i j bucket s)) (sym at.many)
+      let run = ap (λ (s : ℕ). run_from rules w (whole_exchange (link_of i j) bucket s)) (sym at.many)
       ∙ whole-is rules i j l n w bucket low (ap is_within_limits taken ∙ room) in
       let two = many-sent rules i j l n w bucket low in
       let many = at.many in
@@ -172,14 +145,14 @@ module _ (rules : Rules) (i j : ℕ) (l : i < rules.replicas) (n : j < rules.rep
       record {
         here = ap (λ (v : World). v.now i) run ∙ at-here i (joined (w.now i) (the_content rules i j l n w bucket low)) w.now ∙ taken;
         there = ap (λ (v : World). v.now j) run
-            ∙ at-other i j (joined (w.now i) (the_content rules i j l n w bucket low)) w.now apart ∙ at.there;
+            ∙ at-other j i (joined (w.now i) (the_content rules i j l n w bucket low)) w.now apart ∙ at.there;
         many = sent_then ∙ omega (arith, two, many);
       }
 
   -- so many whole exchanges
   run-all : (replies : List Reply) (w : World) (state : State) (sent bucket : ℕ) → IsAt i j k w state sent → AnswersOf c k bucket state replies
       → bucket + length replies ≤ 256 → IsSmall (after_replies state replies)
-      → IsAt i j k (run_from rules w (whole_exchanges i j (length replies) bucket sent)) (after_replies state replies) (sent + 2 * length replies)
+      → IsAt i j k (run_from rules w (whole_exchanges (link_of i j) (length replies) bucket sent)) (after_replies state replies) (sent + 2 * length replies)
   unfolding whole_exchanges
   run-all [] w state sent bucket at is few small =
       let many = at.many in
@@ -187,7 +160,7 @@ module _ (rules : Rules) (i j : ℕ) (l : i < rules.replicas) (n : j < rules.rep
   run-all (r ∷ replies) w state sent bucket at is few small =
       let one = one-exchange w state sent bucket r at is.0 (omega (arith, few))
       (small-within (joined state r.content) (after_replies state (r ∷ replies)) (within-after (joined state r.content) replies) small) in
-      let later = run-all replies (run_from rules w (whole_exchange i j bucket sent)) (joined state r.content) (sent + 2) (bucket + 1) one is.1
+      let later = run-all replies (run_from rules w (whole_exchange (link_of i j) bucket sent)) (joined state r.content) (sent + 2) (bucket + 1) one is.1
       (omega (arith, few)) small in
       let many = later.many in
       record { here = later.here; there = later.there; many = many ∙ omega arith }
@@ -223,7 +196,7 @@ pub pull-in-world : (m k held : Meaning) (n i j : ℕ) (w : World) (asked replie
     → w.now i ≡ state_of m → w.now j ≡ state_of k → IsMeaning m → IsMeaning k → IsMeaning held
     → config_id_of m.config ≡ config_id_of k.config → ServesAll (known_run asked replied) k count
     → PullsAll (known_run (replied ++ rest) asked) m held
-    → (run_from (rules_of m.config n) w (whole_exchanges i j 256 0 (length w.sent))).now i ≡ state_of held
+    → (run_from (rules_of m.config n) w (whole_exchanges (link_of i j) 256 0 (length w.sent))).now i ≡ state_of held
 pull-in-world m k held n i j w asked replied rest count l h apart here there valid other kept same all pulls =
     let replies = pulls.replies in
     let equal = replies-given m k held asked replied rest count valid other kept same all pulls in
@@ -233,7 +206,7 @@ pull-in-world m k held n i j w asked replied rest count l h apart here there val
     (record { here = here; there = there; many = refl })
     (answers-of m.config k 0 (state_of m) replies [] [] (append-nil replies ∙ equal)) (omega (arith, all_of_it))
     (record { receipts = final.few; records = final.few_records }) in
-    subst (λ (b : ℕ). (run_from (rules_of m.config n) w (whole_exchanges i j b 0 (length w.sent))).now i ≡ after_replies (state_of m) replies)
+    subst (λ (b : ℕ). (run_from (rules_of m.config n) w (whole_exchanges (link_of i j) b 0 (length w.sent))).now i ≡ after_replies (state_of m) replies)
     all_of_it run.here ∙ ap state_of (sym pulls.meaning)
 
 -- ---- a pull that was cut
@@ -282,6 +255,7 @@ record AreFirst (xs ys : List Distrust) (rs ss : List Receipt) : Type 0 where
   pub records : xs ≡ take (length xs) ys
   pub receipts : rs ≡ take (length rs) ss
 
+-- Content whose lines are the first ones of another is its beginning.
 front-content : (xs ys : List Distrust) (rs ss : List Receipt) (us vs : List (List ℕ)) → AllByRecursion IsDistrust xs
     → AllByRecursion IsDistrust ys → AllByRecursion IsReceipt rs → AllByRecursion IsReceipt ss
     → map distrust_line xs ++ (map line rs ++ us) ≡ map distrust_line ys ++ (map line ss ++ vs)
@@ -323,6 +297,7 @@ first-lines whole content few none first =
           })
     ]
 
+-- The first 0 lines have nothing.
 no-lines : (whole : State) → first_of 0 whole ≡ no_state
 no-lines whole =
     let none : 0 - length whole.records ≡ 0 = omega arith in
@@ -371,15 +346,16 @@ part-is-cut c state bucket first content left lost r rest e is begins (inr fault
               within order (omega (arith, receipts, few_receipts)));
         }
 
+-- After an exchange that was cut the puller has joined what came.
 cut-exchange-is : (rules : Rules) (i j : ℕ) (l : i < rules.replicas) (n : j < rules.replicas) (c : Configuration) (k : Meaning)
     (w : World) (state : State) (sent bucket : ℕ) (r : Reply) (content : State) → IsAt i j k w state sent
     → r ≡ reply_of k (question_in c state bucket) → bucket ≤ 255 → is_within_limits (joined state content) ≡ true
-    → (cut : IsCut r.content content) → (run_from rules w (cut_exchange i j bucket sent cut.lines)).now i ≡ joined state content
+    → (cut : IsCut r.content content) → (run_from rules w (cut_exchange (link_of i j) bucket sent cut.lines)).now i ≡ joined state content
 cut-exchange-is rules i j l n c k w state sent bucket r content at is low room cut =
     let same = same-content i j c k w state sent bucket r at is in
     let taken : joined (w.now i) (first_of cut.lines (the_content rules i j l n w bucket low)) ≡ joined state content =
     (λ t. joined (at.here t) (first_of cut.lines (same t))) ∙ ap (joined state) cut.is in
-    let run = ap (λ (s : ℕ). run_from rules w (cut_exchange i j bucket s cut.lines)) (sym at.many)
+    let run = ap (λ (s : ℕ). run_from rules w (cut_exchange (link_of i j) bucket s cut.lines)) (sym at.many)
     ∙ cut-is rules i j l n w bucket low cut.lines (ap is_within_limits taken ∙ room) in
     ap (λ (v : World). v.now i) run ∙ at-here i (joined (w.now i) (first_of cut.lines (the_content rules i j l n w bucket low))) w.now ∙ taken
 
@@ -388,13 +364,13 @@ pub cut-in-world : (m k held : Meaning) (n i j : ℕ) (w : World) (asked replied
     → i < n → j < n → i ≢ j → w.now i ≡ state_of m → w.now j ≡ state_of k → IsMeaning m → IsMeaning k → IsMeaning held
     → config_id_of m.config ≡ config_id_of k.config → ServesAll (known_run asked replied) k count
     → bytes ++ lost ≡ replied ++ rest → PullsUpTo (known_run bytes asked) m held e → e ≢ Io → e ≢ NoMemory
-    → EndsCut (rules_of m.config n) w i j (state_of held)
+    → EndsCut (rules_of m.config n) w (link_of i j) (state_of held)
 cut-in-world m k held n i j w asked replied rest bytes lost count e l h apart here there valid other kept same all begins part calm ample =
     cut-at part.left part.session.text part.cause
   where
     cut-at : (left : Option (List ℕ)) → Consumes (Some bytes) left (reply_texts part.replies)
         → RefusesAnswer m.config (after_replies (state_of m) part.replies) (length part.replies) (line_count part.replies + 1) part.content left e
-        → EndsCut (rules_of m.config n) w i j (state_of held)
+        → EndsCut (rules_of m.config n) w (link_of i j) (state_of held)
     cut-at None text cause = absurd text
     cut-at (Some left) text cause =
         let state = after_replies (state_of m) part.replies in
@@ -433,8 +409,8 @@ cut-in-world m k held n i j w asked replied rest bytes lost count e l h apart he
           few = few;
           lines = cut.lines;
           holds = ap (λ (v : World). v.now i)
-              (fold-append (happens (rules_of m.config n)) w (whole_exchanges i j (length part.replies) 0 (length w.sent))
-              (cut_exchange i j (length part.replies) (length w.sent + 2 * length part.replies) cut.lines))
+              (fold-append (happens (rules_of m.config n)) w (whole_exchanges (link_of i j) (length part.replies) 0 (length w.sent))
+              (cut_exchange (link_of i j) (length part.replies) (length w.sent + 2 * length part.replies) cut.lines))
               ∙ cut-exchange-is (rules_of m.config n) i j l h m.config k _ state (length w.sent + 2 * length part.replies)
               (length part.replies) reply part.content run refl (omega (arith, few)) room cut
               ∙ ap state_of (sym part.meaning);

@@ -11,8 +11,7 @@ use Rattle.replica_core.specs.declared.entry.Entry.{Entry}
 use Rattle.replica_core.specs.declared.error.SyncError.{SyncError}
 use Rattle.replica_core.specs.declared.error.SyncError.TheVariants.{BadHeader, ConfigDiffers}
 use Rattle.replica_core.specs.declared.error.SyncError.TheVariants.{VersionDiffers, NotCanonical}
-use Rattle.replica_core.specs.declared.error.SyncError.TheVariants.{NotRising, BadCount, Truncated}
-use Rattle.replica_core.specs.declared.error.SyncError.TheVariants.{Refused, Io, NoMemory}
+use Rattle.replica_core.specs.declared.error.SyncError.TheVariants.{Refused, NoMemory}
 use Rattle.replica_sync.specs.declared.entry_line.Wanted.TheVariants.{Either}
 use Rattle.replica_sync.specs.declared.format.Format.TheVariants.{First, Second}
 use Rattle.replica_sync.specs.Entries.{IsEntry, IsNoLineOf, IsWanted}
@@ -42,23 +41,22 @@ pub record IsRefusedEntry (m : Meaning) (text : List ℕ) (why : TakeError) : Ty
 -- what is wrong with the line with this number; memory is wanted within the bound of receipts'
 -- lines
 abbrev pub RefusesSoleLine : Meaning → ℕ → List ℕ → SyncError → Type 0
-RefusesSoleLine m number text BadHeader = ⊥
-RefusesSoleLine m number text ConfigDiffers = ⊥
-RefusesSoleLine m number text VersionDiffers = ⊥
 RefusesSoleLine m number text (NotCanonical n) = (n ≡ number) × IsNoLineOf Either text
-RefusesSoleLine m number text (NotRising n) = ⊥
-RefusesSoleLine m number text BadCount = ⊥
-RefusesSoleLine m number text Truncated = ⊥
 RefusesSoleLine m number text (Refused n why) = (n ≡ number) × (why ≢ NoTakeMemory)
     × IsRefusedEntry m text why
-RefusesSoleLine m number text Io = ⊥
 RefusesSoleLine m number text NoMemory = (length text ≤ receipt_line_limit)
     ⊎ IsRefusedEntry m text NoTakeMemory
+RefusesSoleLine m number text _ = ⊥
+
+-- a line, and the number by which errors name it
+pub record SoleLine : Type 0 where
+  pub number : ℕ
+  pub text : List ℕ
 
 -- Nothing has changed.
-pub record HasRefusedSoleLine (old : Meaning) (number : ℕ) (text : List ℕ) (new : Meaning)
+pub record HasRefusedSoleLine (old : Meaning) (line : SoleLine) (new : Meaning)
     (e : SyncError) : Type 0 where
-  pub cause : RefusesSoleLine old number text e
+  pub cause : RefusesSoleLine old line.number line.text e
   pub same : new ≡ old
 
 -- ---- a first line

@@ -16,9 +16,12 @@ use std::cmp::Ordering;
 
 /// Which lines may stand at a place.
 #[derive(Clone, Copy, Debug)]
-pub(crate) enum Wanted {
+pub enum Wanted {
+    /// Those of records of distrust.
     Records,
+    /// Those of receipts.
     Receipts,
+    /// Both.
     Either,
 }
 
@@ -48,7 +51,14 @@ pub(crate) fn take_line<C: Closure>(
 
 /// What the line with this number says, where `last` is the line before it, which is empty for the
 /// first.
-pub(crate) fn next_entry(
+///
+/// # Errors
+/// They name the line by this number. Of these the first that holds:
+/// - [`SyncError::NotCanonical`]: it is no line that may stand there, or has more than 8,388,608
+///   bytes,
+/// - [`SyncError::NotRising`]: it is not greater than the line before it,
+/// - [`SyncError::NoMemory`]: memory ran out.
+pub fn next_entry(
     alloc: Global,
     wanted: Wanted,
     last: &[u8],

@@ -202,7 +202,8 @@ pub fn world_of_sessions()
         → config_id_of m.config ≡ config_id_of k.config
         → ServesAll (known_run asked replied) k count
         → PullsAll (known_run (replied ++ rest) asked) m held
-        → (run_from (rules_of m.config n) w (whole_exchanges i j 256 0 (length w.sent))).now i
+        → (run_from (rules_of m.config n) w
+        (whole_exchanges (record { puller = i; server = j }) 256 0 (length w.sent))).now i
         ≡ state_of held }
     ensures cut { (m k held : Meaning) (n i j : ℕ) (w : World)
         (asked replied rest bytes lost : List ℕ) (count : ℕ) (e : SyncError) → i < n → j < n → i ≢ j
@@ -212,7 +213,7 @@ pub fn world_of_sessions()
         → ServesAll (known_run asked replied) k count
         → bytes ++ lost ≡ replied ++ rest
         → PullsUpTo (known_run bytes asked) m held e → e ≢ Io → e ≢ NoMemory
-        → EndsCut (rules_of m.config n) w i j (state_of held) }
+        → EndsCut (rules_of m.config n) w (record { puller = i; server = j }) (state_of held) }
 {}
 
 /// No line of a receipt or a record has a line feed in it, and no first line of a snapshot has one.

@@ -35,6 +35,7 @@ mod taking;
 
 pub use answer_reader::read_give;
 pub use answer_writer::write_answer;
+pub use entry_line::{Wanted, next_entry};
 pub use pulling::{PullFault, pull};
 pub use question_reader::read_have;
 pub use question_writer::write_have;
@@ -44,4 +45,6 @@ pub use replica_core::{
 pub use serving::serve_one;
 pub use snapshot_reader::read_snapshot;
 pub use snapshot_writer::write_snapshot;
-pub use sole_line::{read_first_line, read_question_line, take_sole_line, write_first_line};
+pub use sole_line::{
+    read_answer_line, read_first_line, read_question_line, take_sole_line, write_first_line,
+};

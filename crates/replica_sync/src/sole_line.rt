@@ -1,13 +1,15 @@
 //! Single lines, for a caller that does not have them in a stream: a receipt or a record that
-//! stands anywhere, the first line of a snapshot, and a question.
-ghost use Rattle.std.specs.Prelude.{◌≡◌, IfOk, MatchResult, Some};
+//! stands anywhere, the first line of a snapshot, a question, and the first line of an answer.
+ghost use Rattle.std.specs.Prelude.{◌≡◌, IfOk, IfErr, MatchResult, Some};
+ghost use Rattle.replica_sync.specs.Answers.{Heads};
 ghost use Rattle.replica_sync.specs.Snapshots.{header_line};
 ghost use Rattle.replica_sync.specs.SoleLines.{HasRefusedSoleLine, RefusesSoleHeader};
 ghost use Rattle.replica_sync.specs.SoleLines.{TakesSoleLine, IsQuestionLine};
-ghost use Rattle.replica_sync.specs.FirstLines.{RefusesAsked};
+ghost use Rattle.replica_sync.specs.FirstLines.{RefusesAsked, RefusesGiveLine};
 
 use crate::entry_line::{Wanted, take_line};
 use crate::format::Format;
+use crate::give_header_reader::{Expected, read_head};
 use crate::header::{format_of, write_header};
 use crate::question_reader::{asked_line, own_question};
 use closure_core::Closure;
@@ -33,8 +35,8 @@ pub fn take_sole_line<C: Closure>(
 ) -> Result<u64, SyncError>
     ensures { MatchResult result
         (TakesSoleLine (C.state closure.old).meaning text.now (C.state closure.new).meaning)
-        (HasRefusedSoleLine (C.state closure.old).meaning number text.now
-        (C.state closure.new).meaning) }
+        (HasRefusedSoleLine (C.state closure.old).meaning
+        (record { number = number; text = text.now }) (C.state closure.new).meaning) }
 {
     take_line(alloc, closure, Wanted::Either, b"".as_slice(), number, text)
 }
@@ -81,4 +83,31 @@ pub fn read_question_line(alloc: Global, config: &Config, text: &[u8]) -> Result
 {
     let asking = asked_line(alloc, text)?;
     own_question(config, asking)
+}
+
+/// Reads the first line of an answer of this configuration about this bucket, as
+/// [`pull`](crate::pull) does. Returns how many receipts it announces, and how many records.
+///
+/// # Errors
+/// Of these the first that holds:
+/// - [`SyncError::BadHeader`]: the line is no answer's first, of whatever format and number of
+///   buckets, or is about another bucket,
+/// - [`SyncError::ConfigDiffers`]: it is of another configuration,
+/// - [`SyncError::VersionDiffers`]: it has another format than 2, or another number of buckets than
+///   256,
+/// - [`SyncError::NoMemory`]: memory ran out.
+pub fn read_answer_line(
+    alloc: Global,
+    config: &Config,
+    bucket: u8,
+    text: &[u8],
+) -> Result<(u64, u64), SyncError>
+    ensures ok { IfOk result
+        (λ counts. Heads (Some (record { config = config.now; bucket = bucket })) text.now counts.0
+        counts.1) }
+    ensures refused { IfErr result
+        (RefusesGiveLine (Some (record { config = config.now; bucket = bucket })) text.now) }
+{
+    let head = read_head(alloc, Some(Expected { config, bucket }), text)?;
+    Ok((head.count, head.distrusts))
 }

@@ -2,8 +2,6 @@
 use Rattle.std.specs.Prelude.{◌≡◌, ℕ, ◌⊎◌, List}
 use Rattle.bundle_doc.specs.Bundle.{Bundle}
 use Rattle.bundle_doc.specs.declared.document.DocId.{DocId}
-use Rattle.jwk_set.specs.declared.authority.KeyId.{KeyId}
-use Rattle.receipt_core.specs.declared.distrust.Distrust.{Distrust}
 use Rattle.receipt_core.specs.Receipt.{Receipt}
 use Rattle.receipt_core.specs.Acceptance.{Meaning}
 use Rattle.closure_core.specs.declared.error.TakeError.{TakeError}
@@ -16,10 +14,6 @@ use Rattle.bundle_view.specs.Observe.{IsAuthentic}
 use Rattle.bundle_view.specs.declared.observation.Verdict.{Verdict}
 use Rattle.bundle_view.specs.declared.observe_error.ObserveError.{ObserveError}
 use Rattle.bundle_view.specs.declared.observe_error.ObserveError.TheVariants.{Take}
-
--- a record of distrust
-abbrev pub distrust : List ℕ → KeyId → Distrust
-distrust domain key = record { domain = domain; key = key }
 
 -- the id is that of the document that makes the verdict authentic
 pub record IsVoucher (m : Meaning) (domain : List ℕ) (verdict : Verdict) (id : DocId) : Type 0 where

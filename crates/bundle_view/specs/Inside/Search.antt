@@ -167,10 +167,9 @@ HasSearched seeds waiting strides p found = MatchOption found
 -- These are the receipts from the step at a place back to a configured document.
 abbrev pub IsBackFrom : List Stride → Option ℕ → List Receipt → Type 0
 IsBackFrom strides None [] = Unit {0}
-IsBackFrom strides None (r ∷ others) = ⊥
-IsBackFrom strides (Some place) [] = ⊥
 IsBackFrom strides (Some place) (r ∷ others) = (s : Stride) × (slice_get strides place ≡ Some s)
     × (s.receipt ≡ r) × IsBackFrom strides s.before others
+IsBackFrom strides _ _ = ⊥
 
 -- The step before each has a chain that is shorter by one.
 abbrev pub IsShorter : List Stride → Stride → Option ℕ → Type 0

@@ -5,7 +5,7 @@ use Rattle.std.specs.Io.KnownBytes.{Keeps, IsAtEnd}
 use Rattle.std.specs.declared.alloc.AllocError.{AllocError}
 use Rattle.byte_lines.specs.Lines.{HasNoFeed, HasLine, HasNoLine, HasMore}
 use Rattle.byte_lines.specs.Inside.Ahead.{ahead_of}
-use Rattle.byte_lines.specs.Streams.{kept, stream_of, left_of}
+use Rattle.byte_lines.specs.Streams.{kept, StreamState}
 use Rattle.byte_lines.specs.declared.line_buf.LineBuf.{LineBuf}
 use Rattle.byte_lines.specs.declared.line_buf.Found.{Found}
 use Rattle.byte_lines.specs.declared.line_buf.Found.TheVariants.{Text, TooLong, Cut, End}
@@ -23,16 +23,13 @@ FindsIn old new given TooLong = (text : List ℕ)
 FindsIn old new given Cut = HasNoLine old × HasMore old × IsAtEnd new
 FindsIn old new given End = IsAtEnd old × IsAtEnd new
 
-pub record TakesFound {S : Type 0} (remaining : S → Option (List ℕ)) (budget : S → ℕ)
-    (old : LineBuf) (before : S) (new : LineBuf) (after : S)
+-- what `advance` does to the stream, where `given` is the line that the buffer then holds
+pub record TakesFound (old new : StreamState) (given : List ℕ)
     (result : Result Found DeviceError) : Type 0 where
-  pub finds : IfOk result
-      (FindsIn (stream_of remaining old before) (stream_of remaining new after) new.line.items)
-  pub keeps : IsErrOf result NoMemory
-      → Keeps (stream_of remaining old before) (stream_of remaining new after)
-  pub spends : left_of budget new after ≤ left_of budget old before
-  pub falls : IfOk result
-      (λ found. (found ≡ End → ⊥) → left_of budget new after < left_of budget old before)
+  pub finds : IfOk result (FindsIn old.bytes new.bytes given)
+  pub keeps : IsErrOf result NoMemory → Keeps old.bytes new.bytes
+  pub spends : new.bound ≤ old.bound
+  pub falls : IfOk result (λ found. (found ≡ End → ⊥) → new.bound < old.bound)
 
 -- a text without a line feed that is longer than a line may be was passed
 pub record SkipsText (old new : List ℕ) : Type 0 where

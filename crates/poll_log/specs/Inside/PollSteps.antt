@@ -8,8 +8,7 @@ use Rattle.poll_log.specs.PollLines.{HasMoment, SaysPoll, Tells, TellsNoMoment, 
 use Rattle.poll_log.specs.PollLines.{ToldPoll, poll_of}
 use Rattle.poll_log.specs.declared.lines.Parts.{Parts}
 use Rattle.poll_log.specs.declared.error.PollError.{PollError}
-use Rattle.poll_log.specs.declared.error.PollError.TheVariants.{NoRelationship, PastRange, NoMemory}
-use Rattle.poll_log.specs.declared.error.PollError.TheVariants.{BadLine, BadMoment, Io}
+use Rattle.poll_log.specs.declared.error.PollError.TheVariants.{BadLine, BadMoment}
 
 abbrev pub is_no_space : ℕ → Bool
 is_no_space b = not (b == 32)
@@ -41,10 +40,7 @@ RecordsLine old text number new (Err (BadLine n)) = (n ≡ number)
     × TellsNothing (polled_domains old) text
 RecordsLine old text number new (Err (BadMoment n)) = (n ≡ number)
     × TellsNoMoment (polled_domains old) text
-RecordsLine old text number new (Err NoRelationship) = ⊥
-RecordsLine old text number new (Err PastRange) = ⊥
-RecordsLine old text number new (Err NoMemory) = ⊥
-RecordsLine old text number new (Err Io) = ⊥
+RecordsLine old text number new (Err _) = ⊥
 
 -- These are the lines so far, which say these polls, and those that are left.
 pub record ReadLines (domains : List (List ℕ)) (all left : Lines) (polls : List Poll)

@@ -7,7 +7,8 @@ use Rattle.receipt_core.specs.declared.distrust.Distrust.{Distrust}
 use Rattle.receipt_core.specs.Receipt.{Receipt, receipt_cmp, distrust_cmp}
 use Rattle.receipt_core.specs.Acceptance.{Meaning, IsFitting}
 use Rattle.replica_core.specs.State.{State, joined, is_within_limits}
-use Rattle.replica_core.specs.World.{Message, question, answer, World, rules_of, happens, AreOf}
+use Rattle.replica_core.specs.World.{Message, question, answer, World, rules_of, happens}
+use Rattle.replica_core.specs.World.{AreOf, MeansState}
 use Rattle.replica_core.specs.declared.event.Event.{Event}
 use Rattle.replica_core.specs.declared.message.StoredReply.{StoredReply}
 use Rattle.replica_core.specs.declared.message.Message.{Message as Sent}
@@ -62,8 +63,8 @@ IsSound config (answer answerer place content) = CanHold config content.held
 -- The closures mean what the replicas hold and saved, and the messages are those that were sent.
 pub record Plays {A : Type 0} (meaning : A → Meaning) (config : Configuration) (n : ℕ)
     (playing : Playing A) (w : World) : Type 0 where
-  pub held : AreOf meaning config n playing.held.items w.now
-  pub saved : AreOf meaning config n playing.saved.items w.saved
+  pub held : AreOf (MeansState meaning config) n playing.held.items w.now
+  pub saved : AreOf (MeansState meaning config) n playing.saved.items w.saved
   pub sent : map message_of playing.sent.items ≡ w.sent
   pub sound : AllByRecursion (IsSound config) w.sent
 

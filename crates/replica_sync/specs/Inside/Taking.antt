@@ -1,18 +1,19 @@
 -- How one answer is taken, line by line.
-use Rattle.std.specs.Prelude.{◌≡◌, ℕ, ◌+◌, ◌⊎◌, List, length, Option}
-use Rattle.std.specs.Io.KnownBytes.{Consumes}
+use Rattle.std.specs.Prelude.{◌≡◌, ℕ, ◌+◌, ◌⊎◌, List, length, flat_map, Option}
+use Rattle.std.specs.Io.KnownBytes.{Appends, Consumes}
 use Rattle.receipt_core.specs.Acceptance.{Meaning}
 use Rattle.byte_lines.specs.Lines.{HasLine, HasNoLine}
 use Rattle.replica_core.specs.State.{State, joined, meaning_of_state}
 use Rattle.replica_core.specs.Session.{Reply, state_of}
-use Rattle.replica_sync.specs.Snapshots.{text_of_lines}
+use Rattle.replica_sync.specs.Snapshots.{last_of, text_of_lines}
 use Rattle.replica_sync.specs.Inside.EntrySteps.{TakesEntryText}
 use Rattle.replica_sync.specs.Entries.{RefusesEntryLine}
 use Rattle.replica_sync.specs.declared.entry_line.Wanted.{Wanted}
 use Rattle.replica_sync.specs.declared.entry_line.Wanted.TheVariants.{Records, Receipts, Either}
-use Rattle.replica_sync.specs.Messages.{reply_text}
+use Rattle.replica_sync.specs.Messages.{question_text, reply_text}
 use Rattle.replica_sync.specs.Answers.{content_lines, IsBegun, RefusesNextEntry}
-use Rattle.replica_sync.specs.Pulling.{IsReply, RefusesAnswer, refused_line}
+use Rattle.replica_sync.specs.Pulling.{IsReply, RefusesAnswer, Session, after_replies, line_count}
+use Rattle.replica_sync.specs.Pulling.{questions_of, refused_line}
 use Rattle.replica_core.specs.declared.error.SyncError.{SyncError}
 use Rattle.replica_core.specs.declared.error.SyncError.TheVariants.{NotCanonical}
 use Rattle.replica_core.specs.declared.error.SyncError.TheVariants.{NotRising, Truncated}
@@ -92,6 +93,18 @@ pub record HasTakenPart (old : Meaning) (stream : Option (List ℕ)) (count dist
   pub meaning : new ≡ meaning_gained old content
   pub text : Consumes stream left (text_of_lines (content_lines content))
 
+-- This part of the answer is taken, these numbers of lines are still to come, and the last line and
+-- the number of lines so far are known.
+pub record TakenSoFar (old : Meaning) (stream : Option (List ℕ))
+    (count distrusts first receipts records : ℕ) (now : Meaning) (left : Option (List ℕ))
+    (last : List ℕ) (read : ℕ) : Type 0 where
+  pub content : State
+  pub taken : HasTakenPart old stream count distrusts content now left
+  pub last_is : last ≡ last_of (content_lines content)
+  pub receipts_due : length content.held + receipts ≡ count
+  pub records_due : length content.records + records ≡ distrusts
+  pub read_is : read ≡ first + length content.records + length content.held
+
 -- All is taken; `first` is the number of the first line, and `read` that of the last one.
 pub record TakesLines (old : Meaning) (stream : Option (List ℕ)) (count distrusts first : ℕ)
     (new : Meaning) (left : Option (List ℕ)) (read : ℕ) : Type 0 where
@@ -128,3 +141,16 @@ pub record StopsReply (old : Meaning) (bucket first : ℕ) (stream : Option (Lis
   pub content : State
   pub cause : RefusesAnswer old.config (state_of old) bucket first content stream e
   pub meaning : new ≡ meaning_gained old content
+
+-- ---- the answers of a session
+
+-- The buckets before this one were asked about, and all that was answered is held.
+pub record AskedUpTo (old : Meaning) (stream before : Option (List ℕ)) (bucket : ℕ) (now : Meaning)
+    (left after : Option (List ℕ)) (read : ℕ) : Type 0 where
+  pub replies : List Reply
+  pub session : Session old.config stream replies left
+  pub number : length replies ≡ bucket
+  pub meaning : now ≡ meaning_of_state old.config (after_replies (state_of old) replies)
+  pub asked : Appends before after
+      (flat_map question_text (questions_of old.config 0 (state_of old) replies))
+  pub read_is : read ≡ line_count replies

@@ -20,7 +20,7 @@ use Rattle.closure_core.specs.Refusals.{IsOfUnknownDomain, IsOfWrongEndpoint, Is
 use Rattle.closure_core.specs.Refusals.{RefusesDistrust}
 use Rattle.closure_core.specs.declared.error.TakeError.{TakeError}
 use Rattle.closure_core.specs.declared.error.TakeError.TheVariants.{UnknownDomain, WrongEndpoint}
-use Rattle.closure_core.specs.declared.error.TakeError.TheVariants.{Full, NoMemory, ConfigDiffers}
+use Rattle.closure_core.specs.declared.error.TakeError.TheVariants.{Full}
 use Rattle.closure_core.specs.declared.record.Record.{Record}
 use Rattle.trust_closure.specs.declared.shared.held.Standing.{Standing}
 use Rattle.trust_closure.specs.declared.shared.held.Standing.TheVariants.{Present, Absent}
@@ -86,8 +86,7 @@ abbrev pub RefusesNew : Meaning → Receipt → TakeError → Type 0
 RefusesNew m r UnknownDomain = IsOfUnknownDomain m.config r
 RefusesNew m r WrongEndpoint = IsOfWrongEndpoint m.config r
 RefusesNew m r Full = IsOneTooMany m r
-RefusesNew m r NoMemory = ⊥
-RefusesNew m r ConfigDiffers = ⊥
+RefusesNew m r _ = ⊥
 
 -- The record is held now, and was not.
 pub record HasAdded (old : Meaning) (x : Distrust) (new : Meaning) : Type 0 where

@@ -10,7 +10,6 @@ use Rattle.closure_core.specs.Refusals.{all_receipts, all_records, offers_count,
 use Rattle.closure_core.specs.Changes.{HeldAndRoom}
 use Rattle.closure_core.specs.declared.error.TakeError.{TakeError}
 use Rattle.closure_core.specs.declared.error.TakeError.TheVariants.{UnknownDomain, WrongEndpoint}
-use Rattle.closure_core.specs.declared.error.TakeError.TheVariants.{Full, NoMemory, ConfigDiffers}
 use Rattle.trust_closure.specs.declared.shared.copies.MergePlan.{MergePlan}
 use Rattle.receipt_core.specs.Limits.{receipt_limit, record_limit}
 
@@ -45,9 +44,7 @@ RefusesFitOfOne c receipts UnknownDomain = (r : Receipt) × Contains receipts r
 RefusesFitOfOne c receipts WrongEndpoint =
     ((r : Receipt) → Contains receipts r → IsOfUnknownDomain c r → ⊥)
     × ((r : Receipt) × Contains receipts r × IsOfWrongEndpoint c r)
-RefusesFitOfOne c receipts Full = ⊥
-RefusesFitOfOne c receipts NoMemory = ⊥
-RefusesFitOfOne c receipts ConfigDiffers = ⊥
+RefusesFitOfOne c receipts _ = ⊥
 
 -- These are of domains of the configuration, and together with what is held no more than one holds.
 pub record AreKnown (m : Meaning) (records : List Distrust) : Type 0 where

@@ -12,8 +12,8 @@ ghost use Rattle.closure_core.specs.Refusals.{offers_count};
 ghost use Rattle.trust_closure.specs.Inside.Merge.{IsMergeable, HasNew, AreCopies, IsMergePlan};
 ghost use Rattle.trust_closure.specs.Inside.Merge.{RefusesFitOfOne};
 
-use crate::shared::held::{Held, fit};
-use closure_core::{Distrusts, NoMemory, Receipts, TakeError};
+use crate::shared::held::Held;
+use closure_core::{Distrusts, NoMemory, Receipts, TakeError, check_fit};
 use fed_config::Config;
 use receipt_core::Receipt;
 
@@ -85,7 +85,7 @@ fn fit_all(config: &Config, receipts: Receipts<'_>) -> Result<(), TakeError>
 {
     let mut all_fit = true;
     for receipt in receipts {
-        if let Err(why) = fit(config, receipt) {
+        if let Err(why) = check_fit(config, receipt) {
             if why == TakeError::UnknownDomain {
                 return Err(TakeError::UnknownDomain);
             }

@@ -15,7 +15,9 @@ ghost use Rattle.receipt_core.specs.Limits.{receipt_limit, record_limit};
 use crate::indexed::labels::{Label, LabelTest};
 use crate::shared::probes::{InBucket, OfReceipt, PlaceInBuckets};
 use crate::shared::records::{Insertion, Records};
-use closure_core::{Distrusts, NoMemory, Receipts, Record, TakeError, record_of};
+use closure_core::{
+    Distrusts, MOST_RECEIPTS, NoMemory, Receipts, Record, TakeError, check_fit, record_of,
+};
 use fed_config::Config;
 use jwk_set::KeyId;
 use receipt_core::Receipt;
@@ -23,9 +25,6 @@ use sorted_order::{Arena, Lent, Order};
 use spiffe_name::TrustDomain;
 use std::alloc::Global;
 use std::marker::Model;
-
-/// The most receipts that are held.
-const MOST_RECEIPTS: usize = 65_536;
 
 /// Where a receipt that fits stands.
 pub(crate) enum Standing {
@@ -95,7 +94,7 @@ impl Held {
         ensures { MatchResult result (Stands (meaning_of self.now) receipt.now)
             (RefusesNew (meaning_of self.now) receipt.now) }
     {
-        if let Err(why) = fit(&self.config, receipt) {
+        if let Err(why) = check_fit(&self.config, receipt) {
             return Err(why);
         }
         match self.receipts.find(&OfReceipt::new(receipt)) {
@@ -234,22 +233,6 @@ impl LabelTest for Held {
             domain: label.domain,
         };
         self.records.holds(&record)
-    }
-}
-
-/// Whether the configuration has a relationship with the receipt's domain, and its endpoint.
-pub(crate) fn fit(config: &Config, receipt: &Receipt) -> Result<(), TakeError>
-    ensures fits { MatchResult result (λ _. IsFitting config.now receipt.now)
-        (RefusesFit config.now receipt.now) }
-    ensures form { IsReceipt receipt.now }
-{
-    let Some(relationship) = config.relationship(receipt.domain()) else {
-        return Err(TakeError::UnknownDomain);
-    };
-    if relationship.endpoint.as_str() == receipt.endpoint().as_str() {
-        Ok(())
-    } else {
-        Err(TakeError::WrongEndpoint)
     }
 }
 

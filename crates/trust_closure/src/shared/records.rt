@@ -5,12 +5,9 @@ ghost use Rattle.std.specs.List.Sorted.{IsStrictlySortedBy};
 ghost use Rattle.trust_closure.specs.Inside.Records.{InsertsRecord, record_cmp};
 ghost use Rattle.receipt_core.specs.Limits.{record_limit};
 
-use closure_core::Record;
+use closure_core::{MOST_RECORDS, Record};
 use std::alloc::{AllocError, Global};
 use std::marker::Model;
-
-/// The most records of distrust that are held.
-const MOST_RECORDS: usize = 4_096;
 
 /// What came of a record of distrust.
 #[derive(Drop)]

@@ -3,4 +3,4 @@ use Rattle.bundle_view.proofs.WaitingFacts.{AreSifted}
 use Rattle.bundle_view.proofs.waiting.list_trusted.Given as goal
 
 abbrev pub invariant-loop-receipt : goal.invariant-loop-receipt
-invariant-loop-receipt g l = AreSifted l.records l.initial.receipt-iterator l.waiting.items l.receipt-iterator
+invariant-loop-receipt g l = AreSifted (g.C.Closure.state l.closure).meaning.records l.initial.receipt-iterator l.waiting.items l.receipt-iterator

@@ -1,9 +1,6 @@
 -- Room was asked for what is new.
 use Rattle.std.proofs.Common.{◌≡◌, List, subst, arith}
-use Rattle.std.specs.Prelude.{MatchResult}
 use Rattle.receipt_core.specs.Receipt.{Receipt}
-use Rattle.closure_core.specs.Refusals.{IsRoomier}
-use Rattle.replica_core.specs.Absorbing.{room_for, IsBeyondRoom}
 use Rattle.replica_core.specs.Inside.Places.{CountsNew}
 use Rattle.replica_core.proofs.RoomFacts.{made-room, beyond-all, unmade-room}
 use Rattle.replica_core.proofs.absorbing.make_room.Goals as goal

@@ -1,5 +1,5 @@
 -- One more is counted, or is held already or came before.
-use Rattle.std.proofs.Common.{◌≡◌, ◌+◌, ◌^◌, ◌≤◌, inl, inr, List, length, sym, ap, subst, arith}
+use Rattle.std.proofs.Common.{◌+◌, ◌^◌, ◌≤◌, inl, inr, length, sym, ap, subst, arith}
 use Rattle.std.specs.Prelude.{Contains, IsTrue, ◌↔◌}
 use Rattle.std.proofs.lemmas.Bool.{cases_lt}
 use Rattle.receipt_core.specs.Receipt.{Receipt, receipt_cmp, offers_of, pair_of}

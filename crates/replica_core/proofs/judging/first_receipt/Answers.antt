@@ -55,17 +55,19 @@ loop-receipt-preserved g c =
     let same = c.loop-receipt.invariant.place in
     let own : c.config-config.result.now ≡ m.config = c.config-config.ensures.config in
     let at : get_or rs i r ≡ r = sym c.receipt-item.is in
-    let has : HasPlace receipt_cmp 65536 (with_items receipt_cmp (take c.loop-receipt.receipt-index rs) m.held) r (length rs - c.loop-receipt.receipt-index) c.in-Some.more =
+    let has : HasPlace receipt_cmp 65536 (with_items receipt_cmp (take c.loop-receipt.receipt-index rs) m.held) r
+    (length rs - c.loop-receipt.receipt-index) c.in-Some.more =
     subst (λ j. HasPlace receipt_cmp 65536 (with_items receipt_cmp (take c.loop-receipt.receipt-index rs) m.held) r (length rs - j) c.in-Some.more) same
     (subst (λ (f : Front Receipt). HasPlace receipt_cmp 65536 (with_items receipt_cmp (passed f) m.held) r (length rs - c.loop-receipt.place) c.in-Some.more)
     c.loop-receipt.invariant.front c.in-Some.ensures.place) in
     record {
       place = omega (arith, same);
-      front = front-next c.loop-receipt.before c.place_for_receipt.new.before rs c.loop-receipt.receipt-index c.loop-receipt.invariant.front c.place_for_receipt.ensures.items c.place_for_receipt.ensures.count;
+      front = front-next c.loop-receipt.before c.place_for_receipt.new.before rs c.loop-receipt.receipt-index
+          c.loop-receipt.invariant.front c.place_for_receipt.ensures.items c.place_for_receipt.ensures.count;
       places = places-next receipt_cmp 65536 rs m.held i c.in-Some.more r c.loop-receipt-test.true at has.after;
       welcome = λ records. receipt-judged (record m { records = records }) rs i r c.loop-receipt-test.true at (c.loop-receipt.invariant.welcome records)
           (subst IsConfiguration own c.domains-form.ensures.form) (subst (λ (k : Configuration). IsFitting k r) own c.in_default.ensures.fits) has.place;
       forms = subst (λ (xs : List Receipt). AllByRecursion IsReceipt xs)
           (sym (take-next rs i r c.loop-receipt-test.true at))
-          (all-push IsReceipt (take i rs) r c.loop-receipt.invariant.forms c.fit.ensures.form);
+          (all-push IsReceipt (take i rs) r c.loop-receipt.invariant.forms c.check_fit.ensures.form);
     }

@@ -55,13 +55,16 @@ loop-record-preserved g c =
     let x = c.record-item.result in
     let same = c.loop-record.invariant.place in
     let own : c.config-config.result.now ≡ m.config = c.config-config.ensures.config in
-    let has : HasPlace distrust_cmp 4096 (with_items distrust_cmp (take c.loop-record.record-index xs) m.records) x (length xs - c.loop-record.record-index) c.in-Some.more =
+    let has : HasPlace distrust_cmp 4096 (with_items distrust_cmp (take c.loop-record.record-index xs) m.records) x
+    (length xs - c.loop-record.record-index) c.in-Some.more =
     subst (λ j. HasPlace distrust_cmp 4096 (with_items distrust_cmp (take c.loop-record.record-index xs) m.records) x (length xs - j) c.in-Some.more) same
-    (subst (λ (f : Front Distrust). HasPlace distrust_cmp 4096 (with_items distrust_cmp (passed f) m.records) x (length xs - c.loop-record.place) c.in-Some.more)
+    (subst (λ (f : Front Distrust). HasPlace distrust_cmp 4096 (with_items distrust_cmp (passed f) m.records) x
+    (length xs - c.loop-record.place) c.in-Some.more)
     c.loop-record.invariant.front c.in-Some.ensures.place) in
     record {
       place = omega (arith, same);
-      front = front-next c.loop-record.before c.place_for_record.new.before xs c.loop-record.record-index c.loop-record.invariant.front c.place_for_record.ensures.items c.place_for_record.ensures.count;
+      front = front-next c.loop-record.before c.place_for_record.new.before xs c.loop-record.record-index
+          c.loop-record.invariant.front c.place_for_record.ensures.items c.place_for_record.ensures.count;
       places = places-next distrust_cmp 4096 xs m.records c.loop-record.record-index c.in-Some.more x c.loop-record-test.true (sym c.record-item.is) has.after;
       welcome = record-judged m xs c.loop-record.record-index x c.loop-record-test.true (sym c.record-item.is) c.loop-record.invariant.welcome
           (subst (λ (k : Configuration). HasDomain k x.domain) own

@@ -16,7 +16,8 @@ returns-then-is_receipt_among-clause-place g c =
     let set = with_items receipt_cmp (passed c.args.before.now) held in
     let has = c.is_receipt_among.ensures.among.0 c.if-is_receipt_among.true in
     place-held receipt_cmp 65536 set c.args.receipt.now c.args.free c.args.left c.requires.places has
-    (c.sets.ensures.receipts.present c.args.receipt.now set (c.sets.ensures.receipts.all_rise (passed c.args.before.now) held c.config-valid.ensures.valid.rising) has)
+    (c.sets.ensures.receipts.present c.args.receipt.now set
+    (c.sets.ensures.receipts.all_rise (passed c.args.before.now) held c.config-valid.ensures.valid.rising) has)
 
 pub returns-then-free-eq0-clause-place : goal.returns-then-free-eq0-clause-place
 returns-then-free-eq0-clause-place g c =

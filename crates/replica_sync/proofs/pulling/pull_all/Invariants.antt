@@ -1,7 +1,7 @@
 -- The buckets so far were asked about, and each line took at least one byte.
 use Rattle.std.proofs.Common.{◌≡◌, ◌+◌, ◌<◌, ◌^◌}
 use Rattle.byte_lines.specs.Streams.{stream_of, left_of}
-use Rattle.replica_sync.proofs.PullingFacts.{AskedUpTo}
+use Rattle.replica_sync.specs.Inside.Taking.{AskedUpTo}
 use Rattle.replica_sync.proofs.pulling.pull_all.Given as goal
 
 abbrev pub invariant-buckets : goal.invariant-buckets

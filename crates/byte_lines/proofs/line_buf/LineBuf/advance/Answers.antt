@@ -12,7 +12,7 @@ use Rattle.byte_lines.proofs.line_buf.LineBuf.advance.Goals as goal
 pub returns-in_err-fill-clause-takes : goal.returns-in_err-fill-clause-takes
 returns-in_err-fill-clause-takes g c =
     let exit = err_from_is_err_and c.from_residual-in_err-fill.result c.from_residual-in_err-fill.ensures.1 in
-    TakesFound-io _ _ _ _ _ _ _ exit.0 exit.1 exit.2 (spent_on _ _ _ _ _ _ c.pieces.invariant.spent c.in_err-fill.ensures.spends)
+    TakesFound-io _ _ _ _ exit.0 exit.1 exit.2 (spent_on _ _ _ _ _ _ c.pieces.invariant.spent c.in_err-fill.ensures.spends)
 
 pub returns-in_err-gather-clause-takes : goal.returns-in_err-gather-clause-takes
 returns-in_err-gather-clause-takes g c =
@@ -23,8 +23,7 @@ returns-in_err-gather-clause-takes g c =
     (g.R.Source.budget c.fill.new.source) (left_of g.R.Source.budget c.args.self.now c.args.source.now)
     c.pieces.invariant.spent c.in_ok-fill.ensures.spends in
     let same = c.in_err-gather.ensures.gathers in
-    TakesFound-memory g.R.Source.remaining g.R.Source.budget c.args.self.now c.args.source.now c.gather.new.self
-    c.fill.new.source c.from_residual-in_err-gather.result exit.0 exit.1
+    TakesFound-memory _ _ _ c.from_residual-in_err-gather.result exit.0 exit.1
     (subst (λ (l : List ℕ). Keeps (stream_of g.R.Source.remaining c.args.self.now c.args.source.now)
     (prepend_known l (g.R.Source.remaining c.fill.new.source))) (sym same) keeps)
     (omega (arith, ap length same, spent))
@@ -55,7 +54,7 @@ returns-in_err-is_ended-in-TooMuch-clause-takes g c =
     c.pieces.invariant.spent c.in_ok-fill.ensures.spends in
     let over = rw c.in-TooMuch.is at c.in_ok-gather.ensures.gathers in
     let same = kept_none c.gather.new.self.is_given _ (ahead_of c.skip_line.new.self) over.1 in
-    TakesFound-io _ _ _ _ _ _ _ exit.0 exit.1 exit.2
+    TakesFound-io _ _ _ _ exit.0 exit.1 exit.2
     (omega (arith, length_passed _ _ over.0, ap length same, spent, c.in_err-is_ended-in-TooMuch.ensures.spends))
 
 pub returns-in_err-is_ended-in-TooMuch-clause-lines_first : goal.returns-in_err-is_ended-in-TooMuch-clause-lines_first

@@ -1,5 +1,5 @@
 -- Where a growth is refused, the room is as it was.
-use Rattle.std.proofs.Common.{length, refl, arith}
+use Rattle.std.proofs.Common.{refl, arith}
 use Rattle.trust_closure.proofs.IndexFacts.{reserves-pairs, reserves-kept, reserves-from}
 use Rattle.trust_closure.proofs.indexed.changes.reserve.Goals as goal
 

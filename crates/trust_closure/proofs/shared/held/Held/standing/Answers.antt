@@ -29,7 +29,7 @@ returns-in-Ok c =
     subst (λ (r : Receipt). IsNumber (λ s. receipt_cmp s r) c.self.inside.receipts c.in-Ok.field-0) c.new.ensures c.in-Ok.ensures in
     subst (λ (h : HeldReceipts). Contains h.held c.args.receipt.now) c.self.view_is
     (found_held c.self.inside.receipts c.args.receipt.now c.in-Ok.field-0 c.self.invariant.receipts
-    c.fit.ensures.form found)
+    c.check_fit.ensures.form found)
 
 pub returns-in-Err : goal.returns-in-Err
 returns-in-Err c =
@@ -64,7 +64,7 @@ returns-in-Err-2 c =
     length_in_order c.self.inside.receipts c.self.invariant.arranged in
     let few : length (in_order c.self.inside.receipts) < 65536 = omega arith in
     record {
-      is = c.fit.ensures.form;
+      is = c.check_fit.ensures.form;
       fits = subst (λ (h : HeldReceipts). Fits h c.args.receipt.now) c.self.view_is c.in_default.ensures.fits;
       unheld = λ has. missing_lacks (in_order c.self.inside.receipts) c.args.receipt.now c.in-Err-find.field-0 missing
           (subst (λ (h : HeldReceipts). Contains h.held c.args.receipt.now) (sym c.self.view_is) has);

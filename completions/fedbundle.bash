@@ -1,0 +1,36 @@
+# Completions of fedbundle for bash. Made by tools/manual.
+_fedbundle() {
+    local word=${COMP_WORDS[COMP_CWORD]} before=${COMP_WORDS[COMP_CWORD - 1]} words
+    COMPREPLY=()
+    if [ "$COMP_CWORD" -eq 1 ]; then
+        COMPREPLY=($(compgen -W 'canon config report bundle explain observe merge migrate reseed polls distrust serve pull help --help --version' -- "$word"))
+        return
+    fi
+    case $before in
+        --at|--config|--state|--to|--with)
+            compopt -o filenames 2>/dev/null
+            COMPREPLY=($(compgen -f -- "$word"))
+            return
+            ;;
+        --allow|--domain|--endpoint|--key|--listen|--most-bytes|--now|--peer|--sessions|--wait) return ;;
+    esac
+    case ${COMP_WORDS[1]} in
+        canon) words='--domain --help' ;;
+        config) words='--config --with --help' ;;
+        report) words='--config --state --help' ;;
+        bundle) words='--config --state --domain --verbose --help' ;;
+        explain) words='--config --state --domain --verbose --help' ;;
+        observe) words='--config --state --domain --endpoint --key --wait --verbose --help' ;;
+        merge) words='--config --state --wait --most-bytes --verbose --help' ;;
+        migrate) words='--config --state --to --records-only --help' ;;
+        reseed) words='--config --state --allow --verbose --help' ;;
+        polls) words='--config --state --now --verbose --help' ;;
+        distrust) words='--config --state --domain --key --wait --verbose --help' ;;
+        serve) words='--config --state --listen --sessions --verbose --help' ;;
+        pull) words='--config --state --peer --wait --most-bytes --verbose --help' ;;
+        help) words='canon config report bundle explain observe merge migrate reseed polls distrust serve pull help' ;;
+        *) return ;;
+    esac
+    COMPREPLY=($(compgen -W "$words" -- "$word"))
+}
+complete -F _fedbundle fedbundle

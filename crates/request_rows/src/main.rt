@@ -1,0 +1,43 @@
+//! The program `request_rows`: it reads rows from standard input, reads and writes the first lines
+//! of local requests and of replies, and prints what came of each.
+//!
+//! - `words = LINE`: the words of a request's first line, each on a line,
+//! - `line WORDS`: the first line of a request with these words,
+//! - `reply = LINE`: what a reply's first line says,
+//! - `head ERRORS OUTPUT STATUS`: the first line of a reply with these numbers.
+#![tactic(auto)]
+
+mod replies;
+mod requests;
+
+use row_script::{Row, Rows, Script};
+use std::alloc::{AllocError, Global};
+use std::io;
+
+fn main(rt: HostRuntime) -> io::Result<()> {
+    row_script::run(&rt, &mut Calls { alloc: rt.alloc() })
+}
+
+// The calls, none of which needs what another left.
+#[derive(Drop)]
+struct Calls {
+    alloc: Global,
+}
+
+impl Rows for Calls {
+    fn answer(
+        &mut self,
+        _script: &Script,
+        row: &Row<'_>,
+        answer: &mut String,
+    ) -> Result<(), AllocError> {
+        let text = row.text.as_slice();
+        match row.verb {
+            "words" => requests::read(self.alloc, text, answer),
+            "line" => requests::write(self.alloc, row.words, answer),
+            "reply" => replies::read(self.alloc, text, answer),
+            "head" => replies::write(self.alloc, row.words, answer),
+            _ => answer.push_str("unknown verb\n"),
+        }
+    }
+}

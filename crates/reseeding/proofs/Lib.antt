@@ -1,0 +1,3 @@
+mod ConfigTextFacts
+mod DomainsFacts
+mod DoubtFacts

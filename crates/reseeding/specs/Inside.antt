@@ -1,0 +1,2 @@
+-- What work over some of the domains has done.
+pub mod Domains

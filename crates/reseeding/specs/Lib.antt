@@ -1,0 +1,3 @@
+-- `Reseeding` has what a caller cites; `Inside` has how far the work has come.
+pub mod Reseeding
+pub mod Inside

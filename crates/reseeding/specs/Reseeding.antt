@@ -1,0 +1,122 @@
+-- The configuration of a start anew, and which domains are refused.
+use Rattle.std.specs.Prelude.{◌≡◌, ◌≢◌, ℕ, List, [], ◌∷◌, ◌++◌, map, flat_map, codes, Bool, false}
+use Rattle.std.specs.Prelude.{Contains, Option, Some, None, cond}
+use Rattle.std.specs.Str.{bytes_eq}
+use Rattle.bundle_doc.specs.Bundle.{Bundle, HasKeyId, canonical_text}
+use Rattle.fed_config.specs.Configuration.{AreDomains, Configuration, config_text}
+use Rattle.fed_config.specs.declared.seed.Seed.{Seed}
+use Rattle.receipt_core.specs.Acceptance.{Meaning, IsMember}
+use Rattle.receipt_core.specs.declared.distrust.Distrust.{Distrust}
+use Rattle.closure_core.specs.AcceptedList.{document_of}
+use Rattle.bundle_view.specs.Current.{IsCurrent}
+use Rattle.reseeding.specs.declared.doubt.SeedDoubt.{SeedDoubt}
+use Rattle.reseeding.specs.declared.doubt.SeedDoubt.TheVariants.{DistrustedKey, Rival}
+use Rattle.reseeding.specs.declared.starting_anew.Reseeded.{Reseeded}
+use Rattle.reseeding.specs.declared.starting_anew.Reseeded.TheVariants.{NewConfig, Refusals}
+
+-- ---- what stands against a document as a seed
+
+-- A key is distrusted in the domain, and an X.509 authority of the document has it.
+pub record ListsDistrusted (m : Meaning) (domain : List ℕ) (d : Bundle) : Type 0 where
+  pub given : Distrust
+  pub held : Contains m.records given
+  pub of_domain : given.domain ≡ domain
+  pub lists : HasKeyId d.authorities given.key
+
+-- Another accepted document of the domain has the same sequence number.
+pub record HasRival (m : Meaning) (domain : List ℕ) (d : Bundle) : Type 0 where
+  pub sequence : ℕ
+  pub numbered : d.rank ≡ Some sequence
+  pub rival : Bundle
+  pub accepted : IsMember m (document_of domain rival)
+  pub same : rival.rank ≡ Some sequence
+  pub other : canonical_text rival ≢ canonical_text d
+
+-- what stands against the document, the first of the two where both do
+abbrev pub IsDoubt : Meaning → List ℕ → Bundle → Option SeedDoubt → Type 0
+IsDoubt m domain d None = (ListsDistrusted m domain d → ⊥) × (HasRival m domain d → ⊥)
+IsDoubt m domain d (Some DistrustedKey) = ListsDistrusted m domain d
+IsDoubt m domain d (Some Rival) = (ListsDistrusted m domain d → ⊥) × HasRival m domain d
+
+-- the same of a domain's current document, where there is one
+abbrev pub IsDoubtOf : Meaning → List ℕ → Option Bundle → Option SeedDoubt → Type 0
+IsDoubtOf m domain None why = why ≡ None
+IsDoubtOf m domain (Some d) why = IsDoubt m domain d why
+
+-- ---- the lines of the domains that are refused
+
+abbrev pub doubt_text : SeedDoubt → List ℕ
+doubt_text DistrustedKey = codes ": the current bundle lists a distrusted key\n"
+doubt_text Rival = codes ": another bundle has the current one's sequence\n"
+
+-- the domain that is allowed, whatever stands against it, if one is
+abbrev pub is_allowed : Option (List ℕ) → List ℕ → Bool
+is_allowed None domain = false
+is_allowed (Some allowed) domain = bytes_eq allowed domain
+
+abbrev pub refused_domain_line : List ℕ → SeedDoubt → List ℕ
+refused_domain_line domain why = codes "refused " ++ (domain ++ doubt_text why)
+
+-- the domain's line, if it has one
+abbrev pub refusal_of : Option (List ℕ) → List ℕ → Option SeedDoubt → List ℕ
+refusal_of allowed domain None = []
+refusal_of allowed domain (Some why) =
+    cond (is_allowed allowed domain) [] (refused_domain_line domain why)
+
+-- a domain, its current document and what stands against that
+pub record JudgedDomain : Type 0 where
+  pub domain : List ℕ
+  pub current : Option Bundle
+  pub doubt : Option SeedDoubt
+
+pub record IsJudged (m : Meaning) (judged : JudgedDomain) : Type 0 where
+  pub current : IsCurrent m judged.domain judged.current
+  pub doubt : IsDoubtOf m judged.domain judged.current judged.doubt
+
+abbrev pub refusal_line : Option (List ℕ) → JudgedDomain → List ℕ
+refusal_line allowed judged = refusal_of allowed judged.domain judged.doubt
+
+-- a line for each domain of the configuration against whose current document something stands, but
+-- for the allowed one, rising
+pub record IsRefusalText (m : Meaning) (allowed : Option (List ℕ)) (text : List ℕ) : Type 0 where
+  pub judged : List JudgedDomain
+  pub domains : AreDomains m.config (map (λ s. s.domain) judged)
+  pub each : (s : JudgedDomain) → Contains judged s → IsJudged m s
+  pub is : text ≡ flat_map (refusal_line allowed) judged
+
+-- ---- the new configuration
+
+abbrev pub seed_of : List ℕ → Option Bundle → List Seed
+seed_of domain None = []
+seed_of domain (Some d) = record { domain = domain; document = d } ∷ []
+
+-- a domain and its current document
+pub record SeededDomain : Type 0 where
+  pub domain : List ℕ
+  pub current : Option Bundle
+
+abbrev pub seed_in : SeededDomain → List Seed
+seed_in s = seed_of s.domain s.current
+
+-- the current document of each domain of the configuration that has one, rising
+pub record AreCurrentSeeds (m : Meaning) (seeds : List Seed) : Type 0 where
+  pub seeded : List SeededDomain
+  pub domains : AreDomains m.config (map (λ s. s.domain) seeded)
+  pub each : (s : SeededDomain) → Contains seeded s → IsCurrent m s.domain s.current
+  pub are : seeds ≡ flat_map seed_in seeded
+
+abbrev pub reseeded : Configuration → List Seed → Configuration
+reseeded c seeds = record { relationships = c.relationships; seeds = seeds }
+
+-- the canonical text of the configuration with the same relationships and these seeds
+pub record IsNewConfig (m : Meaning) (text : List ℕ) : Type 0 where
+  pub seeds : List Seed
+  pub are : AreCurrentSeeds m seeds
+  pub is : text ≡ config_text (reseeded m.config seeds)
+
+-- ---- a call of `reseed`
+
+-- No domain is refused, and this is the new configuration; or the lines of those that are.
+abbrev pub Reseeds : Meaning → Option (List ℕ) → Reseeded → Type 0
+Reseeds m allowed (NewConfig text) = IsRefusalText m allowed [] × IsNewConfig m text.items
+Reseeds m allowed (Refusals text) = IsRefusalText m allowed text.items × (text.items ≢ [])

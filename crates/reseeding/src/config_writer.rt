@@ -1,0 +1,111 @@
+//! The canonical text of a configuration.
+ghost use Rattle.std.specs.Prelude.{◌≡◌, ◌++◌, false, IfOk, OnOk, map};
+ghost use Rattle.json.specs.Print.{quoted};
+ghost use Rattle.serde_json.specs.View.{items_of, view};
+ghost use Rattle.serde_json.specs.Written.{comma_if, items_text};
+ghost use Rattle.fed_config.specs.Configuration.{config_text, relationship_tree};
+ghost use Rattle.fed_config.specs.Configuration.{seed_tree};
+ghost use Rattle.serde_json.specs.Written.{compact_text};
+
+use fed_config::{Relationship, Seed};
+use serde_json::Value;
+use std::alloc::{AllocError, Global};
+
+/// The canonical text of these relationships and seeds.
+pub(crate) fn write_config(
+    alloc: Global,
+    relationships: &[Relationship],
+    seeds: &[Seed],
+) -> Result<Vec<u8>, AllocError>
+    ensures { IfOk result (λ v. v.items
+        ≡ config_text (record { relationships = relationships.now; seeds = seeds.now })) }
+{
+    let mut out = Vec::new(alloc);
+    out.extend_from_slice(b"{\"relationships\":[")?;
+    write_relationships(alloc, &mut out, relationships)?;
+    out.extend_from_slice(b",\"seeds\":[")?;
+    write_seeds(alloc, &mut out, seeds)?;
+    out.extend_from_slice(b"}")?;
+    Ok(out)
+}
+
+/// Writes the relationships, and the bracket after them.
+fn write_relationships(
+    alloc: Global,
+    out: &mut Vec<u8>,
+    relationships: &[Relationship],
+) -> Result<(), AllocError>
+    ensures { OnOk result (out.new.items
+        ≡ out.old.items ++ items_text false (items_of (map relationship_tree relationships.now))) }
+{
+    let mut later = false;
+    for relationship in relationships {
+        write_comma(out, later)?;
+        write_relationship(alloc, out, relationship)?;
+        later = true;
+    }
+    out.push(b']')?;
+    Ok(())
+}
+
+/// Writes the seeds, and the bracket after them.
+fn write_seeds(alloc: Global, out: &mut Vec<u8>, seeds: &[Seed]) -> Result<(), AllocError>
+    ensures { OnOk result (out.new.items
+        ≡ out.old.items ++ items_text false (items_of (map seed_tree seeds.now))) }
+{
+    let mut later = false;
+    for seed in seeds {
+        write_comma(out, later)?;
+        write_seed(alloc, out, seed)?;
+        later = true;
+    }
+    out.push(b']')?;
+    Ok(())
+}
+
+fn write_comma(out: &mut Vec<u8>, later: bool) -> Result<(), AllocError>
+    ensures { OnOk result (out.new.items ≡ out.old.items ++ comma_if later) }
+{
+    if later {
+        out.push(b',')?;
+    }
+    Ok(())
+}
+
+fn write_relationship(
+    alloc: Global,
+    out: &mut Vec<u8>,
+    relationship: &Relationship,
+) -> Result<(), AllocError>
+    ensures { OnOk result (out.new.items
+        ≡ out.old.items ++ compact_text (relationship_tree relationship.now)) }
+{
+    out.extend_from_slice(b"{\"domain\":")?;
+    write_text(alloc, out, relationship.domain.as_str())?;
+    out.extend_from_slice(b",\"endpoint\":")?;
+    write_text(alloc, out, relationship.endpoint.as_str())?;
+    out.extend_from_slice(b",\"profile\":\"https_spiffe\",\"url\":")?;
+    write_text(alloc, out, relationship.url.as_str())?;
+    out.extend_from_slice(b"}")?;
+    Ok(())
+}
+
+fn write_seed(alloc: Global, out: &mut Vec<u8>, seed: &Seed) -> Result<(), AllocError>
+    ensures { OnOk result (out.new.items ≡ out.old.items ++ compact_text (seed_tree seed.now)) }
+{
+    out.extend_from_slice(b"{\"bundle\":")?;
+    out.extend_from_slice(seed.document.canonical())?;
+    out.extend_from_slice(b",\"domain\":")?;
+    write_text(alloc, out, seed.domain.as_str())?;
+    out.extend_from_slice(b"}")?;
+    Ok(())
+}
+
+/// Writes a JSON string.
+fn write_text(alloc: Global, out: &mut Vec<u8>, text: &str) -> Result<(), AllocError>
+    ensures { OnOk result (out.new.items ≡ out.old.items ++ quoted text.now) }
+{
+    let string = Value::String(String::from_str(alloc, text)?).to_vec(alloc)?;
+    out.extend_from_slice(string.as_slice())?;
+    Ok(())
+}

@@ -1,0 +1,12 @@
+//! A start anew: the configuration whose seeds are the current documents, and what stands against
+//! one of them as a seed. It knows closures by their trait alone.
+#![tactic(auto)]
+
+mod config_writer;
+mod doubt;
+mod refusals;
+mod seeds;
+mod starting_anew;
+
+pub use doubt::SeedDoubt;
+pub use starting_anew::{Reseeded, reseed};
