@@ -5,6 +5,7 @@ use crate::devices::in_pieces;
 use crate::messages::tell_messages;
 use crate::places::AMPLE_ROOM;
 use crate::replica::{replica, tell_held};
+use crate::serving::serve_pieces;
 use crate::session::tell_session;
 use crate::stop::Stop;
 use byte_lines::{LineBuf, MemSink, MemSource, Sink, Source};
@@ -118,6 +119,7 @@ fn perform_at<C: Closure, R: Source, W: Sink>(
         "have" => Ok(tell_done(ask(asked, closure, sink)?, outcome)?),
         "answer" => Ok(tell_done(reply(alloc, closure, source, sink), outcome)?),
         "serve" => Ok(tell_served(serve_one(alloc, closure, source, sink), outcome)?),
+        "serving" => Ok(tell_done(serve_pieces(alloc, closure, source, sink), outcome)?),
         "pull" => {
             let pulled = pull(alloc, closure, source, sink);
             tell_pulled(closure, pulled, outcome)

@@ -15,6 +15,7 @@ mod messages;
 mod places;
 mod replica;
 mod runs;
+mod serving;
 mod session;
 mod settings;
 mod stop;

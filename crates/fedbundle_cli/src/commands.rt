@@ -2,7 +2,7 @@
 // function over the streams, and writes its state. What a command takes is read before it takes the
 // lock of the state, and a fault of that is reported after those of the lock, the state and the
 // options.
-use crate::exit::Exit;
+use crate::exit::{Exit, print_clap};
 use crate::keeping::{Keeping, keeping_of, load, lock, look, room_left, save};
 use crate::limited::Limited;
 use crate::options::{given, wanted};
@@ -13,8 +13,8 @@ use bundle_view::Verdict;
 use byte_lines::{FromRead, MemSource, read_up_to};
 use fed_config::Config;
 use fedbundle::{
-    Call, CommandError, CommandName, OptionName, read_words, run_bundle, run_canon, run_distrust,
-    run_explain, run_migrate, run_observe, run_polls, run_report, take_other,
+    Call, CommandError, CommandName, OptionName, WordsError, read_words, run_bundle, run_canon,
+    run_distrust, run_explain, run_migrate, run_observe, run_polls, run_report, take_other,
 };
 use migration::Choice;
 use replica_sync::read_snapshot;
@@ -26,8 +26,19 @@ use trust_closure::IndexedClosure;
 pub(crate) fn run(rt: &HostRuntime) -> Result<u8, Exit> {
     let words = command_line::words_of_process(rt)?;
     let texts = command_line::texts(rt.alloc(), words.as_slice())?;
-    let call = read_words(rt.alloc(), texts.as_slice())?;
-    carry_out(rt, &call)
+    match read_words(rt.alloc(), texts.as_slice()) {
+        Ok(call) => carry_out(rt, &call),
+        Err(error) => end_by_words(rt, &error),
+    }
+}
+
+// The words are none of a command, or ask for help or for the version.
+fn end_by_words(rt: &HostRuntime, error: &WordsError) -> Result<u8, Exit> {
+    match error {
+        WordsError::Words(shown) => Ok(print_clap(rt, shown)),
+        WordsError::Usage => Err(Exit::Usage),
+        WordsError::NoMemory => Err(Exit::Refused(CommandError::NoMemory)),
+    }
 }
 
 fn carry_out(rt: &HostRuntime, call: &Call<'_>) -> Result<u8, Exit> {
@@ -199,7 +210,7 @@ fn read_verdict(rt: &HostRuntime, call: &Call<'_>) -> Result<Verdict, Exit> {
 fn merge(rt: &HostRuntime, config: &Config, call: &Call<'_>) -> Result<u8, Exit> {
     let state = keeping_of(call)?;
     let other = read_other(rt, config, room_left(rt, state));
-    merge_read(rt, config, state, other)
+    merge_read(rt, config, state, &other)
 }
 
 fn read_other(rt: &HostRuntime, config: &Config, most_bytes: u64) -> Result<IndexedClosure, Exit> {
@@ -223,21 +234,23 @@ fn merge_read(
     rt: &HostRuntime,
     config: &Config,
     state: Keeping<'_>,
-    other: Result<IndexedClosure, Exit>,
+    other: &Result<IndexedClosure, Exit>,
 ) -> Result<u8, Exit> {
     let _lock = lock(rt, state)?;
     let mut closure = load(rt, config, state.path)?;
-    take_and_save(rt, &mut closure, other, state.path)
+    match other {
+        Ok(other) => take_and_save(rt, &mut closure, other, state.path),
+        Err(exit) => Err(*exit),
+    }
 }
 
 fn take_and_save(
     rt: &HostRuntime,
     closure: &mut IndexedClosure,
-    other: Result<IndexedClosure, Exit>,
+    other: &IndexedClosure,
     path: &str,
 ) -> Result<u8, Exit> {
-    let other = other?;
-    take_other(closure, &other, &mut output_line(rt))?;
+    take_other(closure, other, &mut output_line(rt))?;
     save(rt, closure, path)?;
     Ok(0)
 }

@@ -1,14 +1,13 @@
 // Why the program ends before its command is done.
 use crate::streams::complaints;
 use byte_lines::write_all;
-use fedbundle::{CommandError, WordsError, status, write_fault};
+use fedbundle::{CommandError, status, write_fault};
 use std::alloc::AllocError;
 
-/// Why the program ends before its command is done.
-#[derive(Drop)]
+/// Why the program ends before its command is done. It owns nothing, so a function may hold it
+/// beside what it owns itself.
+#[derive(Clone, Copy)]
 pub(crate) enum Exit {
-    /// The words are not those of a command, or ask for its help or version.
-    Words(clap::Error),
     /// A word is not text, the subcommand or an option is missing, the path of a file is empty, or
     /// a number is none or out of its range.
     Usage,
@@ -42,21 +41,9 @@ impl From<AllocError> for Exit {
     }
 }
 
-impl From<WordsError> for Exit {
-    fn from(error: WordsError) -> Exit {
-        match error {
-            WordsError::Words(error) => Exit::Words(error),
-            WordsError::Usage => Exit::Usage,
-            WordsError::NoMemory => Exit::Refused(CommandError::NoMemory),
-        }
-    }
-}
-
 /// Prints on standard error why the program ends, and returns its exit status.
 pub(crate) fn print_exit(rt: &HostRuntime, exit: &Exit) -> u8 {
     let (status, written) = match exit {
-        Exit::Words(error) if error.use_stderr() => (2, error.print(rt).is_ok()),
-        Exit::Words(error) => return print_clap(rt, error),
         Exit::Usage => (2, write_stderr(rt, b"fedbundle: usage\n")),
         Exit::BadKey => (1, write_stderr(rt, b"fedbundle: bad key\n")),
         Exit::BadMoment => (1, write_stderr(rt, b"fedbundle: bad moment\n")),
@@ -70,12 +57,14 @@ pub(crate) fn print_exit(rt: &HostRuntime, exit: &Exit) -> u8 {
     if written { status } else { status.max(3) }
 }
 
-// Shows help or the version on standard output, and returns the exit status.
-fn print_clap(rt: &HostRuntime, shown: &clap::Error) -> u8 {
-    if shown.print(rt).is_ok() {
-        0
-    } else {
-        print_fault(rt, &CommandError::Io)
+/// Prints what clap says of the words, and returns the exit status: on standard error that they are
+/// none of a command, and on standard output the help or the version that they ask for.
+pub(crate) fn print_clap(rt: &HostRuntime, shown: &clap::Error) -> u8 {
+    match (shown.print(rt).is_ok(), shown.use_stderr()) {
+        (true, true) => 2,
+        (false, true) => 3,
+        (true, false) => 0,
+        (false, false) => print_fault(rt, &CommandError::Io),
     }
 }
 

@@ -10,7 +10,7 @@ use std::alloc::AllocError;
 use thiserror::Error;
 
 /// Why an example ends: an error of a call, or an input that it cannot use.
-#[derive(Debug, Drop, Error)]
+#[derive(Clone, Copy, Debug, Error)]
 pub(crate) enum ExampleError {
     #[error("the input has no configuration")]
     NoConfiguration,
@@ -18,6 +18,8 @@ pub(crate) enum ExampleError {
     NoRelationship,
     #[error("no key vouches for the domain")]
     NoKey,
+    #[error("there is no such moment")]
+    NoMoment,
     #[error(transparent)]
     Memory(#[from(alloc)] AllocError),
     #[error(transparent)]
@@ -35,9 +37,14 @@ pub(crate) enum ExampleError {
     #[error(transparent)]
     Poll(#[from] PollError),
     #[error(transparent)]
-    Time(#[from] jiff::Error),
-    #[error(transparent)]
     Sync(#[from] SyncError),
     #[error(transparent)]
     Pull(#[from] PullFault),
+}
+
+// The errors of `jiff` own their text, and this one is to own nothing.
+impl From<jiff::Error> for ExampleError {
+    fn from(_error: jiff::Error) -> ExampleError {
+        ExampleError::NoMoment
+    }
 }
