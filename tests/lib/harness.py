@@ -308,6 +308,11 @@ def worked_runs():
     return {run.name: run for run in runs}
 
 
+def writes_state(words):
+    """Whether a command of these words writes its state file, where nothing refuses it."""
+    return words[:1] in (["observe"], ["merge"], ["distrust"], ["pull"]) and "--dry-run" not in words
+
+
 def worked_run(name, case):
     """The run of a row, in which the state file is `state`, and the configuration `c1.json`."""
     called = {"--config": "c1.json", "--state": "state"}
@@ -317,7 +322,7 @@ def worked_run(name, case):
             text, word = case.files.get(word), called[words[-1]]
             files |= {} if text is None else {word: text}
         words.append(word)
-    return Run(name, words, files, case.input, words[:1] in (["observe"], ["merge"], ["distrust"], ["pull"]))
+    return Run(name, words, files, case.input, writes_state(words))
 
 
 def the_line(begun, lines):

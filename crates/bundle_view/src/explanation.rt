@@ -6,7 +6,7 @@ ghost use Rattle.closure_core.specs.AcceptedList.{document_of};
 ghost use Rattle.bundle_view.specs.Explain.{IsShortest};
 
 use crate::steps::{chain_to, search};
-use crate::waiting::list_waiting;
+use crate::trusted_receipts::list_waiting;
 use bundle_doc::Document;
 use closure_core::{Closure, NoMemory};
 use fed_config::Seed;

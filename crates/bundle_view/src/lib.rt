@@ -11,9 +11,9 @@ pub mod laws;
 mod listed;
 mod observation;
 mod observe_error;
-mod report;
+mod report_writer;
 mod steps;
-mod waiting;
+mod trusted_receipts;
 
 pub use conflict::{Conflict, ConflictKind, conflicts};
 pub use current_document::current;
@@ -22,4 +22,4 @@ pub use explanation::explain;
 pub use observation::{Verdict, observe};
 pub use observe_error::ObserveError;
 pub use poll_log::{PollError, PollLog, interval, read_polls, read_seconds, wait};
-pub use report::write_report;
+pub use report_writer::write_report;

@@ -31,7 +31,7 @@ pub struct Verdict {
 
 /// Takes the receipt of a bundle that was fetched: the bytes as a document of the domain, served by
 /// the verdict's endpoint, with the current document of the endpoint's trust domain as voucher and
-/// the verdict's key (SPIFFE Federation, section 5.2, profile `https_spiffe`). Answers that
+/// the verdict's key (SPIFFE Federation, section 5.2, profile `https_spiffe`). Returns that
 /// receipt, which is held from now on, as it may have been before. Its document is accepted, and
 /// may be the current one of its domain, even of the endpoint's: the voucher is the document that
 /// was current before.

@@ -18,7 +18,7 @@ ghost use Rattle.bundle_view.specs.Inside.Search.{IsSearchBegun};
 ghost use Rattle.bundle_view.specs.Inside.Search.{IsEdgeDue, Stride};
 ghost use Rattle.receipt_core.specs.Limits.{receipt_limit};
 
-use crate::waiting::Waiting;
+use crate::trusted_receipts::TrustedReceipt;
 use bundle_doc::Document;
 use fed_config::Seed;
 use receipt_core::{Receipt, Triple, offers_of};
@@ -48,7 +48,7 @@ impl<'a> Model for Step<'a> {
 pub(crate) fn search<'a>(
     alloc: Global,
     seeds: &[Seed],
-    waiting: &[Waiting<'a>],
+    waiting: &[TrustedReceipt<'a>],
     steps: &mut Vec<Step<'a>>,
     domain: &TrustDomain,
     document: &Document,
@@ -105,7 +105,7 @@ pub(crate) fn chain_to(
 fn go_on<'a>(
     alloc: Global,
     seeds: &[Seed],
-    waiting: &[Waiting<'a>],
+    waiting: &[TrustedReceipt<'a>],
     visited: &mut [bool],
     steps: &mut Vec<Step<'a>>,
     domain: &TrustDomain,
@@ -142,7 +142,7 @@ fn is_of(receipt: &Receipt, domain: &TrustDomain, document: &Document) -> bool
 fn follow_seeds<'a>(
     alloc: Global,
     seeds: &[Seed],
-    waiting: &[Waiting<'a>],
+    waiting: &[TrustedReceipt<'a>],
     visited: &mut [bool],
     steps: &mut Vec<Step<'a>>,
 ) -> Result<(), AllocError>
@@ -160,7 +160,7 @@ fn follow_seeds<'a>(
 
 /// Adds the steps that the step at the place leads to.
 fn follow_step<'a>(
-    waiting: &[Waiting<'a>],
+    waiting: &[TrustedReceipt<'a>],
     visited: &mut [bool],
     steps: &mut Vec<Step<'a>>,
     place: usize,
@@ -188,7 +188,7 @@ fn follow_step<'a>(
 
 /// Adds a step for each receipt that needs one of these and that was not come to before.
 fn follow<'a>(
-    waiting: &[Waiting<'a>],
+    waiting: &[TrustedReceipt<'a>],
     visited: &mut [bool],
     steps: &mut Vec<Step<'a>>,
     offers: &[Triple],
@@ -210,7 +210,7 @@ fn follow<'a>(
 /// Adds a step for each receipt that needs this, unless they were come to before: all that need the
 /// same are come to together.
 fn follow_offer<'a>(
-    waiting: &[Waiting<'a>],
+    waiting: &[TrustedReceipt<'a>],
     visited: &mut [bool],
     steps: &mut Vec<Step<'a>>,
     offer: &Triple,
@@ -237,7 +237,7 @@ fn follow_offer<'a>(
 }
 
 /// Whether a receipt stands at the place that needs this and was not come to before.
-fn is_due(waiting: &[Waiting], visited: &[bool], offer: &Triple, place: usize) -> bool
+fn is_due(waiting: &[TrustedReceipt], visited: &[bool], offer: &Triple, place: usize) -> bool
     requires { length visited.now ≡ length waiting.now }
     ensures { IsTrue result ↔ IsEdgeDue waiting.now visited.now offer.now place }
 {

@@ -50,11 +50,11 @@ fn event_of(asked: Asked<'_>, line: &str) -> Result<Event, Stop> {
         "ask" => ask(replica, number_of(line, 2)?),
         "answer" => Ok(Event::Answer {
             replica,
-            question: number_of(line, 2)?,
+            have: number_of(line, 2)?,
         }),
         "absorb" => Ok(Event::Absorb {
             replica,
-            answer: number_of(line, 2)?,
+            give: number_of(line, 2)?,
         }),
         "part" => part(replica, number_of(line, 2)?, number_of(line, 3)?),
         "join" => Ok(Event::Join {
@@ -72,10 +72,10 @@ fn ask(replica: usize, bucket: usize) -> Result<Event, Stop> {
     Ok(Event::Ask { replica, bucket })
 }
 
-fn part(replica: usize, answer: usize, count: usize) -> Result<Event, Stop> {
+fn part(replica: usize, give: usize, count: usize) -> Result<Event, Stop> {
     Ok(Event::Part {
         replica,
-        answer,
+        give,
         count,
     })
 }
@@ -84,17 +84,17 @@ fn part(replica: usize, answer: usize, count: usize) -> Result<Event, Stop> {
 // absorbed twice.
 fn push_exchange(line: &str, sent: &mut usize, events: &mut Vec<Event>) -> Result<(), Stop> {
     let replica = number_of(line, 1)?;
-    let question = *sent;
+    let have = *sent;
     *sent = sent.saturating_add(2);
     events.push(ask(replica, number_of(line, 3)?)?)?;
     events.push(Event::Answer {
         replica: number_of(line, 2)?,
-        question,
+        have,
     })?;
     for _ in 0..number_of(line, 4)? {
         events.push(Event::Absorb {
             replica,
-            answer: question.saturating_add(1),
+            give: have.saturating_add(1),
         })?;
     }
     Ok(())

@@ -12,13 +12,15 @@ use fed_config::Config;
 use fedbundle::{
     Call, CommandError, CommandName, RunError, WordsError, read_sessions, read_words, run_bundle,
     run_canon, run_distrust, run_explain, run_merge, run_migrate, run_observe, run_polls, run_pull,
-    run_report, run_report_with, run_serve, status, write_fault, write_served,
+    run_report, run_report_with, run_serve, show_distrust, status, write_fault, write_served,
 };
 use jiff::Timestamp;
 use jwk_set::KeyId;
 use migration::Choice;
 use poll_log::read_seconds;
+use receipt_core::Distrust;
 use replica_sync::{read_snapshot, write_snapshot};
+use replica_view::{write_held, write_held_difference};
 use row_script::Script;
 use spiffe_name::{SpiffeId, TrustDomain};
 use std::alloc::Global;
@@ -235,7 +237,7 @@ fn do_and_save<C: Closure>(
     let before = snapshot(case.alloc, closure)?;
     let done = do_asked(case, asked, closure, devices);
     write_snapshot(case.alloc, closure, &mut devices.state)?;
-    let known = if is_saved(asked.name, done.is_ok()) {
+    let known = if is_saved(asked, done.is_ok()) {
         file
     } else {
         Some(before.as_bytes())
@@ -251,10 +253,11 @@ fn snapshot<C: Closure>(alloc: Global, closure: &C) -> Result<MemSink, CommandEr
 }
 
 // Whether the program writes the state file.
-fn is_saved(name: CommandName, is_ok: bool) -> bool {
-    match name {
+fn is_saved(asked: Asked<'_>, is_ok: bool) -> bool {
+    match asked.name {
         CommandName::Pull => true,
-        CommandName::Observe | CommandName::Merge | CommandName::Distrust => is_ok,
+        CommandName::Observe | CommandName::Merge => is_ok,
+        CommandName::Distrust => is_ok && asked.given.get(2) != Some(&Some("true")),
         _ => false,
     }
 }
@@ -268,6 +271,8 @@ fn do_asked<C: Closure>(
     let (input, output) = (&mut devices.input, &mut devices.output);
     match (asked.name, asked.given) {
         (CommandName::Report, []) => report_held(case.alloc, closure, devices),
+        (CommandName::List, [domain, _]) => list_held(case, closure, *domain, devices),
+        (CommandName::Diff, [Some(with), _]) => compare_held(case, closure, with, devices),
         (CommandName::Bundle, [Some(domain), _]) => bundle(case, closure, domain, devices),
         (CommandName::Explain, [Some(domain), _]) => explain(case, closure, domain, devices),
         (CommandName::Observe, [Some(domain), Some(endpoint), Some(key), ..]) => {
@@ -278,9 +283,10 @@ fn do_asked<C: Closure>(
             migrate(case, closure, to, records_only, devices)
         }
         (CommandName::Polls, [Some(now), _]) => polls(case, closure, now, devices),
-        (CommandName::Distrust, [Some(domain), Some(key), ..]) => distrust(
-            case, closure, domain, key,
-        ),
+        (CommandName::Distrust, [Some(domain), Some(key), flags @ ..]) => {
+            let record = record_of(case.alloc, domain, key)?;
+            distrust(case, closure, &record, flags, devices)
+        }
         (CommandName::Serve, _) => serve(case, closure, devices),
         (CommandName::Pull, _) => {
             run_pull(case.alloc, closure, input, &mut devices.sent, output)
@@ -296,6 +302,35 @@ fn report_held<C: Closure>(
     devices: &mut Devices,
 ) -> Result<(), CommandError> {
     write_report(alloc, closure, &mut devices.output).map_err(RunError::from)?;
+    Ok(())
+}
+
+fn list_held<C: Closure>(
+    case: &Case<'_>,
+    closure: &C,
+    domain: Option<&str>,
+    devices: &mut Devices,
+) -> Result<(), CommandError> {
+    let Some(domain) = domain else {
+        return Ok(write_held(case.alloc, closure, None, &mut devices.output)?);
+    };
+    let domain = TrustDomain::read(case.alloc, domain)?;
+    Ok(write_held(case.alloc, closure, Some(&domain), &mut devices.output)?)
+}
+
+// Two states that hold different things make the exit status 1.
+fn compare_held<C: Closure>(
+    case: &Case<'_>,
+    closure: &C,
+    with: &str,
+    devices: &mut Devices,
+) -> Result<(), CommandError> {
+    let other: C = match case.script.text(with) {
+        Some(text) => read_snapshot(case.alloc, closure.config(), &mut FromRead::new(text))?,
+        None => C::new(case.alloc, closure.config())?,
+    };
+    let is_same = write_held_difference(case.alloc, closure, &other, &mut devices.output)?;
+    devices.status = u8::from(!is_same);
     Ok(())
 }
 
@@ -384,14 +419,32 @@ fn key_of(text: &str) -> KeyId {
     KeyId(id)
 }
 
+// With the flag for more, what changes stands on standard error, as far as that takes it.
 fn distrust<C: Closure>(
     case: &Case<'_>,
     closure: &mut C,
-    domain: &str,
-    key: &str,
+    record: &Distrust,
+    flags: &[Option<&str>],
+    devices: &mut Devices,
 ) -> Result<(), CommandError> {
-    let domain = TrustDomain::read(case.alloc, domain)?;
-    run_distrust(closure, &domain, key_of(key))
+    if is_dry(flags) {
+        return show_distrust(case.alloc, closure, record, &mut devices.output);
+    }
+    if flags.last() == Some(&Some("true")) {
+        let _ = show_distrust(case.alloc, closure, record, &mut devices.errors);
+    }
+    run_distrust(closure, &record.domain, record.key)
+}
+
+fn is_dry(flags: &[Option<&str>]) -> bool {
+    flags.first() == Some(&Some("true"))
+}
+
+fn record_of(alloc: Global, domain: &str, key: &str) -> Result<Distrust, CommandError> {
+    Ok(Distrust {
+        domain: TrustDomain::read(alloc, domain)?,
+        key: key_of(key),
+    })
 }
 
 fn polls<C: Closure>(

@@ -1,7 +1,7 @@
 //! Answers that are absorbed.
-use crate::asked::{Asked, text_of_lines};
 use crate::messages::config_id;
 use crate::replica::{is_record, receipt_of, record_of, tell_held};
+use crate::row_call::{RowCall, text_of_lines};
 use crate::stop::Stop;
 use byte_lines::Sink;
 use closure_core::Closure;
@@ -13,23 +13,23 @@ use replica_sync::{Give, SyncError, absorb, write_snapshot};
 /// by the third word, of which digest its sender's configuration is, when it comes first and when
 /// it comes again. Writes what is held then.
 pub(crate) fn tell_absorbed<C: Closure, W: Sink>(
-    asked: Asked<'_>,
+    row: RowCall<'_>,
     closure: &mut C,
     sink: &mut W,
     outcome: &mut String,
 ) -> Result<(), Stop> {
-    tell_answer(asked, closure, outcome)?;
+    tell_answer(row, closure, outcome)?;
     outcome.push_str("\nagain ")?;
-    tell_answer(asked, closure, outcome)?;
-    Ok(write_snapshot(asked.alloc, closure, sink)?)
+    tell_answer(row, closure, outcome)?;
+    Ok(write_snapshot(row.alloc, closure, sink)?)
 }
 
 fn tell_answer<C: Closure>(
-    asked: Asked<'_>,
+    row: RowCall<'_>,
     closure: &mut C,
     outcome: &mut String,
 ) -> Result<(), Stop> {
-    tell_new(absorb(closure, give_of(asked)?), outcome)?;
+    tell_new(absorb(closure, give_of(row)?), outcome)?;
     Ok(tell_held(closure, outcome)?)
 }
 
@@ -41,31 +41,31 @@ fn tell_new(absorbed: Result<usize, SyncError>, outcome: &mut String) -> Result<
     Ok(())
 }
 
-fn give_of(asked: Asked<'_>) -> Result<Give, Stop> {
-    let config = config_id(asked.named(2)?)?;
-    give_with(asked, config, records_of(asked)?)
+fn give_of(row: RowCall<'_>) -> Result<Give, Stop> {
+    let config = config_id(row.named(2)?)?;
+    give_with(row, config, records_of(row)?)
 }
 
-fn give_with(asked: Asked<'_>, config: ConfigId, records: Vec<Distrust>) -> Result<Give, Stop> {
-    let receipts = receipts_of(asked)?;
+fn give_with(row: RowCall<'_>, config: ConfigId, records: Vec<Distrust>) -> Result<Give, Stop> {
+    let receipts = receipts_of(row)?;
     Ok(Give::new(97, config, records, receipts))
 }
 
-fn records_of(asked: Asked<'_>) -> Result<Vec<Distrust>, Stop> {
-    let mut records = Vec::new(asked.alloc);
-    for line in text_of_lines(asked.text)?.lines() {
+fn records_of(row: RowCall<'_>) -> Result<Vec<Distrust>, Stop> {
+    let mut records = Vec::new(row.alloc);
+    for line in text_of_lines(row.text)?.lines() {
         if is_record(line.as_bytes()) {
-            records.push(record_of(asked.alloc, line.as_bytes())?)?;
+            records.push(record_of(row.alloc, line.as_bytes())?)?;
         }
     }
     Ok(records)
 }
 
-fn receipts_of(asked: Asked<'_>) -> Result<Vec<Receipt>, Stop> {
-    let mut receipts = Vec::new(asked.alloc);
-    for line in text_of_lines(asked.text)?.lines() {
+fn receipts_of(row: RowCall<'_>) -> Result<Vec<Receipt>, Stop> {
+    let mut receipts = Vec::new(row.alloc);
+    for line in text_of_lines(row.text)?.lines() {
         if !is_record(line.as_bytes()) {
-            receipts.push(receipt_of(asked.alloc, line.as_bytes())?)?;
+            receipts.push(receipt_of(row.alloc, line.as_bytes())?)?;
         }
     }
     Ok(receipts)

@@ -1,10 +1,10 @@
 //! The calls that rows try.
 use crate::absorbing::tell_absorbed;
-use crate::asked::{Asked, bucket_of};
 use crate::devices::in_pieces;
 use crate::messages::tell_messages;
 use crate::places::AMPLE_ROOM;
 use crate::replica::{replica, tell_held};
+use crate::row_call::{RowCall, bucket_of};
 use crate::serving::serve_pieces;
 use crate::session::tell_session;
 use crate::stop::Stop;
@@ -22,52 +22,52 @@ const FEW_BYTES: usize = 4_096;
 
 /// Tells what comes of a call over the text in pieces of this size, and what it wrote.
 pub(crate) fn tell_whole<C: Closure>(
-    asked: Asked<'_>,
+    row: RowCall<'_>,
     size: usize,
     text: &mut String,
 ) -> Result<(), Stop> {
-    let mut source = in_pieces(asked.alloc, asked.text, size)?;
-    tell_from::<C, MemSource>(asked, &mut source, text)
+    let mut source = in_pieces(row.alloc, row.text, size)?;
+    tell_from::<C, MemSource>(row, &mut source, text)
 }
 
 /// Tells what comes of a call that has no text to read.
 pub(crate) fn tell_without_text<C: Closure>(
-    asked: Asked<'_>,
+    row: RowCall<'_>,
     text: &mut String,
 ) -> Result<(), Stop> {
-    let mut source = MemSource::new(Vec::new(asked.alloc), Vec::new(asked.alloc));
-    tell_from::<C, MemSource>(asked, &mut source, text)
+    let mut source = MemSource::new(Vec::new(row.alloc), Vec::new(row.alloc));
+    tell_from::<C, MemSource>(row, &mut source, text)
 }
 
 fn tell_from<C: Closure, R: Source>(
-    asked: Asked<'_>,
+    row: RowCall<'_>,
     source: &mut R,
     text: &mut String,
 ) -> Result<(), Stop> {
-    let mut sink = MemSink::new(asked.alloc, AMPLE_ROOM)?;
-    perform::<C, R, MemSink>(asked, source, &mut sink, text)?;
+    let mut sink = MemSink::new(row.alloc, AMPLE_ROOM)?;
+    perform::<C, R, MemSink>(row, source, &mut sink, text)?;
     text.push_str("\n")?;
-    Ok(show(asked, sink.as_bytes(), text)?)
+    Ok(show(row, sink.as_bytes(), text)?)
 }
 
-fn show(asked: Asked<'_>, written: &[u8], text: &mut String) -> Result<(), AllocError> {
+fn show(row: RowCall<'_>, written: &[u8], text: &mut String) -> Result<(), AllocError> {
     if written.len() <= FEW_BYTES {
-        return asked.script.show_lines(written, text);
+        return row.script.show_lines(written, text);
     }
-    asked.script.show(written, text)?;
+    row.script.show(written, text)?;
     text.push_str("\n")
 }
 
 /// Makes the call over the devices, and tells what it answers.
 pub(crate) fn perform<C: Closure, R: Source, W: Sink>(
-    asked: Asked<'_>,
+    row: RowCall<'_>,
     source: &mut R,
     sink: &mut W,
     outcome: &mut String,
 ) -> Result<(), Stop> {
-    match asked.call {
-        "question" | "answers" => tell_messages(asked, source, sink, outcome)?,
-        _ => perform_under::<C, R, W>(asked, source, sink, outcome)?,
+    match row.call {
+        "haves" | "gives" => tell_messages(row, source, sink, outcome)?,
+        _ => perform_under::<C, R, W>(row, source, sink, outcome)?,
     }
     Ok(tell_failed(source.failed(), sink.failed(), outcome)?)
 }
@@ -83,49 +83,49 @@ fn tell_failed(source: bool, sink: bool, outcome: &mut String) -> Result<(), All
 }
 
 fn perform_under<C: Closure, R: Source, W: Sink>(
-    asked: Asked<'_>,
+    row: RowCall<'_>,
     source: &mut R,
     sink: &mut W,
     outcome: &mut String,
 ) -> Result<(), Stop> {
-    let config = asked.config()?;
-    if asked.call == "snapshot" {
-        let read = copy_snapshot::<C, R, W>(asked.alloc, &config, source, sink);
+    let config = row.config()?;
+    if row.call == "snapshot" {
+        let read = copy_snapshot::<C, R, W>(row.alloc, &config, source, sink);
         return Ok(tell_done(read, outcome)?);
     }
-    perform_of::<C, R, W>(asked, &config, source, sink, outcome)
+    perform_of::<C, R, W>(row, &config, source, sink, outcome)
 }
 
 fn perform_of<C: Closure, R: Source, W: Sink>(
-    asked: Asked<'_>,
+    row: RowCall<'_>,
     config: &Config,
     source: &mut R,
     sink: &mut W,
     outcome: &mut String,
 ) -> Result<(), Stop> {
-    let mut closure: C = replica(asked, config, asked.named(1)?)?;
-    perform_at(asked, &mut closure, source, sink, outcome)
+    let mut closure: C = replica(row, config, row.named(1)?)?;
+    perform_at(row, &mut closure, source, sink, outcome)
 }
 
 fn perform_at<C: Closure, R: Source, W: Sink>(
-    asked: Asked<'_>,
+    row: RowCall<'_>,
     closure: &mut C,
     source: &mut R,
     sink: &mut W,
     outcome: &mut String,
 ) -> Result<(), Stop> {
-    let alloc = asked.alloc;
-    match asked.call {
-        "have" => Ok(tell_done(ask(asked, closure, sink)?, outcome)?),
-        "answer" => Ok(tell_done(reply(alloc, closure, source, sink), outcome)?),
+    let alloc = row.alloc;
+    match row.call {
+        "have" => Ok(tell_done(ask(row, closure, sink)?, outcome)?),
+        "answer" => Ok(tell_done(answer_one(alloc, closure, source, sink), outcome)?),
         "serve" => Ok(tell_served(serve_one(alloc, closure, source, sink), outcome)?),
         "serving" => Ok(tell_done(serve_pieces(alloc, closure, source, sink), outcome)?),
         "pull" => {
             let pulled = pull(alloc, closure, source, sink);
             tell_pulled(closure, pulled, outcome)
         }
-        "absorb" => tell_absorbed(asked, closure, sink, outcome),
-        "session" => tell_session(asked, closure, sink, outcome),
+        "absorb" => tell_absorbed(row, closure, sink, outcome),
+        "session" => tell_session(row, closure, sink, outcome),
         _ => Err(Stop::Verb),
     }
 }
@@ -143,35 +143,35 @@ fn copy_snapshot<C: Closure, R: Source, W: Sink>(
 
 // Asks about the bucket that the third word tells.
 fn ask<C: Closure, W: Sink>(
-    asked: Asked<'_>,
+    row: RowCall<'_>,
     closure: &C,
     sink: &mut W,
 ) -> Result<Result<(), SyncError>, Stop> {
-    let bucket = bucket_of(asked.number(2)?)?;
-    let question = have(asked.alloc, closure, bucket)?;
-    Ok(write_have(asked.alloc, &question, sink))
+    let bucket = bucket_of(row.number(2)?)?;
+    let own = have(row.alloc, closure, bucket)?;
+    Ok(write_have(row.alloc, &own, sink))
 }
 
-// Answers a question that the source has.
-fn reply<C: Closure, R: Source, W: Sink>(
+// Answers a have that the source has.
+fn answer_one<C: Closure, R: Source, W: Sink>(
     alloc: Global,
     closure: &C,
     source: &mut R,
     sink: &mut W,
 ) -> Result<(), SyncError> {
     let mut lines = LineBuf::new(alloc);
-    reply_next(alloc, closure, &mut lines, source, sink)
+    answer_next(alloc, closure, &mut lines, source, sink)
 }
 
-fn reply_next<C: Closure, R: Source, W: Sink>(
+fn answer_next<C: Closure, R: Source, W: Sink>(
     alloc: Global,
     closure: &C,
     lines: &mut LineBuf,
     source: &mut R,
     sink: &mut W,
 ) -> Result<(), SyncError> {
-    let question = read_have(alloc, lines, source)?;
-    write_answer(alloc, answer(closure, &question), sink)
+    let have = read_have(alloc, lines, source)?;
+    write_answer(alloc, answer(closure, &have), sink)
 }
 
 fn tell_done(done: Result<(), SyncError>, outcome: &mut String) -> Result<(), AllocError> {

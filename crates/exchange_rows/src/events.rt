@@ -1,6 +1,6 @@
 //! Worlds of replicas to which events happen.
-use crate::asked::{Asked, bucket_of, number_of, text_of_lines, word_of};
 use crate::replica::{receipt_of, record_of, tell_held};
+use crate::row_call::{RowCall, bucket_of, number_of, text_of_lines, word_of};
 use crate::stop::Stop;
 use byte_lines::MemSink;
 use replica_sync::{Event, run_world, write_snapshot};
@@ -8,20 +8,20 @@ use trust_closure::IndexedClosure;
 
 /// Tells what each replica holds after the events of the text's lines, where the second word tells
 /// how many there are.
-pub(crate) fn tell_world(asked: Asked<'_>, answer: &mut String) -> Result<(), Stop> {
-    let config = asked.config()?;
-    let events = events_of(asked)?;
+pub(crate) fn tell_world(row: RowCall<'_>, answer: &mut String) -> Result<(), Stop> {
+    let config = row.config()?;
+    let events = events_of(row)?;
     let replicas: Vec<IndexedClosure> = run_world(
-        asked.alloc,
+        row.alloc,
         &config,
-        asked.number(1)?,
+        row.number(1)?,
         events.as_slice(),
     )?;
-    tell_replicas(asked, &replicas, answer)
+    tell_replicas(row, &replicas, answer)
 }
 
 fn tell_replicas(
-    asked: Asked<'_>,
+    row: RowCall<'_>,
     replicas: &[IndexedClosure],
     answer: &mut String,
 ) -> Result<(), Stop> {
@@ -29,33 +29,33 @@ fn tell_replicas(
         write!(answer, "{number}: ")?;
         tell_held(replica, answer)?;
         answer.push_str("\n")?;
-        show_held(asked, replica, answer)?;
+        show_held(row, replica, answer)?;
     }
     Ok(())
 }
 
-fn show_held(asked: Asked<'_>, replica: &IndexedClosure, answer: &mut String) -> Result<(), Stop> {
-    let mut sink = MemSink::new(asked.alloc, 65_536)?;
-    write_snapshot(asked.alloc, replica, &mut sink)?;
-    Ok(asked.script.show_lines(sink.as_bytes(), answer)?)
+fn show_held(row: RowCall<'_>, replica: &IndexedClosure, answer: &mut String) -> Result<(), Stop> {
+    let mut sink = MemSink::new(row.alloc, 65_536)?;
+    write_snapshot(row.alloc, replica, &mut sink)?;
+    Ok(row.script.show_lines(sink.as_bytes(), answer)?)
 }
 
-fn events_of(asked: Asked<'_>) -> Result<Vec<Event>, Stop> {
-    let mut events = Vec::new(asked.alloc);
-    push_events(asked, &mut events)?;
+fn events_of(row: RowCall<'_>) -> Result<Vec<Event>, Stop> {
+    let mut events = Vec::new(row.alloc);
+    push_events(row, &mut events)?;
     Ok(events)
 }
 
-fn push_events(asked: Asked<'_>, events: &mut Vec<Event>) -> Result<(), Stop> {
+fn push_events(row: RowCall<'_>, events: &mut Vec<Event>) -> Result<(), Stop> {
     let mut sent = 0;
-    for line in text_of_lines(asked.text)?.lines() {
-        push_line(asked, line, &mut sent, events)?;
+    for line in text_of_lines(row.text)?.lines() {
+        push_line(row, line, &mut sent, events)?;
     }
     Ok(())
 }
 
 fn push_line(
-    asked: Asked<'_>,
+    row: RowCall<'_>,
     line: &str,
     sent: &mut usize,
     events: &mut Vec<Event>,
@@ -63,7 +63,7 @@ fn push_line(
     if word_of(line, 0)? == "exchange" {
         return push_exchange(line, sent, events);
     }
-    let event = event_of(asked, line)?;
+    let event = event_of(row, line)?;
     if matches!(&event, Event::Ask { .. } | Event::Answer { .. }) {
         *sent = sent.saturating_add(1);
     }
@@ -71,25 +71,25 @@ fn push_line(
     Ok(())
 }
 
-fn event_of(asked: Asked<'_>, line: &str) -> Result<Event, Stop> {
+fn event_of(row: RowCall<'_>, line: &str) -> Result<Event, Stop> {
     let replica = number_of(line, 1)?;
     match word_of(line, 0)? {
         "take" => {
-            let receipt = receipt_of(asked.alloc, asked.text_of(word_of(line, 2)?)?)?;
+            let receipt = receipt_of(row.alloc, row.text_of(word_of(line, 2)?)?)?;
             Ok(Event::Take { replica, receipt })
         }
         "distrust" => {
-            let record = record_of(asked.alloc, asked.text_of(word_of(line, 2)?)?)?;
+            let record = record_of(row.alloc, row.text_of(word_of(line, 2)?)?)?;
             Ok(Event::Revoke { replica, record })
         }
         "ask" => ask(replica, number_of(line, 2)?),
         "answer" => Ok(Event::Answer {
             replica,
-            question: number_of(line, 2)?,
+            have: number_of(line, 2)?,
         }),
         "absorb" => Ok(Event::Absorb {
             replica,
-            answer: number_of(line, 2)?,
+            give: number_of(line, 2)?,
         }),
         "part" => part(replica, number_of(line, 2)?, number_of(line, 3)?),
         "join" => Ok(Event::Join {
@@ -107,10 +107,10 @@ fn ask(replica: usize, bucket: usize) -> Result<Event, Stop> {
     Ok(Event::Ask { replica, bucket })
 }
 
-fn part(replica: usize, answer: usize, count: usize) -> Result<Event, Stop> {
+fn part(replica: usize, give: usize, count: usize) -> Result<Event, Stop> {
     Ok(Event::Part {
         replica,
-        answer,
+        give,
         count,
     })
 }
@@ -119,17 +119,17 @@ fn part(replica: usize, answer: usize, count: usize) -> Result<Event, Stop> {
 // absorbed twice.
 fn push_exchange(line: &str, sent: &mut usize, events: &mut Vec<Event>) -> Result<(), Stop> {
     let replica = number_of(line, 1)?;
-    let question = *sent;
+    let have = *sent;
     *sent = sent.saturating_add(2);
     events.push(ask(replica, number_of(line, 3)?)?)?;
     events.push(Event::Answer {
         replica: number_of(line, 2)?,
-        question,
+        have,
     })?;
     for _ in 0..number_of(line, 4)? {
         events.push(Event::Absorb {
             replica,
-            answer: question.saturating_add(1),
+            give: have.saturating_add(1),
         })?;
     }
     Ok(())

@@ -1,5 +1,5 @@
-//! Tries rows of data on what replicas exchange: snapshots, questions, answers, whole sessions and
-//! worlds of replicas.
+//! Tries rows of data on what replicas exchange: snapshots, haves, the answers to them, whole
+//! sessions and worlds of replicas.
 //!
 //! It reads a script from standard input and prints what came of each row. Each row that is about a
 //! closure runs over both kinds of closure, and its text comes in pieces of several sizes, or ends
@@ -7,20 +7,20 @@
 #![tactic(auto)]
 
 mod absorbing;
-mod asked;
 mod calls;
 mod devices;
 mod events;
 mod messages;
 mod places;
 mod replica;
+mod row_call;
 mod runs;
 mod serving;
 mod session;
 mod settings;
 mod stop;
 
-use asked::Asked;
+use row_call::RowCall;
 use row_script::{Row, Rows, Script, run};
 use std::alloc::{AllocError, Global};
 use std::io;
@@ -39,14 +39,14 @@ impl Rows for ExchangeRows {
         row: &Row<'_>,
         answer: &mut String,
     ) -> Result<(), AllocError> {
-        let asked = Asked {
+        let call = RowCall {
             alloc: self.alloc,
             script,
             call: row.verb,
             words: row.words,
             text: row.text.as_slice(),
         };
-        match settings::tell(asked, answer) {
+        match settings::tell(call, answer) {
             Ok(()) => Ok(()),
             Err(Stop::NoMemory) => Err(AllocError),
             Err(stop) => writeln!(answer, "{stop}"),

@@ -1,5 +1,5 @@
-//! Questions and answers as texts.
-use crate::asked::{Asked, bucket_of, text_of_lines};
+//! Haves and answers as texts.
+use crate::row_call::{RowCall, bucket_of, text_of_lines};
 use crate::stop::Stop;
 use byte_lines::{LineBuf, MemSink, Sink, Source, write_all};
 use fed_config::ConfigId;
@@ -12,14 +12,14 @@ const AMPLE_COUNT: u32 = 1_000;
 
 /// Reads message after message up to the first fault, and writes each.
 pub(crate) fn tell_messages<R: Source, W: Sink>(
-    asked: Asked<'_>,
+    row: RowCall<'_>,
     source: &mut R,
     sink: &mut W,
     outcome: &mut String,
 ) -> Result<(), AllocError> {
-    let mut lines = LineBuf::new(asked.alloc);
+    let mut lines = LineBuf::new(row.alloc);
     for count in 0..AMPLE_COUNT {
-        if let Err(fault) = copy_next(asked, &mut lines, source, sink) {
+        if let Err(fault) = copy_next(row, &mut lines, source, sink) {
             return write!(outcome, "read {count}, then {fault}");
         }
     }
@@ -27,28 +27,28 @@ pub(crate) fn tell_messages<R: Source, W: Sink>(
 }
 
 fn copy_next<R: Source, W: Sink>(
-    asked: Asked<'_>,
+    row: RowCall<'_>,
     lines: &mut LineBuf,
     source: &mut R,
     sink: &mut W,
 ) -> Result<(), SyncError> {
-    match asked.call {
-        "question" => copy_question(asked.alloc, lines, source, sink),
-        _ => copy_answer(asked.alloc, lines, source, sink),
+    match row.call {
+        "haves" => copy_have(row.alloc, lines, source, sink),
+        _ => copy_give(row.alloc, lines, source, sink),
     }
 }
 
-fn copy_question<R: Source, W: Sink>(
+fn copy_have<R: Source, W: Sink>(
     alloc: Global,
     lines: &mut LineBuf,
     source: &mut R,
     sink: &mut W,
 ) -> Result<(), SyncError> {
-    let question = read_have(alloc, lines, source)?;
-    write_have(alloc, &question, sink)
+    let have = read_have(alloc, lines, source)?;
+    write_have(alloc, &have, sink)
 }
 
-fn copy_answer<R: Source, W: Sink>(
+fn copy_give<R: Source, W: Sink>(
     alloc: Global,
     lines: &mut LineBuf,
     source: &mut R,
@@ -89,26 +89,26 @@ fn write_receipt<W: Sink>(alloc: Global, receipt: &Receipt, sink: &mut W) -> Res
     Ok(write_all(sink, b"\n")?)
 }
 
-/// Tells the question about the bucket of the first word, of the configuration whose digest is the
+/// Tells the have about the bucket of the first word, of the configuration whose digest is the
 /// second, that has the ids of the text's lines.
-pub(crate) fn tell_made(asked: Asked<'_>, answer: &mut String) -> Result<(), Stop> {
-    let bucket = bucket_of(asked.number(0)?)?;
-    let config = config_id(asked.word(1)?.as_bytes())?;
-    match Have::new(bucket, config, ids_of(asked)?) {
-        Some(question) => tell_question(asked, &question, answer),
+pub(crate) fn tell_made(row: RowCall<'_>, answer: &mut String) -> Result<(), Stop> {
+    let bucket = bucket_of(row.number(0)?)?;
+    let config = config_id(row.word(1)?.as_bytes())?;
+    match Have::new(bucket, config, ids_of(row)?) {
+        Some(have) => tell_have(row, &have, answer),
         None => Ok(answer.push_str("none\n")?),
     }
 }
 
-fn tell_question(asked: Asked<'_>, question: &Have, answer: &mut String) -> Result<(), Stop> {
-    let mut sink = MemSink::new(asked.alloc, 4_096)?;
-    write_have(asked.alloc, question, &mut sink)?;
-    Ok(asked.script.show_lines(sink.as_bytes(), answer)?)
+fn tell_have(row: RowCall<'_>, have: &Have, answer: &mut String) -> Result<(), Stop> {
+    let mut sink = MemSink::new(row.alloc, 4_096)?;
+    write_have(row.alloc, have, &mut sink)?;
+    Ok(row.script.show_lines(sink.as_bytes(), answer)?)
 }
 
-fn ids_of(asked: Asked<'_>) -> Result<Vec<ReceiptId>, Stop> {
-    let mut ids = Vec::new(asked.alloc);
-    for line in text_of_lines(asked.text)?.lines() {
+fn ids_of(row: RowCall<'_>) -> Result<Vec<ReceiptId>, Stop> {
+    let mut ids = Vec::new(row.alloc);
+    for line in text_of_lines(row.text)?.lines() {
         ids.push(ReceiptId(digits_of(line.as_bytes())?))?;
     }
     Ok(ids)

@@ -1,7 +1,7 @@
 //! Texts and devices that end or fail at each place in turn.
-use crate::asked::Asked;
 use crate::calls::perform;
 use crate::devices::in_pieces;
+use crate::row_call::RowCall;
 use crate::runs::Runs;
 use crate::stop::Stop;
 use byte_lines::{FuseSource, MemSink, Source};
@@ -21,7 +21,7 @@ pub(crate) enum Device {
 /// What is tried at many places.
 #[derive(Clone, Copy)]
 struct Trial<'a> {
-    asked: Asked<'a>,
+    row: RowCall<'a>,
     device: Device,
     /// What is written where nothing fails.
     wanted: &'a [u8],
@@ -35,18 +35,18 @@ pub(crate) const AMPLE_ROOM: usize = 1_048_576;
 /// Tells what comes at each place. The last two words are the name of what is written where nothing
 /// fails, and how many bytes lie between two places, or come with one read.
 pub(crate) fn tell_places<C: Closure>(
-    asked: Asked<'_>,
+    row: RowCall<'_>,
     device: Device,
     answer: &mut String,
 ) -> Result<(), Stop> {
-    let place = place_of_name(asked.call);
+    let place = place_of_name(row.call);
     let trial = Trial {
-        asked,
+        row,
         device,
-        wanted: asked.named(place)?,
-        step: asked.number(place.saturating_add(1))?,
+        wanted: row.named(place)?,
+        step: row.number(place.saturating_add(1))?,
     };
-    let mut runs = Runs::new(asked.alloc);
+    let mut runs = Runs::new(row.alloc);
     tell_runs::<C>(trial, &mut runs, answer)?;
     Ok(runs.end(answer)?)
 }
@@ -54,7 +54,7 @@ pub(crate) fn tell_places<C: Closure>(
 // The place of the word that names what is written.
 fn place_of_name(call: &str) -> usize {
     match call {
-        "question" | "answers" => 0,
+        "haves" | "gives" => 0,
         "snapshot" => 1,
         _ => 2,
     }
@@ -75,7 +75,7 @@ fn tell_runs<C: Closure>(
 }
 
 fn last_place(trial: Trial<'_>) -> usize {
-    let length = trial.asked.text.len();
+    let length = trial.row.text.len();
     match trial.device {
         Device::Cut => length,
         Device::Reads => length
@@ -100,7 +100,7 @@ fn add_place<C: Closure>(
     runs: &mut Runs,
     answer: &mut String,
 ) -> Result<(), Stop> {
-    let mut outcome = String::new(trial.asked.alloc);
+    let mut outcome = String::new(trial.row.alloc);
     match trial.device {
         Device::Cut => tell_cut::<C>(trial, place, &mut outcome)?,
         Device::Reads => tell_reads::<C>(trial, place, &mut outcome)?,
@@ -110,8 +110,8 @@ fn add_place<C: Closure>(
 }
 
 fn tell_cut<C: Closure>(trial: Trial<'_>, length: usize, outcome: &mut String) -> Result<(), Stop> {
-    let text = trial.asked.text.get(..length).unwrap_or(trial.asked.text);
-    let mut source = in_pieces(trial.asked.alloc, text, text.len())?;
+    let text = trial.row.text.get(..length).unwrap_or(trial.row.text);
+    let mut source = in_pieces(trial.row.alloc, text, text.len())?;
     tell_written::<C, _>(trial, AMPLE_ROOM, &mut source, outcome)
 }
 
@@ -120,14 +120,14 @@ fn tell_reads<C: Closure>(
     reads: usize,
     outcome: &mut String,
 ) -> Result<(), Stop> {
-    let source = in_pieces(trial.asked.alloc, trial.asked.text, trial.step)?;
+    let source = in_pieces(trial.row.alloc, trial.row.text, trial.step)?;
     let mut source = FuseSource::new(source, reads as u64);
     tell_written::<C, _>(trial, AMPLE_ROOM, &mut source, outcome)
 }
 
 fn tell_room<C: Closure>(trial: Trial<'_>, room: usize, outcome: &mut String) -> Result<(), Stop> {
-    let text = trial.asked.text;
-    let mut source = in_pieces(trial.asked.alloc, text, text.len())?;
+    let text = trial.row.text;
+    let mut source = in_pieces(trial.row.alloc, text, text.len())?;
     tell_written::<C, _>(trial, room, &mut source, outcome)
 }
 
@@ -138,8 +138,8 @@ fn tell_written<C: Closure, R: Source>(
     source: &mut R,
     outcome: &mut String,
 ) -> Result<(), Stop> {
-    let mut sink = MemSink::new(trial.asked.alloc, room)?;
-    perform::<C, R, MemSink>(trial.asked, source, &mut sink, outcome)?;
+    let mut sink = MemSink::new(trial.row.alloc, room)?;
+    perform::<C, R, MemSink>(trial.row, source, &mut sink, outcome)?;
     tell_part(trial, sink.as_bytes(), room, outcome)
 }
 

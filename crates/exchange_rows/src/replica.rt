@@ -1,5 +1,5 @@
 //! Replicas that hold what a text says.
-use crate::asked::{Asked, text_of_lines};
+use crate::row_call::{RowCall, text_of_lines};
 use crate::stop::Stop;
 use closure_core::Closure;
 use fed_config::Config;
@@ -9,12 +9,12 @@ use std::alloc::{AllocError, Global};
 
 /// A replica that was given the receipts and records of these lines.
 pub(crate) fn replica<C: Closure>(
-    asked: Asked<'_>,
+    row: RowCall<'_>,
     config: &Config,
     lines: &[u8],
 ) -> Result<C, Stop> {
-    let mut closure = C::new(asked.alloc, config)?;
-    give_all(asked.alloc, &mut closure, lines)?;
+    let mut closure = C::new(row.alloc, config)?;
+    give_all(row.alloc, &mut closure, lines)?;
     Ok(closure)
 }
 

@@ -55,11 +55,7 @@ fn write_due<W: Sink>(serving: &mut Serving, sink: &mut W) -> Result<(), SyncErr
     write_part(serving, rest, sink)
 }
 
-fn write_part<W: Sink>(
-    serving: &mut Serving,
-    count: usize,
-    sink: &mut W,
-) -> Result<(), SyncError> {
+fn write_part<W: Sink>(serving: &mut Serving, count: usize, sink: &mut W) -> Result<(), SyncError> {
     let count = count.min(serving.output().len());
     write_all(sink, &serving.output()[..count])?;
     serving.wrote(count);

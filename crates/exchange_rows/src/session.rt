@@ -1,8 +1,8 @@
 //! Whole sessions between two replicas.
-use crate::asked::Asked;
 use crate::devices::in_pieces;
 use crate::places::AMPLE_ROOM;
 use crate::replica::{replica, tell_held};
+use crate::row_call::RowCall;
 use crate::stop::Stop;
 use byte_lines::{MemSink, Sink};
 use closure_core::Closure;
@@ -13,91 +13,91 @@ use std::alloc::Global;
 /// another: the first one, then the other, and the first one again. Tells of the sessions, and
 /// writes what each replica holds then.
 pub(crate) fn tell_session<C: Closure, W: Sink>(
-    asked: Asked<'_>,
+    row: RowCall<'_>,
     closure: &mut C,
     sink: &mut W,
     outcome: &mut String,
 ) -> Result<(), Stop> {
-    let mut other: C = other_replica(asked, closure)?;
-    tell_pulls(asked, closure, &mut other, outcome)?;
-    write_snapshot(asked.alloc, closure, sink)?;
-    Ok(write_snapshot(asked.alloc, &other, sink)?)
+    let mut other: C = other_replica(row, closure)?;
+    tell_pulls(row, closure, &mut other, outcome)?;
+    write_snapshot(row.alloc, closure, sink)?;
+    Ok(write_snapshot(row.alloc, &other, sink)?)
 }
 
-fn other_replica<C: Closure>(asked: Asked<'_>, closure: &C) -> Result<C, Stop> {
-    replica(asked, closure.config(), asked.named(2)?)
+fn other_replica<C: Closure>(row: RowCall<'_>, closure: &C) -> Result<C, Stop> {
+    replica(row, closure.config(), row.named(2)?)
 }
 
 fn tell_pulls<C: Closure>(
-    asked: Asked<'_>,
+    row: RowCall<'_>,
     first: &mut C,
     second: &mut C,
     outcome: &mut String,
 ) -> Result<(), Stop> {
-    tell_pull(asked, first, second, outcome)?;
+    tell_pull(row, first, second, outcome)?;
     outcome.push_str("\n")?;
-    tell_pull(asked, second, first, outcome)?;
+    tell_pull(row, second, first, outcome)?;
     outcome.push_str("\n")?;
-    tell_pull(asked, first, second, outcome)
+    tell_pull(row, first, second, outcome)
 }
 
 // The asker pulls from the answerer, of which it is asked beforehand what the asker will ask.
 fn tell_pull<C: Closure>(
-    asked: Asked<'_>,
+    row: RowCall<'_>,
     asker: &mut C,
     answerer: &C,
     outcome: &mut String,
 ) -> Result<(), Stop> {
-    let mut questions = MemSink::new(asked.alloc, AMPLE_ROOM)?;
-    ask_all(asked.alloc, asker, &mut questions)?;
-    tell_answered(asked, asker, answerer, questions.as_bytes(), outcome)
+    let mut haves = MemSink::new(row.alloc, AMPLE_ROOM)?;
+    ask_all(row.alloc, asker, &mut haves)?;
+    tell_answered(row, asker, answerer, haves.as_bytes(), outcome)
 }
 
 fn ask_all<C: Closure, W: Sink>(alloc: Global, asker: &C, sink: &mut W) -> Result<(), SyncError> {
     for bucket in 0..=255u8 {
-        let question = have(alloc, asker, bucket)?;
-        write_have(alloc, &question, sink)?;
+        let own = have(alloc, asker, bucket)?;
+        write_have(alloc, &own, sink)?;
     }
     Ok(())
 }
 
 fn tell_answered<C: Closure>(
-    asked: Asked<'_>,
+    row: RowCall<'_>,
     asker: &mut C,
     answerer: &C,
-    questions: &[u8],
+    haves: &[u8],
     outcome: &mut String,
 ) -> Result<(), Stop> {
-    let mut answers = MemSink::new(asked.alloc, AMPLE_ROOM)?;
-    serve_text(asked.alloc, answerer, questions, &mut answers)?;
-    tell_taken(asked, asker, questions, answers.as_bytes(), outcome)
+    let mut answers = MemSink::new(row.alloc, AMPLE_ROOM)?;
+    serve_text(row.alloc, answerer, haves, &mut answers)?;
+    tell_taken(row, asker, haves, answers.as_bytes(), outcome)
 }
 
 fn serve_text<C: Closure, W: Sink>(
     alloc: Global,
     answerer: &C,
-    questions: &[u8],
+    haves: &[u8],
     answers: &mut W,
 ) -> Result<(), Stop> {
-    let mut source = in_pieces(alloc, questions, questions.len())?;
+    let mut source = in_pieces(alloc, haves, haves.len())?;
     serve_one(alloc, answerer, &mut source, answers)?;
     Ok(())
 }
 
 // The asker takes the answers. Tells what was new, and what was asked and answered.
 fn tell_taken<C: Closure>(
-    asked: Asked<'_>,
+    row: RowCall<'_>,
     asker: &mut C,
-    questions: &[u8],
+    haves: &[u8],
     answers: &[u8],
     outcome: &mut String,
 ) -> Result<(), Stop> {
-    let mut written = MemSink::new(asked.alloc, AMPLE_ROOM)?;
-    tell_new(asked.alloc, asker, answers, &mut written, outcome)?;
-    if written.as_bytes() != questions {
-        outcome.push_str("; other questions than before")?;
+    let mut written = MemSink::new(row.alloc, AMPLE_ROOM)?;
+    tell_new(row.alloc, asker, answers, &mut written, outcome)?;
+    if written.as_bytes() != haves {
+        outcome.push_str("; other haves than before")?;
     }
-    tell_texts(asked, questions, answers, outcome)
+    tell_texts(row, haves, answers, outcome)
 }
 
 fn tell_new<C: Closure, W: Sink>(
@@ -116,13 +116,13 @@ fn tell_new<C: Closure, W: Sink>(
 }
 
 fn tell_texts(
-    asked: Asked<'_>,
-    questions: &[u8],
+    row: RowCall<'_>,
+    haves: &[u8],
     answers: &[u8],
     outcome: &mut String,
 ) -> Result<(), Stop> {
     outcome.push_str("\nasked ")?;
-    asked.script.show(questions, outcome)?;
+    row.script.show(haves, outcome)?;
     outcome.push_str("\nanswered ")?;
-    Ok(asked.script.show(answers, outcome)?)
+    Ok(row.script.show(answers, outcome)?)
 }

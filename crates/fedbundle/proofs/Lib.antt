@@ -8,3 +8,4 @@ mod SessionsFacts
 mod DeviceFacts
 mod CommandFacts
 mod MigrateFacts
+mod DistrustFacts

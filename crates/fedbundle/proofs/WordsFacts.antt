@@ -58,6 +58,8 @@ pub plain_leaf : (n : CommandName) → (leaf n).top.is_plain ≡ true
 plain_leaf command.Canon = refl
 plain_leaf command.Config = refl
 plain_leaf command.Report = refl
+plain_leaf command.List = refl
+plain_leaf command.Diff = refl
 plain_leaf command.Bundle = refl
 plain_leaf command.Explain = refl
 plain_leaf command.Observe = refl

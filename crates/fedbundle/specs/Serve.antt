@@ -2,7 +2,7 @@
 use Rattle.std.specs.Prelude.{◌≡◌, ℕ, ◌⊎◌, List, codes, Result, Ok, Err}
 use Rattle.receipt_core.specs.Acceptance.{Meaning}
 use Rattle.replica_sync.specs.SessionRun.{session_run}
-use Rattle.replica_sync.specs.Questions.{Serves}
+use Rattle.replica_sync.specs.Haves.{Serves}
 use Rattle.replica_core.specs.declared.error.SyncError.{SyncError}
 use Rattle.replica_core.specs.declared.error.SyncError.TheVariants.{Io as StreamFailed}
 use Rattle.fedbundle.specs.CommandRun.{CommandRun, HasFailed}
@@ -13,13 +13,13 @@ use Rattle.fedbundle.specs.declared.error.CommandError.TheVariants.{Sync}
 abbrev pub served_text : ℕ → List ℕ
 served_text n = counted (codes "served ") n
 
--- The questions of the source are answered on the sink, as `serve_one` says by cases on how the
+-- The haves of the source are answered on the sink, as `serve_one` says by cases on how the
 -- session ended.
 abbrev pub HasServed : CommandRun → Meaning → Result ℕ SyncError → Type 0
 HasServed run m ended = Serves
     (session_run run.source.before run.sink.before run.sink.after) m ended
 
--- By the answer: every question is answered, and this is their number; or those before this fault.
+-- By the answer: every have is answered, and this is their number; or those before this fault.
 -- There is no other error.
 abbrev pub RunsServe : CommandRun → Meaning → Result ℕ CommandError → Type 0
 RunsServe run m (Ok count) = HasServed run m (Ok count)

@@ -14,7 +14,8 @@ use Rattle.fedbundle.specs.declared.command_name.OptionName.TheVariants.{Session
 use Rattle.fedbundle.specs.declared.command_name.OptionName.TheVariants.{To, RecordsOnly}
 use Rattle.fedbundle.specs.declared.command_name.OptionName.TheVariants.{OptionalState, With}
 use Rattle.fedbundle.specs.declared.command_name.OptionName.TheVariants.{At, Wait, MostBytes}
-use Rattle.fedbundle.specs.declared.command_name.OptionName.TheVariants.{Allow, Verbose}
+use Rattle.fedbundle.specs.declared.command_name.OptionName.TheVariants.{Allow, DryRun, Verbose}
+use Rattle.fedbundle.specs.declared.command_name.OptionName.TheVariants.{OptionalDomain}
 
 abbrev pub option_text : OptionName → List ℕ
 option_text Config = codes "config"
@@ -29,22 +30,26 @@ option_text Peer = codes "peer"
 option_text To = codes "to"
 option_text RecordsOnly = codes "records-only"
 option_text OptionalState = codes "state"
+option_text OptionalDomain = codes "domain"
 option_text With = codes "with"
 option_text At = codes "at"
 option_text Wait = codes "wait"
 option_text MostBytes = codes "most-bytes"
 option_text Allow = codes "allow"
+option_text DryRun = codes "dry-run"
 option_text Verbose = codes "verbose"
 
 -- it has no text after it
 abbrev pub is_flag : OptionName → Bool
 is_flag RecordsOnly = true
+is_flag DryRun = true
 is_flag Verbose = true
 is_flag option = false
 
 -- the words may leave it out
 abbrev pub may_be_left_out : OptionName → Bool
 may_be_left_out OptionalState = true
+may_be_left_out OptionalDomain = true
 may_be_left_out With = true
 may_be_left_out At = true
 may_be_left_out Wait = true
@@ -62,6 +67,8 @@ abbrev pub name_text : CommandName → List ℕ
 name_text command.Canon = codes "canon"
 name_text command.Config = codes "config"
 name_text command.Report = codes "report"
+name_text command.List = codes "list"
+name_text command.Diff = codes "diff"
 name_text command.Bundle = codes "bundle"
 name_text command.Explain = codes "explain"
 name_text command.Observe = codes "observe"
@@ -77,6 +84,8 @@ abbrev pub options_of : CommandName → List OptionName
 options_of command.Canon = Domain ∷ []
 options_of command.Config = Config ∷ With ∷ []
 options_of command.Report = Config ∷ OptionalState ∷ []
+options_of command.List = Config ∷ State ∷ OptionalDomain ∷ Verbose ∷ []
+options_of command.Diff = Config ∷ State ∷ With ∷ Verbose ∷ []
 options_of command.Bundle = Config ∷ State ∷ Domain ∷ Verbose ∷ []
 options_of command.Explain = Config ∷ State ∷ Domain ∷ Verbose ∷ []
 options_of command.Observe = Config ∷ State ∷ Domain ∷ Endpoint ∷ Key ∷ Wait ∷ Verbose ∷ []
@@ -84,14 +93,14 @@ options_of command.Merge = Config ∷ State ∷ Wait ∷ MostBytes ∷ Verbose �
 options_of command.Migrate = Config ∷ State ∷ To ∷ RecordsOnly ∷ []
 options_of command.Reseed = Config ∷ State ∷ Allow ∷ Verbose ∷ []
 options_of command.Polls = Config ∷ State ∷ Now ∷ Verbose ∷ []
-options_of command.Distrust = Config ∷ State ∷ Domain ∷ Key ∷ Wait ∷ Verbose ∷ []
+options_of command.Distrust = Config ∷ State ∷ Domain ∷ Key ∷ DryRun ∷ Wait ∷ Verbose ∷ []
 options_of command.Serve = Config ∷ State ∷ Listen ∷ Sessions ∷ Verbose ∷ []
 options_of command.Pull = Config ∷ State ∷ Peer ∷ Wait ∷ MostBytes ∷ Verbose ∷ []
 
 abbrev pub all_names : List CommandName
-all_names = command.Canon ∷ command.Config ∷ command.Report ∷ command.Bundle ∷ command.Explain
-    ∷ command.Observe ∷ command.Merge ∷ command.Migrate ∷ command.Reseed ∷ command.Polls
-    ∷ command.Distrust ∷ command.Serve ∷ command.Pull ∷ []
+all_names = command.Canon ∷ command.Config ∷ command.Report ∷ command.List ∷ command.Diff
+    ∷ command.Bundle ∷ command.Explain ∷ command.Observe ∷ command.Merge ∷ command.Migrate
+    ∷ command.Reseed ∷ command.Polls ∷ command.Distrust ∷ command.Serve ∷ command.Pull ∷ []
 
 -- ---- the command, as clap knows it
 

@@ -20,11 +20,14 @@ pub enum OptionName {
     RecordsOnly,
     /// The state where the command does without one, too.
     OptionalState,
+    /// The domain where the command does without one, too.
+    OptionalDomain,
     With,
     At,
     Wait,
     MostBytes,
     Allow,
+    DryRun,
     Verbose,
 }
 
@@ -37,6 +40,10 @@ pub enum CommandName {
     Config,
     /// Prints what a replica that took the receipts accepts.
     Report,
+    /// Prints what a state file holds.
+    List,
+    /// Prints what only one of two state files holds.
+    Diff,
     /// Prints the current bundle of a domain.
     Bundle,
     /// Prints the receipts by which a document is accepted.
@@ -60,10 +67,12 @@ pub enum CommandName {
 }
 
 /// All subcommands, in the order in which help lists them.
-pub(crate) static COMMANDS: [CommandName; 13] = [
+pub(crate) static COMMANDS: [CommandName; 15] = [
     CommandName::Canon,
     CommandName::Config,
     CommandName::Report,
+    CommandName::List,
+    CommandName::Diff,
     CommandName::Bundle,
     CommandName::Explain,
     CommandName::Observe,
@@ -94,11 +103,13 @@ impl OptionName {
             OptionName::To => "to",
             OptionName::RecordsOnly => "records-only",
             OptionName::OptionalState => "state",
+            OptionName::OptionalDomain => "domain",
             OptionName::With => "with",
             OptionName::At => "at",
             OptionName::Wait => "wait",
             OptionName::MostBytes => "most-bytes",
             OptionName::Allow => "allow",
+            OptionName::DryRun => "dry-run",
             OptionName::Verbose => "verbose",
         }
     }
@@ -107,7 +118,10 @@ impl OptionName {
     pub fn is_flag(self) -> bool
         ensures { result ≡ is_flag self }
     {
-        matches!(self, OptionName::RecordsOnly | OptionName::Verbose)
+        matches!(
+            self,
+            OptionName::RecordsOnly | OptionName::DryRun | OptionName::Verbose
+        )
     }
 
     /// Whether the words may leave it out.
@@ -117,6 +131,7 @@ impl OptionName {
         matches!(
             self,
             OptionName::OptionalState
+                | OptionName::OptionalDomain
                 | OptionName::With
                 | OptionName::At
                 | OptionName::Wait
@@ -138,6 +153,20 @@ static DOMAIN: [OptionName; 1] = [OptionName::Domain];
 static CONFIG: [OptionName; 2] = [OptionName::Config, OptionName::With];
 
 static REPORT: [OptionName; 2] = [OptionName::Config, OptionName::OptionalState];
+
+static LIST: [OptionName; 4] = [
+    OptionName::Config,
+    OptionName::State,
+    OptionName::OptionalDomain,
+    OptionName::Verbose,
+];
+
+static DIFF: [OptionName; 4] = [
+    OptionName::Config,
+    OptionName::State,
+    OptionName::With,
+    OptionName::Verbose,
+];
 
 static STATE_DOMAIN: [OptionName; 4] = [
     OptionName::Config,
@@ -185,11 +214,12 @@ static POLLS: [OptionName; 4] = [
     OptionName::Verbose,
 ];
 
-static DISTRUST: [OptionName; 6] = [
+static DISTRUST: [OptionName; 7] = [
     OptionName::Config,
     OptionName::State,
     OptionName::Domain,
     OptionName::Key,
+    OptionName::DryRun,
     OptionName::Wait,
     OptionName::Verbose,
 ];
@@ -220,6 +250,8 @@ impl CommandName {
             CommandName::Canon => "canon",
             CommandName::Config => "config",
             CommandName::Report => "report",
+            CommandName::List => "list",
+            CommandName::Diff => "diff",
             CommandName::Bundle => "bundle",
             CommandName::Explain => "explain",
             CommandName::Observe => "observe",
@@ -241,6 +273,8 @@ impl CommandName {
             CommandName::Canon => DOMAIN.as_slice(),
             CommandName::Config => CONFIG.as_slice(),
             CommandName::Report => REPORT.as_slice(),
+            CommandName::List => LIST.as_slice(),
+            CommandName::Diff => DIFF.as_slice(),
             CommandName::Bundle => STATE_DOMAIN.as_slice(),
             CommandName::Explain => STATE_DOMAIN.as_slice(),
             CommandName::Observe => OBSERVE.as_slice(),

@@ -1,10 +1,17 @@
-//! `distrust`: a key that vouches for nothing any more.
-ghost use Rattle.fedbundle.specs.Distrust.{RunsDistrust};
+//! `distrust`: a key that vouches for nothing any more, and what that changes.
+ghost use Rattle.std.specs.Prelude.{◌≡◌, IfOk, IsErrOf};
+ghost use Rattle.fedbundle.specs.CommandRun.{device_run};
+ghost use Rattle.fedbundle.specs.Distrust.{RunsDistrust, ShowsDistrust};
+ghost use Rattle.fedbundle.specs.declared.error.CommandError.TheVariants.{Io};
 
 use crate::error::CommandError;
+use byte_lines::Sink;
 use closure_core::{Closure, Distrusted};
+use distrust_view::write_distrust_effect;
 use jwk_set::KeyId;
+use receipt_core::Distrust;
 use spiffe_name::TrustDomain;
+use std::alloc::{AllocError, Global};
 
 /// Distrusts the key in the domain, where it may have been distrusted before. It takes no memory.
 ///
@@ -23,5 +30,42 @@ pub fn run_distrust<C: Closure>(
         Ok(Distrusted::New { .. }) => Ok(()),
         Ok(Distrusted::Already) => Ok(()),
         Err(why) => Err(CommandError::Take(why)),
+    }
+}
+
+/// Writes what the record would change, and changes nothing: it is made in a copy of what is held.
+/// [`write_distrust_effect`] says which lines there are.
+///
+/// # Errors
+/// `Take` as [`run_distrust`] has it, or `NoMemory` where memory ran out: then nothing was written.
+/// `Io` where the sink failed: it holds a beginning of the text.
+pub fn show_distrust<C: Closure, W: Sink>(
+    alloc: Global,
+    closure: &C,
+    given: &Distrust,
+    sink: &mut W,
+) -> Result<(), CommandError>
+    ensures shows { ShowsDistrust (C.state closure.now).meaning given.now
+        (device_run W.contents W.has_failed sink.old sink.new) result }
+
+    // Where no fault of the sink is reported, none was passed over.
+    ensures sink_sound { (IsErrOf result Io → ⊥) → W.has_failed sink.new ≡ W.has_failed sink.old }
+{
+    let mut after = copy_of(alloc, closure)?;
+    after.distrust(&given.domain, given.key)?;
+    write_distrust_effect(alloc, closure, &after, given, sink)?;
+    Ok(())
+}
+
+// A closure that means the same.
+fn copy_of<C: Closure>(alloc: Global, closure: &C) -> Result<C, AllocError>
+    ensures { IfOk result (λ copy. (C.state copy).meaning ≡ (C.state closure.now).meaning) }
+{
+    closure_core::laws::merges();
+    let mut copy = C::new(alloc, closure.config())?;
+    match copy.merge(closure) {
+        Ok(_) => Ok(copy),
+        // What is held fits its own configuration, so nothing but memory was lacking.
+        Err(_) => Err(AllocError),
     }
 }

@@ -14,7 +14,7 @@ use std::alloc::{AllocError, Global};
 
 /// Reads a bundle document and writes why it is accepted as one of the domain: the lines of the
 /// receipts of a shortest chain from a configured document to it, none for a configured one.
-/// Answers whether it is accepted; where it is not, nothing is written. It reads at most one byte
+/// Returns whether it is accepted; where it is not, nothing is written. It reads at most one byte
 /// more than a document may have, and nothing is written before the whole text is made.
 ///
 /// # Errors

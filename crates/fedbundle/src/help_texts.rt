@@ -1,6 +1,16 @@
 //! What help and usage say of the command, its subcommands and their options.
 use crate::command_name::{CommandName, OptionName};
 
+/// The version; then the kit with which it is proved and built, and the formats: the numbers are
+/// those in the first lines that are written.
+pub(crate) const VERSION: &str = "\
+0.1.0
+kit rattle-kit-13b logic dac8208d650f15bf
+state format 2, and 1 is read
+journal format 2
+have format 2 of 256
+give format 2 of 256";
+
 /// The command's usage.
 pub(crate) const USAGE: &str = "fedbundle <COMMAND>";
 
@@ -51,6 +61,33 @@ standard error the number of each line that is not taken, and why. It writes no 
 Ends with 0; with 1 where a line was not taken, and the report is printed all the same;
 with 1 and no report where the configuration or the state is refused or too many receipts
 fit.";
+
+const LIST_NOTES: &str = "\
+Reads the configuration and the state file, and nothing from standard input.
+
+Writes to standard output a line for each receipt, in the order of the state file, and
+then one for each record of distrust; with --domain those of the domain alone:
+  receipt <id> domain <domain> sequence <number> document <id> endpoint <SPIFFE ID>
+    key <key id> voucher <document id> <status>
+  distrust <key id> domain <domain>
+The status is `accepted` where an accepted document vouches for the receipt, `distrusted`
+where its key is distrusted in the endpoint's domain, and else `pending`. It writes no
+file.
+
+Ends with 0; with 1 and nothing printed where anything read or the name of the domain is
+refused.";
+
+const DIFF_NOTES: &str = "\
+Reads the configuration, the state file, and with --with another state file under the
+same configuration, and nothing from standard input.
+
+Writes to standard output the line that `list` prints of each receipt and each record of
+distrust that the first state holds and the other does not, after `- `, and then of each
+that only the other holds, after `+ `. The status in a receipt's line is that in the state
+that holds it. It writes no file.
+
+Ends with 0 where both hold the same, and then nothing is printed; with 1 where they do
+not; with 1 and nothing printed where anything read is refused.";
 
 const BUNDLE_NOTES: &str = "\
 Reads the configuration and the state file, and nothing from standard input.
@@ -135,14 +172,29 @@ Reads the configuration and the state file, and nothing from standard input.
 
 Writes the state file, by way of FILE.new and under the lock of FILE.lock, with the record
 that the key vouches for nothing in the domain any more; at most 4,096 records are held,
-and none is ever taken back. It prints nothing.
+and none is ever taken back. It prints nothing; with --verbose it first writes to standard
+error what the record changes.
+
+With --dry-run it writes no file, and writes to standard output what the record would
+change, domain by domain:
+  falls DOMAIN document ID sequence N
+  current DOMAIN before ID sequence N after ID sequence N
+  gains DOMAIN key KEY_ID
+  loses DOMAIN key KEY_ID
+  lists DOMAIN key KEY_ID
+  locked-out DOMAIN
+`falls` is a document that is not accepted any more. `current` comes for the domain of
+--domain, and where the current document changes; then the keys that only the later or only
+the earlier one has, the distrusted ones that the later one still lists, and `locked-out`
+where none of its keys can vouch. A last line begins with `warning` where no document of
+the domain that is held lists the key.
 
 Ends with 0, also where the record was held; with 1 where the domain is none of the
 configuration or anything read is refused. Then the state file is left as it was.";
 
 const SERVE_NOTES: &str = "\
 Reads the configuration and the state file once, and writes no file. It waits at the
-address for one client after another, as long as it takes, and answers the questions of
+address for one client after another, as long as it takes, and answers the haves of
 each until the client closes its end. Nothing is encrypted, and nobody is asked who it is.
 
 A session ends with the fault S9 where a read or a write moves no byte for 30 seconds,
@@ -190,11 +242,13 @@ impl OptionName {
             OptionName::To => "FILE",
             OptionName::RecordsOnly => "",
             OptionName::OptionalState => "FILE",
+            OptionName::OptionalDomain => "DOMAIN",
             OptionName::With => "FILE",
             OptionName::At => "PATH",
             OptionName::Wait => "SECONDS",
             OptionName::MostBytes => "BYTES",
             OptionName::Allow => "DOMAIN",
+            OptionName::DryRun => "",
             OptionName::Verbose => "",
         }
     }
@@ -218,13 +272,15 @@ impl OptionName {
             OptionName::To => "The other configuration, as JSON with the same limits",
             OptionName::RecordsOnly => "Takes the records of distrust alone, and no receipt",
             OptionName::OptionalState => "The state file, in place of standard input",
-            OptionName::With => "What to compare with, as JSON with the same limits",
+            OptionName::OptionalDomain => "The one trust domain whose lines are printed",
+            OptionName::With => "What to compare with: a file of the same kind",
             OptionName::At => "The socket of a running replica, in place of the two files",
             OptionName::Wait =>
                 "How long to wait for the state's lock, from 0 to 86400 seconds [60]",
             OptionName::MostBytes =>
                 "How many bytes to take at most, with those of the state file [4294967296]",
             OptionName::Allow => "A domain whose current bundle may be a seed in any case",
+            OptionName::DryRun => "Prints what would change, and writes no file",
             OptionName::Verbose => "Says more on standard error",
         }
     }
@@ -241,6 +297,8 @@ impl CommandName {
             CommandName::Report => {
                 "Prints what receipts make a replica accept: those of the state file, or of standard input"
             }
+            CommandName::List => "Prints each receipt and each record of distrust that is held",
+            CommandName::Diff => "Prints what only one of two states holds",
             CommandName::Bundle => "Prints the current bundle of a domain",
             CommandName::Explain => {
                 "Prints the receipts by which the document on standard input is accepted"
@@ -266,6 +324,12 @@ impl CommandName {
             CommandName::Canon => "fedbundle canon --domain <DOMAIN>",
             CommandName::Config => "fedbundle config --config <FILE> [--with <FILE>]",
             CommandName::Report => "fedbundle report --config <FILE> [--state <FILE>]",
+            CommandName::List => {
+                "fedbundle list --config <FILE> --state <FILE> [--domain <DOMAIN>] [--verbose]"
+            }
+            CommandName::Diff => {
+                "fedbundle diff --config <FILE> --state <FILE> --with <FILE> [--verbose]"
+            }
             CommandName::Bundle => {
                 "fedbundle bundle --config <FILE> --state <FILE> --domain <DOMAIN> [--verbose]"
             }
@@ -288,7 +352,7 @@ impl CommandName {
                 "fedbundle polls --config <FILE> --state <FILE> --now <SECONDS> [--verbose]"
             }
             CommandName::Distrust => {
-                "fedbundle distrust --config <FILE> --state <FILE> --domain <DOMAIN> --key <KEY_ID> [--wait <SECONDS>] [--verbose]"
+                "fedbundle distrust --config <FILE> --state <FILE> --domain <DOMAIN> --key <KEY_ID> [--dry-run] [--wait <SECONDS>] [--verbose]"
             }
             CommandName::Serve => {
                 "fedbundle serve --config <FILE> --state <FILE> --listen <ADDRESS> --sessions <COUNT> [--verbose]"
@@ -305,6 +369,8 @@ impl CommandName {
             CommandName::Canon => CANON_NOTES,
             CommandName::Config => CONFIG_NOTES,
             CommandName::Report => REPORT_NOTES,
+            CommandName::List => LIST_NOTES,
+            CommandName::Diff => DIFF_NOTES,
             CommandName::Bundle => BUNDLE_NOTES,
             CommandName::Explain => EXPLAIN_NOTES,
             CommandName::Observe => OBSERVE_NOTES,

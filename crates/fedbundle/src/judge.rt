@@ -19,7 +19,7 @@ use receipt_core::{LineError, Receipt};
 use std::alloc::Global;
 
 /// Takes every receipt that fits, and complains of each other line and of a rest that no line feed
-/// ends. Answers the number of complaints.
+/// ends. Returns the number of complaints.
 pub(crate) fn take_lines<C: Closure, R: Source, E: Sink>(
     alloc: Global,
     closure: &mut C,
@@ -65,7 +65,7 @@ pub(crate) fn take_lines<C: Closure, R: Source, E: Sink>(
     }
 }
 
-/// Takes the receipt of a line, or complains of the line. Answers the number of complaints.
+/// Takes the receipt of a line, or complains of the line. Returns the number of complaints.
 fn take_text<C: Closure, E: Sink>(
     alloc: Global,
     closure: &mut C,

@@ -30,7 +30,7 @@ mod words;
 pub use bundle::run_bundle;
 pub use canon::run_canon;
 pub use command_name::{CommandName, OptionName};
-pub use distrust::run_distrust;
+pub use distrust::{run_distrust, show_distrust};
 pub use error::{CommandError, status};
 pub use explain::run_explain;
 pub use fault::write_fault;

@@ -10,7 +10,7 @@ use replica_sync::pull;
 use std::alloc::Global;
 
 /// Asks another replica about each bucket, takes what its answers have, and writes a line `new`
-/// with how many of the receipts were not held. The questions go to `peer`, and the answers come
+/// with how many of the receipts were not held. The haves go to `peer`, and the answers come
 /// from the source.
 ///
 /// # Errors

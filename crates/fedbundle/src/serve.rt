@@ -1,4 +1,4 @@
-//! `serve`: the questions of other replicas, answered, over any devices.
+//! `serve`: the haves of other replicas, answered, over any devices.
 ghost use Rattle.std.specs.Prelude.{◌≡◌, true, IfErr, OnOk};
 ghost use Rattle.std.specs.Io.KnownBytes.{Appends};
 ghost use Rattle.byte_lines.specs.Device.{AppendsBeginning};
@@ -13,11 +13,11 @@ use closure_core::Closure;
 use replica_sync::serve_one;
 use std::alloc::Global;
 
-/// Serves one session: answers the questions of the source, one after another, until it ends where
-/// a question would begin. Answers how many there were.
+/// Serves one session: answers the haves of the source, one after another, until it ends where
+/// a have would begin. Returns how many there were.
 ///
 /// # Errors
-/// `Sync`, as [`serve_one`] reports it. The questions before the fault are answered, and nothing
+/// `Sync`, as [`serve_one`] reports it. The haves before the fault are answered, and nothing
 /// else is written; where the sink failed or memory ran out, a beginning of that.
 pub fn run_serve<C: Closure, R: Source, W: Sink>(
     alloc: Global,

@@ -86,7 +86,7 @@ fn command<'a>(alloc: Global) -> Result<Command<'a>, AllocError>
     ensures { IfOk result (λ c. app_of c ≡ the_command) }
 {
     let mut command = Command::new(alloc, "fedbundle")
-        .version("0.1.0")
+        .version(help_texts::VERSION)
         .about("Holds the federated trust bundles of one replica")
         .override_usage(help_texts::USAGE)
         .after_help(help_texts::NOTES)

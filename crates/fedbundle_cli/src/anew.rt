@@ -1,22 +1,23 @@
 // `reseed`: a configuration for a start anew, printed.
 use crate::exit::Exit;
-use crate::keeping::{keeping_of, look};
 use crate::options;
 use crate::options::given;
 use crate::streams::{complaints, output};
 use byte_lines::{Sink, write_all};
-use fed_config::Config;
 use fedbundle::{Call, CommandError, OptionName};
 use reseeding::Reseeded;
 use spiffe_name::TrustDomain;
 use trust_closure::IndexedClosure;
 
 /// Prints the configuration, or reports the domains that are refused.
-pub(crate) fn reseed(rt: &HostRuntime, config: &Config, call: &Call<'_>) -> Result<u8, Exit> {
-    let closure = look(rt, config, keeping_of(call)?)?;
+pub(crate) fn reseed(
+    rt: &HostRuntime,
+    closure: &IndexedClosure,
+    call: &Call<'_>,
+) -> Result<u8, Exit> {
     match given(call, OptionName::Allow) {
-        Some(text) => reseed_but(rt, &closure, text),
-        None => reseed_on(rt, &closure, None),
+        Some(text) => reseed_but(rt, closure, text),
+        None => reseed_on(rt, closure, None),
     }
 }
 

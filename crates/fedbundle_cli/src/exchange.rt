@@ -35,17 +35,30 @@ pub(crate) fn serve(
 ) -> Result<u8, Exit> {
     let state = keeping_of(call)?;
     let closure = look(rt, config, state)?;
-    let address = options::address(options::wanted(call, OptionName::Listen)?)?;
-    let listener = listen(rt, address)?;
-    let is_verbose = state.manner.is_verbose;
-    if is_verbose {
-        say_listening(rt, address);
-    }
     let service = Service {
         sessions,
-        is_verbose,
+        is_verbose: state.manner.is_verbose,
     };
-    Ok(serve_all(rt, &closure, &listener, service))
+    serve_at(
+        rt,
+        &closure,
+        options::wanted(call, OptionName::Listen)?,
+        service,
+    )
+}
+
+fn serve_at(
+    rt: &HostRuntime,
+    closure: &IndexedClosure,
+    address: &str,
+    service: Service,
+) -> Result<u8, Exit> {
+    let address = options::address(address)?;
+    let listener = listen(rt, address)?;
+    if service.is_verbose {
+        say_listening(rt, address);
+    }
+    Ok(serve_all(rt, closure, &listener, service))
 }
 
 fn serve_all(
@@ -126,10 +139,20 @@ struct Begun {
 pub(crate) fn pull(rt: &HostRuntime, config: &Config, call: &Call<'_>) -> Result<u8, Exit> {
     let state = keeping_of(call)?;
     let mut begun = begin(rt, config, state)?;
-    let address = options::address(options::wanted(call, OptionName::Peer)?)?;
-    let connection = connect(rt, address)?;
-    let pulled = end_session(rt, &mut begun.closure, connection, room_left(rt, state));
+    let peer = options::wanted(call, OptionName::Peer)?;
+    let pulled = pull_from(rt, &mut begun.closure, peer, room_left(rt, state))?;
     Ok(end_pull(rt, config, state, &begun, pulled))
+}
+
+// How the session ended. Where there is no connection there was none.
+fn pull_from(
+    rt: &HostRuntime,
+    closure: &mut IndexedClosure,
+    peer: &str,
+    most_bytes: u64,
+) -> Result<Result<(), Exit>, Exit> {
+    let connection = connect(rt, options::address(peer)?)?;
+    Ok(end_session(rt, closure, connection, most_bytes))
 }
 
 fn begin(rt: &HostRuntime, config: &Config, state: Keeping<'_>) -> Result<Begun, Exit> {

@@ -28,9 +28,16 @@ pub(crate) struct Keeping<'a> {
 
 pub(crate) fn keeping_of<'a>(call: &Call<'a>) -> Result<Keeping<'a>, Exit> {
     Ok(Keeping {
-        path: options::wanted(call, OptionName::State)?,
+        path: path_of(call)?,
         manner: options::manner_of(call)?,
     })
+}
+
+fn path_of<'a>(call: &Call<'a>) -> Result<&'a str, Exit> {
+    match options::given(call, OptionName::State) {
+        Some(path) => Ok(path),
+        None => options::wanted(call, OptionName::OptionalState),
+    }
 }
 
 /// Takes the lock of the state file, where another command has it as soon as that is done.

@@ -4,16 +4,20 @@
 #![tactic(auto)]
 
 mod anew;
+mod changing;
 mod command_line;
 mod commands;
 mod connection;
+mod distrusting;
 mod exchange;
 mod exit;
 mod keeping;
 mod limited;
 mod options;
 mod printing;
+mod showing;
 mod streams;
+mod viewing;
 
 use exit::{Exit, print_exit};
 use fedbundle::CommandError;

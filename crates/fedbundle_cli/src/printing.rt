@@ -1,6 +1,5 @@
 // What a configuration says, and the report of what a state file holds, printed.
 use crate::exit::Exit;
-use crate::keeping::load;
 use crate::options;
 use crate::options::given;
 use crate::streams::output;
@@ -8,6 +7,7 @@ use bundle_view::write_report;
 use config_view::{write_config, write_config_difference};
 use fed_config::Config;
 use fedbundle::{Call, CommandError, OptionName, RunError};
+use trust_closure::IndexedClosure;
 
 /// Prints what the configuration says, or where it differs from another one.
 pub(crate) fn config(rt: &HostRuntime, config: &Config, call: &Call<'_>) -> Result<u8, Exit> {
@@ -30,10 +30,9 @@ fn compare(rt: &HostRuntime, config: &Config, with: &str) -> Result<u8, Exit> {
     Ok(u8::from(!is_same))
 }
 
-/// Prints the report of what the state file holds.
-pub(crate) fn report_state(rt: &HostRuntime, config: &Config, path: &str) -> Result<u8, Exit> {
-    let closure = load(rt, config, path)?;
-    match write_report(rt.alloc(), &closure, &mut output(rt)) {
+/// Prints the report of what is held.
+pub(crate) fn report_state(rt: &HostRuntime, closure: &IndexedClosure) -> Result<u8, Exit> {
+    match write_report(rt.alloc(), closure, &mut output(rt)) {
         Ok(()) => Ok(0),
         Err(error) => Err(Exit::Refused(CommandError::from(RunError::from(error)))),
     }

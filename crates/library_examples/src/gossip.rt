@@ -20,31 +20,31 @@ pub(crate) fn show<C: Closure>(
     Ok(())
 }
 
-/// One question, its answer, and what was new in it. Each message crosses as bytes.
+/// One have, its answer, and what was new in it. Each message crosses as bytes.
 fn ask<C: Closure>(
     alloc: Global,
     asker: &mut C,
     answerer: &C,
     bucket: u8,
 ) -> Result<usize, ExampleError> {
-    let mut question = MemSink::new(alloc, 100_000)?;
-    write_have(alloc, &have(alloc, asker, bucket)?, &mut question)?;
-    let reply = reply_to(alloc, answerer, question.as_bytes())?;
-    let mut source = source_of(alloc, reply.as_bytes())?;
+    let mut have_bytes = MemSink::new(alloc, 100_000)?;
+    write_have(alloc, &have(alloc, asker, bucket)?, &mut have_bytes)?;
+    let give_bytes = answer_to(alloc, answerer, have_bytes.as_bytes())?;
+    let mut source = source_of(alloc, give_bytes.as_bytes())?;
     let give = read_give(alloc, &mut LineBuf::new(alloc), &mut source)?;
     Ok(absorb(asker, give)?)
 }
 
-fn reply_to<C: Closure>(
+fn answer_to<C: Closure>(
     alloc: Global,
     answerer: &C,
-    question: &[u8],
+    have_bytes: &[u8],
 ) -> Result<MemSink, ExampleError> {
-    let mut source = source_of(alloc, question)?;
-    let mut reply = MemSink::new(alloc, 100_000)?;
+    let mut source = source_of(alloc, have_bytes)?;
+    let mut give_bytes = MemSink::new(alloc, 100_000)?;
     let asked = read_have(alloc, &mut LineBuf::new(alloc), &mut source)?;
-    write_answer(alloc, answer(answerer, &asked), &mut reply)?;
-    Ok(reply)
+    write_answer(alloc, answer(answerer, &asked), &mut give_bytes)?;
+    Ok(give_bytes)
 }
 
 pub(crate) fn source_of(alloc: Global, bytes: &[u8]) -> Result<MemSource, ExampleError> {

@@ -7,31 +7,28 @@ use replica_sync::{have, pull, serve_one, write_have};
 use std::alloc::Global;
 
 /// A session of a replica without receipts with another one. Over a connection both calls run at
-/// the same time, and each reads what the other writes. In one thread the questions come first.
+/// the same time, and each reads what the other writes. In one thread the haves come first.
 pub(crate) fn show<C: Closure>(
     alloc: Global,
     closure: &C,
     out: &mut String,
 ) -> Result<(), ExampleError> {
     let mut asker = C::new(alloc, closure.config())?;
-    let mut source = source_of(alloc, questions_of(alloc, &asker)?.as_bytes())?;
+    let mut source = source_of(alloc, haves_of(alloc, &asker)?.as_bytes())?;
     let mut answers = MemSink::new(alloc, 100_000)?;
     let answered = serve_one(alloc, closure, &mut source, &mut answers)?;
     let mut source = source_of(alloc, answers.as_bytes())?;
-    let mut questions = MemSink::new(alloc, 100_000)?;
-    let pulled = pull(alloc, &mut asker, &mut source, &mut questions)?;
-    writeln!(
-        out,
-        "{answered} questions answered, {pulled} receipts pulled"
-    )?;
+    let mut haves = MemSink::new(alloc, 100_000)?;
+    let pulled = pull(alloc, &mut asker, &mut source, &mut haves)?;
+    writeln!(out, "{answered} haves answered, {pulled} receipts pulled")?;
     Ok(())
 }
 
-/// The questions that `pull` asks: what the replica holds of each bucket.
-fn questions_of<C: Closure>(alloc: Global, asker: &C) -> Result<MemSink, ExampleError> {
-    let mut questions = MemSink::new(alloc, 100_000)?;
+/// The haves that `pull` asks: what the replica holds of each bucket.
+fn haves_of<C: Closure>(alloc: Global, asker: &C) -> Result<MemSink, ExampleError> {
+    let mut haves = MemSink::new(alloc, 100_000)?;
     for bucket in 0..=255 {
-        write_have(alloc, &have(alloc, asker, bucket)?, &mut questions)?;
+        write_have(alloc, &have(alloc, asker, bucket)?, &mut haves)?;
     }
-    Ok(questions)
+    Ok(haves)
 }

@@ -106,7 +106,7 @@ receipt_goes sets old new r TakenAlready held valid is took =
       refl,
     )
 
--- a record that was refused and reported stays behind
+-- a record that was refused and reported stays behind; the search finds this lemma
 pub record_stays : (old new : Meaning) (x : Distrust) (before after : Option (List ℕ)) (r : Result ℕ DeviceError)
     → (HasDomain old.config x.domain → ⊥) → new ≡ old → IfOk r (λ n. (n ≡ 1) × Appends before after (left_record x))
     → IfOk r (SortsItem (λ y. HasDomain old.config y.domain) (ReportsRecord old.config) x old.records new.records (sink_run before after))
@@ -293,7 +293,7 @@ sorted_few goes reports all rest kept sink n so =
     let size = ap length so.split ∙ length-append so.done rest in
     omega (arith, few, count, size)
 
--- there is a place for the next item
+-- there is a place for the next item; the search finds this lemma
 pub sorted_place : {A : Type 0} (goes : A → Type 0) (reports : A → List ℕ → Type 0) (all before rest kept : List A) (x : A) (sink : SinkRun) (n : ℕ)
     → before ≡ x ∷ rest → SortedSoFar goes reports all before kept sink n → length kept < length all
 sorted_place goes reports all before rest kept x sink n e so =

@@ -7,7 +7,7 @@ ghost use Rattle.fed_config.specs.Configuration.{HasDomain, IsConfiguration};
 ghost use Rattle.receipt_core.specs.Acceptance.{IsFitting};
 ghost use Rattle.closure_core.specs.Refusals.{IsOneTooMany, IsOneRecordTooMany};
 ghost use Rattle.receipt_core.specs.Limits.{receipt_limit, record_limit};
-ghost use Rattle.migration.specs.Carry.{CarriesOver, StopsCarrying, carry_run, chosen_receipts};
+ghost use Rattle.migration.specs.Carry.{CarriesOver, StopsCarrying, chosen_receipts};
 ghost use Rattle.migration.specs.Carry.{ReportsReceipt, ReportsRecord, left_receipt, left_record};
 ghost use Rattle.migration.specs.Inside.Carrying.{SortsItem, StopsAtItem, HasSorted, StopsSorting};
 ghost use Rattle.migration.specs.Inside.Carrying.{sink_run};
@@ -67,11 +67,21 @@ pub fn carry<C: Closure, E: Sink>(
     lines: &mut E,
 ) -> Result<Carried<C>, DeviceError>
     ensures carried { IfOk result (λ carried. CarriesOver
-        (carry_run choice config.now (C.state held.now).meaning (E.contents lines.old)
-        (E.contents lines.new)) (C.state carried.closure).meaning carried.left_out) }
+        (record {
+          choice = choice;
+          config = config.now;
+          old = (C.state held.now).meaning;
+          before = E.contents lines.old;
+          after = E.contents lines.new;
+        }) (C.state carried.closure).meaning carried.left_out) }
     ensures stops { IsErr result → StopsCarrying
-        (carry_run choice config.now (C.state held.now).meaning (E.contents lines.old)
-        (E.contents lines.new)) }
+        (record {
+          choice = choice;
+          config = config.now;
+          old = (C.state held.now).meaning;
+          before = E.contents lines.old;
+          after = E.contents lines.new;
+        }) }
 
     // A fault is reported exactly where the sink failed in this call.
     ensures fault { E.has_failed lines.new ≡ (is_source_fault result || E.has_failed lines.old) }

@@ -9,7 +9,7 @@ use Rattle.receipt_core.specs.declared.distrust.Distrust.{Distrust}
 use Rattle.receipt_core.specs.Receipt.{Receipt, IsReceipt, IsDistrust}
 use Rattle.replica_core.specs.State.{State, bucket_of_id}
 use Rattle.replica_core.specs.World.{Message, World, Rules, happens, run_from}
-use Rattle.replica_core.specs.Convergence.{Inquiry, IsInquiry, Course, at_question, at_answer, at_taking, after_taking, HasAll, IsPartOf, Lacks, IsQuiet}
+use Rattle.replica_core.specs.Convergence.{Inquiry, IsInquiry, Course, at_have, at_give, at_taking, after_taking, HasAll, IsPartOf, Lacks, IsQuiet}
 use Rattle.replica_core.specs.Convergence.{Settles}
 use Rattle.replica_core.specs.declared.event.Event.{Event}
 use Rattle.replica_core.specs.declared.event.Event.TheVariants.{Take, Revoke, Ask, Answer, Absorb, Part, Join, Save, Restart}
@@ -44,7 +44,7 @@ in-course : (q : Inquiry) (events : List Event) (c : Course q events) (event : E
     → (Contains c.before event ⊎ (Contains c.asked event ⊎ (Contains c.answered event ⊎ Contains c.after event))) → Contains events event
 in-course q events c event h =
     subst (λ es. Contains es event) (sym c.order)
-    (course-parts q.asker q.answerer q.bucket c.before c.asked c.answered c.after c.question_place c.answer_place event h)
+    (course-parts q.asker q.answerer q.bucket c.before c.asked c.answered c.after c.have_place c.give_place event h)
 
 -- All events of a course come to what its last part does to the world after the taking.
 course-run : (q : Inquiry) (events : List Event) (rules : Rules) (start : World) (c : Course q events)
@@ -52,8 +52,8 @@ course-run : (q : Inquiry) (events : List Event) (rules : Rules) (start : World)
 course-run q events rules start c =
     ap (run_from rules start) c.order
     ∙ fold-append (happens rules) start c.before _
-    ∙ fold-append (happens rules) (happens rules (at_question rules start c) (Ask q.asker q.bucket)) c.asked _
-    ∙ fold-append (happens rules) (happens rules (at_answer rules start c) (Answer q.answerer c.question_place)) c.answered _
+    ∙ fold-append (happens rules) (happens rules (at_have rules start c) (Ask q.asker q.bucket)) c.asked _
+    ∙ fold-append (happens rules) (happens rules (at_give rules start c) (Answer q.answerer c.have_place)) c.answered _
 
 -- ---- what is quiet
 
@@ -124,18 +124,18 @@ held-end laws rules w since s =
 -- all that is held at the answer and at the taking is well formed
 pub course-forms : (laws : Laws) (rules : Rules) (q : Inquiry) (events : List Event) (w : World) (c : Course q events) → IsKept IsReceipt IsDistrust 0 ⊤ w
     → ((event : Event) → Contains events event → Admits rules IsReceipt IsDistrust 0 ⊤ event)
-    → IsKept IsReceipt IsDistrust 0 ⊤ (at_answer rules w c) × IsKept IsReceipt IsDistrust 0 ⊤ (at_taking rules w c)
+    → IsKept IsReceipt IsDistrust 0 ⊤ (at_give rules w c) × IsKept IsReceipt IsDistrust 0 ⊤ (at_taking rules w c)
 course-forms laws rules q events w c h a =
-    let answering : IsKept IsReceipt IsDistrust 0 ⊤ (at_answer rules w c) =
-    kept-run laws IsReceipt IsDistrust 0 ⊤ rules c.asked (happens rules (at_question rules w c) (Ask q.asker q.bucket))
-    (kept-event laws IsReceipt IsDistrust 0 ⊤ rules (at_question rules w c) (Ask q.asker q.bucket)
+    let answering : IsKept IsReceipt IsDistrust 0 ⊤ (at_give rules w c) =
+    kept-run laws IsReceipt IsDistrust 0 ⊤ rules c.asked (happens rules (at_have rules w c) (Ask q.asker q.bucket))
+    (kept-event laws IsReceipt IsDistrust 0 ⊤ rules (at_have rules w c) (Ask q.asker q.bucket)
     (kept-run laws IsReceipt IsDistrust 0 ⊤ rules c.before w h
     (λ event d. a event (in-course q events c event (inl d)))) tt)
     (λ event d. a event (in-course q events c event (inr (inl d))))
     in (
       answering,
-      kept-run laws IsReceipt IsDistrust 0 ⊤ rules c.answered (happens rules (at_answer rules w c) (Answer q.answerer c.question_place))
-          (kept-event laws IsReceipt IsDistrust 0 ⊤ rules (at_answer rules w c) (Answer q.answerer c.question_place) answering tt)
+      kept-run laws IsReceipt IsDistrust 0 ⊤ rules c.answered (happens rules (at_give rules w c) (Answer q.answerer c.have_place))
+          (kept-event laws IsReceipt IsDistrust 0 ⊤ rules (at_give rules w c) (Answer q.answerer c.have_place) answering tt)
           (λ event d. a event (in-course q events c event (inr (inr (inl d))))),
     )
 
@@ -151,15 +151,15 @@ from-other laws rules w since i j b start s l m d n =
     let quiet : (event : Event)
     → (Contains c.before event ⊎ (Contains c.asked event ⊎ (Contains c.answered event ⊎ Contains c.after event)))
     → IsQuiet (length w.sent) event = λ event h. s.quiet event (in-course q since c event h) in
-    let v = at_answer rules w c in
+    let v = at_give rules w c in
     let u = at_taking rules w c in
     let formed = course-forms laws rules q since w c start.forms
     (λ event h. quiet-admits_all rules IsReceipt IsDistrust (length w.sent) event (s.quiet event h)) in
     let given : IsPartOf (w.now j) (v.now j) =
-    part-trans (w.now j) ((at_question rules w c).now j) (v.now j) (part-run laws rules j c.before w (λ h. quiet (Restart j) (inl h)))
-    (part-trans ((at_question rules w c).now j) ((happens rules (at_question rules w c) (Ask i b)).now j) (v.now j)
-    (part-event laws rules (at_question rules w c) j (Ask i b) (λ e. cc))
-    (part-run laws rules j c.asked (happens rules (at_question rules w c) (Ask i b)) (λ h. quiet (Restart j) (inr (inl h)))))
+    part-trans (w.now j) ((at_have rules w c).now j) (v.now j) (part-run laws rules j c.before w (λ h. quiet (Restart j) (inl h)))
+    (part-trans ((at_have rules w c).now j) ((happens rules (at_have rules w c) (Ask i b)).now j) (v.now j)
+    (part-event laws rules (at_have rules w c) j (Ask i b) (λ e. cc))
+    (part-run laws rules j c.asked (happens rules (at_have rules w c) (Ask i b)) (λ h. quiet (Restart j) (inr (inl h)))))
     in
     let kept : IsPartOf ((after_taking rules w c).now i) ((run_from rules w since).now i) =
     subst (λ (z : World). IsPartOf ((after_taking rules w c).now i) (z.now i)) (sym (course-run q since rules w c))

@@ -37,7 +37,7 @@ first-small : (xs : List ℕ) → AreBytes xs → slice_index_or xs 0 0 ≤ 255
 first-small [] a = omega arith
 first-small (x ∷ xs) a = omega (arith, a.0)
 
--- Each receipt's bucket is at most 255, so the 256 questions ask about all receipts.
+-- Each receipt's bucket is at most 255, so the 256 haves ask about all receipts.
 pub bucket-small : (r : Receipt) → bucket_of_id r ≤ 255
 unfolding receipt_id_of sha256
 bucket-small r = first-small (receipt_id_of r) (digest-bytes _ 8)

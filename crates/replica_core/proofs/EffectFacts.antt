@@ -10,7 +10,7 @@ use Rattle.receipt_core.specs.Acceptance.{IsFitting}
 use Rattle.replica_core.specs.State.{State, joined, first_of}
 use Rattle.replica_core.specs.World.{World, empty_world, gains, where_so, takes_whole, takes_part, effect_of, gained, apply, happens, is_replica}
 use Rattle.replica_core.specs.World.{WorldRun, rules_in, world_after, held_by}
-use Rattle.replica_core.specs.Convergence.{Gains, HasAnswer, only_receipt, only_record}
+use Rattle.replica_core.specs.Convergence.{Gains, HasGive, only_receipt, only_record}
 use Rattle.replica_core.specs.declared.event.Event.{Event}
 use Rattle.replica_core.specs.declared.event.Event.TheVariants.{Take, Revoke, Absorb, Part, Join}
 use Rattle.replica_core.proofs.EventFacts.{at-here, replica-true}
@@ -43,7 +43,7 @@ revokes-held past i x l known =
     (and_from (is_replica rules i) (rules.knows x.domain) (replica-true rules i l) (knows-to past.config x.domain known)))
 
 -- What an answer has is gained by the replica that absorbs it.
-pub absorbs-held : (past : WorldRun) (i place : ℕ) (content : State) → i < past.replicas → HasAnswer past place content
+pub absorbs-held : (past : WorldRun) (i place : ℕ) (content : State) → i < past.replicas → HasGive past place content
     → Gains past (Absorb i place) i content
 absorbs-held past i place content l sent =
     gains-held past (Absorb i place) i content
@@ -51,7 +51,7 @@ absorbs-held past i place content l sent =
     ∙ ap (takes_whole i) sent.2)
 
 -- The first lines of an answer are gained by the replica that takes these.
-pub parts-held : (past : WorldRun) (i place count : ℕ) (content : State) → i < past.replicas → HasAnswer past place content
+pub parts-held : (past : WorldRun) (i place count : ℕ) (content : State) → i < past.replicas → HasGive past place content
     → Gains past (Part i place count) i (first_of count content)
 parts-held past i place count content l sent =
     gains-held past (Part i place count) i (first_of count content)

@@ -4,8 +4,8 @@ use Rattle.std.proofs.Common.{◌++◌, arith, refl, sym, ap, ◌∙◌, subst, 
 use Rattle.std.specs.Prelude.{Contains, slice_get, Option, Some, None}
 use Rattle.std.proofs.lemmas.Bool.{cases_eq, and_parts}
 use Rattle.replica_core.specs.State.{State, joined, is_within_limits, first_of}
-use Rattle.replica_core.specs.World.{Message, question, answer, World, Rules, Effect, nothing, gains, sends, saves, restarts, where_so, replies, takes_whole}
-use Rattle.replica_core.specs.World.{takes_part, effect_of, at_replica, gained, apply, happens, run_from, is_replica}
+use Rattle.replica_core.specs.World.{Message, have_sent, give_sent, World, Rules, Effect, nothing, gains, sends, saves, restarts, where_so, sends_give}
+use Rattle.replica_core.specs.World.{takes_whole, takes_part, effect_of, at_replica, gained, apply, happens, run_from, is_replica}
 use Rattle.replica_core.specs.Convergence.{IsPartOf, Lacks}
 use Rattle.replica_core.specs.declared.event.Event.{Event}
 use Rattle.replica_core.specs.declared.event.Event.TheVariants.{Take, Revoke, Ask, Answer, Absorb, Part, Join, Save, Restart}
@@ -64,23 +64,23 @@ covered-where P true effect n h = h refl
 covered-where P false effect n h = n
 
 -- The effects of an answer.
-covered-replies : (P : Effect → Type 0) (state : State) (j k : ℕ) (found : Option Message) → P nothing
-    → ((message : Message) → P (sends message)) → P (replies state j k found)
-covered-replies P state j k None n h = n
-covered-replies P state j k (Some (question asker bucket ids)) n h = h _
-covered-replies P state j k (Some (answer answerer place content)) n h = n
+covered-sends_give : (P : Effect → Type 0) (state : State) (j k : ℕ) (found : Option Message) → P nothing
+    → ((message : Message) → P (sends message)) → P (sends_give state j k found)
+covered-sends_give P state j k None n h = n
+covered-sends_give P state j k (Some (have_sent asker bucket ids)) n h = h _
+covered-sends_give P state j k (Some (give_sent answerer place content)) n h = n
 
 -- The effects of taking a whole answer.
 covered-whole : (P : Effect → Type 0) (j : ℕ) (found : Option Message) → P nothing → ((gain : State) → P (gains j gain)) → P (takes_whole j found)
 covered-whole P j None n h = n
-covered-whole P j (Some (question asker bucket ids)) n h = n
-covered-whole P j (Some (answer answerer place content)) n h = h content
+covered-whole P j (Some (have_sent asker bucket ids)) n h = n
+covered-whole P j (Some (give_sent answerer place content)) n h = h content
 
 -- The effects of taking part of an answer.
 covered-part : (P : Effect → Type 0) (j m : ℕ) (found : Option Message) → P nothing → ((gain : State) → P (gains j gain)) → P (takes_part j m found)
 covered-part P j m None n h = n
-covered-part P j m (Some (question asker bucket ids)) n h = n
-covered-part P j m (Some (answer answerer place content)) n h = h (first_of m content)
+covered-part P j m (Some (have_sent asker bucket ids)) n h = n
+covered-part P j m (Some (give_sent answerer place content)) n h = h (first_of m content)
 
 -- What is so of every effect that an event can have is so of the one that it has: so proofs go over
 -- five kinds of effect and not over nine kinds of event.
@@ -90,7 +90,7 @@ covered rules w (Take k r) P c =
 covered rules w (Revoke k x) P c =
     covered-where P (is_replica rules k && rules.knows x.domain) _ c.idle (λ e. c.more k _ (and_parts (is_replica rules k) (rules.knows x.domain) e).0)
 covered rules w (Ask k b) P c = covered-where P (is_replica rules k && nat_le b 255) _ c.idle (λ e. c.told _)
-covered rules w (Answer k n) P c = covered-where P (is_replica rules k) _ c.idle (λ e. covered-replies P (w.now k) k n (slice_get w.sent n) c.idle c.told)
+covered rules w (Answer k n) P c = covered-where P (is_replica rules k) _ c.idle (λ e. covered-sends_give P (w.now k) k n (slice_get w.sent n) c.idle c.told)
 covered rules w (Absorb k n) P c = covered-where P (is_replica rules k) _ c.idle (λ e. covered-whole P k (slice_get w.sent n) c.idle (λ gain. c.more k gain e))
 covered rules w (Part k n m) P c = covered-where P (is_replica rules k) _ c.idle (λ e. covered-part P k m (slice_get w.sent n) c.idle (λ gain. c.more k gain e))
 covered rules w (Join k j) P c =

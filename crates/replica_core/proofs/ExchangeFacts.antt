@@ -7,9 +7,9 @@ use Rattle.std.proofs.lemmas.Bool.{cases_Bool, and_from}
 use Rattle.std.proofs.lemmas.Slice.Eq.{bytes_eq-Decides}
 use Rattle.receipt_core.specs.Receipt.{Receipt, IsReceipt, IsDistrust, receipt_id_of}
 use Rattle.replica_core.specs.State.{State, id_cmp, joined, is_within_limits, bucket_of_id, is_of_bucket, is_named, ids_held, receipts_lacking}
-use Rattle.replica_core.specs.World.{Message, question, answer, World, Rules, with_state, sends, where_so, replies}
+use Rattle.replica_core.specs.World.{Message, have_sent, give_sent, World, Rules, with_state, sends, where_so, sends_give}
 use Rattle.replica_core.specs.World.{takes_whole, gained, apply, happens, is_replica}
-use Rattle.replica_core.specs.Convergence.{Inquiry, IsInquiry, Exchange, at_question, at_answer, at_taking, after_taking, HasAll, IsPartOf}
+use Rattle.replica_core.specs.Convergence.{Inquiry, IsInquiry, Exchange, at_have, at_give, at_taking, after_taking, HasAll, IsPartOf}
 use Rattle.replica_core.specs.declared.event.Event.{Event}
 use Rattle.replica_core.specs.declared.event.Event.TheVariants.{Ask, Answer, Absorb}
 use Rattle.replica_core.proofs.ContainsFacts.{filter-from, filter-to, map-from, any-from, each-to, get-new, contains-none}
@@ -22,26 +22,26 @@ use Rattle.replica_core.proofs.EventFacts.{at-here, part-trans, part-event, part
 abbrev pub with_message : World → Message → World
 with_message w message = record w { sent = w.sent ++ message ∷ [] }
 
--- what a replica answers to a question about the bucket that names the ids
+-- what a replica answers to a have about the bucket that names the ids
 abbrev pub content_of : State → ℕ → List (List ℕ) → State
 content_of state b ids = record { held = receipts_lacking state b ids; records = state.records }
 
--- A replica that asks sends a question.
+-- A replica that asks sends a have.
 pub asked-is : (rules : Rules) (w : World) (i b : ℕ) → i < rules.replicas → b ≤ 255
-    → happens rules w (Ask i b) ≡ with_message w (question i b (ids_held (w.now i) b))
+    → happens rules w (Ask i b) ≡ with_message w (have_sent i b (ids_held (w.now i) b))
 asked-is rules w i b l m =
-    ap (λ (t : Bool). apply w (where_so t (sends (question i b (ids_held (w.now i) b)))))
+    ap (λ (t : Bool). apply w (where_so t (sends (have_sent i b (ids_held (w.now i) b)))))
     (and_from (is_replica rules i) (nat_le b 255) (replica-true rules i l) (le-leb b 255 m))
 
--- A replica that answers a question sends what it has of it.
-pub answered-is : (rules : Rules) (w : World) (i j b k : ℕ) (ids : List (List ℕ)) → j < rules.replicas → slice_get w.sent k ≡ Some (question i b ids)
-    → happens rules w (Answer j k) ≡ with_message w (answer j k (content_of (w.now j) b ids))
+-- A replica that answers a have sends what it has of it.
+pub answered-is : (rules : Rules) (w : World) (i j b k : ℕ) (ids : List (List ℕ)) → j < rules.replicas → slice_get w.sent k ≡ Some (have_sent i b ids)
+    → happens rules w (Answer j k) ≡ with_message w (give_sent j k (content_of (w.now j) b ids))
 answered-is rules w i j b k ids l e =
-    ap (λ (t : Bool). apply w (where_so t (replies (w.now j) j k (slice_get w.sent k)))) (replica-true rules j l)
-    ∙ ap (λ (f : Option Message). apply w (replies (w.now j) j k f)) e
+    ap (λ (t : Bool). apply w (where_so t (sends_give (w.now j) j k (slice_get w.sent k)))) (replica-true rules j l)
+    ∙ ap (λ (f : Option Message). apply w (sends_give (w.now j) j k f)) e
 
 -- A replica that takes an answer within the limits joins its content.
-pub absorbed-is : (rules : Rules) (w : World) (i j n k : ℕ) (content : State) → i < rules.replicas → slice_get w.sent n ≡ Some (answer j k content)
+pub absorbed-is : (rules : Rules) (w : World) (i j n k : ℕ) (content : State) → i < rules.replicas → slice_get w.sent n ≡ Some (give_sent j k content)
     → is_within_limits (joined (w.now i) content) ≡ true
     → happens rules w (Absorb i n) ≡ with_state w i (joined (w.now i) content)
 absorbed-is rules w i j n k content l e t =
@@ -49,27 +49,27 @@ absorbed-is rules w i j n k content l e t =
     ∙ ap (λ (f : Option Message). apply w (takes_whole i f)) e
     ∙ ap (λ (b : Bool). gained b w i (joined (w.now i) content)) t
 
--- the question stands at its place
+-- the have stands at its place
 pub asked-here : (rules : Rules) (w : World) (i b : ℕ) → i < rules.replicas → b ≤ 255
-    → slice_get (happens rules w (Ask i b)).sent (length w.sent) ≡ Some (question i b (ids_held (w.now i) b))
+    → slice_get (happens rules w (Ask i b)).sent (length w.sent) ≡ Some (have_sent i b (ids_held (w.now i) b))
 asked-here rules w i b l m =
-    ap (λ (v : World). slice_get v.sent (length w.sent)) (asked-is rules w i b l m) ∙ get-new w.sent (question i b (ids_held (w.now i) b))
+    ap (λ (v : World). slice_get v.sent (length w.sent)) (asked-is rules w i b l m) ∙ get-new w.sent (have_sent i b (ids_held (w.now i) b))
 
 -- The answer stands at its place.
-answered-here : (rules : Rules) (w : World) (i j b k : ℕ) (ids : List (List ℕ)) → j < rules.replicas → slice_get w.sent k ≡ Some (question i b ids)
-    → slice_get (happens rules w (Answer j k)).sent (length w.sent) ≡ Some (answer j k (content_of (w.now j) b ids))
+answered-here : (rules : Rules) (w : World) (i j b k : ℕ) (ids : List (List ℕ)) → j < rules.replicas → slice_get w.sent k ≡ Some (have_sent i b ids)
+    → slice_get (happens rules w (Answer j k)).sent (length w.sent) ≡ Some (give_sent j k (content_of (w.now j) b ids))
 answered-here rules w i j b k ids l e =
-    ap (λ (v : World). slice_get v.sent (length w.sent)) (answered-is rules w i j b k ids l e) ∙ get-new w.sent (answer j k (content_of (w.now j) b ids))
+    ap (λ (v : World). slice_get v.sent (length w.sent)) (answered-is rules w i j b k ids l e) ∙ get-new w.sent (give_sent j k (content_of (w.now j) b ids))
 
 -- The taking of an answer within the limits joins its content.
-absorbed-here : (rules : Rules) (w : World) (i j n k : ℕ) (content : State) → i < rules.replicas → slice_get w.sent n ≡ Some (answer j k content)
+absorbed-here : (rules : Rules) (w : World) (i j n k : ℕ) (content : State) → i < rules.replicas → slice_get w.sent n ≡ Some (give_sent j k content)
     → is_within_limits (joined (w.now i) content) ≡ true → (happens rules w (Absorb i n)).now i ≡ joined (w.now i) content
 absorbed-here rules w i j n k content l e t =
     ap (λ (v : World). v.now i) (absorbed-is rules w i j n k content l e t) ∙ at-here i (joined (w.now i) content) w.now
 
 -- ---- what an exchange gives
 
--- an id that a question names is that of a receipt that the asker held
+-- an id that a have names is that of a receipt that the asker held
 pub named-held : (state : State) (b : ℕ) (r : Receipt) → is_named (ids_held state b) r ≡ true
     → (s : Receipt) × Contains state.held s × (receipt_id_of s ≡ receipt_id_of r)
 named-held state b r e =
@@ -111,38 +111,38 @@ gives laws i b asking given before part forms own = record {
 
 -- After the exchange the asker has what the answerer held of the bucket.
 pub exchange-gives : (laws : Laws) (rules : Rules) (start : World) (inquiry : Inquiry) (events : List Event) → IsInquiry rules.replicas inquiry
-    → (x : Exchange rules start inquiry events) → Keeps IsReceipt IsDistrust ((at_answer rules start x.course).now inquiry.answerer)
+    → (x : Exchange rules start inquiry events) → Keeps IsReceipt IsDistrust ((at_give rules start x.course).now inquiry.answerer)
     → Keeps IsReceipt IsDistrust ((at_taking rules start x.course).now inquiry.asker)
-    → HasAll inquiry.bucket ((at_answer rules start x.course).now inquiry.answerer) ((after_taking rules start x.course).now inquiry.asker)
+    → HasAll inquiry.bucket ((at_give rules start x.course).now inquiry.answerer) ((after_taking rules start x.course).now inquiry.asker)
 exchange-gives laws rules start inquiry events is x forms own =
     let i = inquiry.asker in
     let j = inquiry.answerer in
     let b = inquiry.bucket in
-    let w = at_question rules start x.course in
-    let v = at_answer rules start x.course in
+    let w = at_have rules start x.course in
+    let v = at_give rules start x.course in
     let u = at_taking rules start x.course in
-    let q : slice_get v.sent x.course.question_place ≡ Some (question i b (ids_held (w.now i) b)) =
-    sent-stays rules x.course.asked (happens rules w (Ask i b)) x.course.question_place (question i b (ids_held (w.now i) b))
-    (subst (λ k. slice_get (happens rules w (Ask i b)).sent k ≡ Some (question i b (ids_held (w.now i) b))) (sym x.asked_at)
+    let q : slice_get v.sent x.course.have_place ≡ Some (have_sent i b (ids_held (w.now i) b)) =
+    sent-stays rules x.course.asked (happens rules w (Ask i b)) x.course.have_place (have_sent i b (ids_held (w.now i) b))
+    (subst (λ k. slice_get (happens rules w (Ask i b)).sent k ≡ Some (have_sent i b (ids_held (w.now i) b))) (sym x.asked_at)
     (asked-here rules w i b is.asker is.bucket))
     in
-    let a : slice_get u.sent x.course.answer_place ≡ Some (answer j x.course.question_place (content_of (v.now j) b (ids_held (w.now i) b))) =
-    sent-stays rules x.course.answered (happens rules v (Answer j x.course.question_place)) x.course.answer_place
-    (answer j x.course.question_place (content_of (v.now j) b (ids_held (w.now i) b)))
-    (subst (λ k. slice_get (happens rules v (Answer j x.course.question_place)).sent k
-    ≡ Some (answer j x.course.question_place (content_of (v.now j) b (ids_held (w.now i) b)))) (sym x.answered_at)
-    (answered-here rules v i j b x.course.question_place (ids_held (w.now i) b) is.answerer q))
+    let a : slice_get u.sent x.course.give_place ≡ Some (give_sent j x.course.have_place (content_of (v.now j) b (ids_held (w.now i) b))) =
+    sent-stays rules x.course.answered (happens rules v (Answer j x.course.have_place)) x.course.give_place
+    (give_sent j x.course.have_place (content_of (v.now j) b (ids_held (w.now i) b)))
+    (subst (λ k. slice_get (happens rules v (Answer j x.course.have_place)).sent k
+    ≡ Some (give_sent j x.course.have_place (content_of (v.now j) b (ids_held (w.now i) b)))) (sym x.answered_at)
+    (answered-here rules v i j b x.course.have_place (ids_held (w.now i) b) is.answerer q))
     in
     let part : IsPartOf (w.now i) (u.now i) =
     part-trans (w.now i) (v.now i) (u.now i)
     (part-trans (w.now i) ((happens rules w (Ask i b)).now i) (v.now i) (part-event laws rules w i (Ask i b) (λ e. cc))
     (part-run laws rules i x.course.asked (happens rules w (Ask i b)) x.no_restart))
-    (part-trans (v.now i) ((happens rules v (Answer j x.course.question_place)).now i) (u.now i)
-    (part-event laws rules v i (Answer j x.course.question_place) (λ e. cc))
-    (part-run laws rules i x.course.answered (happens rules v (Answer j x.course.question_place)) x.none_later))
+    (part-trans (v.now i) ((happens rules v (Answer j x.course.have_place)).now i) (u.now i)
+    (part-event laws rules v i (Answer j x.course.have_place) (λ e. cc))
+    (part-run laws rules i x.course.answered (happens rules v (Answer j x.course.have_place)) x.none_later))
     in
     subst (HasAll b (v.now j))
-    (sym (absorbed-here rules u i j x.course.answer_place x.course.question_place
+    (sym (absorbed-here rules u i j x.course.give_place x.course.have_place
     (content_of (v.now j) b (ids_held (w.now i) b)) is.asker a
     (x.whole (content_of (v.now j) b (ids_held (w.now i) b)) a)))
     (gives laws i b (w.now i) (v.now j) (u.now i) part forms own)

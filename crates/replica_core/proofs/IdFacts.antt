@@ -16,7 +16,7 @@ use Rattle.receipt_core.specs.Sets.{AreSets, Always}
 use Rattle.receipt_core.proofs.RisingFacts.{AreSets-from_total}
 use Rattle.replica_core.specs.State.{id_cmp}
 use Rattle.replica_core.proofs.ContainsFacts.{contains-none, map-from, map-to}
-use Rattle.replica_core.proofs.QuestionFacts.{bytes_of, bytes-rising, named_cmp}
+use Rattle.replica_core.proofs.HaveFacts.{bytes_of, bytes-rising, named_cmp}
 
 -- The step of the loop: one id more is gathered, and the others are still to come.
 pub more-gathered : (r : Receipt) (id : ReceiptId) (rest others : List Receipt) (old new : List ReceiptId)
@@ -68,7 +68,7 @@ module _ (rs : List Receipt) (gathered sorted : List ReceiptId) (all : map bytes
       let there = map-to bytes_of (dedup same sorted) found.1 (found.0, found.2, found.3) in
       subst (Contains (map bytes_of (dedup same sorted))) (sym ((bytes_eq-Decides m.0.0 found.1.0).0 found.4) ∙ m.2) there
 
-  -- The ids that are kept are the rising list of the receipts' ids, which a question names.
+  -- The ids that are kept are the rising list of the receipts' ids, which a have names.
   pub are-held : IsSorted named_cmp sorted → map bytes_of (dedup same sorted) ≡ with_items id_cmp (map receipt_id_of rs) []
   are-held up =
       let ids = map receipt_id_of rs in

@@ -5,8 +5,8 @@ use Rattle.std.proofs.lemmas.Bool.{and_parts}
 use Rattle.receipt_core.specs.declared.distrust.Distrust.{Distrust}
 use Rattle.receipt_core.specs.Receipt.{Receipt}
 use Rattle.replica_core.specs.State.{State, joined, is_within_limits, is_of_bucket, is_named, receipts_lacking, first_of, ids_held}
-use Rattle.replica_core.specs.World.{Message, question, answer, World, Rules, Effect, gains, sends, saves, restarts, where_so, replies, takes_whole, takes_part}
-use Rattle.replica_core.specs.World.{with_state, gained, apply, happens, run_from, is_replica}
+use Rattle.replica_core.specs.World.{Message, have_sent, give_sent, World, Rules, Effect, gains, sends, saves, restarts, where_so, sends_give, takes_whole}
+use Rattle.replica_core.specs.World.{takes_part, with_state, gained, apply, happens, run_from, is_replica}
 use Rattle.replica_core.specs.declared.event.Event.{Event}
 use Rattle.replica_core.specs.declared.event.Event.TheVariants.{Take, Revoke, Ask, Answer, Absorb, Part, Join, Save, Restart}
 use Rattle.replica_core.proofs.ContainsFacts.{contains-here, contains-later, contains-cases, contains-none, filter-from, get-cases}
@@ -15,8 +15,8 @@ use Rattle.replica_core.proofs.EventFacts.{at-here}
 
 -- what an answer brings has the properties
 abbrev pub KeepsMessage : (Receipt → Type 0) → (Distrust → Type 0) → Message → Type 0
-KeepsMessage P Q (question asker bucket ids) = ⊤
-KeepsMessage P Q (answer answerer place content) = Keeps P Q content
+KeepsMessage P Q (have_sent asker bucket ids) = ⊤
+KeepsMessage P Q (give_sent answerer place content) = Keeps P Q content
 
 -- All that is held has the properties, and so have the messages from a place on and, where A, what
 -- is saved.
@@ -111,16 +111,16 @@ kept-where P Q place A true w effect h g = g refl
 kept-where P Q place A false w effect h g = h
 
 -- It stays so when a replica answers.
-kept-replies : (P : Receipt → Type 0) (Q : Distrust
+kept-sends_give : (P : Receipt → Type 0) (Q : Distrust
     → Type 0) (place : ℕ) (A : Type 0) (w : World) (state : State) (j k : ℕ) (message : Option Message)
-    → IsKept P Q place A w → Keeps P Q state → IsKept P Q place A (apply w (replies state j k message))
-kept-replies P Q place A w state j k None h s = h
-kept-replies P Q place A w state j k (Some (question asker bucket ids)) h s =
-    kept-sends P Q place A w (answer j k (record { held = receipts_lacking state bucket ids; records = state.records })) h (record {
+    → IsKept P Q place A w → Keeps P Q state → IsKept P Q place A (apply w (sends_give state j k message))
+kept-sends_give P Q place A w state j k None h s = h
+kept-sends_give P Q place A w state j k (Some (have_sent asker bucket ids)) h s =
+    kept-sends P Q place A w (give_sent j k (record { held = receipts_lacking state bucket ids; records = state.records })) h (record {
       receipts = λ r c. s.receipts r (filter-from (λ o. is_of_bucket bucket o && not (is_named ids o)) state.held r c).0;
       records = s.records;
     })
-kept-replies P Q place A w state j k (Some (answer answerer other content)) h s = h
+kept-sends_give P Q place A w state j k (Some (give_sent answerer other content)) h s = h
 
 -- It stays so when a replica takes a whole answer that has the properties.
 kept-whole : (laws : Laws) (P : Receipt → Type 0) (Q : Distrust
@@ -128,8 +128,9 @@ kept-whole : (laws : Laws) (P : Receipt → Type 0) (Q : Distrust
     → ((message : Message) → found ≡ Some message → KeepsMessage P Q message)
     → IsKept P Q place A (apply w (takes_whole i found))
 kept-whole laws P Q place A w i None h s = h
-kept-whole laws P Q place A w i (Some (question asker bucket ids)) h s = h
-kept-whole laws P Q place A w i (Some (answer answerer other content)) h s = kept-gains laws P Q place A w i content h (s (answer answerer other content) refl)
+kept-whole laws P Q place A w i (Some (have_sent asker bucket ids)) h s = h
+kept-whole laws P Q place A w i (Some (give_sent answerer other content)) h s =
+    kept-gains laws P Q place A w i content h (s (give_sent answerer other content) refl)
 
 -- It stays so when a replica takes part of an answer that has the properties.
 kept-part : (laws : Laws) (P : Receipt → Type 0) (Q : Distrust
@@ -137,9 +138,9 @@ kept-part : (laws : Laws) (P : Receipt → Type 0) (Q : Distrust
     → ((message : Message) → found ≡ Some message → KeepsMessage P Q message)
     → IsKept P Q place A (apply w (takes_part i m found))
 kept-part laws P Q place A w i m None h s = h
-kept-part laws P Q place A w i m (Some (question asker bucket ids)) h s = h
-kept-part laws P Q place A w i m (Some (answer answerer other content)) h s =
-    kept-gains laws P Q place A w i (first_of m content) h (keeps-first P Q m content (s (answer answerer other content) refl))
+kept-part laws P Q place A w i m (Some (have_sent asker bucket ids)) h s = h
+kept-part laws P Q place A w i m (Some (give_sent answerer other content)) h s =
+    kept-gains laws P Q place A w i (first_of m content) h (keeps-first P Q m content (s (give_sent answerer other content) refl))
 
 -- A state of one receipt has the properties where the receipt has.
 one-receipt : (P : Receipt → Type 0) (Q : Distrust → Type 0) (r : Receipt) → P r → Keeps P Q (record { held = r ∷ []; records = [] })
@@ -171,11 +172,11 @@ kept-event laws P Q place A rules w (Revoke i x) h a =
     (one-record P Q x (a (and_parts (is_replica rules i) (rules.knows x.domain) e).0
     (and_parts (is_replica rules i) (rules.knows x.domain) e).1)))
 kept-event laws P Q place A rules w (Ask i b) h a =
-    kept-where P Q place A (is_replica rules i && nat_le b 255) w (sends (question i b (ids_held (w.now i) b))) h
-    (λ e. kept-sends P Q place A w (question i b (ids_held (w.now i) b)) h tt)
+    kept-where P Q place A (is_replica rules i && nat_le b 255) w (sends (have_sent i b (ids_held (w.now i) b))) h
+    (λ e. kept-sends P Q place A w (have_sent i b (ids_held (w.now i) b)) h tt)
 kept-event laws P Q place A rules w (Answer j k) h a =
-    kept-where P Q place A (is_replica rules j) w (replies (w.now j) j k (slice_get w.sent k)) h
-    (λ e. kept-replies P Q place A w (w.now j) j k (slice_get w.sent k) h (h.now j))
+    kept-where P Q place A (is_replica rules j) w (sends_give (w.now j) j k (slice_get w.sent k)) h
+    (λ e. kept-sends_give P Q place A w (w.now j) j k (slice_get w.sent k) h (h.now j))
 kept-event laws P Q place A rules w (Absorb i k) h a =
     kept-where P Q place A (is_replica rules i) w (takes_whole i (slice_get w.sent k)) h
     (λ e. kept-whole laws P Q place A w i (slice_get w.sent k) h (λ m f. h.sent k m a f))

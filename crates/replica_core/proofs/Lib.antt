@@ -13,9 +13,9 @@ mod AgreementFacts
 mod WorldLawFacts
 mod WorkedRunFacts
 mod Settling
-mod QuestionFacts
+mod HaveFacts
 mod IdFacts
-mod ReplyFacts
+mod LentGiveFacts
 mod PlaceFacts
 mod EarlierFacts
 mod JudgeFacts

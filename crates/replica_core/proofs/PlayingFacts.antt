@@ -13,15 +13,15 @@ use Rattle.receipt_core.specs.Acceptance.{Meaning, IsMeaning}
 use Rattle.closure_core.specs.Changes.{empty_of}
 use Rattle.replica_core.specs.State.{State, no_state, joined, is_within_limits, receipts_lacking, first_of, meaning_of_state}
 use Rattle.replica_core.specs.Session.{state_of}
-use Rattle.replica_core.specs.World.{Message, question, answer, World, rules_of, Effect, gains, sends, saves, restarts, where_so, replies, takes_whole}
+use Rattle.replica_core.specs.World.{Message, have_sent, give_sent, World, rules_of, Effect, gains, sends, saves, restarts, where_so, sends_give, takes_whole}
 use Rattle.replica_core.specs.World.{takes_part, at_replica, gained, apply, happens, is_replica, is_fitting, is_known, AreOf, MeansState}
-use Rattle.replica_core.specs.Inside.Playing.{message_of, answered, asked, CanHold, CanHoldRecords, IsSound, Plays, StandsForEvent}
+use Rattle.replica_core.specs.Inside.Playing.{message_of, give_in_message, have_in_message, CanHold, CanHoldRecords, IsSound, Plays, StandsForEvent}
 use Rattle.replica_core.specs.declared.event.Event.{Event}
 use Rattle.replica_core.specs.declared.event.Event.TheVariants.{Take, Revoke, Answer, Absorb, Part, Join}
 use Rattle.replica_core.specs.declared.playing.Playing.{Playing}
 use Rattle.replica_core.specs.declared.message.Message.{Message as Sent}
 use Rattle.replica_core.proofs.EventFacts.{at-here, at-other, replica-true}
-use Rattle.replica_core.proofs.SoundFacts.{one-rising, sound-at, can-take, knows-take, sound-reply}
+use Rattle.replica_core.proofs.SoundFacts.{one-rising, sound-at, can-take, knows-take, sound-give}
 use Rattle.replica_core.proofs.WorldLawFacts.{fits-from, knows-from}
 
 -- ---- replicas
@@ -171,27 +171,28 @@ gain-follows meaning config old new event i more result h same =
 -- ---- what an answer brings
 
 -- To take a whole answer is to gain its content.
-pub some-taken : (i : ℕ) (found : Option Message) (content : State) → answered found ≡ Some content → takes_whole i found ≡ gains i content
+pub some-taken : (i : ℕ) (found : Option Message) (content : State) → give_in_message found ≡ Some content → takes_whole i found ≡ gains i content
 some-taken i None content e = absurd (let no : None ≡ Some content = e in cc)
-some-taken i (Some (question asker bucket ids)) content e = absurd (let no : None ≡ Some content = e in cc)
-some-taken i (Some (answer answerer place other)) content e = ap (gains i) (let same : Some other ≡ Some content = e in cc)
+some-taken i (Some (have_sent asker bucket ids)) content e = absurd (let no : None ≡ Some content = e in cc)
+some-taken i (Some (give_sent answerer place other)) content e = ap (gains i) (let same : Some other ≡ Some content = e in cc)
 
 -- To take part of an answer is to gain the first entries of its content.
-pub some-parted : (i m : ℕ) (found : Option Message) (content : State) → answered found ≡ Some content → takes_part i m found ≡ gains i (first_of m content)
+pub some-parted : (i m : ℕ) (found : Option Message) (content : State) → give_in_message found ≡ Some content
+    → takes_part i m found ≡ gains i (first_of m content)
 some-parted i m None content e = absurd (let no : None ≡ Some content = e in cc)
-some-parted i m (Some (question asker bucket ids)) content e = absurd (let no : None ≡ Some content = e in cc)
-some-parted i m (Some (answer answerer place other)) content e = ap (λ s. gains i (first_of m s)) (let same : Some other ≡ Some content = e in cc)
+some-parted i m (Some (have_sent asker bucket ids)) content e = absurd (let no : None ≡ Some content = e in cc)
+some-parted i m (Some (give_sent answerer place other)) content e = ap (λ s. gains i (first_of m s)) (let same : Some other ≡ Some content = e in cc)
 
 -- ---- answers
 
--- To answer a question is to send what it does not name.
-pub replied : (state : State) (j k bucket : ℕ) (ids : List (List ℕ)) (found : Option Message) → asked found ≡ Some (bucket, ids)
-    → replies state j k found ≡ sends (answer j k (record { held = receipts_lacking state bucket ids; records = state.records }))
+-- To answer a have is to send what it does not name.
+pub replied : (state : State) (j k bucket : ℕ) (ids : List (List ℕ)) (found : Option Message) → have_in_message found ≡ Some (bucket, ids)
+    → sends_give state j k found ≡ sends (give_sent j k (record { held = receipts_lacking state bucket ids; records = state.records }))
 replied state j k bucket ids None e = absurd (let no : None ≡ Some (bucket, ids) = e in cc)
-replied state j k bucket ids (Some (question asker b is)) e =
+replied state j k bucket ids (Some (have_sent asker b is)) e =
     let both : (b, is) ≡ (bucket, ids) = (let some : Some (b, is) ≡ Some (bucket, ids) = e in cc) in
-    ap (λ (q : ℕ × List (List ℕ)). sends (answer j k (record { held = receipts_lacking state q.0 q.1; records = state.records }))) both
-replied state j k bucket ids (Some (answer answerer place content)) e = absurd (let no : None ≡ Some (bucket, ids) = e in cc)
+    ap (λ (q : ℕ × List (List ℕ)). sends (give_sent j k (record { held = receipts_lacking state q.0 q.1; records = state.records }))) both
+replied state j k bucket ids (Some (give_sent answerer place content)) e = absurd (let no : None ≡ Some (bucket, ids) = e in cc)
 
 -- ---- events that gain what others hold or answered
 
@@ -216,7 +217,7 @@ join-gains config n w i j found more l f m =
 -- What is gathered of a whole answer is what the event of taking it gains.
 pub absorb-gains : (config : Configuration) (n : ℕ) (w : World) (i k : ℕ) (content : State) (rs : List Receipt)
     (xs : List Distrust) (more : Meaning) → AllByRecursion (IsSound config) w.sent
-    → answered (slice_get w.sent k) ≡ Some content → rs ≡ content.held → xs ≡ content.records
+    → give_in_message (slice_get w.sent k) ≡ Some content → rs ≡ content.held → xs ≡ content.records
     → (CanHold config rs → CanHoldRecords config xs → more ≡ record { config = config; held = rs; records = xs })
     → (more.config ≡ config) × (apply w (where_so (is_replica (rules_of config n) i) (gains i (state_of more))) ≡ happens (rules_of config n) w (Absorb i k))
 absorb-gains config n w i k content rs xs more sound a re xe built =
@@ -232,7 +233,7 @@ absorb-gains config n w i k content rs xs more sound a re xe built =
 -- What is gathered of the first entries of an answer is what the event of taking these gains.
 pub part-gains : (config : Configuration) (n : ℕ) (w : World) (i k count : ℕ) (content : State) (rs : List Receipt)
     (xs : List Distrust) (more : Meaning) → AllByRecursion (IsSound config) w.sent
-    → answered (slice_get w.sent k) ≡ Some content → rs ≡ take (count - length content.records) content.held → xs ≡ take count content.records
+    → give_in_message (slice_get w.sent k) ≡ Some content → rs ≡ take (count - length content.records) content.held → xs ≡ take count content.records
     → (CanHold config rs → CanHoldRecords config xs → more ≡ record { config = config; held = rs; records = xs })
     → (more.config ≡ config)
     × (apply w (where_so (is_replica (rules_of config n) i) (gains i (state_of more)))
@@ -248,16 +249,16 @@ part-gains config n w i k count content rs xs more sound a re xe built =
           ∙ ap (λ (effect : Effect). apply w (where_so (is_replica (rules_of config n) i) effect)) (sym (some-parted i count (slice_get w.sent k) content a)),
     )
 
--- the answer of a replica to a question about the bucket that names the ids
-abbrev reply_to : ℕ → ℕ → ℕ → List (List ℕ) → State → Message
-reply_to i k bucket ids s = answer i k (record { held = receipts_lacking s bucket ids; records = s.records })
+-- the answer of a replica to a have about the bucket that names the ids
+abbrev give_to_have : ℕ → ℕ → ℕ → List (List ℕ) → State → Message
+give_to_have i k bucket ids s = give_sent i k (record { held = receipts_lacking s bucket ids; records = s.records })
 
 -- The closures still stand for the world after a replica answered.
 pub answer-follows : {A : Type 0} (meaning : A → Meaning) (config : Configuration) (n : ℕ) (old new : Playing A)
     (w : World) (i k : ℕ) (m : Meaning) (bucket : ℕ) (ids : List (List ℕ)) (told : Sent) → i < n
     → Plays meaning config n old w
-    → m ≡ meaning_of_state config (w.now i) → IsMeaning m → asked (slice_get w.sent k) ≡ Some (bucket, ids)
-    → message_of told ≡ answer i k (record { held = receipts_lacking (state_of m) bucket ids; records = m.records })
+    → m ≡ meaning_of_state config (w.now i) → IsMeaning m → have_in_message (slice_get w.sent k) ≡ Some (bucket, ids)
+    → message_of told ≡ give_sent i k (record { held = receipts_lacking (state_of m) bucket ids; records = m.records })
     → new.held.items ≡ old.held.items → new.saved.items ≡ old.saved.items → new.sent.items ≡ old.sent.items ++ told ∷ []
     → Plays meaning config n new (happens (rules_of config n) w (Answer i k))
 answer-follows meaning config n old new w i k m bucket ids told l p e valid a says held saved sent =
@@ -265,8 +266,8 @@ answer-follows meaning config n old new w i k m bucket ids told l p e valid a sa
     subst (λ (effect : Effect). Plays meaning config n new
     (apply w (where_so (is_replica (rules_of config n) i) effect)))
     (sym (replied (w.now i) i k bucket ids (slice_get w.sent k) a))
-    (plays-sends meaning config n old new w i told (reply_to i k bucket ids (w.now i)) l p held saved sent (says ∙ ap (reply_to i k bucket ids) same)
-    (subst (λ (s : State). IsSound config (reply_to i k bucket ids s)) same (sound-reply config m bucket ids (ap (λ (m : Meaning). m.config) e) valid)))
+    (plays-sends meaning config n old new w i told (give_to_have i k bucket ids (w.now i)) l p held saved sent (says ∙ ap (give_to_have i k bucket ids) same)
+    (subst (λ (s : State). IsSound config (give_to_have i k bucket ids s)) same (sound-give config m bucket ids (ap (λ (m : Meaning). m.config) e) valid)))
 
 -- A closure means what the state of its number says.
 pub here : {A : Type 0} (meaning : A → Meaning) (config : Configuration) (n : ℕ) (closures given : List A) (states : ℕ

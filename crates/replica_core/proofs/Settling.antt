@@ -14,8 +14,8 @@ use Rattle.receipt_core.specs.Receipt.{Receipt, IsReceipt, receipt_cmp}
 use Rattle.receipt_core.specs.Order.{receipt_total}
 use Rattle.receipt_core.specs.Acceptance.{IsFitting}
 use Rattle.replica_core.specs.State.{State, joined, is_within_limits, ids_held, receipts_lacking}
-use Rattle.replica_core.specs.World.{Message, question, answer, World, empty_world, Rules, Effect, sends, gains, where_so, replies, takes_whole, apply, happens}
-use Rattle.replica_core.specs.World.{run_from, is_replica}
+use Rattle.replica_core.specs.World.{Message, have_sent, give_sent, World, empty_world, Rules, Effect, sends, gains, where_so, sends_give, takes_whole}
+use Rattle.replica_core.specs.World.{apply, happens, run_from, is_replica}
 use Rattle.replica_core.specs.World.{WorldRun, rules_in, world_after, held_by, followed_by}
 use Rattle.replica_core.specs.Convergence.{Inquiry, IsInquiry, Exchange, Settles, IsQuiet, only_receipt}
 use Rattle.replica_core.specs.declared.event.Event.{Event}
@@ -88,34 +88,34 @@ gains-sent w i gain = sent-gained (is_within_limits (joined (w.now i) gain)) w i
 -- Nor does the taking of an answer.
 whole-sent : (w : World) (i : ℕ) (found : Option Message) → (apply w (takes_whole i found)).sent ≡ w.sent
 whole-sent w i None = refl
-whole-sent w i (Some (question asker bucket ids)) = refl
-whole-sent w i (Some (answer answerer place content)) = gains-sent w i content
+whole-sent w i (Some (have_sent asker bucket ids)) = refl
+whole-sent w i (Some (give_sent answerer place content)) = gains-sent w i content
 
--- A question is one message more.
+-- A have is one message more.
 ask-sends : (rules : Rules) (w : World) (i b : ℕ) → i < rules.replicas → b ≤ 255 → length (happens rules w (Ask i b)).sent ≡ length w.sent + 1
 ask-sends rules w i b l m =
-    let q = question i b (ids_held (w.now i) b) in
+    let q = have_sent i b (ids_held (w.now i) b) in
     ap (λ t. length (apply w (where_so t (sends q))).sent)
     (and_from (is_replica rules i) (nat_le b 255) (replica-true rules i l) (le-leb b 255 m))
     ∙ length-append w.sent (q ∷ [])
 
 -- So is an answer.
-answer-sends : (rules : Rules) (w : World) (i j b k : ℕ) (ids : List (List ℕ)) → j < rules.replicas → slice_get w.sent k ≡ Some (question i b ids)
+answer-sends : (rules : Rules) (w : World) (i j b k : ℕ) (ids : List (List ℕ)) → j < rules.replicas → slice_get w.sent k ≡ Some (have_sent i b ids)
     → length (happens rules w (Answer j k)).sent ≡ length w.sent + 1
 answer-sends rules w i j b k ids l e =
-    ap (λ t. length (apply w (where_so t (replies (w.now j) j k (slice_get w.sent k)))).sent) (replica-true rules j l)
-    ∙ ap (λ f. length (apply w (replies (w.now j) j k f)).sent) e
-    ∙ length-append w.sent (answer j k (record { held = receipts_lacking (w.now j) b ids; records = (w.now j).records }) ∷ [])
+    ap (λ t. length (apply w (where_so t (sends_give (w.now j) j k (slice_get w.sent k)))).sent) (replica-true rules j l)
+    ∙ ap (λ f. length (apply w (sends_give (w.now j) j k f)).sent) e
+    ∙ length-append w.sent (give_sent j k (record { held = receipts_lacking (w.now j) b ids; records = (w.now j).records }) ∷ [])
 
--- A question, its answer and the taking of it are two messages more.
+-- A have, its answer and the taking of it are two messages more.
 turn-sends : (rules : Rules) (w : World) (i j b place : ℕ) → i < rules.replicas → j < rules.replicas → b ≤ 255 → length w.sent ≡ place
     → length (run_from rules w (turn i j b place)).sent ≡ place + 2
 turn-sends rules w i j b place l m n size =
     let v = happens rules w (Ask i b) in
     let u = happens rules v (Answer j place) in
     let asked = ask-sends rules w i b l n in
-    let there : slice_get v.sent place ≡ Some (question i b (ids_held (w.now i) b)) =
-    subst (λ k. slice_get v.sent k ≡ Some (question i b (ids_held (w.now i) b))) size (asked-here rules w i b l n) in
+    let there : slice_get v.sent place ≡ Some (have_sent i b (ids_held (w.now i) b)) =
+    subst (λ k. slice_get v.sent k ≡ Some (have_sent i b (ids_held (w.now i) b))) size (asked-here rules w i b l n) in
     let answered : length u.sent ≡ length v.sent + 1 = answer-sends rules v i j b place (ids_held (w.now i) b) m there in
     let taken : length (happens rules u (Absorb i (place + 1))).sent ≡ length u.sent =
     ap length (where-sent (is_replica rules i) u (takes_whole i (slice_get u.sent (place + 1))) (whole-sent u i (slice_get u.sent (place + 1)))) in
@@ -203,13 +203,13 @@ turn-exchanges rules a w q events before after place is h quiet order size =
         asked = [];
         answered = [];
         after = after;
-        question_place = place;
-        answer_place = place + 1;
+        have_place = place;
+        give_place = place + 1;
         order = order;
       };
       asked_at = sym size;
       answered_at = ap (λ k. k + 1) (sym size) ∙ sym (ask-sends rules v q.asker q.bucket is.asker is.bucket);
-      whole = λ content e. only-within a u q.asker content taking (taking.kept.sent (place + 1) (answer q.answerer place content) (omega arith) e);
+      whole = λ content e. only-within a u q.asker content taking (taking.kept.sent (place + 1) (give_sent q.answerer place content) (omega arith) e);
       no_restart = λ c. contains-none (Restart q.asker) c;
       none_later = λ c. contains-none (Restart q.asker) c;
     }

@@ -13,8 +13,8 @@ use Rattle.receipt_core.specs.Receipt.{Receipt, receipt_cmp, distrust_cmp}
 use Rattle.receipt_core.specs.Acceptance.{Meaning, IsMeaning, IsFitting}
 use Rattle.replica_core.specs.State.{State, is_of_bucket, is_named, receipts_lacking}
 use Rattle.replica_core.specs.Session.{state_of}
-use Rattle.replica_core.specs.World.{Message, question, answer}
-use Rattle.replica_core.specs.Inside.Playing.{answered, CanHold, CanHoldRecords, IsSound}
+use Rattle.replica_core.specs.World.{Message, have_sent, give_sent}
+use Rattle.replica_core.specs.Inside.Playing.{give_in_message, CanHold, CanHoldRecords, IsSound}
 use Rattle.replica_core.proofs.ContainsFacts.{each-from, each-to, filter-from}
 use Rattle.replica_core.proofs.RisingListFacts.{rising_head, rising_tail}
 
@@ -40,15 +40,15 @@ more-rising cmp x xs above rising = (above, rising)
 
 -- What a sound answer brings can be held.
 sound-here : (config : Configuration) (message : Message) (content : State) → IsSound config message
-    → answered (Some message) ≡ Some content → CanHold config content.held × CanHoldRecords config content.records
-sound-here config (question asker bucket ids) content h e = absurd (let no : None ≡ Some content = e in cc)
-sound-here config (answer answerer place other) content h e =
+    → give_in_message (Some message) ≡ Some content → CanHold config content.held × CanHoldRecords config content.records
+sound-here config (have_sent asker bucket ids) content h e = absurd (let no : None ≡ Some content = e in cc)
+sound-here config (give_sent answerer place other) content h e =
     let same : other ≡ content = (let some : Some other ≡ Some content = e in cc) in
     subst (λ (s : State). CanHold config s.held × CanHoldRecords config s.records) same h
 
 -- What the answer at a place brings can be held.
 pub sound-at : (config : Configuration) (sent : List Message) (k : ℕ) (content : State)
-    → AllByRecursion (IsSound config) sent → answered (slice_get sent k) ≡ Some content
+    → AllByRecursion (IsSound config) sent → give_in_message (slice_get sent k) ≡ Some content
     → CanHold config content.held × CanHoldRecords config content.records
 sound-at config [] k content h e = absurd (let no : None ≡ Some content = e in cc)
 sound-at config (message ∷ sent) zero content h e = sound-here config message content h.0 e
@@ -107,9 +107,9 @@ fewer-filtered p [] = omega arith
 fewer-filtered p (x ∷ xs) = fewer-kept (p x) x (filter p xs) (length xs) (fewer-filtered p xs)
 
 -- What a closure answers can be held.
-pub sound-reply : (config : Configuration) (m : Meaning) (bucket : ℕ) (ids : List (List ℕ)) → m.config ≡ config → IsMeaning m
+pub sound-give : (config : Configuration) (m : Meaning) (bucket : ℕ) (ids : List (List ℕ)) → m.config ≡ config → IsMeaning m
     → CanHold config (receipts_lacking (state_of m) bucket ids) × CanHoldRecords config m.records
-sound-reply config m bucket ids e h = (
+sound-give config m bucket ids e h = (
   record {
     fitting = all-filter (IsFitting config) (λ r. is_of_bucket bucket r && not (is_named ids r)) m.held
         (subst (λ (c : Configuration). AllByRecursion (IsFitting c) m.held) e h.fitting);

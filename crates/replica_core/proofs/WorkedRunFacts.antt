@@ -6,7 +6,7 @@ use Rattle.std.specs.declared.cmp.Ordering.TheVariants.{Less, Equal, Greater}
 use Rattle.receipt_core.specs.declared.distrust.Distrust.{Distrust}
 use Rattle.receipt_core.specs.Receipt.{Receipt, receipt_id_of, receipt_cmp, distrust_cmp}
 use Rattle.replica_core.specs.State.{State, no_state, bucket_of_id, id_cmp}
-use Rattle.replica_core.specs.World.{World, empty_world, Rules, question, answer, at_replica, happens, run_from, run}
+use Rattle.replica_core.specs.World.{World, empty_world, Rules, have_sent, give_sent, at_replica, happens, run_from, run}
 use Rattle.replica_core.specs.declared.event.Event.{Event}
 use Rattle.replica_core.specs.declared.event.Event.TheVariants.{Take, Revoke, Ask, Answer, Absorb, Join, Restart}
 
@@ -111,8 +111,8 @@ halfway a b x = record {
       (at_replica 2 (record { held = b ∷ []; records = x ∷ [] }) (at_replica 2 (record { held = []; records = x ∷ [] })
       (at_replica 1 (record { held = b ∷ []; records = [] }) (at_replica 0 (record { held = a ∷ []; records = [] }) (λ i. no_state))))));
   saved = λ i. no_state;
-  sent = question 2 1 [] ∷ answer 1 0 (record { held = b ∷ []; records = [] }) ∷ question 0 1 (receipt_id_of a ∷ []) ∷
-      answer 2 2 (record { held = b ∷ []; records = x ∷ [] }) ∷ [];
+  sent = have_sent 2 1 [] ∷ give_sent 1 0 (record { held = b ∷ []; records = [] }) ∷ have_sent 0 1 (receipt_id_of a ∷ []) ∷
+      give_sent 2 2 (record { held = b ∷ []; records = x ∷ [] }) ∷ [];
 }
 
 -- The first half comes to that world.
@@ -224,12 +224,12 @@ later_restart-differs a p = differs ((run three (later_restart a)).now 0) ((run 
 
 -- 0 took a receipt, answered, and started again without it. Both took each other's answers since,
 -- and then the old answer comes.
-abbrev late_answer : Receipt → List Event
-late_answer a = Take 0 a ∷ Ask 1 1 ∷ Answer 0 0 ∷ Restart 0 ∷ Ask 1 1 ∷ Answer 0 2 ∷ Absorb 1 3 ∷ Ask 0 1 ∷ Answer 1 4 ∷ Absorb 0 5 ∷ Absorb 1 1 ∷ []
+abbrev late_give : Receipt → List Event
+late_give a = Take 0 a ∷ Ask 1 1 ∷ Answer 0 0 ∷ Restart 0 ∷ Ask 1 1 ∷ Answer 0 2 ∷ Absorb 1 3 ∷ Ask 0 1 ∷ Answer 1 4 ∷ Absorb 0 5 ∷ Absorb 1 1 ∷ []
 
 -- Replicas 0 and 1 do not agree then: no answer from before may come in between.
-late_answer-differs : (a : Receipt) → bucket_of_id a ≡ 1 → (run three (late_answer a)).now 1 ≢ (run three (late_answer a)).now 0
-late_answer-differs a p = differs ((run three (late_answer a)).now 1) ((run three (late_answer a)).now 0) a (simp p) (simp p)
+late_give-differs : (a : Receipt) → bucket_of_id a ≡ 1 → (run three (late_give a)).now 1 ≢ (run three (late_give a)).now 0
+late_give-differs a p = differs ((run three (late_give a)).now 1) ((run three (late_give a)).now 0) a (simp p) (simp p)
 
 -- ---- one takes all that another holds
 

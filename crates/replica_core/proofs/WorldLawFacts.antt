@@ -14,9 +14,9 @@ use Rattle.receipt_core.specs.declared.distrust.Distrust.{Distrust}
 use Rattle.receipt_core.specs.Receipt.{Receipt, IsReceipt, IsDistrust}
 use Rattle.receipt_core.specs.Acceptance.{IsMeaning, IsFitting}
 use Rattle.replica_core.specs.State.{no_state, meaning_of_state}
-use Rattle.replica_core.specs.World.{Message, question, answer, World, empty_world, Rules, rules_of, same_id, is_fitting, is_known, happens, run_from, run}
+use Rattle.replica_core.specs.World.{Message, have_sent, give_sent, World, empty_world, Rules, rules_of, same_id, is_fitting, is_known, happens, run_from, run}
 use Rattle.replica_core.specs.World.{WorldRun, rules_in, world_after, held_by, saved_by, followed_by}
-use Rattle.replica_core.specs.Convergence.{IsEvent, AreEvents, Lacks, IsPartOf, Inquiry, IsInquiry, Exchange, at_answer, after_taking, HasAll, Settles}
+use Rattle.replica_core.specs.Convergence.{IsEvent, AreEvents, Lacks, IsPartOf, Inquiry, IsInquiry, Exchange, at_give, after_taking, HasAll, Settles}
 use Rattle.replica_core.specs.declared.event.Event.{Event}
 use Rattle.replica_core.specs.declared.event.Event.TheVariants.{Take, Revoke, Ask, Answer, Absorb, Part, Join, Save, Restart}
 use Rattle.replica_core.proofs.ContainsFacts.{any-from, each-from, each-to}
@@ -163,8 +163,8 @@ never-saved past i h = saved-run (rules_in past) i past.events empty_world h
 -- What an answer brings of this configuration is of its form.
 plain-message : (config : Configuration) (message : Message)
     → KeepsMessage (IsReceiptOf config) (IsDistrustOf config) message → KeepsMessage IsReceipt IsDistrust message
-plain-message config (question asker bucket ids) h = tt
-plain-message config (answer answerer place content) h = record { receipts = λ r c. (h.receipts r c).0; records = λ x c. (h.records x c).0 }
+plain-message config (have_sent asker bucket ids) h = tt
+plain-message config (give_sent answerer place content) h = record { receipts = λ r c. (h.receipts r c).0; records = λ x c. (h.records x c).0 }
 
 -- All that is held, saved and sent of this configuration is of its form.
 plain-kept : (config : Configuration) (w : World) → IsKept (IsReceiptOf config) (IsDistrustOf config) 0 ⊤ w → IsKept IsReceipt IsDistrust 0 ⊤ w
@@ -199,7 +199,7 @@ starts laws config n events h =
 -- The clause `exchanged`: who takes another's whole answer has what that held of the bucket.
 pub exchanged : (laws : Laws) (past : WorldRun) (since : List Event) (q : Inquiry) → AreEvents past.events
     → AreEvents since → IsInquiry past.replicas q → (x : Exchange (rules_in past) (world_after past) q since)
-    → HasAll q.bucket ((at_answer (rules_in past) (world_after past) x.course).now q.answerer)
+    → HasAll q.bucket ((at_give (rules_in past) (world_after past) x.course).now q.answerer)
     ((after_taking (rules_in past) (world_after past) x.course).now q.asker)
 exchanged laws past since q f s is x =
     let rules = rules_in past in

@@ -12,7 +12,7 @@ use Rattle.closure_core.specs.Changes.{HeldAndRoom as ClosureState}
 use Rattle.closure_core.specs.declared.error.TakeError.{TakeError}
 use Rattle.closure_core.specs.declared.error.TakeError.TheVariants.{NoMemory as NoTakeMemory}
 use Rattle.replica_core.specs.State.{State, joined, meaning_of_state}
-use Rattle.replica_core.specs.Session.{Reply, state_of}
+use Rattle.replica_core.specs.Session.{GiveMessage, state_of}
 use Rattle.replica_core.specs.declared.entry.Entry.{Entry}
 use Rattle.replica_core.specs.declared.entry.Entry.TheVariants.{Record, Receipt as AReceipt}
 use Rattle.replica_core.specs.declared.error.SyncError.{SyncError}
@@ -73,14 +73,15 @@ pub record IsFirstRefused (m : Meaning) (entries : List Entry) (number : ℕ)
   pub named : why ≢ NoTakeMemory
 
 -- It is of a configuration with the same digest.
-abbrev pub IsReplyOfConfig : Meaning → Reply → Type 0
-IsReplyOfConfig m reply = reply.config ≡ config_id_of m.config
+abbrev pub IsGiveOfConfig : Meaning → GiveMessage → Type 0
+IsGiveOfConfig m give = give.config ≡ config_id_of m.config
 
 -- All that it says is held, and so many receipts are that were not.
-pub record HasAbsorbed (old : Meaning) (reply : Reply) (new : Meaning) (count : ℕ) : Type 0 where
-  pub of_config : IsReplyOfConfig old reply
-  pub welcome : AreWelcome old (entries_of reply.content)
-  pub meaning : new ≡ meaning_of_state old.config (joined (state_of old) reply.content)
+pub record HasAbsorbed (old : Meaning) (give : GiveMessage) (new : Meaning)
+    (count : ℕ) : Type 0 where
+  pub of_config : IsGiveOfConfig old give
+  pub welcome : AreWelcome old (entries_of give.content)
+  pub meaning : new ≡ meaning_of_state old.config (joined (state_of old) give.content)
   pub more : length new.held ≡ length old.held + count
 
 -- the room that these receipts take where not all are held: that of those that are not, each
@@ -101,28 +102,29 @@ pub record IsBeyondRoom (old : ClosureState) (receipts : List Receipt) : Type 0 
   pub beyond : IsRoomier (room_for old.meaning receipts) old.room → ⊥
 
 -- All of it is welcome, and something of it wants room that there was not.
-pub record WantsRoom (old : ClosureState) (reply : Reply) : Type 0 where
-  pub of_config : IsReplyOfConfig old.meaning reply
-  pub welcome : AreWelcome old.meaning (entries_of reply.content)
-  pub beyond : IsBeyondRoom old reply.content.held
+pub record WantsRoom (old : ClosureState) (give : GiveMessage) : Type 0 where
+  pub of_config : IsGiveOfConfig old.meaning give
+  pub welcome : AreWelcome old.meaning (entries_of give.content)
+  pub beyond : IsBeyondRoom old give.content.held
 
 -- It has more lines than memory holds: their numbers are no numbers of 64 bits.
-pub record IsTooLong (old : ClosureState) (reply : Reply) : Type 0 where
-  pub of_config : IsReplyOfConfig old.meaning reply
-  pub long : 2 ^ 64 ≤ length (entries_of reply.content) + 2
+pub record IsTooLong (old : ClosureState) (give : GiveMessage) : Type 0 where
+  pub of_config : IsGiveOfConfig old.meaning give
+  pub long : 2 ^ 64 ≤ length (entries_of give.content) + 2
 
-pub record RefusesOne (m : Meaning) (reply : Reply) (number : ℕ) (why : TakeError) : Type 0 where
-  pub of_config : IsReplyOfConfig m reply
-  pub first : IsFirstRefused m (entries_of reply.content) number why
+pub record RefusesOne (m : Meaning) (give : GiveMessage) (number : ℕ)
+    (why : TakeError) : Type 0 where
+  pub of_config : IsGiveOfConfig m give
+  pub first : IsFirstRefused m (entries_of give.content) number why
 
-abbrev pub RefusesReply : ClosureState → Reply → SyncError → Type 0
-RefusesReply old reply ConfigDiffers = IsReplyOfConfig old.meaning reply → ⊥
-RefusesReply old reply (Refused n why) = RefusesOne old.meaning reply n why
-RefusesReply old reply NoMemory = WantsRoom old reply ⊎ IsTooLong old reply
-RefusesReply old reply _ = ⊥
+abbrev pub RefusesAbsorbing : ClosureState → GiveMessage → SyncError → Type 0
+RefusesAbsorbing old give ConfigDiffers = IsGiveOfConfig old.meaning give → ⊥
+RefusesAbsorbing old give (Refused n why) = RefusesOne old.meaning give n why
+RefusesAbsorbing old give NoMemory = WantsRoom old give ⊎ IsTooLong old give
+RefusesAbsorbing old give _ = ⊥
 
 -- Nothing of it is held that was not.
-pub record HasRefusedReply (old : ClosureState) (reply : Reply) (new : Meaning)
+pub record HasRefusedAbsorbing (old : ClosureState) (give : GiveMessage) (new : Meaning)
     (why : SyncError) : Type 0 where
-  pub cause : RefusesReply old reply why
+  pub cause : RefusesAbsorbing old give why
   pub same : new ≡ old.meaning

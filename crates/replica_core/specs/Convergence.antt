@@ -5,7 +5,7 @@ use Rattle.std.specs.List.{AllByRecursion}
 use Rattle.receipt_core.specs.declared.distrust.Distrust.{Distrust}
 use Rattle.receipt_core.specs.Receipt.{Receipt, IsReceipt, IsDistrust, receipt_id_of}
 use Rattle.replica_core.specs.State.{State, joined, is_within_limits, bucket_of_id}
-use Rattle.replica_core.specs.World.{World, Rules, answer, happens, run_from}
+use Rattle.replica_core.specs.World.{World, Rules, give_sent, happens, run_from}
 use Rattle.replica_core.specs.World.{WorldRun, world_after, held_by, followed_by}
 use Rattle.replica_core.specs.declared.event.Event.{Event}
 use Rattle.replica_core.specs.declared.event.Event.TheVariants.{Take, Revoke, Ask, Answer, Absorb}
@@ -69,9 +69,9 @@ Gains past event replica gain = is_within_limits (joined (held_by past replica) 
     → held_by (followed_by past (event ∷ [])) replica ≡ joined (held_by past replica) gain
 
 -- the message at this place is an answer with this content
-abbrev pub HasAnswer : WorldRun → ℕ → State → Type 0
-HasAnswer past place content = (answerer question : ℕ)
-    × (slice_get (world_after past).sent place ≡ Some (answer answerer question content))
+abbrev pub HasGive : WorldRun → ℕ → State → Type 0
+HasGive past place content = (answerer have : ℕ)
+    × (slice_get (world_after past).sent place ≡ Some (give_sent answerer have content))
 
 -- all that the one holds the other holds too
 pub record IsPartOf (state other : State) : Type 0 where
@@ -92,50 +92,50 @@ pub record IsInquiry (replicas : ℕ) (q : Inquiry) : Type 0 where
   pub answerer : q.answerer < replicas
   pub bucket : q.bucket ≤ 255
 
--- The events have a question of the asker about the bucket, an answer of the answerer to it, and
--- the asker's taking of that answer. What comes before the question, between question and answer,
+-- The events have a have of the asker about the bucket, an answer of the answerer to it, and
+-- the asker's taking of that answer. What comes before the have, between have and answer,
 -- and between answer and taking is free.
 pub record Course (q : Inquiry) (events : List Event) : Type 0 where
   pub before : List Event
   pub asked : List Event
   pub answered : List Event
   pub after : List Event
-  pub question_place : ℕ
-  pub answer_place : ℕ
+  pub have_place : ℕ
+  pub give_place : ℕ
   pub order : events ≡ before
       ++ (Ask q.asker q.bucket ∷ asked
-      ++ (Answer q.answerer question_place ∷ answered ++ (Absorb q.asker answer_place ∷ after)))
+      ++ (Answer q.answerer have_place ∷ answered ++ (Absorb q.asker give_place ∷ after)))
 
--- the worlds at the question, at the answer and at the taking
-abbrev pub at_question : {q : Inquiry} {events : List Event} → Rules → World → Course q events
+-- the worlds at the have, at the answer and at the taking
+abbrev pub at_have : {q : Inquiry} {events : List Event} → Rules → World → Course q events
     → World
-at_question rules start c = run_from rules start c.before
+at_have rules start c = run_from rules start c.before
 
-abbrev pub at_answer : {q : Inquiry} {events : List Event} → Rules → World → Course q events
+abbrev pub at_give : {q : Inquiry} {events : List Event} → Rules → World → Course q events
     → World
-at_answer {q = q} rules start c = run_from rules
-    (happens rules (at_question rules start c) (Ask q.asker q.bucket)) c.asked
+at_give {q = q} rules start c = run_from rules
+    (happens rules (at_have rules start c) (Ask q.asker q.bucket)) c.asked
 
 abbrev pub at_taking : {q : Inquiry} {events : List Event} → Rules → World → Course q events
     → World
 at_taking {q = q} rules start c = run_from rules
-    (happens rules (at_answer rules start c) (Answer q.answerer c.question_place)) c.answered
+    (happens rules (at_give rules start c) (Answer q.answerer c.have_place)) c.answered
 
 abbrev pub after_taking : {q : Inquiry} {events : List Event} → Rules → World → Course q events
     → World
 after_taking {q = q} rules start c = happens rules (at_taking rules start c)
-    (Absorb q.asker c.answer_place)
+    (Absorb q.asker c.give_place)
 
--- The answer is to that question, the taking is of that answer, whole, and the asker doesn't
+-- The answer is to that have, the taking is of that answer, whole, and the asker doesn't
 -- restart in between.
 pub record Exchange (rules : Rules) (start : World) (q : Inquiry)
     (events : List Event) : Type 0 where
   pub course : Course q events
-  pub asked_at : course.question_place ≡ length (at_question rules start course).sent
-  pub answered_at : course.answer_place ≡ length (at_answer rules start course).sent
+  pub asked_at : course.have_place ≡ length (at_have rules start course).sent
+  pub answered_at : course.give_place ≡ length (at_give rules start course).sent
   pub whole : (content : State)
-      → slice_get (at_taking rules start course).sent course.answer_place
-      ≡ Some (answer q.answerer course.question_place content)
+      → slice_get (at_taking rules start course).sent course.give_place
+      ≡ Some (give_sent q.answerer course.have_place content)
       → is_within_limits (joined ((at_taking rules start course).now q.asker) content) ≡ true
   pub no_restart : Lacks course.asked (Restart q.asker)
   pub none_later : Lacks course.answered (Restart q.asker)

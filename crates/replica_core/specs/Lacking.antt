@@ -1,4 +1,4 @@
--- The receipts that a question leaves out.
+-- The receipts that a have leaves out.
 use Rattle.std.specs.Prelude.{ℕ, List, filter, not}
 use Rattle.receipt_core.specs.Receipt.{Receipt}
 use Rattle.replica_core.specs.State.{is_named}

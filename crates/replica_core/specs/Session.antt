@@ -9,35 +9,35 @@ use Rattle.replica_core.specs.State.{State, id_cmp, ids_held, receipts_lacking}
 abbrev pub state_of : Meaning → State
 state_of m = record { held = m.held; records = m.records }
 
--- A question names the ids that the asker holds of a bucket; `config` is the digest of its
+-- A have names the ids that the asker holds of a bucket; `config` is the digest of its
 -- configuration.
-pub record Question : Type 0 where
+pub record HaveMessage : Type 0 where
   pub bucket : ℕ
   pub config : List ℕ
   pub ids : List (List ℕ)
 
 -- An answer gives receipts of the bucket, and records.
-pub record Reply : Type 0 where
+pub record GiveMessage : Type 0 where
   pub bucket : ℕ
   pub config : List ℕ
   pub content : State
 
 -- the ids rise, so each comes once
-abbrev pub IsQuestion : Question → Type 0
-IsQuestion q = IsStrictlySortedBy id_cmp q.ids
+abbrev pub IsHave : HaveMessage → Type 0
+IsHave q = IsStrictlySortedBy id_cmp q.ids
 
 -- what a closure asks about a bucket
-abbrev pub question_of : Meaning → ℕ → Question
-question_of m bucket = record {
+abbrev pub have_of : Meaning → ℕ → HaveMessage
+have_of m bucket = record {
   bucket = bucket;
   config = config_id_of m.config;
   ids = ids_held (state_of m) bucket;
 }
 
--- what a closure answers: the receipts of the bucket that the question does not name, and all
+-- what a closure answers: the receipts of the bucket that the have does not name, and all
 -- records
-abbrev pub reply_of : Meaning → Question → Reply
-reply_of m q = record {
+abbrev pub give_of : Meaning → HaveMessage → GiveMessage
+give_of m q = record {
   bucket = q.bucket;
   config = config_id_of m.config;
   content = record { held = receipts_lacking (state_of m) q.bucket q.ids; records = m.records };

@@ -15,11 +15,11 @@ use Rattle.replica_core.specs.declared.event.Event.TheVariants.{Take, Revoke, As
 use Rattle.replica_core.specs.declared.event.Event.TheVariants.{Part, Join, Save, Restart}
 use Rattle.receipt_core.specs.Acceptance.{Meaning}
 
--- A question names the ids that the asker holds of a bucket; an answer to it has all records of the
+-- A have names the ids that the asker holds of a bucket; an answer to it has all records of the
 -- answerer, and the receipts of the bucket that it holds beyond those named.
 pub data Message : Type 0 where
-  question : (asker bucket : ℕ) (ids : List (List ℕ)) → Message
-  answer : (answerer question : ℕ) (content : State) → Message
+  have_sent : (asker bucket : ℕ) (ids : List (List ℕ)) → Message
+  give_sent : (answerer place : ℕ) (content : State) → Message
 
 -- what each replica holds, what each saved last, and every message that was ever sent
 pub record World : Type 0 where
@@ -74,22 +74,22 @@ abbrev pub where_so : Bool → Effect → Effect
 where_so true effect = effect
 where_so false effect = nothing
 
-abbrev pub replies : State → ℕ → ℕ → Option Message → Effect
-replies state replica place None = nothing
-replies state replica place (Some (question asker bucket ids)) = sends
-    (answer replica place (record
+abbrev pub sends_give : State → ℕ → ℕ → Option Message → Effect
+sends_give state replica place None = nothing
+sends_give state replica place (Some (have_sent asker bucket ids)) = sends
+    (give_sent replica place (record
     { held = receipts_lacking state bucket ids; records = state.records }))
-replies state replica place (Some (answer answerer other content)) = nothing
+sends_give state replica place (Some (give_sent answerer other content)) = nothing
 
 abbrev pub takes_whole : ℕ → Option Message → Effect
 takes_whole replica None = nothing
-takes_whole replica (Some (question asker bucket ids)) = nothing
-takes_whole replica (Some (answer answerer place content)) = gains replica content
+takes_whole replica (Some (have_sent asker bucket ids)) = nothing
+takes_whole replica (Some (give_sent answerer place content)) = gains replica content
 
 abbrev pub takes_part : ℕ → ℕ → Option Message → Effect
 takes_part replica count None = nothing
-takes_part replica count (Some (question asker bucket ids)) = nothing
-takes_part replica count (Some (answer answerer place content)) = gains replica
+takes_part replica count (Some (have_sent asker bucket ids)) = nothing
+takes_part replica count (Some (give_sent answerer place content)) = gains replica
     (first_of count content)
 
 -- Messages count from 0. Nothing happens where what an event names is not there, or is a message of
@@ -100,9 +100,9 @@ effect_of rules w (Take i r) = where_so (is_replica rules i && rules.fits r)
 effect_of rules w (Revoke i x) = where_so (is_replica rules i && rules.knows x.domain)
     (gains i (record { held = []; records = x ∷ [] }))
 effect_of rules w (Ask i b) = where_so (is_replica rules i && nat_le b 255)
-    (sends (question i b (ids_held (w.now i) b)))
+    (sends (have_sent i b (ids_held (w.now i) b)))
 effect_of rules w (Answer j k) = where_so (is_replica rules j)
-    (replies (w.now j) j k (slice_get w.sent k))
+    (sends_give (w.now j) j k (slice_get w.sent k))
 effect_of rules w (Absorb i k) = where_so (is_replica rules i) (takes_whole i (slice_get w.sent k))
 effect_of rules w (Part i k m) = where_so (is_replica rules i) (takes_part i m (slice_get w.sent k))
 effect_of rules w (Join i j) = where_so (is_replica rules i && is_replica rules j)

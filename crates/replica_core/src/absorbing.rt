@@ -5,7 +5,7 @@ ghost use Rattle.std.specs.Prelude.{length};
 ghost use Rattle.closure_core.specs.Refusals.{IsRoomier};
 ghost use Rattle.replica_core.specs.State.{joined, meaning_of_state};
 ghost use Rattle.replica_core.specs.Session.{state_of};
-ghost use Rattle.replica_core.specs.Absorbing.{AreWelcome, HasAbsorbed, HasRefusedReply};
+ghost use Rattle.replica_core.specs.Absorbing.{AreWelcome, HasAbsorbed, HasRefusedAbsorbing};
 ghost use Rattle.replica_core.specs.Absorbing.{IsFirstRefused, entries_of, room_for, IsBeyondRoom};
 ghost use Rattle.replica_core.specs.Inside.Places.{CountsNew};
 
@@ -35,7 +35,7 @@ use std::alloc::{AllocError, Global};
 pub fn absorb<C: Closure>(closure: &mut C, give: Give) -> Result<usize, SyncError>
     ensures { MatchResult result
         (HasAbsorbed (C.state closure.old).meaning give (C.state closure.new).meaning)
-        (HasRefusedReply (C.state closure.old) give (C.state closure.new).meaning) }
+        (HasRefusedAbsorbing (C.state closure.old) give (C.state closure.new).meaning) }
 {
     if closure.config().digest() != give.config {
         return Err(SyncError::ConfigDiffers);

@@ -1,16 +1,16 @@
 //! What a replica answers.
 ghost use Rattle.std.specs.Prelude.{◌≡◌};
 ghost use Rattle.replica_core.specs.State.{receipts_lacking};
-ghost use Rattle.replica_core.specs.Session.{reply_of, state_of};
+ghost use Rattle.replica_core.specs.Session.{give_of, state_of};
 
-use crate::question::Have;
-use crate::reply::{Answer, Lacking};
+use crate::have_message::Have;
+use crate::lent_answer::{Answer, Lacking};
 use closure_core::Closure;
 
-/// What the closure answers to the question: the receipts of the bucket that the question does not
+/// What the closure answers to the have: the receipts of the bucket that the have does not
 /// name, in the order of their lines' bytes, and all records of distrust. It takes no memory.
 pub fn answer<'a, C: Closure>(closure: &'a C, have: &'a Have) -> Answer<'a>
-    ensures { result ≡ reply_of (C.state closure.now).meaning have.now }
+    ensures { result ≡ give_of (C.state closure.now).meaning have.now }
 {
     Answer {
         bucket: have.bucket(),

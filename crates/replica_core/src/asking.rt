@@ -4,11 +4,11 @@ ghost use Rattle.std.specs.List.Sorted.{IsStrictlySortedBy};
 ghost use Rattle.receipt_core.specs.Receipt.{receipt_id_of};
 ghost use Rattle.closure_core.specs.AcceptedList.{receipts_in};
 ghost use Rattle.replica_core.specs.State.{id_cmp, ids_held};
-ghost use Rattle.replica_core.specs.Session.{question_of, state_of};
+ghost use Rattle.replica_core.specs.Session.{have_of, state_of};
 ghost use Rattle.replica_core.specs.declared.error.SyncError.TheVariants.{NoMemory};
 
 use crate::error::SyncError;
-use crate::question::Have;
+use crate::have_message::Have;
 use closure_core::Closure;
 use receipt_core::ReceiptId;
 use std::alloc::{AllocError, Global};
@@ -18,7 +18,7 @@ use std::alloc::{AllocError, Global};
 /// # Errors
 /// [`SyncError::NoMemory`]: memory ran out.
 pub fn have<C: Closure>(alloc: Global, closure: &C, bucket: u8) -> Result<Have, SyncError>
-    ensures ok { IfOk result (λ h. h ≡ question_of (C.state closure.now).meaning bucket) }
+    ensures ok { IfOk result (λ h. h ≡ have_of (C.state closure.now).meaning bucket) }
     ensures refused { IfErr result (λ e. e ≡ NoMemory) }
 {
     Ok(Have {

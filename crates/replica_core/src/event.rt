@@ -20,21 +20,21 @@ pub enum Event {
         replica: usize,
         bucket: u8,
     },
-    /// A replica answers a question with all its records and the bucket's receipts that the
-    /// question doesn't name.
+    /// A replica answers a have with all its records and the bucket's receipts that the have
+    /// doesn't name.
     Answer {
         replica: usize,
-        question: usize,
+        have: usize,
     },
     /// A replica takes all of an answer.
     Absorb {
         replica: usize,
-        answer: usize,
+        give: usize,
     },
     /// A replica takes the first records and receipts of an answer that was cut.
     Part {
         replica: usize,
-        answer: usize,
+        give: usize,
         count: usize,
     },
     /// A replica takes all that another holds.

@@ -17,9 +17,9 @@ pub struct Give {
 }
 
 impl Model for Give {
-    ghost use Rattle.replica_core.specs.Session.{Reply};
+    ghost use Rattle.replica_core.specs.Session.{GiveMessage};
 
-    ghost Value = { Reply };
+    ghost Value = { GiveMessage };
 
     ghost view = { λ g. record {
       bucket = g.bucket;

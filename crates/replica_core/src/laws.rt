@@ -10,8 +10,8 @@ ghost use Rattle.replica_core.specs.State.{State, no_state, first_of, meaning_of
 ghost use Rattle.replica_core.specs.World.{WorldRun, rules_in, world_after, held_by, saved_by};
 ghost use Rattle.replica_core.specs.World.{followed_by};
 ghost use Rattle.replica_core.specs.Convergence.{AreEvents, Lacks, ComesFrom, IsPartOf, Gains};
-ghost use Rattle.replica_core.specs.Convergence.{only_receipt, only_record, HasAnswer, Inquiry};
-ghost use Rattle.replica_core.specs.Convergence.{IsInquiry, Exchange, HasAll, Settles, at_answer};
+ghost use Rattle.replica_core.specs.Convergence.{only_receipt, only_record, HasGive, Inquiry};
+ghost use Rattle.replica_core.specs.Convergence.{IsInquiry, Exchange, HasAll, Settles, at_give};
 ghost use Rattle.replica_core.specs.Convergence.{after_taking};
 ghost use Rattle.replica_core.specs.declared.event.Event.{Event};
 ghost use Rattle.replica_core.specs.declared.event.Event.TheVariants.{Take, Revoke, Absorb, Part};
@@ -41,9 +41,9 @@ pub fn effects()
     ensures revokes { (past : WorldRun) (i : ℕ) (x : Distrust) → i < past.replicas
         → HasDomain past.config x.domain → Gains past (Revoke i x) i (only_record x) }
     ensures absorbs { (past : WorldRun) (i place : ℕ) (content : State) → i < past.replicas
-        → HasAnswer past place content → Gains past (Absorb i place) i content }
+        → HasGive past place content → Gains past (Absorb i place) i content }
     ensures parts { (past : WorldRun) (i place count : ℕ) (content : State) → i < past.replicas
-        → HasAnswer past place content
+        → HasGive past place content
         → Gains past (Part i place count) i (first_of count content) }
     ensures joins { (past : WorldRun) (i j : ℕ) → i < past.replicas → j < past.replicas
         → Gains past (Join i j) i (held_by past j) }
@@ -88,14 +88,14 @@ pub fn persistence()
 
 /// What one exchange gives.
 ///
-/// - `exchanged`: who takes another's whole answer to its own question holds each receipt of the
+/// - `exchanged`: who takes another's whole answer to its own have holds each receipt of the
 ///   bucket that the other held when it answered, or one with its id, and each record.
 pub fn exchange()
     ensures exchanged { (past : WorldRun) (since : List Event) (q : Inquiry)
         → AreEvents past.events → AreEvents since → IsInquiry past.replicas q
         → (x : Exchange (rules_in past) (world_after past) q since)
         → HasAll q.bucket
-        ((at_answer (rules_in past) (world_after past) x.course).now q.answerer)
+        ((at_give (rules_in past) (world_after past) x.course).now q.answerer)
         ((after_taking (rules_in past) (world_after past) x.course).now q.asker) }
 {}
 

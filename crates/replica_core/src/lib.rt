@@ -1,8 +1,8 @@
 //! What a replica holds, asks, answers and takes, as values, and the world of replicas: events on
 //! what they hold, and what converges. No text is known here.
 //!
-//! A replica asks and answers by `asking`, `answering`, `question` and `reply`. It takes by
-//! `absorbing`: `judging`, `places` and then `joining`. Worlds are `world` over `playing`,
+//! A replica asks by `asking` and `have_message`, and answers by `answering` and `lent_answer`. It
+//! takes by `absorbing`: `judging`, `places` and then `joining`. Worlds are `world` over `playing`,
 //! `gathering` and `message`.
 #![tactic(auto)]
 
@@ -15,14 +15,14 @@ mod error;
 mod event;
 mod gathering;
 mod give;
+mod have_message;
 mod joining;
 mod judging;
 pub mod laws;
+mod lent_answer;
 mod message;
 mod places;
 mod playing;
-mod question;
-mod reply;
 mod world;
 
 pub use absorbing::absorb;
@@ -32,6 +32,6 @@ pub use entry::Entry;
 pub use error::SyncError;
 pub use event::Event;
 pub use give::Give;
-pub use question::Have;
-pub use reply::{Answer, Lacking};
+pub use have_message::Have;
+pub use lent_answer::{Answer, Lacking};
 pub use world::run_world;

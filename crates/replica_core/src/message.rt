@@ -2,12 +2,13 @@
 ghost use Rattle.std.specs.Prelude.{◌≡◌, IfOk, map, slice_get, take};
 ghost use Rattle.std.specs.Option.{option_copied, option_map};
 ghost use Rattle.receipt_core.specs.Acceptance.{IsMeaning};
-ghost use Rattle.replica_core.specs.Session.{reply_of};
-ghost use Rattle.replica_core.specs.Inside.Playing.{content_of, message_of, answered, asked};
+ghost use Rattle.replica_core.specs.Session.{give_of};
+ghost use Rattle.replica_core.specs.Inside.Playing.{content_of, message_of};
+ghost use Rattle.replica_core.specs.Inside.Playing.{give_in_message, have_in_message};
 
 use crate::answering::answer;
-use crate::question::Have;
-use crate::reply::Lacking;
+use crate::have_message::Have;
+use crate::lent_answer::Lacking;
 use closure_core::{Closure, Distrusts, NoMemory};
 use receipt_core::{Distrust, Receipt};
 use std::alloc::{AllocError, Global};
@@ -16,38 +17,38 @@ use std::alloc::{AllocError, Global};
 #[derive(Debug, Drop)]
 pub(crate) enum Message {
     /// What the asker has of a bucket.
-    Question {
+    Have {
         asker: usize,
         have: Have,
     },
-    /// What the answerer answered to the question at this place.
-    Answer {
+    /// What the answerer answered to the have at this place.
+    Give {
         answerer: usize,
-        question: usize,
-        content: StoredReply,
+        place: usize,
+        content: StoredGive,
     },
 }
 
 /// The records and receipts of an answer, each in their order.
 #[derive(Debug, Drop)]
-pub(crate) struct StoredReply {
+pub(crate) struct StoredGive {
     pub(crate) records: Vec<Distrust>,
     pub(crate) receipts: Vec<Receipt>,
 }
 
-/// What the closure answers to the question, copied.
-pub(crate) fn copy_answer<C: Closure>(
+/// What the closure answers to the have, copied.
+pub(crate) fn copy_give<C: Closure>(
     alloc: Global,
     closure: &C,
     have: &Have,
-) -> Result<StoredReply, NoMemory>
+) -> Result<StoredGive, NoMemory>
     ensures copies { IfOk result
-        (λ c. content_of c ≡ (reply_of (C.state closure.now).meaning have.now).content) }
+        (λ c. content_of c ≡ (give_of (C.state closure.now).meaning have.now).content) }
     ensures valid { IsMeaning (C.state closure.now).meaning }
 {
     let _config = closure.config();
     let (records, receipts) = answer(closure, have).into_parts();
-    Ok(StoredReply {
+    Ok(StoredGive {
         records: copied_records(alloc, records)?,
         receipts: copied_receipts(alloc, receipts)?,
     })
@@ -76,24 +77,24 @@ fn copied_receipts(alloc: Global, lacking: Lacking<'_>) -> Result<Vec<Receipt>, 
     Ok(receipts)
 }
 
-/// The question at the place, if one is there.
-pub(crate) fn question_at(sent: &[Message], place: usize) -> Option<&Have>
+/// The have at the place, if one is there.
+pub(crate) fn have_at(sent: &[Message], place: usize) -> Option<&Have>
     ensures { option_map (λ q. (q.now.bucket, q.now.ids)) result
-        ≡ asked (slice_get (map message_of sent.now) place) }
+        ≡ have_in_message (slice_get (map message_of sent.now) place) }
 {
     match sent.get(place) {
-        Some(Message::Question { have, .. }) => Some(have),
+        Some(Message::Have { have, .. }) => Some(have),
         _ => None,
     }
 }
 
 /// The content of the answer at the place, if one is there.
-pub(crate) fn answer_at(sent: &[Message], place: usize) -> Option<&StoredReply>
+pub(crate) fn give_at(sent: &[Message], place: usize) -> Option<&StoredGive>
     ensures { option_map (λ c. content_of c.now) result
-        ≡ answered (slice_get (map message_of sent.now) place) }
+        ≡ give_in_message (slice_get (map message_of sent.now) place) }
 {
     match sent.get(place) {
-        Some(Message::Answer { content, .. }) => Some(content),
+        Some(Message::Give { content, .. }) => Some(content),
         _ => None,
     }
 }

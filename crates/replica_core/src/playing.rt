@@ -2,7 +2,7 @@
 ghost use Rattle.std.specs.Prelude.{◌≡◌, ℕ, ◌+◌, cond, nat_le, IfOk, OnOk};
 ghost use Rattle.fed_config.specs.Configuration.{Configuration};
 ghost use Rattle.replica_core.specs.State.{State, no_state};
-ghost use Rattle.replica_core.specs.Session.{state_of, question_of};
+ghost use Rattle.replica_core.specs.Session.{state_of, have_of};
 ghost use Rattle.replica_core.specs.World.{World, empty_world, apply, gains, where_so, rules_of};
 ghost use Rattle.replica_core.specs.World.{is_replica, at_replica, AreOf, MeansState};
 ghost use Rattle.replica_core.specs.Inside.Playing.{Plays, StandsForEvent};
@@ -10,8 +10,8 @@ ghost use Rattle.replica_core.specs.declared.event.Event.{Event};
 
 use crate::asking::have;
 use crate::gathering::{copied, gathered, grow, offer_receipt, offer_record};
-use crate::message::{Message, answer_at, copy_answer, first, question_at};
-use crate::question::Have;
+use crate::have_message::Have;
+use crate::message::{Message, copy_give, first, give_at, have_at};
 use closure_core::{Closure, NoMemory};
 use fed_config::Config;
 use receipt_core::{Distrust, Receipt};
@@ -97,8 +97,8 @@ pub(crate) fn ask<C: Closure>(
     let Some(closure) = playing.held.get(replica) else {
         return Ok(());
     };
-    let have = question(alloc, closure, bucket)?;
-    playing.sent.push(Message::Question {
+    let have = own_have(alloc, closure, bucket)?;
+    playing.sent.push(Message::Have {
         asker: replica,
         have,
     })?;
@@ -106,8 +106,8 @@ pub(crate) fn ask<C: Closure>(
 }
 
 // What the closure asks about the bucket. Nothing but lack of memory keeps it from asking.
-fn question<C: Closure>(alloc: Global, closure: &C, bucket: u8) -> Result<Have, NoMemory>
-    ensures { IfOk result (λ h. h ≡ question_of (C.state closure.now).meaning bucket) }
+fn own_have<C: Closure>(alloc: Global, closure: &C, bucket: u8) -> Result<Have, NoMemory>
+    ensures { IfOk result (λ h. h ≡ have_of (C.state closure.now).meaning bucket) }
 {
     match have(alloc, closure, bucket) {
         Ok(have) => Ok(have),
@@ -120,22 +120,22 @@ pub(crate) fn answer<C: Closure>(
     alloc: Global,
     playing: &mut Playing<C>,
     replica: usize,
-    question: usize,
+    place: usize,
 ) -> Result<(), NoMemory>
     ensures { (config : Configuration)
         → OnOk result (StandsForEvent (λ c. (C.state c).meaning) config playing.old playing.new
-        (Event.Answer replica question)) }
+        (Event.Answer replica place)) }
 {
     let Some(closure) = playing.held.get(replica) else {
         return Ok(());
     };
-    let Some(have) = question_at(playing.sent.as_slice(), question) else {
+    let Some(have) = have_at(playing.sent.as_slice(), place) else {
         return Ok(());
     };
-    let content = copy_answer(alloc, closure, have)?;
-    playing.sent.push(Message::Answer {
+    let content = copy_give(alloc, closure, have)?;
+    playing.sent.push(Message::Give {
         answerer: replica,
-        question,
+        place,
         content,
     })?;
     Ok(())
@@ -147,12 +147,12 @@ pub(crate) fn absorb<C: Closure>(
     config: &Config,
     playing: &mut Playing<C>,
     replica: usize,
-    answer: usize,
+    place: usize,
 ) -> Result<(), NoMemory>
     ensures { OnOk result (StandsForEvent (λ c. (C.state c).meaning) config.now playing.old
-        playing.new (Event.Absorb replica answer)) }
+        playing.new (Event.Absorb replica place)) }
 {
-    let Some(content) = answer_at(playing.sent.as_slice(), answer) else {
+    let Some(content) = give_at(playing.sent.as_slice(), place) else {
         return Ok(());
     };
     let records = content.records.as_slice();
@@ -167,13 +167,13 @@ pub(crate) fn part<C: Closure>(
     config: &Config,
     playing: &mut Playing<C>,
     replica: usize,
-    answer: usize,
+    place: usize,
     count: usize,
 ) -> Result<(), NoMemory>
     ensures { OnOk result (StandsForEvent (λ c. (C.state c).meaning) config.now playing.old
-        playing.new (Event.Part replica answer count)) }
+        playing.new (Event.Part replica place count)) }
 {
-    let Some(content) = answer_at(playing.sent.as_slice(), answer) else {
+    let Some(content) = give_at(playing.sent.as_slice(), place) else {
         return Ok(());
     };
     let records = content.records.as_slice();

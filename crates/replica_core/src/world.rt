@@ -51,14 +51,17 @@ fn play<C: Closure>(
         Event::Take { replica, receipt } => take(alloc, config, playing, *replica, receipt),
         Event::Revoke { replica, record } => revoke(alloc, config, playing, *replica, record),
         Event::Ask { replica, bucket } => ask(alloc, playing, *replica, *bucket),
-        Event::Answer { replica, question } => answer(alloc, playing, *replica, *question),
+        Event::Answer {
+            replica,
+            have: place,
+        } => answer(alloc, playing, *replica, *place),
         Event::Absorb {
             replica,
-            answer: place,
+            give: place,
         } => absorb(alloc, config, playing, *replica, *place),
         Event::Part {
             replica,
-            answer: place,
+            give: place,
             count,
         } => part(alloc, config, playing, *replica, *place, *count),
         Event::Join { replica, other } => join(alloc, playing, *replica, *other),

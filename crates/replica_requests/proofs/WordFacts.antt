@@ -7,14 +7,17 @@ use Rattle.serde_json.specs.declared.value.Value.{Value}
 use Rattle.serde_json.specs.Written.{has_float}
 use Rattle.replica_requests.specs.RequestLines.{IsOfWords, words_value}
 
+-- whether the value is a text
 abbrev is_text : Data → Bool
 is_text (string s) = true
 is_text d = false
 
+-- whether each item is one
 abbrev are_texts : Items → Bool
 are_texts no_items = true
 are_texts (item d ds) = is_text d && are_texts ds
 
+-- whether the value is an array of texts alone
 abbrev is_of_texts : Data → Bool
 is_of_texts (array ds) = are_texts ds
 is_of_texts d = false

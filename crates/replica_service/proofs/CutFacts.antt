@@ -7,7 +7,7 @@ use Rattle.std.proofs.lemmas.List.Elements.{All-append, All-take}
 use Rattle.byte_lines.specs.Lines.{HasNoFeed, lines_of, with_line}
 use Rattle.byte_lines.specs.Inside.Ahead.{AtFeed}
 use Rattle.byte_lines.proofs.StreamFacts.{lines_of-line, lines_of-rest}
-use Rattle.replica_service.specs.Pieces.{EndsLine, GoesOn, IsOverlong}
+use Rattle.replica_service.specs.Pieces.{EndsLine, GoesOn, IsOverlong, PieceRun, piece_run}
 
 -- Bytes that begin with a line, after what was kept, are that line and the bytes behind it.
 pub ended_split : (used : ℕ) (old piece after text : List ℕ) → old ++ take used piece ≡ text ++ (10 ∷ [])
@@ -20,15 +20,15 @@ ended_split used old piece after text parts =
     ∙ ap (λ l. l ++ (drop used piece ++ after)) parts
 
 -- A line that ends in a piece is the first of the whole stream.
-pub lines_of-ended : (most used : ℕ) (old piece after text : List ℕ) → EndsLine most old piece used text
-    → lines_of ((old ++ piece) ++ after) ≡ with_line text (lines_of (drop used piece ++ after))
-lines_of-ended most used old piece after text ends =
-    ap lines_of (ended_split used old piece after text ends.parts) ∙ lines_of-line text (drop used piece ++ after) ends.plain
+pub lines_of-ended : (run : PieceRun) (used : ℕ) (after text : List ℕ) → EndsLine run used text
+    → lines_of ((run.old ++ run.piece) ++ after) ≡ with_line text (lines_of (drop used run.piece ++ after))
+lines_of-ended run used after text ends =
+    ap lines_of (ended_split used run.old run.piece after text ends.parts) ∙ lines_of-line text (drop used run.piece ++ after) ends.plain
 
 -- What is kept within a line is the rest of what came.
-pub lines_of-kept : (most : ℕ) (old piece new : List ℕ) → GoesOn most old piece new
-    → lines_of (old ++ piece) ≡ record { whole = []; rest = new }
-lines_of-kept most old piece new goes = ap lines_of (sym goes.kept) ∙ lines_of-rest new goes.plain
+pub lines_of-kept : (run : PieceRun) (new : List ℕ) → GoesOn run new
+    → lines_of (run.old ++ run.piece) ≡ record { whole = []; rest = new }
+lines_of-kept run new goes = ap lines_of (sym goes.kept) ∙ lines_of-rest new goes.plain
 
 -- The bytes before the first line feed, or all of them, have none.
 pub front_of_piece : (piece : List ℕ) (place : Option ℕ) (count : ℕ) → AtFeed piece place
@@ -66,7 +66,7 @@ take_feed k piece rest within parts =
 -- What was kept and the bytes before the piece's line feed are a line that it ends.
 pub ends_line : (most : ℕ) (kept piece line : List ℕ) (place : Option ℕ) (count : ℕ) → HasNoFeed kept → AtFeed piece place
     → count ≡ unwrap_or place (length piece) → length kept ≤ most → count ≤ most - length kept → is_some place ≡ true
-    → line ≡ kept ++ take count piece → EndsLine most kept piece (count + 1) line
+    → line ≡ kept ++ take count piece → EndsLine (piece_run most kept piece) (count + 1) line
 ends_line most kept piece line None count plain feed is room few found made = absurd (cc)
 ends_line most kept piece line (Some k) count plain feed is room few found made =
     let front = front_of_piece piece (Some k) count feed is in

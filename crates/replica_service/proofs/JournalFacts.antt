@@ -86,7 +86,8 @@ pub record HasReadMore (m : Meaning) (stream : Option (List ℕ)) (read : ℕ) (
   pub part : HasReadPart m stream entries now left
   pub number : read ≡ length entries + 1
 
--- The loop begins after the first line.
+-- The loop begins after the first line, where one line is read and nothing of it is held. No file
+-- names this lemma: the search finds it.
 pub read_none : (m : Meaning) (stream : Option (List ℕ)) → HasReadMore m stream 1 m stream
 read_none m stream = record { entries = []; part = part_none m stream; number = refl }
 
@@ -125,7 +126,7 @@ pub read_more : (more : Bool) (m : Meaning) (stream : Option (List ℕ)) (read t
 read_more true m stream read then now new left after is so_far step is_then = read_step m stream read then now new left after so_far step is_then
 read_more false m stream read then now new left after is so_far step is_then = absurd (cc)
 
--- The end of the loop.
+-- The end of the loop: no whole line is left, so all of them are read. The search finds this lemma.
 pub read_all : (more : Bool) (m : Meaning) (stream : Option (List ℕ)) (read : ℕ) (now new : Meaning) (left after : Option (List ℕ))
     → more ≡ false → HasReadMore m stream read now left → StepsThroughJournal now left new after more → IsMeaning new → HasReadAll m stream new
 read_all true m stream read now new left after is so_far step valid = absurd (cc)
@@ -138,7 +139,8 @@ read_all false m stream read now new left after is so_far step valid =
       valid = valid;
     }
 
--- The exit of the loop: the next line has a fault.
+-- The exit of the loop: the next line has a fault, which is that of the journal. The search finds
+-- this lemma.
 pub read_fails : (m : Meaning) (stream : Option (List ℕ)) (read : ℕ) (now : Meaning) (left : Option (List ℕ)) (e : SyncError)
     → HasReadMore m stream read now left → IsMeaning now → FailsNext now (read + 1) left e → FailsBehindLines m 1 stream e
 read_fails m stream read now left e so_far valid fails =
@@ -153,7 +155,7 @@ read_fails m stream read now left e so_far valid fails =
       cause = subst (λ n. FailsNext now n left e) number fails;
     }
 
--- A refusal of the line is one of the next line.
+-- Why a single line is refused is why the next line of the stream is. The search finds this lemma.
 pub next_refused : (old new : Meaning) (number : ℕ) (stream after : Option (List ℕ)) (text : List ℕ) (e : SyncError) → HasLine stream after text
     → HasRefusedSoleLine old (record { number = number; text = text }) new e → FailsNext old number stream e
 next_refused old new number stream after text BadHeader line h = absurd h.cause

@@ -12,19 +12,19 @@ use Rattle.receipt_core.specs.Acceptance.{Meaning}
 use Rattle.byte_lines.specs.Limits.{line_limit}
 use Rattle.byte_lines.specs.Lines.{HasNoFeed, Lines, lines_of}
 use Rattle.byte_lines.proofs.StreamFacts.{lines_of-line, lines_of-rest}
-use Rattle.replica_core.specs.Session.{Question, reply_of}
+use Rattle.replica_core.specs.Session.{HaveMessage, give_of}
 use Rattle.replica_core.specs.declared.error.SyncError.{SyncError}
 use Rattle.replica_core.specs.declared.error.SyncError.TheVariants.{BadHeader, ConfigDiffers, VersionDiffers, NotCanonical, NotRising, BadCount, Truncated}
 use Rattle.replica_core.specs.declared.error.SyncError.TheVariants.{Refused, Io, NoMemory}
 use Rattle.replica_core.proofs.RisingListFacts.{all_append}
-use Rattle.replica_sync.specs.FirstLines.{RefusesAsked}
-use Rattle.replica_sync.specs.Messages.{asked_of, asked_text, reply_text}
-use Rattle.replica_sync.specs.Questions.{IsQuestionOf, RefusesFurther}
-use Rattle.replica_sync.specs.SoleLines.{IsQuestionLine}
-use Rattle.replica_service.specs.Pieces.{EndsLine, GoesOn, IsOverlong}
-use Rattle.replica_service.specs.Serving.{AnswersAll, AnswersUpTo, AskedWith, Came, CameLines, HeldLine, IsOwnAsked, ServesPieces}
-use Rattle.replica_service.specs.Serving.{answers_text, line_asked, lines_came, lines_with, with_held}
-use Rattle.replica_service.specs.Inside.ServingSteps.{AnswersLine, EndsAsking, GoesOnAsking, RefusesPiece, TakesHave}
+use Rattle.replica_sync.specs.FirstLines.{RefusesHaveLine}
+use Rattle.replica_sync.specs.Messages.{as_any_have, any_have_text, give_text}
+use Rattle.replica_sync.specs.Haves.{IsHaveOf, RefusesFurther}
+use Rattle.replica_sync.specs.SoleLines.{IsHaveLine}
+use Rattle.replica_service.specs.Pieces.{EndsLine, IsOverlong, PieceRun, piece_run}
+use Rattle.replica_service.specs.Serving.{AnswersAll, AnswersUpTo, HaveAndHeld, Came, CameLines, HeldLine, IsOwnHave, ServesPieces}
+use Rattle.replica_service.specs.Serving.{gives_in_turn, line_of_have, lines_came, lines_with, with_held}
+use Rattle.replica_service.specs.Inside.ServingSteps.{AnswersLine, EndsHave, GoesOnWithHave, RefusesPiece, TakesHave}
 use Rattle.replica_service.proofs.CutFacts.{ended_split, lines_of-kept}
 
 -- ---- one piece more
@@ -42,11 +42,11 @@ abbrev behind : List HeldLine → Meaning → Lines → CameLines
 behind lines m more = record { lines = lines ++ map (with_held m) more.whole; rest = more.rest }
 
 -- What one piece adds where its lines, with what was kept, are known.
-lines_more : (came : List Came) (asked : List AskedWith) (old bytes : List ℕ) (m : Meaning) (more : Lines)
-    → lines_came came ≡ record { lines = map line_asked asked; rest = old } → lines_of (old ++ bytes) ≡ more
-    → lines_came (came ++ came_at bytes m ∷ []) ≡ behind (map line_asked asked) m more
+lines_more : (came : List Came) (asked : List HaveAndHeld) (old bytes : List ℕ) (m : Meaning) (more : Lines)
+    → lines_came came ≡ record { lines = map line_of_have asked; rest = old } → lines_of (old ++ bytes) ≡ more
+    → lines_came (came ++ came_at bytes m ∷ []) ≡ behind (map line_of_have asked) m more
 lines_more came asked old bytes m more lines is =
-    came_more came (came_at bytes m) ∙ ap (λ (l : CameLines). lines_with l (came_at bytes m)) lines ∙ ap (behind (map line_asked asked) m) is
+    came_more came (came_at bytes m) ∙ ap (λ (l : CameLines). lines_with l (came_at bytes m)) lines ∙ ap (behind (map line_of_have asked) m) is
 
 -- A piece in which no line ends answers nothing.
 answers_rest : (came : List Came) (old bytes new output : List ℕ) (m : Meaning) → AnswersAll came old output
@@ -56,32 +56,32 @@ answers_rest came old bytes new output m answers is = record {
   each = answers.each;
   lines =
       lines_more came answers.asked old bytes m _ answers.lines is
-      ∙ ap (λ (l : List HeldLine). let made : CameLines = record { lines = l; rest = new } in made) (append-nil (map line_asked answers.asked));
+      ∙ ap (λ (l : List HeldLine). let made : CameLines = record { lines = l; rest = new } in made) (append-nil (map line_of_have answers.asked));
   written = answers.written;
 }
 
 -- The bytes up to the end of a line, and what was kept, are that line.
-lines_ended : (most : ℕ) (old piece : List ℕ) (used : ℕ) (text : List ℕ) → EndsLine most old piece used text
-    → lines_of (old ++ take used piece) ≡ record { whole = text ∷ []; rest = [] }
-lines_ended most old piece used text ends =
+lines_ended : (run : PieceRun) (used : ℕ) (text : List ℕ) → EndsLine run used text
+    → lines_of (run.old ++ take used run.piece) ≡ record { whole = text ∷ []; rest = [] }
+lines_ended run used text ends =
     ap lines_of (ends.parts ∙ sym (append-nil (text ++ (10 ∷ [])))) ∙ lines_of-line text [] ends.plain
 
 -- A piece that ends a have answers it with what is held then.
-answers_have : (came : List Came) (old bytes output : List ℕ) (m : Meaning) (q : Question) → AnswersAll came old output → IsQuestionOf m.config q
-    → lines_of (old ++ bytes) ≡ record { whole = asked_text (asked_of q) ∷ []; rest = [] }
-    → AnswersAll (came ++ came_at bytes m ∷ []) [] (output ++ reply_text (reply_of m q))
+answers_have : (came : List Came) (old bytes output : List ℕ) (m : Meaning) (q : HaveMessage) → AnswersAll came old output → IsHaveOf m.config q
+    → lines_of (old ++ bytes) ≡ record { whole = any_have_text (as_any_have q) ∷ []; rest = [] }
+    → AnswersAll (came ++ came_at bytes m ∷ []) [] (output ++ give_text (give_of m q))
 answers_have came old bytes output m q answers own is =
-    let one : AskedWith = record { question = q; held = m } in
-    let reply = λ (a : AskedWith). reply_text (reply_of a.held a.question) in
+    let one : HaveAndHeld = record { have = q; held = m } in
+    let give = λ (a : HaveAndHeld). give_text (give_of a.held a.have) in
     record {
       asked = answers.asked ++ one ∷ [];
-      each = all_append IsOwnAsked answers.asked (one ∷ []) answers.each (own, tt);
+      each = all_append IsOwnHave answers.asked (one ∷ []) answers.each (own, tt);
       lines =
           lines_more came answers.asked old bytes m _ answers.lines is
-          ∙ ap (λ (l : List HeldLine). let made : CameLines = record { lines = l; rest = [] } in made) (sym (map-append line_asked answers.asked (one ∷ [])));
-      written = ap (λ (l : List ℕ). l ++ reply_text (reply_of m q)) answers.written
-          ∙ ap (λ (l : List ℕ). answers_text answers.asked ++ l) (sym (append-nil (reply_text (reply_of m q))))
-          ∙ sym (flat_map-append reply answers.asked (one ∷ []));
+          ∙ ap (λ (l : List HeldLine). let made : CameLines = record { lines = l; rest = [] } in made) (sym (map-append line_of_have answers.asked (one ∷ [])));
+      written = ap (λ (l : List ℕ). l ++ give_text (give_of m q)) answers.written
+          ∙ ap (λ (l : List ℕ). gives_in_turn answers.asked ++ l) (sym (append-nil (give_text (give_of m q))))
+          ∙ sym (flat_map-append give answers.asked (one ∷ []));
     }
 
 -- What a piece takes is answered, where nothing was to be written before.
@@ -91,15 +91,15 @@ pub took_piece : (m : Meaning) (came : List Came) (old piece : List ℕ) (used :
 took_piece m came old piece used new due answer written idle (inl goes) answers =
     let all : take used piece ≡ piece = ap (λ (n : ℕ). take n piece) goes.all ∙ take_all (length piece) piece (omega arith) in
     let is : lines_of (old ++ take used piece) ≡ record { whole = []; rest = new } =
-    ap (λ (l : List ℕ). lines_of (old ++ l)) all ∙ lines_of-kept line_limit old piece new goes.goes in
+    ap (λ (l : List ℕ). lines_of (old ++ l)) all ∙ lines_of-kept (piece_run line_limit old piece) new goes.goes in
     subst (λ (l : List ℕ). AnswersAll (came ++ came_at (take used piece) m ∷ []) new (written ++ l)) (idle ∙ sym goes.none)
     (answers_rest came old (take used piece) new (written ++ due) m answers is)
 took_piece m came old piece used new due answer written idle (inr ends) answers =
-    let q = ends.question in
-    let is = lines_ended line_limit old piece used (asked_text (asked_of q)) ends.ends in
-    let same : (written ++ due) ++ reply_text (reply_of m q) ≡ written ++ answer =
-    ap (λ (l : List ℕ). (written ++ l) ++ reply_text (reply_of m q)) idle
-    ∙ ap (λ (l : List ℕ). l ++ reply_text (reply_of m q)) (append-nil written)
+    let q = ends.have in
+    let is = lines_ended (piece_run line_limit old piece) used (any_have_text (as_any_have q)) ends.ends in
+    let same : (written ++ due) ++ give_text (give_of m q) ≡ written ++ answer =
+    ap (λ (l : List ℕ). (written ++ l) ++ give_text (give_of m q)) idle
+    ∙ ap (λ (l : List ℕ). l ++ give_text (give_of m q)) (append-nil written)
     ∙ ap (λ (l : List ℕ). written ++ l) (sym ends.is) in
     subst (λ (l : List ℕ). AnswersAll (came ++ came_at (take used piece) m ∷ []) l (written ++ answer)) (sym ends.kept)
     (subst (AnswersAll (came ++ came_at (take used piece) m ∷ []) []) same
@@ -139,7 +139,7 @@ pub kept_plain : (ended : Bool) (line : List ℕ) → HasNoFeed line → HasNoFe
 kept_plain true line plain = All-from_recursion (λ b. b ≢ 10) [] tt
 kept_plain false line plain = plain
 
--- A fault ends the session.
+-- A fault ends the session: what was answered stays. The search finds this lemma.
 pub served_stops : (f : Option SyncError) (m : Meaning) (came : List Came) (old piece new due later written : List ℕ) (e : SyncError)
     → f ≡ None → due ≡ [] → later ≡ [] → RefusesPiece m old piece e → ServesPieces f came old (written ++ due)
     → ServesPieces (Some e) (came ++ came_at piece m ∷ []) new (written ++ later)
@@ -154,7 +154,7 @@ served_stops None m came old piece new due later written e sound idle quiet refu
 }
 served_stops (Some d) m came old piece new due later written e sound idle quiet refused serves = absurd (cc)
 
--- After a fault nothing more is answered.
+-- After a fault nothing more is answered, whatever comes. The search finds this lemma.
 pub served_still : (f : Option SyncError) (why : SyncError) (came : List Came) (c : Came) (rest output : List ℕ) → f ≡ Some why
     → ServesPieces f came rest output → ServesPieces f (came ++ c ∷ []) rest output
 served_still None why came c rest output stopped serves = absurd (cc)
@@ -242,7 +242,7 @@ overlong_refused m old piece over more after =
 
 -- A line that asks nothing ends a session that serves.
 line_refused : (config : Configuration) (bytes rest text : List ℕ) (e : SyncError) → HasNoFeed text → length text ≤ line_limit
-    → bytes ≡ (text ++ (10 ∷ [])) ++ rest → RefusesAsked (Some config) text e → RefusesFurther config (Some bytes) e
+    → bytes ≡ (text ++ (10 ∷ [])) ++ rest → RefusesHaveLine (Some config) text e → RefusesFurther config (Some bytes) e
 line_refused config bytes rest text BadHeader plain short parts why = (Some rest, record { text = text; is = (plain, parts); cause = inr (short, why) })
 line_refused config bytes rest text ConfigDiffers plain short parts why = (Some rest, record { text = text; is = (plain, parts); cause = inr (short, why) })
 line_refused config bytes rest text VersionDiffers plain short parts why = (Some rest, record { text = text; is = (plain, parts); cause = inr (short, why) })
@@ -255,30 +255,30 @@ line_refused config bytes rest text Io plain short parts why = absurd why
 line_refused config bytes rest text NoMemory plain short parts why = tt
 
 -- The line that a piece ended asks nothing.
-pub ended_refused : (m : Meaning) (old piece : List ℕ) (used : ℕ) (text : List ℕ) (e : SyncError) → EndsLine line_limit old piece used text
-    → RefusesAsked (Some m.config) text e → RefusesPiece m old piece e
+pub ended_refused : (m : Meaning) (old piece : List ℕ) (used : ℕ) (text : List ℕ) (e : SyncError) → EndsLine (piece_run line_limit old piece) used text
+    → RefusesHaveLine (Some m.config) text e → RefusesPiece m old piece e
 ended_refused m old piece used text e ends why more after =
     line_refused m.config ((old ++ piece) ++ (more ++ (10 ∷ after))) (drop used piece ++ (more ++ (10 ∷ after))) text e ends.plain ends.short
     (ended_split used old piece (more ++ (10 ∷ after)) text ends.parts) why
 
--- Memory may run out anywhere.
+-- Memory may run out anywhere, and that is then the fault. The search finds this lemma.
 pub memory_refused : (m : Meaning) (old piece : List ℕ) (e : SyncError) → e ≡ NoMemory → RefusesPiece m old piece e
 memory_refused m old piece e is = subst (RefusesPiece m old piece) (sym is) (λ more after. tt)
 
 -- ---- a have that is answered
 
--- A have that ended is answered.
-pub ended_answered : (m : Meaning) (old piece : List ℕ) (used : ℕ) (text new answer : List ℕ) → EndsLine line_limit old piece used text
+-- A have that a piece ended is taken and answered. The search finds this lemma.
+pub ended_answered : (m : Meaning) (old piece : List ℕ) (used : ℕ) (text new answer : List ℕ) → EndsLine (piece_run line_limit old piece) used text
     → new ≡ [] → AnswersLine m text answer → TakesHave m old piece used new answer
 ended_answered m old piece used text new answer ends none is =
     let spelt = is.line.line.spelt in
     inr (record {
-      question = is.question;
+      have = is.have;
       own = record {
         askable = record { asked = is.line.line.is; short = subst (λ (l : List ℕ). length l ≤ line_limit) spelt ends.short };
         own = is.line.own;
       };
-      ends = subst (EndsLine line_limit old piece used) spelt ends;
+      ends = subst (EndsLine (piece_run line_limit old piece) used) spelt ends;
       kept = none;
       is = is.is;
     })

@@ -12,7 +12,6 @@ use Rattle.replica_core.specs.declared.entry.Entry.{Entry}
 use Rattle.replica_core.specs.declared.error.SyncError.{SyncError}
 use Rattle.replica_core.specs.declared.error.SyncError.TheVariants.{BadHeader, ConfigDiffers}
 use Rattle.replica_core.specs.declared.error.SyncError.TheVariants.{VersionDiffers, NotCanonical}
-use Rattle.replica_core.specs.declared.error.SyncError.TheVariants.{NotRising, BadCount, Truncated}
 use Rattle.replica_core.specs.declared.error.SyncError.TheVariants.{Refused, Io, NoMemory}
 use Rattle.replica_sync.specs.Entries.{entry_line}
 use Rattle.replica_sync.specs.Snapshots.{ended}
@@ -85,12 +84,10 @@ RefusesWholeLines m texts BadHeader = HasBadStart m.config texts BadHeader
 RefusesWholeLines m texts ConfigDiffers = HasBadStart m.config texts ConfigDiffers
 RefusesWholeLines m texts VersionDiffers = HasBadStart m.config texts VersionDiffers
 RefusesWholeLines m texts (NotCanonical n) = HasBadEntry m texts (NotCanonical n)
-RefusesWholeLines m texts (NotRising n) = ⊥
-RefusesWholeLines m texts BadCount = ⊥
-RefusesWholeLines m texts Truncated = ⊥
 RefusesWholeLines m texts (Refused n why) = HasBadEntry m texts (Refused n why)
 RefusesWholeLines m texts Io = Unit {0}
 RefusesWholeLines m texts NoMemory = Unit {0}
+RefusesWholeLines m texts _ = ⊥
 
 abbrev pub RefusesJournal : Meaning → Option (List ℕ) → SyncError → Type 0
 RefusesJournal m None e = ⊤

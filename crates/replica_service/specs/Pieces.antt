@@ -17,6 +17,15 @@ ended_line part = part.line.items
 abbrev pub longest : LinePart → ℕ
 longest part = part.limit
 
+-- what a line may have at most, what was kept, and the piece that came
+pub record PieceRun : Type 0 where
+  pub most : ℕ
+  pub old : List ℕ
+  pub piece : List ℕ
+
+abbrev pub piece_run : ℕ → List ℕ → List ℕ → PieceRun
+piece_run most old piece = record { most = most; old = old; piece = piece }
+
 -- The bytes begin with a text without a line feed that is longer than a line may be.
 pub record IsOverlong (most : ℕ) (bytes : List ℕ) : Type 0 where
   pub text : List ℕ
@@ -26,22 +35,22 @@ pub record IsOverlong (most : ℕ) (bytes : List ℕ) : Type 0 where
   pub parts : bytes ≡ text ++ rest
 
 -- No line ended: what was kept and the piece are the beginning of one.
-pub record GoesOn (most : ℕ) (old piece new : List ℕ) : Type 0 where
-  pub kept : new ≡ old ++ piece
+pub record GoesOn (run : PieceRun) (new : List ℕ) : Type 0 where
+  pub kept : new ≡ run.old ++ run.piece
   pub plain : HasNoFeed new
-  pub short : length new ≤ most
+  pub short : length new ≤ run.most
 
 -- What was kept and so many bytes of the piece are this line and its line feed.
-pub record EndsLine (most : ℕ) (old piece : List ℕ) (used : ℕ) (text : List ℕ) : Type 0 where
-  pub within : used ≤ length piece
+pub record EndsLine (run : PieceRun) (used : ℕ) (text : List ℕ) : Type 0 where
+  pub within : used ≤ length run.piece
   pub some : 0 < used
-  pub parts : old ++ take used piece ≡ text ++ (10 ∷ [])
+  pub parts : run.old ++ take used run.piece ≡ text ++ (10 ∷ [])
   pub plain : HasNoFeed text
-  pub short : length text ≤ most
+  pub short : length text ≤ run.most
 
--- what a piece does where `old` was kept
-abbrev pub TakesPiece : ℕ → List ℕ → List ℕ → LinePart → PieceEnd → Type 0
-TakesPiece most old piece new Within = GoesOn most old piece (kept_part new)
-TakesPiece most old piece new (Line used) = EndsLine most old piece used (ended_line new)
-    × (kept_part new ≡ [])
-TakesPiece most old piece new TooLong = IsOverlong most (old ++ piece) × (kept_part new ≡ old)
+-- what a piece does
+abbrev pub TakesPiece : PieceRun → LinePart → PieceEnd → Type 0
+TakesPiece run new Within = GoesOn run (kept_part new)
+TakesPiece run new (Line used) = EndsLine run used (ended_line new) × (kept_part new ≡ [])
+TakesPiece run new TooLong = IsOverlong run.most (run.old ++ run.piece)
+    × (kept_part new ≡ run.old)

@@ -4,12 +4,12 @@ use Rattle.std.specs.Prelude.{None, Some, Result, Ok, Err}
 use Rattle.std.specs.List.{AllByRecursion}
 use Rattle.receipt_core.specs.Acceptance.{Meaning}
 use Rattle.byte_lines.specs.Lines.{lines_of}
-use Rattle.replica_core.specs.Session.{Question, reply_of}
+use Rattle.replica_core.specs.Session.{HaveMessage, give_of}
 use Rattle.replica_core.specs.declared.error.SyncError.{SyncError}
-use Rattle.replica_sync.specs.Messages.{asked_of, asked_text, reply_text}
-use Rattle.replica_sync.specs.Questions.{IsQuestionOf, RefusesFurther}
+use Rattle.replica_sync.specs.Messages.{as_any_have, any_have_text, give_text}
+use Rattle.replica_sync.specs.Haves.{IsHaveOf, RefusesFurther}
 use Rattle.replica_service.specs.Pieces.{kept_part}
-use Rattle.replica_service.specs.declared.serving.Serving.{Serving}
+use Rattle.replica_service.specs.declared.piece_serving.Serving.{Serving}
 
 -- ---- what came
 
@@ -47,29 +47,29 @@ lines_came came = fold lines_with (record { lines = []; rest = [] }) came
 -- ---- what is answered
 
 -- a have, and what was held when its last byte came
-pub record AskedWith : Type 0 where
-  pub question : Question
+pub record HaveAndHeld : Type 0 where
+  pub have : HaveMessage
   pub held : Meaning
 
-abbrev pub line_asked : AskedWith → HeldLine
-line_asked a = with_held a.held (asked_text (asked_of a.question))
+abbrev pub line_of_have : HaveAndHeld → HeldLine
+line_of_have a = with_held a.held (any_have_text (as_any_have a.have))
 
 -- it is of the configuration
-abbrev pub IsOwnAsked : AskedWith → Type 0
-IsOwnAsked a = IsQuestionOf a.held.config a.question
+abbrev pub IsOwnHave : HaveAndHeld → Type 0
+IsOwnHave a = IsHaveOf a.held.config a.have
 
 -- the answers, each made of what was held when its have's last byte came
-abbrev pub answers_text : List AskedWith → List ℕ
-answers_text asked = flat_map
-    (λ (a : AskedWith). reply_text (reply_of a.held a.question)) asked
+abbrev pub gives_in_turn : List HaveAndHeld → List ℕ
+gives_in_turn asked = flat_map
+    (λ (a : HaveAndHeld). give_text (give_of a.held a.have)) asked
 
 -- The whole lines are haves of the configuration, `rest` follows them, and the output is the
 -- answers to them, in order.
 pub record AnswersAll (came : List Came) (rest output : List ℕ) : Type 0 where
-  pub asked : List AskedWith
-  pub each : AllByRecursion IsOwnAsked asked
-  pub lines : lines_came came ≡ record { lines = map line_asked asked; rest = rest }
-  pub written : output ≡ answers_text asked
+  pub asked : List HaveAndHeld
+  pub each : AllByRecursion IsOwnHave asked
+  pub lines : lines_came came ≡ record { lines = map line_of_have asked; rest = rest }
+  pub written : output ≡ gives_in_turn asked
 
 -- The haves before the first fault are answered, and nothing else. It is the fault that ends a
 -- session which serves this stream, as soon as a line feed comes.
@@ -90,8 +90,8 @@ abbrev pub kept_have : Serving → List ℕ
 kept_have serving = kept_part serving.part
 
 -- what is to be written next
-abbrev pub due_answer : Serving → List ℕ
-due_answer serving = drop serving.written serving.answer.items
+abbrev pub due_give : Serving → List ℕ
+due_give serving = drop serving.written serving.answer.items
 
 abbrev pub fault_of_serving : Serving → Option SyncError
 fault_of_serving serving = serving.fault
@@ -103,7 +103,7 @@ ServesPieces (Some e) came rest output = AnswersUpTo came output e
 -- These came, and this was written: with what is to be written next it is all that is answered.
 abbrev pub HasServedPieces : Serving → List Came → List ℕ → Type 0
 HasServedPieces serving came written = ServesPieces (fault_of_serving serving) came
-    (kept_have serving) (written ++ due_answer serving)
+    (kept_have serving) (written ++ due_give serving)
 
 -- what came by a call: the bytes that it took; or all, where there is a fault among them
 abbrev pub came_taken : List ℕ → Meaning → Result ℕ SyncError → Came

@@ -24,10 +24,10 @@ use std::alloc::Global;
 /// # Errors
 /// There is no closure then. Lines count from 1. Of several faults the one that comes first in the
 /// bytes:
-/// - [`SyncError::BadHeader`]: the first line is none, or has more than 8,388,608 bytes,
+/// - [`SyncError::BadHeader`]: the line is no first line, or has more than 8,388,608 bytes,
 /// - [`SyncError::ConfigDiffers`]: it is of another configuration,
 /// - [`SyncError::VersionDiffers`]: it is of another format than the second,
-/// - [`SyncError::NotCanonical`]: a line is none of a record or a receipt, or has more than
+/// - [`SyncError::NotCanonical`]: a line is not that of a record or a receipt, or has more than
 ///   8,388,608 bytes,
 /// - [`SyncError::Refused`]: a receipt or a record is not of the configuration, or is one too many,
 /// - [`SyncError::Io`]: the source failed,

@@ -8,20 +8,19 @@ ghost use Rattle.replica_core.specs.declared.entry.Entry.{Entry};
 ghost use Rattle.replica_core.specs.declared.error.SyncError.{SyncError};
 ghost use Rattle.replica_service.specs.Journal.{AreWellFormed, ReadsJournal, RefusesJournal};
 ghost use Rattle.replica_service.specs.Journal.{journal_text};
-ghost use Rattle.replica_service.specs.Pieces.{EndsLine, GoesOn};
+ghost use Rattle.replica_service.specs.Pieces.{EndsLine, GoesOn, PieceRun};
 
 /// A line that ends in a piece is the first line of what was kept, of the piece, and of all that
 /// comes after it; and what is kept within a line is what came. So the lines are those of the whole
 /// stream, wherever it is cut.
 pub fn cuts()
-    ensures ends { (most used : ℕ) (old piece after text : List ℕ)
-        → EndsLine most old piece used text
-        → lines_of ((old ++ piece) ++ after)
-        ≡ with_line text (lines_of (drop used piece ++ after)) }
-    ensures goes_on { (most : ℕ) (old piece new after : List ℕ) → GoesOn most old piece new
-        → lines_of ((old ++ piece) ++ after) ≡ lines_of (new ++ after) }
-    ensures rests { (most : ℕ) (old piece new : List ℕ) → GoesOn most old piece new
-        → lines_of (old ++ piece) ≡ record { whole = []; rest = new } }
+    ensures ends { (run : PieceRun) (used : ℕ) (after text : List ℕ) → EndsLine run used text
+        → lines_of ((run.old ++ run.piece) ++ after)
+        ≡ with_line text (lines_of (drop used run.piece ++ after)) }
+    ensures goes_on { (run : PieceRun) (new after : List ℕ) → GoesOn run new
+        → lines_of ((run.old ++ run.piece) ++ after) ≡ lines_of (new ++ after) }
+    ensures rests { (run : PieceRun) (new : List ℕ) → GoesOn run new
+        → lines_of (run.old ++ run.piece) ≡ record { whole = []; rest = new } }
 {}
 
 /// The journal that is written of receipts and records is read as these, beside what was held. A

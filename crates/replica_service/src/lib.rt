@@ -1,7 +1,7 @@
 //! The decisions of a replica that stays, without a socket, a file or a clock: bytes go in, as the
 //! pieces in which they come, and bytes go out.
 //!
-//! `line_part` makes whole lines out of pieces. `serving` answers the haves that come in them, and
+//! `line_part` makes whole lines out of pieces. `piece_serving` answers the haves that come so, and
 //! `text_sink` keeps an answer. `journal_reader` and `journal_writer` have the text that keeps what
 //! came since the last snapshot.
 #![tactic(auto)]
@@ -10,10 +10,10 @@ mod journal_reader;
 mod journal_writer;
 pub mod laws;
 mod line_part;
-mod serving;
+mod piece_serving;
 mod text_sink;
 
 pub use journal_reader::read_journal;
 pub use journal_writer::{begin_journal, push_entry};
 pub use line_part::{LinePart, PieceEnd};
-pub use serving::Serving;
+pub use piece_serving::Serving;

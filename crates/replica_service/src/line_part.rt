@@ -34,7 +34,8 @@ pub struct LinePart {
 }
 
 impl LinePart {
-    ghost use Rattle.replica_service.specs.Pieces.{kept_part, ended_line, longest, TakesPiece};
+    ghost use Rattle.replica_service.specs.Pieces.{kept_part, ended_line, longest, piece_run};
+    ghost use Rattle.replica_service.specs.Pieces.{TakesPiece};
 
     /// Keeps nothing yet. A line may have at most `limit` bytes, without its line feed.
     pub fn new(alloc: Global, limit: usize) -> LinePart
@@ -54,7 +55,7 @@ impl LinePart {
     /// Memory ran out. Nothing was taken: the piece may be given again.
     pub fn take(&mut self, piece: &[u8]) -> Result<PieceEnd, AllocError>
         ensures takes { IfOk result
-            (TakesPiece (longest self.old) (kept_part self.old) piece.now self.new) }
+            (TakesPiece (piece_run (longest self.old) (kept_part self.old) piece.now) self.new) }
         ensures refused { OnErr result (kept_part self.new ≡ kept_part self.old) }
         ensures limit { longest self.new ≡ longest self.old }
     {

@@ -12,17 +12,17 @@ use Rattle.receipt_core.specs.Acceptance.{Meaning, IsMeaning}
 use Rattle.receipt_core.proofs.RisingFacts.{Contains-from_has, Has, Has-from_contains, same_members, with_items-has, with_items-keeps, with_items-new}
 use Rattle.replica_core.specs.Convergence.{HasAll}
 use Rattle.replica_core.specs.State.{State, bucket_of_id, ids_held, is_named, is_of_bucket, joined, meaning_of_state, receipts_lacking}
-use Rattle.replica_core.specs.Session.{Reply, reply_of, state_of}
+use Rattle.replica_core.specs.Session.{GiveMessage, give_of, state_of}
 use Rattle.replica_core.proofs.BucketFacts.{bucket-small}
 use Rattle.replica_core.proofs.ExchangeFacts.{lacking, named-held}
 use Rattle.replica_core.proofs.ContainsFacts.{each-from, each-to, filter-from, filter-to}
 use Rattle.replica_sync.specs.SessionRun.{known_run}
-use Rattle.replica_sync.specs.Pulling.{HasDistinctIds, PullsAll, after_replies, question_in}
-use Rattle.replica_sync.specs.Questions.{ServesAll}
+use Rattle.replica_sync.specs.Pulling.{HasDistinctIds, PullsAll, after_gives, have_in}
+use Rattle.replica_sync.specs.Haves.{ServesAll}
 use Rattle.replica_sync.proofs.UnderstandingFacts.{all-asked, receipt-of-either, record-of-either}
 use Rattle.replica_sync.proofs.WelcomeFacts.{IsRisingState, exact-receipts, exact-records, meaning-within, rising-after, rising-joined, rising-meaning}
 use Rattle.replica_sync.proofs.WelcomeFacts.{within-after}
-use Rattle.replica_sync.proofs.WorldFacts.{AnswersOf, answers-of, replies-given}
+use Rattle.replica_sync.proofs.WorldFacts.{GivesOf, answers-of, gives-given}
 
 -- ---- one answer
 
@@ -32,7 +32,7 @@ record HasId (state : State) (r : Receipt) : Type 0 where
   pub held : Has state.held it
   pub id : receipt_id_of it ≡ receipt_id_of r
 
--- an id that a question names is that of a receipt that the asker holds
+-- an id that a have names is that of a receipt that the asker holds
 has-id : (state : State) (bucket : ℕ) (r : Receipt) → is_named (ids_held state bucket) r ≡ true → HasId state r
 has-id state bucket r named =
     let source = named-held state bucket r named in
@@ -40,16 +40,16 @@ has-id state bucket r named =
 
 -- the receipts that the answer of the other gives are receipts
 given-receipts : (c : Configuration) (k : Meaning) (state : State) (bucket : ℕ) → IsMeaning k
-    → AllByRecursion IsReceipt (reply_of k (question_in c state bucket)).content.held
+    → AllByRecursion IsReceipt (give_of k (have_in c state bucket)).content.held
 given-receipts c k state bucket valid =
     each-to IsReceipt (receipts_lacking (state_of k) bucket (ids_held state bucket))
     (λ s h. each-from IsReceipt k.held valid.receipts s (filter-from (lacking state bucket) k.held s h).0)
 
 -- Of the bucket's receipts that the other holds, the answer brings each whose id is not held.
 answer-brings : (c : Configuration) (k : Meaning) (state : State) (bucket : ℕ) (r : Receipt) → IsMeaning k → AllByRecursion IsReceipt state.held
-    → Has k.held r → bucket_of_id r ≡ bucket → HasId (joined state (reply_of k (question_in c state bucket)).content) r
+    → Has k.held r → bucket_of_id r ≡ bucket → HasId (joined state (give_of k (have_in c state bucket)).content) r
 answer-brings c k state bucket r valid own has here =
-    let gain = (reply_of k (question_in c state bucket)).content in
+    let gain = (give_of k (have_in c state bucket)).content in
     elim (cases_Bool (is_named (ids_held state bucket) r)) [
       | inl named ↦
           let known = has-id state bucket r named in
@@ -69,33 +69,33 @@ answer-brings c k state bucket r valid own has here =
 -- ---- all answers
 
 -- After the answers about the buckets from this one on, each receipt of these buckets is held, or one with its id.
-receipts-brought : (c : Configuration) (k : Meaning) (bucket : ℕ) (state : State) (replies : List Reply) (r : Receipt) → IsMeaning k
-    → IsRisingState state → IsMeaning (meaning_of_state c (after_replies state replies)) → AnswersOf c k bucket state replies
-    → Has k.held r → bucket ≤ bucket_of_id r → bucket_of_id r < bucket + length replies → HasId (after_replies state replies) r
+receipts-brought : (c : Configuration) (k : Meaning) (bucket : ℕ) (state : State) (gives : List GiveMessage) (r : Receipt) → IsMeaning k
+    → IsRisingState state → IsMeaning (meaning_of_state c (after_gives state gives)) → GivesOf c k bucket state gives
+    → Has k.held r → bucket ≤ bucket_of_id r → bucket_of_id r < bucket + length gives → HasId (after_gives state gives) r
 receipts-brought c k bucket state [] r valid rising final given has low high = absurd (omega (arith, low, high))
-receipts-brought c k bucket state (a ∷ replies) r valid rising final given has low high =
+receipts-brought c k bucket state (a ∷ gives) r valid rising final given has low high =
     elim (cases_lt bucket (bucket_of_id r)) [
-      | inl later ↦ receipts-brought c k (bucket + 1) (joined state a.content) replies r valid (rising-joined state a.content rising) final
+      | inl later ↦ receipts-brought c k (bucket + 1) (joined state a.content) gives r valid (rising-joined state a.content rising) final
           given.1 has (omega (arith, later)) (omega (arith, high))
       | inr here ↦
-          let whole = after_replies state (a ∷ replies) in
-          let own = (meaning-within c state whole (within-after state (a ∷ replies)) rising final).receipts in
+          let whole = after_gives state (a ∷ gives) in
+          let own = (meaning-within c state whole (within-after state (a ∷ gives)) rising final).receipts in
           let one = answer-brings c k state bucket r valid own has (omega (arith, here, low)) in
-          let taken = subst (λ (x : Reply). HasId (joined state x.content) r) (sym given.0) one in
-          record { it = taken.it; held = (within-after (joined state a.content) replies).receipts taken.it taken.held; id = taken.id }
+          let taken = subst (λ (x : GiveMessage). HasId (joined state x.content) r) (sym given.0) one in
+          record { it = taken.it; held = (within-after (joined state a.content) gives).receipts taken.it taken.held; id = taken.id }
     ]
 
 -- After at least one answer each record of the other is held.
-records-brought : (c : Configuration) (k : Meaning) (bucket : ℕ) (state : State) (replies : List Reply) (x : Distrust) → IsMeaning k
-    → IsRisingState state → IsMeaning (meaning_of_state c (after_replies state replies)) → AnswersOf c k bucket state replies
-    → 0 < length replies → Has k.records x → Has (after_replies state replies).records x
+records-brought : (c : Configuration) (k : Meaning) (bucket : ℕ) (state : State) (gives : List GiveMessage) (x : Distrust) → IsMeaning k
+    → IsRisingState state → IsMeaning (meaning_of_state c (after_gives state gives)) → GivesOf c k bucket state gives
+    → 0 < length gives → Has k.records x → Has (after_gives state gives).records x
 records-brought c k bucket state [] x valid rising final given some has = absurd (omega (arith, some))
-records-brought c k bucket state (a ∷ replies) x valid rising final given some has =
-    let whole = after_replies state (a ∷ replies) in
-    let own = (meaning-within c state whole (within-after state (a ∷ replies)) rising final).distrusts in
-    let one : Has (joined state (reply_of k (question_in c state bucket)).content).records x =
+records-brought c k bucket state (a ∷ gives) x valid rising final given some has =
+    let whole = after_gives state (a ∷ gives) in
+    let own = (meaning-within c state whole (within-after state (a ∷ gives)) rising final).distrusts in
+    let one : Has (joined state (give_of k (have_in c state bucket)).content).records x =
     with_items-new IsDistrust distrust_cmp exact-records k.records state.records valid.distrusts own x has in
-    (within-after (joined state a.content) replies).records x (subst (λ (y : Reply). Has (joined state y.content).records x) (sym given.0) one)
+    (within-after (joined state a.content) gives).records x (subst (λ (y : GiveMessage). Has (joined state y.content).records x) (sym given.0) one)
 
 -- ---- a whole pull
 
@@ -103,26 +103,26 @@ module _ (m k held : Meaning) (asked replied rest : List ℕ) (count : ℕ) (val
     (same : config_id_of m.config ≡ config_id_of k.config) (all : ServesAll (known_run asked replied) k count)
     (pulls : PullsAll (known_run (replied ++ rest) asked) m held) where
   abbrev final : State
-  final = after_replies (state_of m) pulls.replies
+  final = after_gives (state_of m) pulls.gives
 
   final-valid : IsMeaning (meaning_of_state m.config final)
   final-valid = subst IsMeaning pulls.meaning kept
 
-  given : AnswersOf m.config k 0 (state_of m) pulls.replies
+  given : GivesOf m.config k 0 (state_of m) pulls.gives
   given =
-      answers-of m.config k 0 (state_of m) pulls.replies [] []
-      (append-nil pulls.replies ∙ replies-given m k held asked replied rest count valid other kept same all pulls)
+      answers-of m.config k 0 (state_of m) pulls.gives [] []
+      (append-nil pulls.gives ∙ gives-given m k held asked replied rest count valid other kept same all pulls)
 
   receipt-brought : (r : Receipt) → Has k.held r → HasId final r
   receipt-brought r has =
       let many = pulls.all in
       let small = bucket-small r in
-      receipts-brought m.config k 0 (state_of m) pulls.replies r other (rising-meaning m valid) final-valid given has (omega arith) (omega (arith, many, small))
+      receipts-brought m.config k 0 (state_of m) pulls.gives r other (rising-meaning m valid) final-valid given has (omega arith) (omega (arith, many, small))
 
   record-brought : (x : Distrust) → Has k.records x → Has final.records x
   record-brought x has =
       let many = pulls.all in
-      records-brought m.config k 0 (state_of m) pulls.replies x other (rising-meaning m valid) final-valid given (omega (arith, many)) has
+      records-brought m.config k 0 (state_of m) pulls.gives x other (rising-meaning m valid) final-valid given (omega (arith, many)) has
 
   final-is : final ≡ state_of held
   final-is = ap state_of (sym pulls.meaning)
@@ -150,15 +150,15 @@ module _ (m k held : Meaning) (asked replied rest : List ℕ) (count : ℕ) (val
   -- what is held after the pull was held by one of both
   final-of-either : (r : Receipt) → Has final.held r → Has m.held r ⊎ Has k.held r
   final-of-either r has =
-      receipt-of-either (state_of m) k (all-asked m pulls.replies ++ []) r
-      (subst (λ (rs : List Reply). Has (after_replies (state_of m) rs).held r)
-      (replies-given m k held asked replied rest count valid other kept same all pulls) has)
+      receipt-of-either (state_of m) k (all-asked m pulls.gives ++ []) r
+      (subst (λ (rs : List GiveMessage). Has (after_gives (state_of m) rs).held r)
+      (gives-given m k held asked replied rest count valid other kept same all pulls) has)
 
   final-record-of-either : (x : Distrust) → Has final.records x → Has m.records x ⊎ Has k.records x
   final-record-of-either x has =
-      record-of-either (state_of m) k (all-asked m pulls.replies ++ []) x
-      (subst (λ (rs : List Reply). Has (after_replies (state_of m) rs).records x)
-      (replies-given m k held asked replied rest count valid other kept same all pulls) has)
+      record-of-either (state_of m) k (all-asked m pulls.gives ++ []) x
+      (subst (λ (rs : List GiveMessage). Has (after_gives (state_of m) rs).records x)
+      (gives-given m k held asked replied rest count valid other kept same all pulls) has)
 
   -- where ids differ, the receipt that was brought is the one that the other held
   receipt-itself : HasDistinctIds (joined (state_of m) (state_of k)) → (r : Receipt) → Has k.held r → Has final.held r
@@ -174,9 +174,9 @@ module _ (m k held : Meaning) (asked replied rest : List ℕ) (count : ℕ) (val
   pub both-held : HasDistinctIds (joined (state_of m) (state_of k)) → state_of held ≡ joined (state_of m) (state_of k)
   both-held distinct =
       let both = joined (state_of m) (state_of k) in
-      let here = rising-after (state_of m) pulls.replies (rising-meaning m valid) in
+      let here = rising-after (state_of m) pulls.gives (rising-meaning m valid) in
       let there = rising-joined (state_of m) (state_of k) (rising-meaning m valid) in
-      let before = within-after (state_of m) pulls.replies in
+      let before = within-after (state_of m) pulls.gives in
       let receipts : final.held ≡ both.held =
       same_members receipt_cmp receipt_total final.held both.held here.receipts there.receipts
       (λ r h. in-both r (final-of-either r h))

@@ -24,7 +24,7 @@ use Rattle.replica_sync.proofs.HeldFacts.{text_cmp, AllBelow, below_last}
 use Rattle.replica_core.proofs.RisingListFacts.{rising_head, rising_tail, rising_cons}
 use Rattle.replica_sync.proofs.SnapshotFacts.{consumes_both}
 use Rattle.replica_sync.specs.Messages.{record_text, receipt_text}
-use Rattle.replica_sync.specs.Answers.{content_lines}
+use Rattle.replica_sync.specs.Gives.{content_lines}
 use Rattle.replica_sync.specs.Inside.Gathering.{pushed}
 use Rattle.replica_sync.specs.Inside.Taking.{meaning_gained}
 

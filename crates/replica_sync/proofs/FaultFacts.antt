@@ -1,4 +1,4 @@
--- A stream has one fault at most, but for a source that fails and for lack of memory: questions and answers.
+-- A stream has one fault at most, but for a source that fails and for lack of memory: haves and answers.
 use Rattle.std.proofs.Common.{◌≡◌, ◌≢◌, ℕ, ◌<◌, ◌⊎◌, inl, inr, List, ◌++◌, length, Option}
 use Rattle.std.proofs.Common.{None, Some, refl, ap, sym, ◌∙◌, subst, arith, append_assoc}
 use Rattle.std.proofs.lemmas.Bool.{cases_lt}
@@ -6,7 +6,7 @@ use Rattle.std.proofs.lemmas.List.{append_cancel_left}
 use Rattle.fed_config.specs.Configuration.{Configuration}
 use Rattle.byte_lines.specs.Lines.{lines_of, HasLine, HasNoFeed, HasNoLine}
 use Rattle.replica_core.specs.State.{State}
-use Rattle.replica_sync.specs.Entries.{IsEntry, IsNoLineOf, RefusesEntryText}
+use Rattle.replica_sync.specs.Entries.{IsEntry, IsNoLineOf, RefusesEntryText, placed_line}
 use Rattle.replica_core.specs.declared.entry.Entry.{Entry}
 use Rattle.replica_sync.specs.Snapshots.{ended, last_of, text_of_lines}
 use Rattle.replica_sync.specs.declared.entry_line.Wanted.{Wanted}
@@ -14,12 +14,12 @@ use Rattle.replica_sync.specs.declared.entry_line.Wanted.TheVariants.{Records, R
 use Rattle.replica_core.specs.declared.error.SyncError.{SyncError}
 use Rattle.replica_core.specs.declared.error.SyncError.TheVariants.{BadHeader, ConfigDiffers, VersionDiffers, NotCanonical, NotRising, Truncated}
 use Rattle.replica_core.specs.declared.error.SyncError.TheVariants.{Refused, Io, NoMemory}
-use Rattle.replica_sync.specs.Messages.{Asked, GiveHeader}
-use Rattle.replica_sync.specs.FirstLines.{HasBadFirstLine, RefusesAsked, RefusesFirstLine, RefusesGiveLine}
-use Rattle.replica_sync.specs.Questions.{RefusesQuestion}
-use Rattle.replica_sync.specs.Answers.{AnswerBegins, AnswerFailsAfter, HasBadNext, HasNoNext, IsBegun, RefusesGive, RefusesHead, RefusesNextEntry, Wants}
-use Rattle.replica_sync.specs.Answers.{content_lines, next_entry_number, refused_text}
-use Rattle.replica_sync.proofs.AskableFacts.{no-other}
+use Rattle.replica_sync.specs.Messages.{AnyHave, GiveHeader}
+use Rattle.replica_sync.specs.FirstLines.{HasBadFirstLine, RefusesHaveLine, RefusesFirstLine, RefusesGiveLine}
+use Rattle.replica_sync.specs.Haves.{RefusesHave}
+use Rattle.replica_sync.specs.Gives.{GiveBegins, GiveFailsAfter, HasBadNext, HasNoNext, IsBegun, RefusesGive, RefusesHead, RefusesNextEntry, Wants}
+use Rattle.replica_sync.specs.Gives.{content_lines, next_entry_number, refused_text}
+use Rattle.replica_sync.proofs.OneHaveFacts.{no-other}
 use Rattle.replica_sync.proofs.FeedlessFacts.{no-first, plain-give-header, same-line}
 use Rattle.replica_sync.proofs.FirstLineFacts.{one-asked, one-give-header}
 use Rattle.replica_sync.proofs.GatherFacts.{short-entry}
@@ -62,11 +62,11 @@ one-first-fault refuses bytes new since d e one (inl h) (inr k) = absurd (line-o
 one-first-fault refuses bytes new since d e one (inr h) (inl k) = absurd (line-or-none bytes k.text since k.is h.1)
 one-first-fault refuses bytes new since d e one (inr h) (inr k) = h.0 ∙ sym k.0
 
--- ---- questions
+-- ---- haves
 
--- A line of a question has one fault at most.
+-- A line of a have has one fault at most.
 one-asked-fault : (config : Option Configuration) (text : List ℕ) (d e : SyncError) → d ≢ NoMemory → e ≢ NoMemory
-    → RefusesAsked config text d → RefusesAsked config text e → d ≡ e
+    → RefusesHaveLine config text d → RefusesHaveLine config text e → d ≡ e
 one-asked-fault config text BadHeader BadHeader m n p q = refl
 one-asked-fault config text BadHeader ConfigDiffers m n p q = absurd (p q.asked q.line)
 one-asked-fault config text BadHeader VersionDiffers m n p q = absurd (p q.asked q.line)
@@ -74,11 +74,11 @@ one-asked-fault config text ConfigDiffers BadHeader m n p q = absurd (q p.asked 
 one-asked-fault config text ConfigDiffers ConfigDiffers m n p q = refl
 one-asked-fault config text ConfigDiffers VersionDiffers m n p q =
     let same = one-asked text p.asked q.asked p.line q.line in
-    absurd (no-other config q.asked.question.config p.asked.question.config q.own (ap (λ (a : Asked). a.question.config) same) p.other)
+    absurd (no-other config q.asked.have.config p.asked.have.config q.own (ap (λ (a : AnyHave). a.have.config) same) p.other)
 one-asked-fault config text VersionDiffers BadHeader m n p q = absurd (q p.asked p.line)
 one-asked-fault config text VersionDiffers ConfigDiffers m n p q =
     let same = one-asked text q.asked p.asked q.line p.line in
-    absurd (no-other config p.asked.question.config q.asked.question.config p.own (ap (λ (a : Asked). a.question.config) same) q.other)
+    absurd (no-other config p.asked.have.config q.asked.have.config p.own (ap (λ (a : AnyHave). a.have.config) same) q.other)
 one-asked-fault config text VersionDiffers VersionDiffers m n p q = refl
 one-asked-fault config text d NoMemory m n p q = absurd (n refl)
 one-asked-fault config text NoMemory e m n p q = absurd (m refl)
@@ -87,24 +87,24 @@ one-asked-fault config text ConfigDiffers e m n p q = absurd q
 one-asked-fault config text VersionDiffers e m n p q = absurd q
 one-asked-fault config text d e m n p q = absurd p
 
--- Why no question is read, in two cases.
-at-question : (config : Option Configuration) (bytes : List ℕ) (new : Option (List ℕ)) (e : SyncError) → e ≢ Io → e ≢ NoMemory
-    → RefusesQuestion config (Some bytes) new e → FailsAtFirst (RefusesAsked config) bytes new e
-at-question config bytes new BadHeader calm ample h = inl h
-at-question config bytes new ConfigDiffers calm ample h = inl h
-at-question config bytes new VersionDiffers calm ample h = inl h
-at-question config bytes new Truncated calm ample h = inr (refl, h)
-at-question config bytes new Io calm ample h = absurd (calm refl)
-at-question config bytes new NoMemory calm ample h = absurd (ample refl)
-at-question config bytes new e calm ample h = absurd h
+-- Why no have is read, in two cases.
+at-have : (config : Option Configuration) (bytes : List ℕ) (new : Option (List ℕ)) (e : SyncError) → e ≢ Io → e ≢ NoMemory
+    → RefusesHave config (Some bytes) new e → FailsAtFirst (RefusesHaveLine config) bytes new e
+at-have config bytes new BadHeader calm ample h = inl h
+at-have config bytes new ConfigDiffers calm ample h = inl h
+at-have config bytes new VersionDiffers calm ample h = inl h
+at-have config bytes new Truncated calm ample h = inr (refl, h)
+at-have config bytes new Io calm ample h = absurd (calm refl)
+at-have config bytes new NoMemory calm ample h = absurd (ample refl)
+at-have config bytes new e calm ample h = absurd h
 
--- The clause `one_cause` of the law on questions.
-pub one-question-cause : (config : Option Configuration) (bytes : List ℕ) (new since : Option (List ℕ)) (d e : SyncError)
+-- The clause `one_cause` of the law on haves.
+pub one-have-cause : (config : Option Configuration) (bytes : List ℕ) (new since : Option (List ℕ)) (d e : SyncError)
     → d ≢ Io → d ≢ NoMemory → e ≢ Io → e ≢ NoMemory
-    → RefusesQuestion config (Some bytes) new d → RefusesQuestion config (Some bytes) since e → d ≡ e
-one-question-cause config bytes new since d e c m k n p q =
-    one-first-fault (RefusesAsked config) bytes new since d e (λ text. one-asked-fault config text d e m n)
-    (at-question config bytes new d c m p) (at-question config bytes since e k n q)
+    → RefusesHave config (Some bytes) new d → RefusesHave config (Some bytes) since e → d ≡ e
+one-have-cause config bytes new since d e c m k n p q =
+    one-first-fault (RefusesHaveLine config) bytes new since d e (λ text. one-asked-fault config text d e m n)
+    (at-have config bytes new d c m p) (at-have config bytes since e k n q)
 
 -- ---- the first line of an answer
 
@@ -136,7 +136,7 @@ at-head bytes new e calm ample h = absurd h
 
 -- the stream begins with this first line, and what follows it
 begun-line : (bytes : List ℕ) (count distrusts : ℕ) (content : State) (left : List ℕ)
-    → (b : AnswerBegins None (Some bytes) count distrusts content (Some left))
+    → (b : GiveBegins None (Some bytes) count distrusts content (Some left))
     → HasLine (Some bytes) (Some (text_of_lines (content_lines content) ++ left)) b.first
 begun-line bytes count distrusts content left b =
     let header = b.heads.wanted.line in (
@@ -146,7 +146,7 @@ begun-line bytes count distrusts content left b =
 
 -- After a first line that is read no fault of the first line stands.
 no-head-cause : (bytes : List ℕ) (new : Option (List ℕ)) (e : SyncError) (count distrusts : ℕ) (content : State) (left : List ℕ)
-    → e ≢ NoMemory → AnswerBegins None (Some bytes) count distrusts content (Some left) → FailsAtFirst (RefusesGiveLine None) bytes new e → ⊥
+    → e ≢ NoMemory → GiveBegins None (Some bytes) count distrusts content (Some left) → FailsAtFirst (RefusesGiveLine None) bytes new e → ⊥
 no-head-cause bytes new e count distrusts content left ample b (inl h) =
     let same = one-first-line bytes h.text b.first new (Some (text_of_lines (content_lines content) ++ left)) h.is
     (begun-line bytes count distrusts content left b) in
@@ -172,7 +172,7 @@ no-entry-here wanted text (inr none) entry is = none entry is
 
 -- A text has one fault at most where a line of this kind is wanted.
 one-text-fault : (wanted : Wanted) (last : List ℕ) (number : ℕ) (text : List ℕ) (d e : SyncError) → d ≢ NoMemory → e ≢ NoMemory
-    → RefusesEntryText wanted last number text d → RefusesEntryText wanted last number text e → d ≡ e
+    → RefusesEntryText (placed_line wanted last number text) d → RefusesEntryText (placed_line wanted last number text) e → d ≡ e
 one-text-fault wanted last number text (NotCanonical n) (NotCanonical k) l m p q = ap NotCanonical (p.0 ∙ sym q.0)
 one-text-fault wanted last number text (NotCanonical n) (NotRising k) l m p q = absurd (no-entry-here wanted text p.1 q.1.entry q.1.is)
 one-text-fault wanted last number text (NotRising n) (NotCanonical k) l m p q = absurd (no-entry-here wanted text q.1 p.1.entry p.1.is)
@@ -283,7 +283,7 @@ record IsBoth (count distrusts count_too distrusts_too : ℕ) (content other : S
 
 -- Two beginnings of one answer are readings of one text.
 of-one : (bytes : List ℕ) (count distrusts count_too distrusts_too : ℕ) (content other : State) (left rest : List ℕ)
-    → AnswerBegins None (Some bytes) count distrusts content (Some left) → AnswerBegins None (Some bytes) count_too distrusts_too other (Some rest)
+    → GiveBegins None (Some bytes) count distrusts content (Some left) → GiveBegins None (Some bytes) count_too distrusts_too other (Some rest)
     → IsBoth count distrusts count_too distrusts_too content other left rest
 of-one bytes count distrusts count_too distrusts_too content other left rest b k =
     let p = begun-line bytes count distrusts content left b in
@@ -310,11 +310,11 @@ of-one bytes count distrusts count_too distrusts_too content other left rest b k
 
 -- The first line has the fault, or a line after it.
 two-after : (bytes : List ℕ) (new since : Option (List ℕ)) (d e : SyncError) → d ≢ Io → d ≢ NoMemory → e ≢ Io → e ≢ NoMemory
-    → (h : AnswerFailsAfter (Some bytes) new d) (k : AnswerFailsAfter (Some bytes) since e) → d ≡ e
+    → (h : GiveFailsAfter (Some bytes) new d) (k : GiveFailsAfter (Some bytes) since e) → d ≡ e
 two-after bytes new since d e c m n o h k = by-rests h.left k.left h.begins k.begins h.cause k.cause
   where
-    by-rests : (left rest : Option (List ℕ)) → AnswerBegins None (Some bytes) h.count h.distrusts h.content left
-        → AnswerBegins None (Some bytes) k.count k.distrusts k.content rest
+    by-rests : (left rest : Option (List ℕ)) → GiveBegins None (Some bytes) h.count h.distrusts h.content left
+        → GiveBegins None (Some bytes) k.count k.distrusts k.content rest
         → RefusesNextEntry (refused_text h.content) h.count h.distrusts h.content left new d
         → RefusesNextEntry (refused_text k.content) k.count k.distrusts k.content rest since e → d ≡ e
     by-rests None rest b j p q = absurd b.text
@@ -328,19 +328,19 @@ two-after bytes new since d e c m n o h k = by-rests h.left k.left h.begins k.be
 
 -- No stream has a fault of its first line and one after it.
 first-or-after : (bytes : List ℕ) (new since : Option (List ℕ)) (d e : SyncError) → d ≢ Io → d ≢ NoMemory
-    → RefusesHead None (Some bytes) new d → AnswerFailsAfter (Some bytes) since e → ⊥
+    → RefusesHead None (Some bytes) new d → GiveFailsAfter (Some bytes) since e → ⊥
 first-or-after bytes new since d e calm ample head h = by-rest h.left h.begins
   where
-    by-rest : (left : Option (List ℕ)) → AnswerBegins None (Some bytes) h.count h.distrusts h.content left → ⊥
+    by-rest : (left : Option (List ℕ)) → GiveBegins None (Some bytes) h.count h.distrusts h.content left → ⊥
     by-rest None b = b.text
     by-rest (Some left) b = no-head-cause bytes new d h.count h.distrusts h.content left ample b (at-head bytes new d calm ample head)
 
 -- The clause `one_cause` of the law on answers.
-pub one-reply-cause : (bytes : List ℕ) (new since : Option (List ℕ)) (d e : SyncError) → d ≢ Io → d ≢ NoMemory → e ≢ Io → e ≢ NoMemory
+pub one-give-cause : (bytes : List ℕ) (new since : Option (List ℕ)) (d e : SyncError) → d ≢ Io → d ≢ NoMemory → e ≢ Io → e ≢ NoMemory
     → RefusesGive (Some bytes) new d → RefusesGive (Some bytes) since e → d ≡ e
-one-reply-cause bytes new since d e c m k n (inl p) (inl q) =
+one-give-cause bytes new since d e c m k n (inl p) (inl q) =
     one-first-fault (RefusesGiveLine None) bytes new since d e (λ text. one-give-header-fault text d e m n) (at-head bytes new d c m p)
     (at-head bytes since e k n q)
-one-reply-cause bytes new since d e c m k n (inl p) (inr q) = absurd (first-or-after bytes new since d e c m p q)
-one-reply-cause bytes new since d e c m k n (inr p) (inl q) = absurd (first-or-after bytes since new e d k n q p)
-one-reply-cause bytes new since d e c m k n (inr p) (inr q) = two-after bytes new since d e c m k n p q
+one-give-cause bytes new since d e c m k n (inl p) (inr q) = absurd (first-or-after bytes new since d e c m p q)
+one-give-cause bytes new since d e c m k n (inr p) (inl q) = absurd (first-or-after bytes since new e d k n q p)
+one-give-cause bytes new since d e c m k n (inr p) (inr q) = two-after bytes new since d e c m k n p q

@@ -12,8 +12,8 @@ use Rattle.receipt_core.proofs.HexFacts.{Above-encode_lower}
 use Rattle.byte_lines.proofs.StreamFacts.{lines_of-line, lines_of-rest}
 use Rattle.replica_sync.specs.Snapshots.{ended}
 use Rattle.replica_sync.proofs.FeedFacts.{Feedless, feedless_both, feedless_decimal, feedless_by, is_feedless}
-use Rattle.replica_sync.specs.Messages.{Asked, GiveHeader, asked_text, distrusts_part, quoted, give_header_text}
-use Rattle.replica_sync.specs.FirstLines.{IsAsked, IsRecordCount, IsGiveHeader}
+use Rattle.replica_sync.specs.Messages.{AnyHave, GiveHeader, any_have_text, distrusts_part, quoted, give_header_text}
+use Rattle.replica_sync.specs.FirstLines.{IsAnyHave, IsRecordCount, IsGiveHeader}
 use Rattle.replica_sync.proofs.HaveLineFacts.{small-bucket}
 use Rattle.replica_sync.proofs.IdListFacts.{later_text}
 
@@ -58,14 +58,14 @@ labelled label rest plain h = feedless_both label rest (feedless_by label plain)
 
 -- ---- first lines
 
--- The line of a question has no line feed.
-feedless-asked : (a : Asked) → IsAsked a → Feedless (asked_text a)
-unfolding asked_text
+-- The line of a have has no line feed.
+feedless-asked : (a : AnyHave) → IsAnyHave a → Feedless (any_have_text a)
+unfolding any_have_text
 feedless-asked a is =
-    labelled (codes "{\"bucket\":") _ refl (feedless_both (decimal a.question.bucket) _ (feedless_decimal a.question.bucket (small-bucket a is))
-    (labelled (codes ",\"config\":\"") _ refl (feedless_both (encode_lower a.question.config) _ (feedless-digest a.question.config is.config)
+    labelled (codes "{\"bucket\":") _ refl (feedless_both (decimal a.have.bucket) _ (feedless_decimal a.have.bucket (small-bucket a is))
+    (labelled (codes ",\"config\":\"") _ refl (feedless_both (encode_lower a.have.config) _ (feedless-digest a.have.config is.config)
     (labelled (codes "\",\"format\":") _ refl (feedless_both (decimal a.format) _ (feedless_decimal a.format is.format)
-    (labelled (codes ",\"have\":[") _ refl (feedless_both (join_by quoted (codes ",") a.question.ids) _ (feedless-ids a.question.ids is.ids)
+    (labelled (codes ",\"have\":[") _ refl (feedless_both (join_by quoted (codes ",") a.have.ids) _ (feedless-ids a.have.ids is.ids)
     (labelled (codes "],\"of\":") _ refl (feedless_both (decimal a.buckets) _ (feedless_decimal a.buckets is.buckets) (feedless_by (codes "}") refl))))))))))
 
 -- The first line of an answer has no line feed.
@@ -84,9 +84,9 @@ feedless-give-header t is =
 pub plain : (text : List ℕ) → Feedless text → HasNoFeed text
 plain text h = All-from_recursion (λ b. b ≢ 10) text h
 
--- The line of a question has no line feed, in the words of streams.
-pub plain-asked : (a : Asked) → IsAsked a → HasNoFeed (asked_text a)
-plain-asked a is = plain (asked_text a) (feedless-asked a is)
+-- The line of a have has no line feed, in the words of streams.
+pub plain-asked : (a : AnyHave) → IsAnyHave a → HasNoFeed (any_have_text a)
+plain-asked a is = plain (any_have_text a) (feedless-asked a is)
 
 -- The first line of an answer has no line feed, in the words of streams.
 pub plain-give-header : (t : GiveHeader) → IsGiveHeader t → HasNoFeed (give_header_text t)

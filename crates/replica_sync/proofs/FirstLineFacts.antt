@@ -9,8 +9,8 @@ use Rattle.std.proofs.lemmas.List.{append_cancel_left}
 use Rattle.hex.specs.Hex.{encode_lower, decode_sized}
 use Rattle.receipt_core.specs.Receipt.{IsDigest}
 use Rattle.receipt_core.proofs.HexFacts.{decode_sized-encode_lower}
-use Rattle.replica_sync.specs.Messages.{Asked, GiveHeader, distrusts_part, quoted, give_header_text}
-use Rattle.replica_sync.specs.FirstLines.{IsAskedLine, IsGiveHeaderLine}
+use Rattle.replica_sync.specs.Messages.{AnyHave, GiveHeader, distrusts_part, quoted, give_header_text}
+use Rattle.replica_sync.specs.FirstLines.{IsAnyHaveLine, IsGiveHeaderLine}
 use Rattle.replica_sync.proofs.HaveLineFacts.{after_bucket, after_config, after_format, after_ids, small-bucket, whole-line}
 use Rattle.replica_sync.proofs.IdListFacts.{later_text}
 use Rattle.replica_sync.proofs.ScanFacts.{AreDecimal, both-truths, each-decimal, split-digest}
@@ -86,21 +86,21 @@ one-list (id ∷ ids) (o ∷ others) more rest p q e =
     let later = one-later ids others more rest p.1 q.1 first.1 in
     ((λ i. first.0 i ∷ later.0 i), later.1)
 
--- ---- questions
+-- ---- haves
 
--- The line of a question asks one thing.
-pub one-asked : (text : List ℕ) (a b : Asked) → IsAskedLine text a → IsAskedLine text b → a ≡ b
+-- The line of a have asks one thing.
+pub one-asked : (text : List ℕ) (a b : AnyHave) → IsAnyHaveLine text a → IsAnyHaveLine text b → a ≡ b
 one-asked text a b p q =
     let whole = sym (whole-line text a p.spelt) ∙ whole-line text b q.spelt in
-    let bucket = one-number a.question.bucket b.question.bucket 44 44 (after_bucket a) (after_bucket b)
+    let bucket = one-number a.have.bucket b.have.bucket 44 44 (after_bucket a) (after_bucket b)
     (small-bucket a p.is) (small-bucket b q.is) refl refl (append_cancel_left (codes "{\"bucket\":") _ _ whole) in
-    let config = one-digest a.question.config b.question.config (after_config a) (after_config b) p.is.config
+    let config = one-digest a.have.config b.have.config (after_config a) (after_config b) p.is.config
     q.is.config (append_cancel_left (codes ",\"config\":\"") _ _ bucket.1) in
     let format = one-number a.format b.format 44 44 (after_format a) (after_format b) p.is.format q.is.format refl
     refl (append_cancel_left (codes "\",\"format\":") _ _ config.1) in
-    let ids = one-list a.question.ids b.question.ids (after_ids a) (after_ids b) p.is.ids q.is.ids (append_cancel_left (codes ",\"have\":[") _ _ format.1) in
+    let ids = one-list a.have.ids b.have.ids (after_ids a) (after_ids b) p.is.ids q.is.ids (append_cancel_left (codes ",\"have\":[") _ _ format.1) in
     let buckets = one-number a.buckets b.buckets 125 125 [] [] p.is.buckets q.is.buckets refl refl (append_cancel_left (codes ",\"of\":") _ _ ids.1) in
-    λ i. record { question = record { bucket = bucket.0 i; config = config.0 i; ids = ids.0 i }; format = format.0 i; buckets = buckets.0 i }
+    λ i. record { have = record { bucket = bucket.0 i; config = config.0 i; ids = ids.0 i }; format = format.0 i; buckets = buckets.0 i }
 
 -- ---- answers
 

@@ -23,11 +23,11 @@ use Rattle.replica_core.specs.declared.error.SyncError.{SyncError}
 use Rattle.replica_sync.proofs.HeldFacts.{AllBelow, below_last, text_cmp}
 use Rattle.replica_core.proofs.RisingListFacts.{rising_head, rising_tail, rising_nil}
 use Rattle.replica_sync.proofs.SnapshotFacts.{consumes_both}
-use Rattle.replica_sync.specs.Messages.{receipt_text, record_text, reply_text, give_header_of, give_header_text}
+use Rattle.replica_sync.specs.Messages.{receipt_text, record_text, give_text, give_header_of, give_header_text}
 use Rattle.replica_sync.specs.FirstLines.{Expected, IsGiveHeader}
-use Rattle.replica_sync.specs.Answers.{Heads, IsAnswer, IsBegun, RefusesGive, Wants, content_lines}
+use Rattle.replica_sync.specs.Gives.{Heads, IsGive, IsBegun, RefusesGive, Wants, content_lines}
 use Rattle.replica_sync.specs.Inside.Spelling.{HasHead, IsHeadLine, header_by_head}
-use Rattle.replica_sync.specs.Inside.Gathering.{StopsGathering, Gathers, GathersAll, IsNextAnswerLine, IsWhole, Pushes, pushed}
+use Rattle.replica_sync.specs.Inside.Gathering.{StopsGathering, Gathers, GathersAll, IsNextGiveLine, IsWhole, Pushes, pushed}
 use Rattle.replica_sync.specs.declared.give_header_reader.Head.{Head}
 
 -- ---- the bound of a line that says something
@@ -146,7 +146,7 @@ gathers-none count distrusts stream content none = subst (λ s. Gathers count di
 
 -- One line more of the answer is read.
 pub gathers-more : (count distrusts : ℕ) (stream before after : Option (List ℕ)) (old new : State)
-    → Gathers count distrusts stream old before → IsNextAnswerLine count distrusts old before new after
+    → Gathers count distrusts stream old before → IsNextGiveLine count distrusts old before new after
     → Gathers count distrusts stream new after
 gathers-more count distrusts stream before after old new g f =
     let grown = grows count distrusts old g.begun f.wanted f.text new f.wants f.pushes in
@@ -186,10 +186,10 @@ header-whole h content whole = λ i. record {
 }
 
 -- What was read, when as many lines came as the first one says, is the text of an answer.
-pub whole-reply : (old middle new : Option (List ℕ)) (h : Head) (content : State) → HasHead None old middle h
+pub whole-give : (old middle new : Option (List ℕ)) (h : Head) (content : State) → HasHead None old middle h
     → GathersAll h.count h.distrusts middle content new
-    → Consumes old new (reply_text (record { bucket = h.bucket; config = h.config.0; content = content }))
-whole-reply old middle new h content head all =
+    → Consumes old new (give_text (record { bucket = h.bucket; config = h.config.0; content = content }))
+whole-give old middle new h content head all =
     let first : head.text ≡ give_header_text (give_header_of (record { bucket = h.bucket; config = h.config.0; content = content })) =
     head.head.wanted.line.spelt ∙ ap give_header_text (header-whole h content all.whole) in
     subst (Consumes old new) ((λ i. ended (first i) ++ content-text content i))
@@ -198,7 +198,7 @@ whole-reply old middle new h content head all =
 -- What was then read is an answer of its form.
 pub whole-answer : (old middle new : Option (List ℕ)) (h : Head) (content : State) → HasHead None old middle h
     → GathersAll h.count h.distrusts middle content new
-    → IsAnswer (record { bucket = h.bucket; config = h.config.0; content = content })
+    → IsGive (record { bucket = h.bucket; config = h.config.0; content = content })
 whole-answer old middle new h content head all = record {
   header = subst IsGiveHeader (header-whole h content all.whole) head.head.wanted.line.is;
   valid = all.gathers.begun.valid;

@@ -15,7 +15,7 @@ use Rattle.receipt_core.specs.Receipt.{IsDistrust, IsReceipt, distrust_line, lin
 use Rattle.receipt_core.proofs.HexFacts.{length-encode_lower}
 use Rattle.byte_lines.proofs.StreamFacts.{lines_of-line, lines_of-rest}
 use Rattle.replica_core.specs.State.{State}
-use Rattle.replica_core.specs.Session.{Reply}
+use Rattle.replica_core.specs.Session.{GiveMessage}
 use Rattle.replica_sync.proofs.NextFacts.{above_nothing, last_above}
 use Rattle.replica_sync.specs.Entries.{IsAbove, IsEntry, IsNextEntry, entry_line}
 use Rattle.replica_sync.specs.Snapshots.{ended, last_of, text_of_lines}
@@ -30,13 +30,13 @@ use Rattle.replica_sync.proofs.FeedFacts.{Feedless, feedless_line, feedless_reco
 use Rattle.replica_core.proofs.RisingListFacts.{all_back, rising_head, rising_tail, all_append}
 use Rattle.replica_sync.proofs.HeldFacts.{text_cmp}
 use Rattle.replica_sync.proofs.OneFacts.{held_back, lines_back, feedless_all}
-use Rattle.replica_sync.specs.Messages.{GiveHeader, distrusts_part, reply_text, give_header_of, give_header_text}
+use Rattle.replica_sync.specs.Messages.{GiveHeader, distrusts_part, give_text, give_header_of, give_header_text}
 use Rattle.replica_sync.specs.FirstLines.{Expected, HasBadFirstLine, IsAbout, HasDigestOf, IsRecordCount, IsGiveHeader}
 use Rattle.replica_sync.specs.FirstLines.{IsGiveHeaderLine, RefusesFirstLine, RefusesGiveLine}
 use Rattle.replica_sync.specs.FirstLines.{config_of}
-use Rattle.replica_sync.specs.Answers.{AnswerBegins, Heads, IsAnswer, IsBegun, IsContent, HasBadNext, RefusesGive, RefusesHead, RefusesNextEntry}
-use Rattle.replica_sync.specs.Answers.{Wants, content_lines, refused_text}
-use Rattle.replica_sync.proofs.AskableFacts.{first-cause, no-other}
+use Rattle.replica_sync.specs.Gives.{GiveBegins, Heads, IsGive, IsBegun, IsContent, HasBadNext, RefusesGive, RefusesHead, RefusesNextEntry}
+use Rattle.replica_sync.specs.Gives.{Wants, content_lines, refused_text}
+use Rattle.replica_sync.proofs.OneHaveFacts.{first-cause, no-other}
 use Rattle.replica_sync.proofs.ContentFacts.{text_of_content}
 use Rattle.replica_sync.proofs.FeedlessFacts.{no-first, plain-give-header, same-line}
 use Rattle.replica_sync.proofs.FirstLineFacts.{one-give-header}
@@ -45,7 +45,7 @@ use Rattle.replica_sync.proofs.GatherFacts.{short-entry}
 -- ---- the first line
 
 -- The first line of an answer is the line of what it says.
-give-header-line : (r : Reply) → IsAnswer r → IsGiveHeaderLine (give_header_text (give_header_of r)) (give_header_of r)
+give-header-line : (r : GiveMessage) → IsGive r → IsGiveHeaderLine (give_header_text (give_header_of r)) (give_header_of r)
 give-header-line r is = record { is = is.header; spelt = refl }
 
 -- A number of 64 bits has 20 digits at most.
@@ -82,9 +82,9 @@ short-give-header t is =
     omega (arith, whole, bucket, config, count, part, format, buckets)
 
 -- The first line of an answer says that it is one with so many receipts and records.
-heads-reply : (expected : Option Expected) (r : Reply) → IsAnswer r → IsAbout expected r.bucket → HasDigestOf (config_of expected) r.config
+heads-give : (expected : Option Expected) (r : GiveMessage) → IsGive r → IsAbout expected r.bucket → HasDigestOf (config_of expected) r.config
     → Heads expected (give_header_text (give_header_of r)) (length r.content.held) (length r.content.records)
-heads-reply expected r is about own = record {
+heads-give expected r is about own = record {
   header = give_header_of r;
   wanted = record { line = give-header-line r is; about = about };
   own = own;
@@ -120,7 +120,7 @@ no-bad-head expected text count distrusts NoMemory is ample (inr h) = ample refl
 -- ---- the lines after it
 
 -- the answer's first line, and the lines after it
-pub in-lines : (bytes : List ℕ) (r : Reply) (rest : List ℕ) → bytes ≡ reply_text r ++ rest
+pub in-lines : (bytes : List ℕ) (r : GiveMessage) (rest : List ℕ) → bytes ≡ give_text r ++ rest
     → bytes ≡ ended (give_header_text (give_header_of r)) ++ (text_of_lines (content_lines r.content) ++ rest)
 in-lines bytes r rest e =
     e ∙ append_assoc (ended (give_header_text (give_header_of r))) _ rest
@@ -167,14 +167,14 @@ pub some-once : (m n : ℕ) → Some m ≡ Some n → m ≡ n
 some-once m n e = cc
 
 -- Both are one answer, and the same follows them.
-pub record IsSameReply (a b : Reply) (left rest : List ℕ) : Type 0 where
-  pub reply : a ≡ b
+pub record IsSameGive (a b : GiveMessage) (left rest : List ℕ) : Type 0 where
+  pub give : a ≡ b
   pub follows : left ≡ rest
 
 -- A stream of known bytes begins with one answer at most, and one thing follows it.
-pub same-reply : (bytes : List ℕ) (a b : Reply) (left rest : List ℕ) → IsAnswer a → IsAnswer b
-    → bytes ≡ reply_text a ++ left → bytes ≡ reply_text b ++ rest → IsSameReply a b left rest
-same-reply bytes a b left rest is valid e f =
+pub same-give : (bytes : List ℕ) (a b : GiveMessage) (left rest : List ℕ) → IsGive a → IsGive b
+    → bytes ≡ give_text a ++ left → bytes ≡ give_text b ++ rest → IsSameGive a b left rest
+same-give bytes a b left rest is valid e f =
     let first = same-line bytes (give_header_text (give_header_of a)) (give_header_text (give_header_of b)) _ _ (plain-give-header (give_header_of a) is.header)
     (plain-give-header (give_header_of b) valid.header) (in-lines bytes a left e) (in-lines bytes b rest f) in
     let header : give_header_of a ≡ give_header_of b =
@@ -190,19 +190,19 @@ same-reply bytes a b left rest is valid e f =
     let sets = held_back a.content.records b.content.records a.content.held b.content.held is.valid.records
     valid.valid.records is.valid.receipts valid.valid.receipts lines.0 in
     record {
-      reply = λ i. record { bucket = (header i).bucket; config = (header i).config; content = record { held = sets.receipts i; records = sets.records i } };
+      give = λ i. record { bucket = (header i).bucket; config = (header i).config; content = record { held = sets.receipts i; records = sets.records i } };
       follows = append_cancel_left (text_of_lines (content_lines b.content)) left rest
           (ap (λ (ls : List (List ℕ)). text_of_lines ls ++ left) (sym lines.0) ∙ first.rest);
     }
 
 -- The clause `one` of the law on answers: a stream begins with one answer at most.
-pub one-reply : (bytes : List ℕ) (a b : Reply) (left rest : Option (List ℕ)) → IsAnswer a → IsAnswer b
-    → Consumes (Some bytes) left (reply_text a) → Consumes (Some bytes) rest (reply_text b) → (a ≡ b) × (left ≡ rest)
-one-reply bytes a b None rest is valid e f = absurd e
-one-reply bytes a b (Some left) None is valid e f = absurd f
-one-reply bytes a b (Some left) (Some rest) is valid e f =
-    let same = same-reply bytes a b left rest is valid e f in
-    (same.reply, ap Some same.follows)
+pub one-give : (bytes : List ℕ) (a b : GiveMessage) (left rest : Option (List ℕ)) → IsGive a → IsGive b
+    → Consumes (Some bytes) left (give_text a) → Consumes (Some bytes) rest (give_text b) → (a ≡ b) × (left ≡ rest)
+one-give bytes a b None rest is valid e f = absurd e
+one-give bytes a b (Some left) None is valid e f = absurd f
+one-give bytes a b (Some left) (Some rest) is valid e f =
+    let same = same-give bytes a b left rest is valid e f in
+    (same.give, ap Some same.follows)
 
 -- ---- the line after a beginning
 
@@ -417,14 +417,14 @@ module _ (whole content : State) (count distrusts : ℕ) (rest after : List ℕ)
 
 -- ---- no fault
 
-module _ (expected : Option Expected) (bytes : List ℕ) (r : Reply) (after : List ℕ) (is : IsAnswer r)
+module _ (expected : Option Expected) (bytes : List ℕ) (r : GiveMessage) (after : List ℕ) (is : IsGive r)
     (about : IsAbout expected r.bucket) (own : HasDigestOf (config_of expected) r.config)
-    (begins : bytes ≡ reply_text r ++ after) where
+    (begins : bytes ≡ give_text r ++ after) where
   -- The stream has no fault of its first line.
   bad-first : (new : Option (List ℕ)) (e : SyncError) → e ≢ NoMemory → HasBadFirstLine (RefusesGiveLine expected) (Some bytes) new e → ⊥
   bad-first new e ample h =
       no-bad-head expected (give_header_text (give_header_of r)) (length r.content.held) (length r.content.records) e
-      (heads-reply expected r is about own) ample
+      (heads-give expected r is about own) ample
       (first-cause (RefusesGiveLine expected) bytes (give_header_text (give_header_of r)) _ new e (plain-give-header (give_header_of r) is.header)
       (in-lines bytes r after begins) h)
 
@@ -444,7 +444,7 @@ module _ (expected : Option Expected) (bytes : List ℕ) (r : Reply) (after : Li
 
   -- A good beginning of the stream is a beginning of the answer.
   pub is-part : (count distrusts : ℕ) (content : State) (rest : List ℕ)
-      → AnswerBegins expected (Some bytes) count distrusts content (Some rest)
+      → GiveBegins expected (Some bytes) count distrusts content (Some rest)
       → IsPart r.content content count distrusts rest after
   is-part count distrusts content rest b =
       let line = b.heads.wanted.line in
@@ -464,7 +464,7 @@ module _ (expected : Option Expected) (bytes : List ℕ) (r : Reply) (after : Li
   pub no-fault-after : (refuses : Wanted → List ℕ → List ℕ → SyncError
       → Type 0) (count distrusts : ℕ) (content : State) (left new : Option (List ℕ)) (e : SyncError)
       → ((wanted : Wanted) (text : List ℕ) → IsGood r.content content wanted text → refuses wanted (last_of (content_lines content)) text e → ⊥)
-      → e ≢ Io → e ≢ NoMemory → AnswerBegins expected (Some bytes) count distrusts content left
+      → e ≢ Io → e ≢ NoMemory → GiveBegins expected (Some bytes) count distrusts content left
       → RefusesNextEntry refuses count distrusts content left new e → ⊥
   no-fault-after refuses count distrusts content None new e welcome calm ample b h = b.text
   no-fault-after refuses count distrusts content (Some rest) new e welcome calm ample b h =
@@ -489,8 +489,8 @@ no-text-fault whole content wanted text Io ample good h = h
 no-text-fault whole content wanted text NoMemory ample good h = ample refl
 
 -- The answer is read to its end, unless the source or memory fails.
-whole-read : (bytes : List ℕ) (r : Reply) (after : List ℕ) (new : Option (List ℕ)) (e : SyncError) → IsAnswer r → e ≢ Io
-    → e ≢ NoMemory → bytes ≡ reply_text r ++ after → RefusesGive (Some bytes) new e → ⊥
+whole-read : (bytes : List ℕ) (r : GiveMessage) (after : List ℕ) (new : Option (List ℕ)) (e : SyncError) → IsGive r → e ≢ Io
+    → e ≢ NoMemory → bytes ≡ give_text r ++ after → RefusesGive (Some bytes) new e → ⊥
 whole-read bytes r after new e is calm ample begins (inl head) = no-head-fault None bytes r after is tt tt begins new e calm ample head
 whole-read bytes r after new e is calm ample begins (inr fault) =
     no-fault-after None bytes r after is tt tt begins (refused_text fault.content) fault.count fault.distrusts fault.content fault.left new e
@@ -498,7 +498,7 @@ whole-read bytes r after new e is calm ample begins (inr fault) =
 
 -- The clause `read` of the law on answers: a stream that begins with an answer has no fault before
 -- its end.
-pub reply-read : (bytes : List ℕ) (r : Reply) (left new : Option (List ℕ)) (e : SyncError) → IsAnswer r → e ≢ Io
-    → e ≢ NoMemory → Consumes (Some bytes) left (reply_text r) → RefusesGive (Some bytes) new e → ⊥
-reply-read bytes r None new e is calm ample begins h = begins
-reply-read bytes r (Some after) new e is calm ample begins h = whole-read bytes r after new e is calm ample begins h
+pub give-read : (bytes : List ℕ) (r : GiveMessage) (left new : Option (List ℕ)) (e : SyncError) → IsGive r → e ≢ Io
+    → e ≢ NoMemory → Consumes (Some bytes) left (give_text r) → RefusesGive (Some bytes) new e → ⊥
+give-read bytes r None new e is calm ample begins h = begins
+give-read bytes r (Some after) new e is calm ample begins h = whole-read bytes r after new e is calm ample begins h

@@ -1,4 +1,4 @@
--- The ids of a question's line, from its text and back.
+-- The ids of a have's line, from its text and back.
 use Rattle.std.proofs.Common.{◌≡◌, ◌≢◌, ℕ, zero, suc, ◌/◌, ◌%◌, ◌<◌, ◌≤◌, ◌&&◌, Bool, true, false, inl, inr, List, [], ◌∷◌, ◌++◌, length, take, drop, get_or}
 use Rattle.std.proofs.Common.{map, codes, slice_index, refl, ap, sym, ◌∙◌, subst, arith, length-append, length-take, append_assoc}
 use Rattle.std.specs.Prelude.{Option, Some, None}

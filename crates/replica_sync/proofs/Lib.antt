@@ -17,10 +17,10 @@ mod GiveHeaderFacts
 mod IdListFacts
 mod FirstLineFacts
 mod FeedlessFacts
-mod AskableFacts
+mod OneHaveFacts
 mod ContentFacts
 mod GatherFacts
-pub mod AnswerFacts
+pub mod GiveTakingFacts
 mod GiveFacts
 mod WrittenPieceFacts
 mod ServingFacts

@@ -1,4 +1,4 @@
--- What a replica asks, a line can ask; and what it answers to such a question is an answer.
+-- What a replica asks, a line can ask; and what it answers to such a have is an answer.
 use Rattle.std.proofs.Common.{◌≡◌, ℕ, ◌+◌, ◌*◌, ◌<◌, ◌≤◌, Bool, true, false, cond, List, [], ◌∷◌, ◌++◌, codes, decimal, length, length-append, map}
 use Rattle.std.proofs.Common.{refl, arith}
 use Rattle.std.specs.Prelude.{filter}
@@ -23,12 +23,12 @@ use Rattle.receipt_core.proofs.HexFacts.{length-encode_lower}
 use Rattle.receipt_core.proofs.LineFacts.{distrust_order, record_first}
 use Rattle.receipt_core.proofs.RisingFacts.{with_items-all, with_items-rising}
 use Rattle.replica_core.specs.State.{State, id_cmp, ids_held, is_of_bucket, receipts_lacking}
-use Rattle.replica_core.specs.Session.{Question, question_of, reply_of, state_of}
+use Rattle.replica_core.specs.Session.{HaveMessage, have_of, give_of, state_of}
 use Rattle.replica_core.proofs.BucketFacts.{digest-bytes}
 use Rattle.replica_core.proofs.RisingListFacts.{rising_nil}
-use Rattle.replica_sync.specs.Messages.{asked_of, asked_text, quoted}
-use Rattle.replica_sync.specs.Questions.{IsAskable}
-use Rattle.replica_sync.specs.Answers.{IsAnswer}
+use Rattle.replica_sync.specs.Messages.{as_any_have, any_have_text, quoted}
+use Rattle.replica_sync.specs.Haves.{IsAskable}
+use Rattle.replica_sync.specs.Gives.{IsGive}
 use Rattle.replica_sync.proofs.GiveFacts.{short-number}
 use Rattle.replica_sync.proofs.HeldFacts.{lines_rise}
 use Rattle.replica_sync.proofs.IdListFacts.{later_text, length-quoted}
@@ -85,7 +85,7 @@ no-longer cmp (x ∷ items) set =
 kept-few : {A : Type 0} (p : A → Bool) (xs : List A) → length (filter p xs) ≤ length xs
 kept-few p xs = let kept = length-filter p xs in let few = count_by-le-length p xs in omega (arith, kept, few)
 
--- A question names at most 65,536 ids.
+-- A have names at most 65,536 ids.
 few-ids : (m : Meaning) (bucket : ℕ) → IsMeaning m → length (ids_held (state_of m) bucket) ≤ 65536
 few-ids m bucket valid =
     let kept = filter (is_of_bucket bucket) m.held in
@@ -95,7 +95,7 @@ few-ids m bucket valid =
     let held = valid.few in
     omega (arith, set, ids, few, held)
 
--- ---- questions
+-- ---- haves
 
 -- each id has 64 digits, two quotes, and a comma before it
 length-later : (ids : List (List ℕ)) → AllByRecursion IsDigest ids → length (later_text ids) ≡ 67 * length ids
@@ -115,7 +115,7 @@ length-ids (id ∷ ids) h =
     let both = length-append (quoted id) (later_text ids) in
     omega (arith, one, rest, both)
 
--- How long the line of a question is, piece by piece.
+-- How long the line of a have is, piece by piece.
 asked-length : (b c f i k : List ℕ)
     → length (codes "{\"bucket\":" ++
     (b ++ (codes ",\"config\":\"" ++ (c ++ (codes "\",\"format\":" ++
@@ -123,10 +123,10 @@ asked-length : (b c f i k : List ℕ)
     ≡ length b + length c + length f + length i + length k + 49
 asked-length b c f i k = simp length-append (omega arith)
 
--- The line of a question is within the bound of lines.
-short-asked : (q : Question) → q.bucket < 256 → IsDigest q.config → AllByRecursion IsDigest q.ids → length q.ids ≤ 65536
-    → length (asked_text (asked_of q)) ≤ 8388608
-unfolding asked_text
+-- The line of a have is within the bound of lines.
+short-asked : (q : HaveMessage) → q.bucket < 256 → IsDigest q.config → AllByRecursion IsDigest q.ids → length q.ids ≤ 65536
+    → length (any_have_text (as_any_have q)) ≤ 8388608
+unfolding any_have_text
 short-asked q below config ids few =
     let whole = asked-length (decimal q.bucket) (encode_lower q.config) (decimal 2) (join_by quoted (codes ",") q.ids) (decimal 256) in
     let bucket = short-number q.bucket (omega (arith, below)) in
@@ -140,20 +140,20 @@ short-asked q below config ids few =
 id-total : IsTotalOrder id_cmp
 id-total = on_texts (λ (t : List ℕ). t)
 
--- The ids that a question names have the form of digests.
+-- The ids that a have names have the form of digests.
 ids-digests : (state : State) (bucket : ℕ) → AllByRecursion IsDigest (ids_held state bucket)
 ids-digests state bucket =
     with_items-all IsDigest id_cmp (map receipt_id_of (filter (is_of_bucket bucket) state.held)) []
     (all-ids (filter (is_of_bucket bucket) state.held)) tt
 
--- The ids that a question names rise.
+-- The ids that a have names rise.
 ids-rising : (state : State) (bucket : ℕ) → IsStrictlySortedBy id_cmp (ids_held state bucket)
 ids-rising state bucket =
     with_items-rising id_cmp id-total (map receipt_id_of (filter (is_of_bucket bucket) state.held)) [] (rising_nil id_cmp)
 
 -- What a replica asks about a bucket, a line can ask.
-pub askable-question : (m : Meaning) (bucket : ℕ) → IsMeaning m → bucket < 256 → IsAskable (question_of m bucket)
-askable-question m bucket valid below = record {
+pub askable-have : (m : Meaning) (bucket : ℕ) → IsMeaning m → bucket < 256 → IsAskable (have_of m bucket)
+askable-have m bucket valid below = record {
   asked = record {
     bucket = below;
     format = omega arith;
@@ -162,7 +162,7 @@ askable-question m bucket valid below = record {
     ids = ids-digests (state_of m) bucket;
     rising = ids-rising (state_of m) bucket;
   };
-  short = short-asked (question_of m bucket) below (config-digest m.config) (ids-digests (state_of m) bucket) (few-ids m bucket valid);
+  short = short-asked (have_of m bucket) below (config-digest m.config) (ids-digests (state_of m) bucket) (few-ids m bucket valid);
 }
 
 -- ---- answers
@@ -192,15 +192,15 @@ kept-meaning m p valid = record {
 }
 
 -- the meaning of which an answer gives all
-abbrev given : Meaning → Question → Meaning
+abbrev given : Meaning → HaveMessage → Meaning
 given m q = record { config = m.config; held = receipts_lacking (state_of m) q.bucket q.ids; records = m.records }
 
 -- What an answer gives can be held.
-given-meaning : (m : Meaning) (q : Question) → IsMeaning m → IsMeaning (given m q)
+given-meaning : (m : Meaning) (q : HaveMessage) → IsMeaning m → IsMeaning (given m q)
 given-meaning m q valid = kept-meaning m _ valid
 
--- What a replica answers to a question that a line can ask is an answer.
-pub answer-given : (m : Meaning) (q : Question) → IsMeaning m → IsAskable q → IsAnswer (reply_of m q)
+-- What a replica answers to a have that a line can ask is an answer.
+pub answer-given : (m : Meaning) (q : HaveMessage) → IsMeaning m → IsAskable q → IsGive (give_of m q)
 answer-given m q valid is =
     let all = given-meaning m q valid in
     let few = all.few in

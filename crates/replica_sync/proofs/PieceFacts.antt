@@ -4,7 +4,7 @@ use Rattle.std.specs.Prelude.{codes, decimal}
 use Rattle.std.specs.List.{flat_map, join_by}
 use Rattle.hex.specs.Hex.{encode_lower}
 use Rattle.receipt_core.specs.declared.receipt_id.ReceiptId.{ReceiptId}
-use Rattle.replica_sync.specs.Messages.{quoted, Asked, asked_text, GiveHeader, distrusts_part, give_header_text}
+use Rattle.replica_sync.specs.Messages.{quoted, AnyHave, any_have_text, GiveHeader, distrusts_part, give_header_text}
 use Rattle.replica_sync.proofs.GlueFacts.{glue}
 
 -- an id as its bytes
@@ -29,13 +29,13 @@ join-ids out new last ids others first e n l =
     ∙ ap (λ t. out ++ (quoted first.0 ++ t)) (sym (flat_map-map (λ y. codes "," ++ quoted y) bytes_of others))
     ∙ ap (λ xs. out ++ join_by quoted (codes ",") (map bytes_of xs)) (sym e)
 
--- What was written piece by piece is the line of the question.
-pub asked-pushed : (a : Asked) (s0 s1 s2 s3 s4 s5 s6 s7 s8 s9 s10 s11 : List ℕ) → s1 ≡ s0 ++ codes "{\"bucket\":"
-    → s2 ≡ s1 ++ decimal a.question.bucket → s3 ≡ s2 ++ codes ",\"config\":\""
-    → s4 ≡ s3 ++ encode_lower a.question.config → s5 ≡ s4 ++ codes "\",\"format\":" → s6 ≡ s5 ++ decimal a.format → s7 ≡ s6 ++ codes ",\"have\":["
-    → s8 ≡ s7 ++ join_by quoted (codes ",") a.question.ids → s9 ≡ s8 ++ codes "],\"of\":" → s10 ≡ s9 ++ decimal a.buckets → s11 ≡ s10 ++ codes "}"
-    → s11 ≡ s0 ++ asked_text a
-unfolding asked_text
+-- What was written piece by piece is the line of the have.
+pub asked-pushed : (a : AnyHave) (s0 s1 s2 s3 s4 s5 s6 s7 s8 s9 s10 s11 : List ℕ) → s1 ≡ s0 ++ codes "{\"bucket\":"
+    → s2 ≡ s1 ++ decimal a.have.bucket → s3 ≡ s2 ++ codes ",\"config\":\""
+    → s4 ≡ s3 ++ encode_lower a.have.config → s5 ≡ s4 ++ codes "\",\"format\":" → s6 ≡ s5 ++ decimal a.format → s7 ≡ s6 ++ codes ",\"have\":["
+    → s8 ≡ s7 ++ join_by quoted (codes ",") a.have.ids → s9 ≡ s8 ++ codes "],\"of\":" → s10 ≡ s9 ++ decimal a.buckets → s11 ≡ s10 ++ codes "}"
+    → s11 ≡ s0 ++ any_have_text a
+unfolding any_have_text
 asked-pushed a s0 s1 s2 s3 s4 s5 s6 s7 s8 s9 s10 s11 e1 e2 e3 e4 e5 e6 e7 e8 e9 e10 e11 =
     glue s0 s1 s11 _ _ e1 (glue s1 s2 s11 _ _ e2 (glue s2 s3 s11 _ _ e3 (glue s3 s4 s11 _ _ e4 (glue s4 s5 s11 _ _ e5 (glue s5 s6 s11 _ _ e6
     (glue s6 s7 s11 _ _ e7 (glue s7 s8 s11 _ _ e8 (glue s8 s9 s11 _ _ e9 (glue s9 s10 s11 _ _ e10 e11)))))))))

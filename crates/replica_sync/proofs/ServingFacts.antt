@@ -1,4 +1,4 @@
--- Questions that are read, and sessions that are served.
+-- Haves that are read, and sessions that are served.
 use Rattle.std.proofs.Common.{◌≡◌, ℕ, ◌+◌, ◌≤◌, ◌⊎◌, inl, inr, List, [], ◌∷◌, ◌++◌, length, Option, ap, sym, ◌∙◌, subst, arith, length-append, append-nil}
 use Rattle.std.specs.List.{AllByRecursion, flat_map}
 use Rattle.std.specs.Io.KnownBytes.{Appends, Consumes}
@@ -9,29 +9,29 @@ use Rattle.fed_config.specs.Configuration.{Configuration}
 use Rattle.receipt_core.specs.Acceptance.{Meaning}
 use Rattle.byte_lines.specs.Device.{AppendsBeginning}
 use Rattle.byte_lines.specs.Lines.{HasLine}
-use Rattle.replica_core.specs.Session.{Question, reply_of}
+use Rattle.replica_core.specs.Session.{HaveMessage, give_of}
 use Rattle.replica_core.specs.declared.error.SyncError.{SyncError}
 use Rattle.replica_core.specs.declared.error.SyncError.TheVariants.{BadHeader, ConfigDiffers, VersionDiffers, NotCanonical, NotRising, BadCount, Truncated}
 use Rattle.replica_core.specs.declared.error.SyncError.TheVariants.{Refused, Io, NoMemory}
 use Rattle.replica_core.proofs.RisingListFacts.{all_append}
 use Rattle.replica_sync.specs.SessionRun.{session_run}
-use Rattle.replica_sync.specs.Messages.{question_text, reply_text}
-use Rattle.replica_sync.specs.Questions.{Asks, IsQuestionOf, IsWritten, RefusesFurther, ServesUpTo, replies_text}
-use Rattle.replica_sync.specs.Inside.Asking.{HasAsked, IsNoneAsked, RefusesHaveLine, RefusesVersionedHave, asking_by}
+use Rattle.replica_sync.specs.Messages.{have_text, give_text}
+use Rattle.replica_sync.specs.Haves.{BeginsWithHaves, IsHaveOf, IsWritten, RefusesFurther, ServesUpTo, gives_text}
+use Rattle.replica_sync.specs.Inside.HaveLines.{HasHaveLine, RefusesAnyHave, RefusesNextHave, RefusesVersionedHave, versioned_have_says}
 use Rattle.replica_sync.specs.Inside.Serving.{FailsReading, FailsWriting, Served, ServesOne}
 use Rattle.replica_sync.specs.declared.have_fields.VersionedHave.{VersionedHave}
 use Rattle.replica_sync.proofs.WrittenPieceFacts.{begins-second}
 
--- ---- one question
+-- ---- one have
 
--- A first line that asks nothing is why no question is read.
+-- A first line that asks nothing is why no have is read.
 pub refused-line : (old new : Option (List ℕ)) (text : List ℕ) (e : SyncError) → HasLine old new text → length text ≤ 8388608
-    → IsNoneAsked text e → RefusesHaveLine old new e
-refused-line old new text e is short (inl none) = subst (RefusesHaveLine old new) (sym none.0) (record { text = text; is = is; cause = inr (short, none.1) })
-refused-line old new text e is short (inr memory) = subst (RefusesHaveLine old new) (sym memory) tt
+    → RefusesAnyHave text e → RefusesNextHave old new e
+refused-line old new text e is short (inl none) = subst (RefusesNextHave old new) (sym none.0) (record { text = text; is = is; cause = inr (short, none.1) })
+refused-line old new text e is short (inr memory) = subst (RefusesNextHave old new) (sym memory) tt
 
--- Why no line of a question is read is why the next question is not answered.
-pub refused-further : (config : Configuration) (old new : Option (List ℕ)) (e : SyncError) → RefusesHaveLine old new e → RefusesFurther config old e
+-- Why no line of a have is read is why the next have is not answered.
+pub refused-further : (config : Configuration) (old new : Option (List ℕ)) (e : SyncError) → RefusesNextHave old new e → RefusesFurther config old e
 refused-further config old new BadHeader h = (new, record { text = h.text; is = h.is; cause = h.cause })
 refused-further config old new ConfigDiffers h = absurd h
 refused-further config old new VersionDiffers h = absurd h
@@ -43,19 +43,19 @@ refused-further config old new (Refused n why) h = h
 refused-further config old new Io h = tt
 refused-further config old new NoMemory h = tt
 
--- A question of another configuration, format or number of buckets is not answered.
+-- A have of another configuration, format or number of buckets is not answered.
 pub unsupported-further : (config : Configuration) (old new : Option (List ℕ)) (a : VersionedHave) (e : SyncError)
-    → HasAsked old new a → RefusesVersionedHave config a e → RefusesFurther config old e
+    → HasHaveLine old new a → RefusesVersionedHave config a e → RefusesFurther config old e
 unsupported-further config old new a BadHeader h r = absurd r
 unsupported-further config old new a ConfigDiffers h r =
-    (new, record { text = h.text; is = h.is; cause = inr (h.short, record { asked = asking_by a; line = h.line; other = r }) })
+    (new, record { text = h.text; is = h.is; cause = inr (h.short, record { asked = versioned_have_says a; line = h.line; other = r }) })
 unsupported-further config old new a VersionDiffers h r = (
   new,
   record {
     text = h.text;
     is = h.is;
     cause =
-        inr (h.short, record { asked = asking_by a; line = h.line; own = r.0; unsupported = r.1 });
+        inr (h.short, record { asked = versioned_have_says a; line = h.line; own = r.0; unsupported = r.1 });
   },
 )
 unsupported-further config old new a (NotCanonical n) h r = r
@@ -72,29 +72,29 @@ unsupported-further config old new a NoMemory h r = tt
 one-more : {X : Type 0} (f : X → List ℕ) (xs : List X) (x : X) → flat_map f xs ++ f x ≡ flat_map f (xs ++ x ∷ [])
 one-more f xs x = ap (λ t. flat_map f xs ++ t) (sym (append-nil (f x))) ∙ sym (flat_map-append f xs (x ∷ []))
 
--- what is written to a question
-abbrev answered : Meaning → Question → List ℕ
-answered m q = reply_text (reply_of m q)
+-- what is written to a have
+abbrev answered : Meaning → HaveMessage → List ℕ
+answered m q = give_text (give_of m q)
 
--- One question more of the stream.
-asks-more : (m : Meaning) (stream left next : Option (List ℕ)) (questions : List Question) (q : Question)
-    → Asks m.config stream questions left → IsQuestionOf m.config q → Consumes left next (question_text q)
-    → Asks m.config stream (questions ++ q ∷ []) next
-asks-more m stream left next questions q asks own text = record {
-  each = all_append (IsQuestionOf m.config) questions (q ∷ []) asks.each (own, tt);
-  text = subst (Consumes stream next) (one-more question_text questions q)
-      (Consumes-trans stream left next (flat_map question_text questions) (question_text q) asks.text text);
+-- One have more of the stream.
+asks-more : (m : Meaning) (stream left next : Option (List ℕ)) (haves : List HaveMessage) (q : HaveMessage)
+    → BeginsWithHaves m.config stream haves left → IsHaveOf m.config q → Consumes left next (have_text q)
+    → BeginsWithHaves m.config stream (haves ++ q ∷ []) next
+asks-more m stream left next haves q asks own text = record {
+  each = all_append (IsHaveOf m.config) haves (q ∷ []) asks.each (own, tt);
+  text = subst (Consumes stream next) (one-more have_text haves q)
+      (Consumes-trans stream left next (flat_map have_text haves) (have_text q) asks.text text);
 }
 
--- The step of the loop: one question more is answered.
+-- The step of the loop: one have more is answered.
 pub served-more : (m : Meaning) (stream left next old now new : Option (List ℕ)) (count : ℕ)
     → Served m stream left old now count → ServesOne m left next now new → Served m stream next old new (count + 1)
 served-more m stream left next old now new count s one = record {
-  questions = s.questions ++ one.question ∷ [];
-  asks = asks-more m stream left next s.questions one.question s.asks one.own one.text;
-  number = let so_far = s.number in let both = length-append s.questions (one.question ∷ []) in omega (arith, so_far, both);
-  written = subst (Appends old new) (one-more (answered m) s.questions one.question)
-      (Appends-trans old now new (replies_text m s.questions) (answered m one.question) s.written one.written);
+  haves = s.haves ++ one.have ∷ [];
+  asks = asks-more m stream left next s.haves one.have s.asks one.own one.text;
+  number = let so_far = s.number in let both = length-append s.haves (one.have ∷ []) in omega (arith, so_far, both);
+  written = subst (Appends old new) (one-more (answered m) s.haves one.have)
+      (Appends-trans old now new (gives_text m s.haves) (answered m one.have) s.written one.written);
 }
 
 -- What was written, and then nothing, is what was written.
@@ -119,29 +119,29 @@ is-written Io old new text all = begins-whole old new text all
 is-written NoMemory old new text all = begins-whole old new text all
 
 -- Where the device failed, or memory ran out, a beginning of what was due is written.
-served-fault : (m : Meaning) (stream next old new : Option (List ℕ)) (e : SyncError) (questions : List Question)
-    → Asks m.config stream questions next → AppendsBeginning old new (replies_text m questions)
+served-fault : (m : Meaning) (stream next old new : Option (List ℕ)) (e : SyncError) (haves : List HaveMessage)
+    → BeginsWithHaves m.config stream haves next → AppendsBeginning old new (gives_text m haves)
     → (e ≡ Io) ⊎ (e ≡ NoMemory)
     → ServesUpTo (session_run stream old new) m e
-served-fault m stream next old new e questions asks begun (inl io) =
-    subst (ServesUpTo (session_run stream old new) m) (sym io) (record { questions = questions; left = next; asks = asks; cause = tt; written = begun })
-served-fault m stream next old new e questions asks begun (inr memory) =
-    subst (ServesUpTo (session_run stream old new) m) (sym memory) (record { questions = questions; left = next; asks = asks; cause = tt; written = begun })
+served-fault m stream next old new e haves asks begun (inl io) =
+    subst (ServesUpTo (session_run stream old new) m) (sym io) (record { haves = haves; left = next; asks = asks; cause = tt; written = begun })
+served-fault m stream next old new e haves asks begun (inr memory) =
+    subst (ServesUpTo (session_run stream old new) m) (sym memory) (record { haves = haves; left = next; asks = asks; cause = tt; written = begun })
 
--- The exit of the loop: the next question was not read, or not answered to its end.
+-- The exit of the loop: the next have was not read, or not answered to its end.
 pub served-up-to : (m : Meaning) (stream left next old now new : Option (List ℕ)) (count : ℕ) (e : SyncError)
     → Served m stream left old now count → FailsReading m left now new e ⊎ FailsWriting m left next now new e
     → ServesUpTo (session_run stream old new) m e
 served-up-to m stream left next old now new count e s (inl fails) = record {
-  questions = s.questions;
+  haves = s.haves;
   left = left;
   asks = s.asks;
   cause = fails.cause;
   written = is-written e old new _ (and-nothing old now new _ s.written fails.nothing);
 }
 served-up-to m stream left next old now new count e s (inr fails) =
-    served-fault m stream next old new e (s.questions ++ fails.question ∷ [])
-    (asks-more m stream left next s.questions fails.question s.asks fails.own fails.text)
-    (subst (AppendsBeginning old new) (one-more (answered m) s.questions fails.question)
-    (begins-second old now new (replies_text m s.questions) (answered m fails.question) s.written fails.begun))
+    served-fault m stream next old new e (s.haves ++ fails.have ∷ [])
+    (asks-more m stream left next s.haves fails.have s.asks fails.own fails.text)
+    (subst (AppendsBeginning old new) (one-more (answered m) s.haves fails.have)
+    (begins-second old now new (gives_text m s.haves) (answered m fails.have) s.written fails.begun))
     fails.cause

@@ -16,7 +16,7 @@ use Rattle.replica_core.specs.declared.error.SyncError.{SyncError}
 use Rattle.replica_core.specs.declared.error.SyncError.TheVariants.{BadHeader, ConfigDiffers, VersionDiffers, NotCanonical, NotRising, BadCount, Truncated}
 use Rattle.replica_core.specs.declared.error.SyncError.TheVariants.{Refused, Io, NoMemory}
 use Rattle.replica_core.proofs.FitFacts.{fits_right}
-use Rattle.replica_sync.specs.Entries.{RefusesEntryLine}
+use Rattle.replica_sync.specs.Entries.{RefusesEntryLine, placed_line}
 use Rattle.replica_sync.specs.Snapshots.{Begins, HasBadFirst, HasBadLine, HasFaultAfter, HasMoreAfter, FitsFormat, RefusesFirst, RefusesHeader, RefusesNext}
 use Rattle.replica_sync.specs.Snapshots.{RefusesPlace, RefusesSnapshot, count_line, digits_of, ended, header_line, held_lines, last_line, next_number}
 use Rattle.replica_sync.specs.Snapshots.{text_of_lines, wanted_of}
@@ -120,7 +120,7 @@ one-refusal m (AReceipt r) OtherConfig w is l k p q = absurd p
 module _ (format : Format) (m : Meaning) (is : IsConfiguration m.config) (text : List ℕ) where
   -- what is wrong with the line, where it does not begin as the last one
   abbrev LineCause : SyncError → Type 0
-  LineCause e = RefusesEntryLine (wanted_of format) m (last_line m) (next_number m) text e
+  LineCause e = RefusesEntryLine m (placed_line (wanted_of format) (last_line m) (next_number m) text) e
 
   -- A line has one such fault at most.
   one-line-cause : (d e : SyncError) → d ≢ NoMemory → e ≢ NoMemory → LineCause d → LineCause e → d ≡ e

@@ -12,7 +12,7 @@ use Rattle.replica_core.specs.declared.error.SyncError.{SyncError}
 use Rattle.replica_core.specs.declared.error.SyncError.TheVariants.{BadHeader, ConfigDiffers, VersionDiffers, NotCanonical, NotRising, BadCount, Truncated}
 use Rattle.replica_core.specs.declared.error.SyncError.TheVariants.{Refused, Io, NoMemory}
 use Rattle.replica_sync.specs.declared.entry_line.Wanted.TheVariants.{Either}
-use Rattle.replica_sync.specs.Entries.{IsAbove, IsRefused, RefusesEntryLine, entry_line}
+use Rattle.replica_sync.specs.Entries.{IsAbove, IsRefused, RefusesEntryLine, entry_line, placed_line}
 use Rattle.replica_sync.specs.Inside.EntrySteps.{HasRefusedLine, TakesEntryText}
 use Rattle.replica_sync.specs.declared.format.Format.TheVariants.{Second}
 use Rattle.replica_sync.specs.Snapshots.{header_line}
@@ -36,7 +36,7 @@ refused_alone : (m : Meaning) (text : List ℕ) (why : TakeError) → IsRefused 
 refused_alone m text why h = record { entry = h.entry; is = h.next.is; cause = h.cause }
 
 -- The causes are those of a line alone; the first of all lines rises.
-sole_cause : (m : Meaning) (number : ℕ) (text : List ℕ) (e : SyncError) → RefusesEntryLine Either m [] number text e
+sole_cause : (m : Meaning) (number : ℕ) (text : List ℕ) (e : SyncError) → RefusesEntryLine m (placed_line Either [] number text) e
     → RefusesSoleLine m number text e
 sole_cause m number text BadHeader h = h
 sole_cause m number text ConfigDiffers h = h

@@ -3,10 +3,10 @@
 use Rattle.std.proofs.Common.{◌≡◌, [], ◌∷◌, Some, None, codes, refl}
 use Rattle.std.specs.Fmt.{digits}
 use Rattle.hex.specs.Hex.{encode_with}
-use Rattle.replica_core.specs.Session.{Question}
+use Rattle.replica_core.specs.Session.{HaveMessage}
 use Rattle.replica_sync.specs.declared.format.Format.TheVariants.{First, Second}
 use Rattle.replica_sync.specs.Snapshots.{header_of, count_of}
-use Rattle.replica_sync.specs.Messages.{asked_text, give_header_text, question_text, reply_text}
+use Rattle.replica_sync.specs.Messages.{any_have_text, give_header_text, have_text, give_text}
 
 -- ---- snapshots
 
@@ -25,45 +25,45 @@ pub last_line_without_records : count_of First 2 0 ≡ codes "{\"count\":2}"
 unfolding count_of digits
 last_line_without_records = refl
 
--- ---- questions
+-- ---- haves
 
--- a question that names no ids
-abbrev asks_nothing : Question
-asks_nothing = record { bucket = 0; config = 18 ∷ 171 ∷ []; ids = [] }
+-- a have that names no ids
+abbrev have_of_nothing : HaveMessage
+have_of_nothing = record { bucket = 0; config = 18 ∷ 171 ∷ []; ids = [] }
 
--- a question that names two ids
-abbrev names_two : Question
+-- a have that names two ids
+abbrev names_two : HaveMessage
 names_two = record { bucket = 97; config = 18 ∷ 171 ∷ []; ids = (1 ∷ 35 ∷ []) ∷ (255 ∷ 0 ∷ []) ∷ [] }
 
 -- one line, with its line feed
-pub question_without_ids : question_text asks_nothing ≡ codes "{\"bucket\":0,\"config\":\"12ab\",\"format\":2,\"have\":[],\"of\":256}\n"
-unfolding asked_text digits encode_with
-question_without_ids = refl
+pub have_without_ids : have_text have_of_nothing ≡ codes "{\"bucket\":0,\"config\":\"12ab\",\"format\":2,\"have\":[],\"of\":256}\n"
+unfolding any_have_text digits encode_with
+have_without_ids = refl
 
 -- ids in quotes, a comma between them
-pub question_with_ids : question_text names_two ≡ codes "{\"bucket\":97,\"config\":\"12ab\",\"format\":2,\"have\":[\"0123\",\"ff00\"],\"of\":256}\n"
-unfolding asked_text digits encode_with
-question_with_ids = refl
+pub have_with_ids : have_text names_two ≡ codes "{\"bucket\":97,\"config\":\"12ab\",\"format\":2,\"have\":[\"0123\",\"ff00\"],\"of\":256}\n"
+unfolding any_have_text digits encode_with
+have_with_ids = refl
 
 -- Another format, and another number of buckets, make another line.
-pub question_of_one_bucket : asked_text (record { question = asks_nothing; format = 1; buckets = 1 })
+pub have_of_one_bucket : any_have_text (record { have = have_of_nothing; format = 1; buckets = 1 })
     ≡ codes "{\"bucket\":0,\"config\":\"12ab\",\"format\":1,\"have\":[],\"of\":1}"
-unfolding asked_text digits encode_with
-question_of_one_bucket = refl
+unfolding any_have_text digits encode_with
+have_of_one_bucket = refl
 
 -- ---- answers
 
 -- an answer with nothing to give is its first line
-pub empty_answer : reply_text (record { bucket = 255; config = 18 ∷ 171 ∷ []; content = record { held = []; records = [] } })
+pub empty_give : give_text (record { bucket = 255; config = 18 ∷ 171 ∷ []; content = record { held = []; records = [] } })
     ≡ codes "{\"bucket\":255,\"config\":\"12ab\",\"count\":0,\"distrusts\":0,\"format\":2,\"of\":256}\n"
 unfolding give_header_text digits encode_with
-empty_answer = refl
+empty_give = refl
 
 -- receipts are counted before records
-pub first_line_of_an_answer : give_header_text (record { bucket = 97; config = 18 ∷ 171 ∷ []; count = 2; distrusts = Some 1; format = 2; buckets = 256 })
+pub first_line_of_a_give : give_header_text (record { bucket = 97; config = 18 ∷ 171 ∷ []; count = 2; distrusts = Some 1; format = 2; buckets = 256 })
     ≡ codes "{\"bucket\":97,\"config\":\"12ab\",\"count\":2,\"distrusts\":1,\"format\":2,\"of\":256}"
 unfolding give_header_text digits encode_with
-first_line_of_an_answer = refl
+first_line_of_a_give = refl
 
 -- The first format has no number of records.
 pub first_line_without_records : give_header_text (record { bucket = 0; config = 18 ∷ 171 ∷ []; count = 2; distrusts = None; format = 1; buckets = 1 })

@@ -10,7 +10,7 @@ use Rattle.replica_core.specs.Session.{state_of}
 use Rattle.std.proofs.KnownBytes.{Consumes-nil}
 use Rattle.replica_core.proofs.RisingListFacts.{rising_nil}
 use Rattle.replica_sync.specs.Snapshots.{last_of, text_of_lines}
-use Rattle.replica_sync.specs.Entries.{IsWanted, RefusesEntryLine, entry_line}
+use Rattle.replica_sync.specs.Entries.{IsWanted, RefusesEntryLine, entry_line, placed_line}
 use Rattle.replica_sync.specs.Inside.EntrySteps.{TakesEntryText}
 use Rattle.replica_core.specs.Absorbing.{with_entry}
 use Rattle.replica_core.specs.declared.entry.Entry.{Entry}
@@ -21,7 +21,7 @@ use Rattle.replica_core.specs.declared.error.SyncError.{SyncError}
 use Rattle.replica_core.specs.declared.error.SyncError.TheVariants.{BadHeader, ConfigDiffers, VersionDiffers, NotCanonical, NotRising, BadCount, Truncated}
 use Rattle.replica_core.specs.declared.error.SyncError.TheVariants.{Refused, Io, NoMemory}
 use Rattle.replica_sync.proofs.HeldFacts.{text_cmp, last_pushed}
-use Rattle.replica_sync.specs.Answers.{content_lines, IsBegun, IsContent, RefusesNextEntry, Wants, next_entry_number}
+use Rattle.replica_sync.specs.Gives.{content_lines, IsBegun, IsContent, RefusesNextEntry, Wants, next_entry_number}
 use Rattle.replica_sync.specs.Inside.Gathering.{pushed}
 use Rattle.replica_sync.specs.Pulling.{refused_line}
 use Rattle.replica_sync.specs.Inside.Taking.{meaning_gained, HasNotTaken, HasTakenPart, IsNextOf, RefusesTakingLine, StopsWithin, TakenSoFar, TakesNext}
@@ -193,12 +193,12 @@ so_far_more wanted old stream count distrusts first receipts records receipts_th
 
 -- The cause of a refusal, for an equal meaning, last line and number.
 cause_at : (wanted : Wanted) (m now : Meaning) (before last : List ℕ) (next number : ℕ) (text : List ℕ) (e : SyncError)
-    → now ≡ m → last ≡ before → number ≡ next → RefusesEntryLine wanted now last number text e
-    → RefusesEntryLine wanted m before next text e
+    → now ≡ m → last ≡ before → number ≡ next → RefusesEntryLine now (placed_line wanted last number text) e
+    → RefusesEntryLine m (placed_line wanted before next text) e
 cause_at wanted m now before last next number text e p q r h =
-    subst (λ (x : Meaning). RefusesEntryLine wanted x before next text e) p
-    (subst (λ (l : List ℕ). RefusesEntryLine wanted now l next text e) q
-    (subst (λ (n : ℕ). RefusesEntryLine wanted now last n text e) r h))
+    subst (λ (x : Meaning). RefusesEntryLine x (placed_line wanted before next text) e) p
+    (subst (λ (l : List ℕ). RefusesEntryLine now (placed_line wanted l next text) e) q
+    (subst (λ (n : ℕ). RefusesEntryLine now (placed_line wanted last n text) e) r h))
 
 -- Why the next line is not taken is why the answer is not read on.
 bad_next : (wanted : Wanted) (old : Meaning) (first count distrusts : ℕ) (content : State) (now : Meaning)

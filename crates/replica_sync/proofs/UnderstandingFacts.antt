@@ -21,89 +21,89 @@ use Rattle.receipt_core.proofs.RisingFacts.{Has, IsExactOn, all_from_has, each_h
 use Rattle.receipt_core.proofs.RisingFacts.{with_items-new, with_items-rising}
 use Rattle.closure_core.specs.declared.error.TakeError.{TakeError}
 use Rattle.replica_core.specs.State.{State, is_within_limits, joined, meaning_of_state}
-use Rattle.replica_core.specs.Session.{Question, Reply, reply_of, state_of}
+use Rattle.replica_core.specs.Session.{HaveMessage, GiveMessage, give_of, state_of}
 use Rattle.replica_core.specs.declared.error.SyncError.{SyncError}
 use Rattle.replica_core.specs.declared.error.SyncError.TheVariants.{BadHeader, ConfigDiffers, VersionDiffers, NotCanonical, NotRising, BadCount, Truncated}
 use Rattle.replica_core.specs.declared.error.SyncError.TheVariants.{Refused, Io, NoMemory}
 use Rattle.replica_sync.specs.SessionRun.{known_run, session_run}
 use Rattle.replica_sync.specs.declared.pulling.PullFault.{PullFault}
-use Rattle.replica_sync.specs.Messages.{question_text, reply_text}
-use Rattle.replica_sync.specs.Questions.{IsQuestionOf, IsWritten, ServesAll, ServesUpTo, replies_text}
-use Rattle.replica_sync.specs.Pulling.{AreReplies, PullsAll, PullsUpTo, Pulls, after_replies, line_count, question_in, questions_of}
-use Rattle.replica_sync.proofs.OwnMessageFacts.{answer-given, askable-question}
+use Rattle.replica_sync.specs.Messages.{have_text, give_text}
+use Rattle.replica_sync.specs.Haves.{IsHaveOf, IsWritten, ServesAll, ServesUpTo, gives_text}
+use Rattle.replica_sync.specs.Pulling.{AreGives, PullsAll, PullsUpTo, Pulls, after_gives, line_count, have_in, haves_of}
+use Rattle.replica_sync.proofs.OwnMessageFacts.{answer-given, askable-have}
 use Rattle.replica_sync.proofs.PullingFacts.{longer_with_items}
-use Rattle.replica_sync.proofs.SessionFacts.{HoldsAnswers, IsSpelling, same-questions, unpulled, unserved}
+use Rattle.replica_sync.proofs.SessionFacts.{HoldsGives, IsSpelling, same-haves, unpulled, unserved}
 use Rattle.replica_sync.proofs.WelcomeFacts.{IsRisingState, exact-receipts, exact-records, meaning-within, rising-after, rising-joined, rising-meaning}
 use Rattle.replica_sync.proofs.WelcomeFacts.{within-after, within-joined}
 
--- ---- the questions of a session
+-- ---- the haves of a session
 
--- They are questions of the configuration, one about each bucket from this one on.
-abbrev pub AskInTurn : Configuration → ℕ → List Question → Type 0
+-- They are haves of the configuration, one about each bucket from this one on.
+abbrev pub AskInTurn : Configuration → ℕ → List HaveMessage → Type 0
 AskInTurn config bucket [] = Unit {0}
-AskInTurn config bucket (q ∷ qs) = (q.bucket ≡ bucket) × (IsQuestionOf config q × AskInTurn config (bucket + 1) qs)
+AskInTurn config bucket (q ∷ qs) = (q.bucket ≡ bucket) × (IsHaveOf config q × AskInTurn config (bucket + 1) qs)
 
--- What a replica asks is a question of its configuration.
-pub own-question : (c : Configuration) (state : State) (bucket : ℕ) → IsMeaning (meaning_of_state c state) → bucket < 256
-    → IsQuestionOf c (question_in c state bucket)
-own-question c state bucket valid below = record { askable = askable-question (meaning_of_state c state) bucket valid below; own = refl }
+-- What a replica asks is a have of its configuration.
+pub own-have : (c : Configuration) (state : State) (bucket : ℕ) → IsMeaning (meaning_of_state c state) → bucket < 256
+    → IsHaveOf c (have_in c state bucket)
+own-have c state bucket valid below = record { askable = askable-have (meaning_of_state c state) bucket valid below; own = refl }
 
 -- those that were answered, and what is asked after them
-in-turn : (c : Configuration) (bucket : ℕ) (state : State) (replies : List Reply) (later : List Question) → IsRisingState state
-    → IsMeaning (meaning_of_state c (after_replies state replies)) → bucket + length replies ≤ 256
-    → AskInTurn c (bucket + length replies) later → AskInTurn c bucket (questions_of c bucket state replies ++ later)
+in-turn : (c : Configuration) (bucket : ℕ) (state : State) (gives : List GiveMessage) (later : List HaveMessage) → IsRisingState state
+    → IsMeaning (meaning_of_state c (after_gives state gives)) → bucket + length gives ≤ 256
+    → AskInTurn c (bucket + length gives) later → AskInTurn c bucket (haves_of c bucket state gives ++ later)
 in-turn c bucket state [] later rising valid few next =
     let same : bucket + 0 ≡ bucket = omega arith in
     subst (λ (b : ℕ). AskInTurn c b later) same next
-in-turn c bucket state (r ∷ replies) later rising valid few next =
-    let place : bucket + length (r ∷ replies) ≡ bucket + 1 + length replies = omega arith in (
+in-turn c bucket state (r ∷ gives) later rising valid few next =
+    let place : bucket + length (r ∷ gives) ≡ bucket + 1 + length gives = omega arith in (
       refl,
       (
-        own-question c state bucket
-            (meaning-within c state (after_replies state (r ∷ replies)) (within-after state (r ∷ replies)) rising valid) (omega (arith, few)),
-        in-turn c (bucket + 1) (joined state r.content) replies later (rising-joined state r.content rising) valid
+        own-have c state bucket
+            (meaning-within c state (after_gives state (r ∷ gives)) (within-after state (r ∷ gives)) rising valid) (omega (arith, few)),
+        in-turn c (bucket + 1) (joined state r.content) gives later (rising-joined state r.content rising) valid
             (omega (arith, few)) (subst (λ (b : ℕ). AskInTurn c b later) place next),
       ),
     )
 
 -- with another configuration of the same digest
-own-of : (c d : Configuration) (q : Question) → config_id_of c ≡ config_id_of d → IsQuestionOf c q → IsQuestionOf d q
+own-of : (c d : Configuration) (q : HaveMessage) → config_id_of c ≡ config_id_of d → IsHaveOf c q → IsHaveOf d q
 own-of c d q same is = record { askable = is.askable; own = is.own ∙ same }
 
--- Questions that are asked in turn are of each configuration with this digest.
-each-own : (c d : Configuration) (bucket : ℕ) (qs : List Question) → config_id_of c ≡ config_id_of d
-    → AskInTurn c bucket qs → AllByRecursion (IsQuestionOf d) qs
+-- Haves that are asked in turn are of each configuration with this digest.
+each-own : (c d : Configuration) (bucket : ℕ) (qs : List HaveMessage) → config_id_of c ≡ config_id_of d
+    → AskInTurn c bucket qs → AllByRecursion (IsHaveOf d) qs
 each-own c d bucket [] same h = tt
 each-own c d bucket (q ∷ qs) same h = (own-of c d q same h.1.0, each-own c d (bucket + 1) qs same h.1.1)
 
 -- ---- what a pull wrote
 
--- the questions that a pull asked which got so many answers
-abbrev pub all-asked : Meaning → List Reply → List Question
-all-asked m replies = questions_of m.config 0 (state_of m) replies
+-- the haves that a pull asked which got so many answers
+abbrev pub all-asked : Meaning → List GiveMessage → List HaveMessage
+all-asked m gives = haves_of m.config 0 (state_of m) gives
 
--- the question that was not answered to its end
-abbrev pub last-asked : Meaning → List Reply → List Question
-last-asked m replies = question_in m.config (after_replies (state_of m) replies) (length replies) ∷ []
+-- the have that was not answered to its end
+abbrev pub last-asked : Meaning → List GiveMessage → List HaveMessage
+last-asked m gives = have_in m.config (after_gives (state_of m) gives) (length gives) ∷ []
 
--- What was written are these questions, one about each bucket.
-pub record HasAskedInTurn (m : Meaning) (asked : List ℕ) (questions : List Question) : Type 0 where
-  pub each : AskInTurn m.config 0 questions
-  pub text : asked ≡ flat_map question_text questions
+-- What was written are these haves, one about each bucket.
+pub record HasAskedInTurn (m : Meaning) (asked : List ℕ) (haves : List HaveMessage) : Type 0 where
+  pub each : AskInTurn m.config 0 haves
+  pub text : asked ≡ flat_map have_text haves
 
 -- A whole pull has asked about all buckets in turn.
 pub whole-asked : (m held : Meaning) (stream : Option (List ℕ)) (asked : List ℕ) → IsMeaning m → IsMeaning held
-    → (all : PullsAll (session_run stream (Some []) (Some asked)) m held) → HasAskedInTurn m asked (all-asked m all.replies ++ [])
+    → (all : PullsAll (session_run stream (Some []) (Some asked)) m held) → HasAskedInTurn m asked (all-asked m all.gives ++ [])
 whole-asked m held stream asked valid kept all =
     let many = all.all in
     record {
-      each = in-turn m.config 0 (state_of m) all.replies [] (rising-meaning m valid) (subst IsMeaning all.meaning kept) (omega (arith, many)) tt;
-      text = all.asked ∙ ap (flat_map question_text) (sym (append-none (all-asked m all.replies)));
+      each = in-turn m.config 0 (state_of m) all.gives [] (rising-meaning m valid) (subst IsMeaning all.meaning kept) (omega (arith, many)) tt;
+      text = all.asked ∙ ap (flat_map have_text) (sym (append-none (all-asked m all.gives)));
     }
   where
-    append-none : (qs : List Question) → qs ++ [] ≡ qs
+    append-none : (qs : List HaveMessage) → qs ++ [] ≡ qs
     append-none [] = refl
-    append-none (q ∷ qs) = ap (λ (rest : List Question). q ∷ rest) (append-none qs)
+    append-none (q ∷ qs) = ap (λ (rest : List HaveMessage). q ∷ rest) (append-none qs)
 
 -- where neither a device nor memory failed, all that was due is written
 written-whole : (e : SyncError) (old new : Option (List ℕ)) (text : List ℕ) → e ≢ Io → e ≢ NoMemory → IsWritten e old new text → Appends old new text
@@ -121,27 +121,27 @@ written-whole NoMemory old new text calm ample h = absurd (ample refl)
 -- A pull that broke off has asked about the first buckets in turn.
 pub part-asked : (m held : Meaning) (stream : Option (List ℕ)) (asked : List ℕ) (e : SyncError) → IsMeaning m → IsMeaning held
     → e ≢ Io → e ≢ NoMemory → (part : PullsUpTo (session_run stream (Some []) (Some asked)) m held e)
-    → HasAskedInTurn m asked (all-asked m part.replies ++ last-asked m part.replies)
+    → HasAskedInTurn m asked (all-asked m part.gives ++ last-asked m part.gives)
 part-asked m held stream asked e valid kept calm ample part =
     let few = part.few in
-    let state = after_replies (state_of m) part.replies in
+    let state = after_gives (state_of m) part.gives in
     let here = meaning-within m.config state (joined state part.content) (within-joined state part.content)
-    (rising-after (state_of m) part.replies (rising-meaning m valid)) (subst IsMeaning part.meaning kept) in
-    let place : 0 + length part.replies ≡ length part.replies = omega arith in
+    (rising-after (state_of m) part.gives (rising-meaning m valid)) (subst IsMeaning part.meaning kept) in
+    let place : 0 + length part.gives ≡ length part.gives = omega arith in
     record {
-      each = in-turn m.config 0 (state_of m) part.replies (last-asked m part.replies) (rising-meaning m valid) here (omega (arith, few))
-          (sym place, (own-question m.config state (length part.replies) here few, tt));
+      each = in-turn m.config 0 (state_of m) part.gives (last-asked m part.gives) (rising-meaning m valid) here (omega (arith, few))
+          (sym place, (own-have m.config state (length part.gives) here few, tt));
       text = written-whole e (Some []) (Some asked) _ calm ample part.asked;
     }
 
 -- ---- what is served
 
--- the questions of a pull are served without a fault
-asked-served : (m k : Meaning) (asked : List ℕ) (questions : List Question) (before after : Option (List ℕ)) (e : SyncError)
-    → config_id_of m.config ≡ config_id_of k.config → HasAskedInTurn m asked questions
+-- the haves of a pull are served without a fault
+asked-served : (m k : Meaning) (asked : List ℕ) (haves : List HaveMessage) (before after : Option (List ℕ)) (e : SyncError)
+    → config_id_of m.config ≡ config_id_of k.config → HasAskedInTurn m asked haves
     → e ≢ Io → e ≢ NoMemory → ServesUpTo (session_run (Some asked) before after) k e → ⊥
-asked-served m k asked questions before after e same asks calm ample part =
-    unserved k.config asked questions part.questions part.left e (each-own m.config k.config 0 questions same asks.each)
+asked-served m k asked haves before after e same asks calm ample part =
+    unserved k.config asked haves part.haves part.left e (each-own m.config k.config 0 haves same asks.each)
     part.asks.each asks.text part.asks.text calm ample part.cause
 
 -- A session that serves what a pull wrote has no fault.
@@ -150,63 +150,63 @@ pub pull-served : (m k held : Meaning) (stream : Option (List ℕ)) (asked : Lis
     → IfErr result (λ fault. (fault.why ≢ Io) × (fault.why ≢ NoMemory)) → Pulls (session_run stream (Some []) (Some asked)) m held result
     → e ≢ Io → e ≢ NoMemory → ServesUpTo (session_run (Some asked) before after) k e → ⊥
 pull-served m k held stream asked (Ok count) before after e valid kept same fine pulls calm ample part =
-    asked-served m k asked (all-asked m pulls.0.replies ++ []) before after e same
+    asked-served m k asked (all-asked m pulls.0.gives ++ []) before after e same
     (whole-asked m held stream asked valid kept pulls.0) calm ample part
 pull-served m k held stream asked (Err fault) before after e valid kept same fine pulls calm ample part =
-    asked-served m k asked (all-asked m pulls.0.replies ++ last-asked m pulls.0.replies) before after e same
+    asked-served m k asked (all-asked m pulls.0.gives ++ last-asked m pulls.0.gives) before after e same
     (part-asked m held stream asked fault.why valid kept fine.0 fine.1 pulls.0) calm ample part
 
 -- ---- what is answered
 
--- what the other side answers to the questions
-abbrev pub all-replies : Meaning → List Question → List Reply
-all-replies k questions = map (reply_of k) questions
+-- what the other side answers to the haves
+abbrev pub all-gives : Meaning → List HaveMessage → List GiveMessage
+all-gives k haves = map (give_of k) haves
 
--- what is answered to the questions of a session are the answers that it wants
-pub replies-in-turn : (c : Configuration) (k : Meaning) (bucket : ℕ) (qs : List Question) → IsMeaning k
-    → config_id_of k.config ≡ config_id_of c → AskInTurn c bucket qs → AreReplies c bucket (all-replies k qs)
-replies-in-turn c k bucket [] valid same h = tt
-replies-in-turn c k bucket (q ∷ qs) valid same h = (
-  record { own = same; about = h.0; answer = answer-given k q valid h.1.0.askable },
-  replies-in-turn c k (bucket + 1) qs valid same h.1.1,
+-- what is answered to the haves of a session are the answers that it wants
+pub gives-in-turn : (c : Configuration) (k : Meaning) (bucket : ℕ) (qs : List HaveMessage) → IsMeaning k
+    → config_id_of k.config ≡ config_id_of c → AskInTurn c bucket qs → AreGives c bucket (all-gives k qs)
+gives-in-turn c k bucket [] valid same h = tt
+gives-in-turn c k bucket (q ∷ qs) valid same h = (
+  record { own = same; about = h.0; form = answer-given k q valid h.1.0.askable },
+  gives-in-turn c k (bucket + 1) qs valid same h.1.1,
 )
 
--- What was answered to the questions that a pull wrote, are the texts of the answers to them.
-pub replied-is : (m k : Meaning) (asked replied : List ℕ) (count : ℕ) (questions : List Question)
-    → config_id_of m.config ≡ config_id_of k.config → HasAskedInTurn m asked questions
-    → ServesAll (known_run asked replied) k count → replied ≡ flat_map reply_text (all-replies k questions)
-replied-is m k asked replied count questions same asks all =
-    let one = same-questions k.config questions all.questions (each-own m.config k.config 0 questions same asks.each) all.each
+-- What was answered to the haves that a pull wrote, are the texts of the answers to them.
+pub replied-is : (m k : Meaning) (asked replied : List ℕ) (count : ℕ) (haves : List HaveMessage)
+    → config_id_of m.config ≡ config_id_of k.config → HasAskedInTurn m asked haves
+    → ServesAll (known_run asked replied) k count → replied ≡ flat_map give_text (all-gives k haves)
+replied-is m k asked replied count haves same asks all =
+    let one = same-haves k.config haves all.haves (each-own m.config k.config 0 haves same asks.each) all.each
     (sym asks.text ∙ all.text) in
-    all.written ∙ ap (replies_text k) (sym one) ∙ sym (flat_map-map reply_text (reply_of k) questions)
+    all.written ∙ ap (gives_text k) (sym one) ∙ sym (flat_map-map give_text (give_of k) haves)
 
--- There are as many questions as replies.
-pub length-asked : (c : Configuration) (bucket : ℕ) (state : State) (rs : List Reply) → length (questions_of c bucket state rs) ≡ length rs
+-- There are as many haves as gives.
+pub length-asked : (c : Configuration) (bucket : ℕ) (state : State) (rs : List GiveMessage) → length (haves_of c bucket state rs) ≡ length rs
 length-asked c bucket state [] = refl
 length-asked c bucket state (r ∷ rs) = let later = length-asked c (bucket + 1) (joined state r.content) rs in omega (arith, later)
 
--- A pull that broke off had a reply to its last question, or had none.
+-- A pull that broke off had a give to its last have, or had none.
 answered-or-not : (m k held : Meaning) (asked replied rest : List ℕ) (count : ℕ) (e : SyncError)
     → IsMeaning m → IsMeaning k → IsMeaning held → config_id_of m.config ≡ config_id_of k.config
     → ServesAll (known_run asked replied) k count → (part : PullsUpTo (known_run (replied ++ rest) asked) m held e)
     → e ≢ Io → e ≢ NoMemory
-    → IsSpelling e ⊎ HoldsAnswers m.config (state_of m) (after_replies (state_of m) part.replies)
-    (all-replies k (all-asked m part.replies ++ last-asked m part.replies)) part.replies → ⊥
+    → IsSpelling e ⊎ HoldsGives m.config (state_of m) (after_gives (state_of m) part.gives)
+    (all-gives k (all-asked m part.gives ++ last-asked m part.gives)) part.gives → ⊥
 answered-or-not m k held asked replied rest count e valid other kept same all part calm ample fine =
-    let replies = part.replies in
-    let questions = all-asked m replies ++ last-asked m replies in
+    let gives = part.gives in
+    let haves = all-asked m gives ++ last-asked m gives in
     let asks = part-asked m held (Some (replied ++ rest)) asked e valid kept calm ample part in
-    let text = replied-is m k asked replied count questions same asks all in
-    let many = length-map questions (reply_of k) in
-    let both = length-append (all-asked m replies) (last-asked m replies) in
-    let each = length-asked m.config 0 (state_of m) replies in
-    unpulled m.config (state_of m) (after_replies (state_of m) replies) (replied ++ rest) (line_count replies + 1) part.content
-    (all-replies k questions) replies (Some rest) part.left e
-    (replies-in-turn m.config k 0 questions other (sym same) asks.each) part.session.each
+    let text = replied-is m k asked replied count haves same asks all in
+    let many = length-map haves (give_of k) in
+    let both = length-append (all-asked m gives) (last-asked m gives) in
+    let each = length-asked m.config 0 (state_of m) gives in
+    unpulled m.config (state_of m) (after_gives (state_of m) gives) (replied ++ rest) (line_count gives + 1) part.content
+    (all-gives k haves) gives (Some rest) part.left e
+    (gives-in-turn m.config k 0 haves other (sym same) asks.each) part.session.each
     (omega (arith, many, both, each))
     (ap (λ (t : List ℕ). t ++ rest) text) part.session.text calm ample fine part.cause
 
--- A pull that reads what is answered to its questions has no fault, but that what a line says is refused.
+-- A pull that reads what is answered to its haves has no fault, but that what a line says is refused.
 pub answered-pulled : (m k held : Meaning) (asked replied rest : List ℕ) (count : ℕ) (e : SyncError)
     → IsMeaning m → IsMeaning k → IsMeaning held → config_id_of m.config ≡ config_id_of k.config
     → ServesAll (known_run asked replied) k count → PullsUpTo (known_run (replied ++ rest) asked) m held e
@@ -227,24 +227,24 @@ filter-has p [] a h = h
 filter-has p (x ∷ xs) a h = filter-kept (p x) x xs (filter p xs) a (filter-has p xs a) h
 
 -- what is held after answers of the other was held by one of both
-pub receipt-of-either : (state : State) (k : Meaning) (qs : List Question) (r : Receipt)
-    → Has (after_replies state (all-replies k qs)).held r → Has state.held r ⊎ Has k.held r
+pub receipt-of-either : (state : State) (k : Meaning) (qs : List HaveMessage) (r : Receipt)
+    → Has (after_gives state (all-gives k qs)).held r → Has state.held r ⊎ Has k.held r
 receipt-of-either state k [] r h = inl h
 receipt-of-either state k (q ∷ qs) r h =
-    elim (receipt-of-either (joined state (reply_of k q).content) k qs r h) [
-      | inl here ↦ elim (with_items-has receipt_cmp (reply_of k q).content.held state.held r here) [
+    elim (receipt-of-either (joined state (give_of k q).content) k qs r h) [
+      | inl here ↦ elim (with_items-has receipt_cmp (give_of k q).content.held state.held r here) [
         | inl new ↦ inr (filter-has _ k.held r new)
         | inr old ↦ inl old
       ]
       | inr there ↦ inr there
     ]
 
--- A record that is held after replies was held before, or the other side holds it.
-pub record-of-either : (state : State) (k : Meaning) (qs : List Question) (x : Distrust)
-    → Has (after_replies state (all-replies k qs)).records x → Has state.records x ⊎ Has k.records x
+-- A record that is held after gives was held before, or the other side holds it.
+pub record-of-either : (state : State) (k : Meaning) (qs : List HaveMessage) (x : Distrust)
+    → Has (after_gives state (all-gives k qs)).records x → Has state.records x ⊎ Has k.records x
 record-of-either state k [] x h = inl h
 record-of-either state k (q ∷ qs) x h =
-    elim (record-of-either (joined state (reply_of k q).content) k qs x h) [
+    elim (record-of-either (joined state (give_of k q).content) k qs x h) [
       | inl here ↦ elim (with_items-has distrust_cmp k.records state.records x here) [ inl new ↦ inr new | inr old ↦ inl old ]
       | inr there ↦ inr there
     ]
@@ -263,15 +263,15 @@ no-longer-than P cmp total exact xs ys p q allxs allys part =
     omega (arith, longer, equal)
 
 module _ (m k : Meaning) (valid : IsMeaning m) (other : IsMeaning k) (same : m.config ≡ k.config)
-    (room : is_within_limits (joined (state_of m) (state_of k)) ≡ true) (qs : List Question) where
+    (room : is_within_limits (joined (state_of m) (state_of k)) ≡ true) (qs : List HaveMessage) where
   abbrev then : State
-  then = after_replies (state_of m) (all-replies k qs)
+  then = after_gives (state_of m) (all-gives k qs)
 
   abbrev both : State
   both = joined (state_of m) (state_of k)
 
   rising-then : IsRisingState then
-  rising-then = rising-after (state_of m) (all-replies k qs) (rising-meaning m valid)
+  rising-then = rising-after (state_of m) (all-gives k qs) (rising-meaning m valid)
 
   rising-both : IsRisingState both
   rising-both = rising-joined (state_of m) (state_of k) (rising-meaning m valid)
@@ -335,6 +335,6 @@ answered-taken m k held asked replied rest count e configured valid other kept s
     (inr (record {
       configured = configured;
       rising = rising-meaning m valid;
-      valid = meaning-then m k valid other same room (all-asked m part.replies ++ last-asked m part.replies);
+      valid = meaning-then m k valid other same room (all-asked m part.gives ++ last-asked m part.gives);
       at = refl;
     }))

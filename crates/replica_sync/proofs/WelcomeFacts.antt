@@ -16,7 +16,7 @@ use Rattle.receipt_core.proofs.RisingFacts.{with_items-new, with_items-rising}
 use Rattle.closure_core.specs.declared.error.TakeError.{TakeError}
 use Rattle.closure_core.specs.declared.error.TakeError.TheVariants.{UnknownDomain, WrongEndpoint, Full, ConfigDiffers as OtherConfig, NoMemory as NoTakeMemory}
 use Rattle.replica_core.specs.State.{State, joined, meaning_of_state}
-use Rattle.replica_core.specs.Session.{Reply, state_of}
+use Rattle.replica_core.specs.Session.{GiveMessage, state_of}
 use Rattle.replica_core.specs.Absorbing.{RefusesEntry}
 use Rattle.replica_core.specs.declared.entry.Entry.{Entry}
 use Rattle.replica_core.specs.declared.entry.Entry.TheVariants.{Record, Receipt as AReceipt}
@@ -24,8 +24,8 @@ use Rattle.replica_core.proofs.FitFacts.{fits_right}
 use Rattle.replica_sync.specs.Entries.{IsRefused, IsWanted, entry_line}
 use Rattle.replica_sync.specs.declared.entry_line.Wanted.{Wanted}
 use Rattle.replica_sync.specs.declared.entry_line.Wanted.TheVariants.{Records, Receipts, Either}
-use Rattle.replica_sync.specs.Answers.{IsContent, content_lines}
-use Rattle.replica_sync.specs.Pulling.{after_replies}
+use Rattle.replica_sync.specs.Gives.{IsContent, content_lines}
+use Rattle.replica_sync.specs.Pulling.{after_gives}
 use Rattle.replica_sync.proofs.OneFacts.{apart}
 use Rattle.replica_sync.proofs.PullingFacts.{longer_with_items}
 
@@ -77,16 +77,16 @@ within-both a b c p q = record {
 }
 
 -- Replies keep the sets rising.
-pub rising-after : (state : State) (replies : List Reply) → IsRisingState state → IsRisingState (after_replies state replies)
+pub rising-after : (state : State) (gives : List GiveMessage) → IsRisingState state → IsRisingState (after_gives state gives)
 rising-after state [] rising = rising
-rising-after state (r ∷ replies) rising = rising-after (joined state r.content) replies (rising-joined state r.content rising)
+rising-after state (r ∷ gives) rising = rising-after (joined state r.content) gives (rising-joined state r.content rising)
 
--- A state is within what it is after replies.
-pub within-after : (state : State) (replies : List Reply) → IsWithin state (after_replies state replies)
+-- A state is within what it is after gives.
+pub within-after : (state : State) (gives : List GiveMessage) → IsWithin state (after_gives state gives)
 within-after state [] = within-itself state
-within-after state (r ∷ replies) =
-    within-both state (joined state r.content) (after_replies state (r ∷ replies)) (within-joined state r.content)
-    (within-after (joined state r.content) replies)
+within-after state (r ∷ gives) =
+    within-both state (joined state r.content) (after_gives state (r ∷ gives)) (within-joined state r.content)
+    (within-after (joined state r.content) gives)
 
 -- of what a replica can hold, a replica can hold each part
 pub meaning-within : (c : Configuration) (small large : State) → IsWithin small large → IsRisingState small

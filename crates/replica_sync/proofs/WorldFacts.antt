@@ -14,8 +14,8 @@ use Rattle.receipt_core.specs.Receipt.{Receipt, IsDistrust, IsReceipt, distrust_
 use Rattle.receipt_core.proofs.LineFacts.{one_line, one_record}
 use Rattle.receipt_core.specs.Acceptance.{Meaning, IsMeaning}
 use Rattle.replica_core.specs.State.{State, first_of, ids_held, is_within_limits, joined, meaning_of_state, no_state}
-use Rattle.replica_core.specs.Session.{Question, Reply, reply_of, state_of}
-use Rattle.replica_core.specs.World.{Message, Rules, World, answer, apply, gained, happens, question, replies, rules_of, run_from}
+use Rattle.replica_core.specs.Session.{HaveMessage, GiveMessage, give_of, state_of}
+use Rattle.replica_core.specs.World.{Message, Rules, World, give_sent, apply, gained, happens, have_sent, sends_give, rules_of, run_from}
 use Rattle.replica_core.specs.World.{takes_part, where_so, with_state}
 use Rattle.replica_core.specs.declared.event.Event.TheVariants.{Ask, Answer, Absorb, Part}
 use Rattle.replica_core.proofs.ContainsFacts.{get-new}
@@ -25,15 +25,15 @@ use Rattle.replica_core.specs.declared.error.SyncError.{SyncError}
 use Rattle.replica_core.specs.declared.error.SyncError.TheVariants.{Io, NoMemory}
 use Rattle.replica_sync.specs.SessionRun.{known_run}
 use Rattle.replica_sync.specs.Snapshots.{ended, text_of_lines}
-use Rattle.replica_sync.specs.Messages.{reply_text}
-use Rattle.replica_sync.specs.Answers.{AnswerBegins, content_lines}
+use Rattle.replica_sync.specs.Messages.{give_text}
+use Rattle.replica_sync.specs.Gives.{GiveBegins, content_lines}
 use Rattle.replica_sync.specs.Events.{EndsCut, Link, cut_exchange, whole_exchange, whole_exchanges}
-use Rattle.replica_sync.specs.Pulling.{AreReplies, IsReply, PullsAll, PullsUpTo, RefusesAnswer, after_replies, line_count, question_in, questions_of}
-use Rattle.replica_sync.specs.Questions.{ServesAll}
-use Rattle.replica_sync.proofs.SessionFacts.{both-replies, joined-texts, reply_texts}
-use Rattle.replica_sync.proofs.GiveFacts.{is-part, same-reply}
+use Rattle.replica_sync.specs.Pulling.{AreGives, IsGiveAbout, PullsAll, PullsUpTo, RefusesGiveAbout, after_gives, line_count, have_in, haves_of}
+use Rattle.replica_sync.specs.Haves.{ServesAll}
+use Rattle.replica_sync.proofs.SessionFacts.{both-gives, joined-texts, give_texts}
+use Rattle.replica_sync.proofs.GiveFacts.{is-part, same-give}
 use Rattle.replica_sync.proofs.OwnMessageFacts.{answer-given}
-use Rattle.replica_sync.proofs.UnderstandingFacts.{all-asked, all-replies, last-asked, length-asked, own-question, part-asked, replies-in-turn, replied-is}
+use Rattle.replica_sync.proofs.UnderstandingFacts.{all-asked, all-gives, last-asked, length-asked, own-have, part-asked, gives-in-turn, replied-is}
 use Rattle.replica_sync.proofs.UnderstandingFacts.{whole-asked}
 use Rattle.replica_sync.proofs.WelcomeFacts.{IsWithin, meaning-within, rising-after, rising-meaning, within-after, within-itself, within-joined}
 
@@ -44,7 +44,7 @@ abbrev link_of : ℕ → ℕ → Link
 link_of i j = record { puller = i; server = j }
 
 -- A replica that takes the first lines of an answer within the limits joins these.
-part-is : (rules : Rules) (w : World) (i j n k count : ℕ) (content : State) → i < rules.replicas → slice_get w.sent n ≡ Some (answer j k content)
+part-is : (rules : Rules) (w : World) (i j n k count : ℕ) (content : State) → i < rules.replicas → slice_get w.sent n ≡ Some (give_sent j k content)
     → is_within_limits (joined (w.now i) (first_of count content)) ≡ true
     → happens rules w (Part i n count) ≡ with_state w i (joined (w.now i) (first_of count content))
 part-is rules w i j n k count content l e t =
@@ -55,28 +55,28 @@ part-is rules w i j n k count content l e t =
 -- ---- one exchange
 
 module _ (rules : Rules) (i j : ℕ) (l : i < rules.replicas) (n : j < rules.replicas) (w : World) (bucket : ℕ) (low : bucket ≤ 255) where
-  abbrev the_question : Message
-  the_question = question i bucket (ids_held (w.now i) bucket)
+  abbrev the_have : Message
+  the_have = have_sent i bucket (ids_held (w.now i) bucket)
 
   abbrev the_content : State
   the_content = content_of (w.now j) bucket (ids_held (w.now i) bucket)
 
   abbrev asked_world : World
-  asked_world = with_message w the_question
+  asked_world = with_message w the_have
 
   abbrev answered_world : World
-  answered_world = with_message asked_world (answer j (length w.sent) the_content)
+  answered_world = with_message asked_world (give_sent j (length w.sent) the_content)
 
   to-answered : run_from rules w (Ask i bucket ∷ Answer j (length w.sent) ∷ []) ≡ answered_world
   to-answered =
       ap (λ (v : World). happens rules v (Answer j (length w.sent))) (asked-is rules w i bucket l low)
-      ∙ answered-is rules asked_world i j bucket (length w.sent) (ids_held (w.now i) bucket) n (get-new w.sent the_question)
+      ∙ answered-is rules asked_world i j bucket (length w.sent) (ids_held (w.now i) bucket) n (get-new w.sent the_have)
 
-  answer-there : slice_get answered_world.sent (length w.sent + 1) ≡ Some (answer j (length w.sent) the_content)
+  answer-there : slice_get answered_world.sent (length w.sent + 1) ≡ Some (give_sent j (length w.sent) the_content)
   answer-there =
-      subst (λ (k : ℕ). slice_get answered_world.sent k ≡ Some (answer j (length w.sent) the_content))
-      (length-append w.sent (the_question ∷ []))
-      (get-new (w.sent ++ the_question ∷ []) (answer j (length w.sent) the_content))
+      subst (λ (k : ℕ). slice_get answered_world.sent k ≡ Some (give_sent j (length w.sent) the_content))
+      (length-append w.sent (the_have ∷ []))
+      (get-new (w.sent ++ the_have ∷ []) (give_sent j (length w.sent) the_content))
 
   pub whole-is : is_within_limits (joined (w.now i) the_content) ≡ true
       → run_from rules w (whole_exchange (link_of i j) bucket (length w.sent)) ≡ with_state answered_world i (joined (w.now i) the_content)
@@ -92,8 +92,8 @@ module _ (rules : Rules) (i j : ℕ) (l : i < rules.replicas) (n : j < rules.rep
 
   many-sent : length answered_world.sent ≡ length w.sent + 2
   many-sent =
-      let one = length-append w.sent (the_question ∷ []) in
-      let two = length-append (w.sent ++ the_question ∷ []) (answer j (length w.sent) the_content ∷ []) in
+      let one = length-append w.sent (the_have ∷ []) in
+      let two = length-append (w.sent ++ the_have ∷ []) (give_sent j (length w.sent) the_content ∷ []) in
       omega (arith, one, two)
 
 -- ---- a session
@@ -105,9 +105,9 @@ pub record IsAt (i j : ℕ) (k : Meaning) (w : World) (state : State) (sent : �
   pub many : length w.sent ≡ sent
 
 -- each is what k answers to what is asked where those before it are held
-abbrev pub AnswersOf : Configuration → Meaning → ℕ → State → List Reply → Type 0
-AnswersOf c k bucket state [] = Unit {0}
-AnswersOf c k bucket state (r ∷ rs) = (r ≡ reply_of k (question_in c state bucket)) × AnswersOf c k (bucket + 1) (joined state r.content) rs
+abbrev pub GivesOf : Configuration → Meaning → ℕ → State → List GiveMessage → Type 0
+GivesOf c k bucket state [] = Unit {0}
+GivesOf c k bucket state (r ∷ rs) = (r ≡ give_of k (have_in c state bucket)) × GivesOf c k (bucket + 1) (joined state r.content) rs
 
 -- no more than a replica holds
 pub record IsSmall (state : State) : Type 0 where
@@ -124,15 +124,15 @@ small-within small large part is =
     and_from _ _ (le-leb (length small.held) 65536 (omega (arith, less, few)))
     (le-leb (length small.records) 4096 (omega (arith, less_records, few_records)))
 
--- What is answered in the world is what the reply has.
-same-content : (i j : ℕ) (c : Configuration) (k : Meaning) (w : World) (state : State) (sent bucket : ℕ) (r : Reply) → IsAt i j k w state sent
-    → r ≡ reply_of k (question_in c state bucket) → content_of (w.now j) bucket (ids_held (w.now i) bucket) ≡ r.content
+-- What is answered in the world is what the give has.
+same-content : (i j : ℕ) (c : Configuration) (k : Meaning) (w : World) (state : State) (sent bucket : ℕ) (r : GiveMessage) → IsAt i j k w state sent
+    → r ≡ give_of k (have_in c state bucket) → content_of (w.now j) bucket (ids_held (w.now i) bucket) ≡ r.content
 same-content i j c k w state sent bucket r at is =
-    (λ t. content_of (at.there t) bucket (ids_held (at.here t) bucket)) ∙ sym (ap (λ (a : Reply). a.content) is)
+    (λ t. content_of (at.there t) bucket (ids_held (at.here t) bucket)) ∙ sym (ap (λ (a : GiveMessage). a.content) is)
 
 module _ (rules : Rules) (i j : ℕ) (l : i < rules.replicas) (n : j < rules.replicas) (apart : j ≢ i) (c : Configuration) (k : Meaning) where
-  one-exchange : (w : World) (state : State) (sent bucket : ℕ) (r : Reply) → IsAt i j k w state sent
-      → r ≡ reply_of k (question_in c state bucket) → bucket ≤ 255 → is_within_limits (joined state r.content) ≡ true
+  one-exchange : (w : World) (state : State) (sent bucket : ℕ) (r : GiveMessage) → IsAt i j k w state sent
+      → r ≡ give_of k (have_in c state bucket) → bucket ≤ 255 → is_within_limits (joined state r.content) ≡ true
       → IsAt i j k (run_from rules w (whole_exchange (link_of i j) bucket sent)) (joined state r.content) (sent + 2)
   one-exchange w state sent bucket r at is low room =
       let content = same-content i j c k w state sent bucket r at is in
@@ -150,45 +150,45 @@ module _ (rules : Rules) (i j : ℕ) (l : i < rules.replicas) (n : j < rules.rep
       }
 
   -- so many whole exchanges
-  run-all : (replies : List Reply) (w : World) (state : State) (sent bucket : ℕ) → IsAt i j k w state sent → AnswersOf c k bucket state replies
-      → bucket + length replies ≤ 256 → IsSmall (after_replies state replies)
-      → IsAt i j k (run_from rules w (whole_exchanges (link_of i j) (length replies) bucket sent)) (after_replies state replies) (sent + 2 * length replies)
+  run-all : (gives : List GiveMessage) (w : World) (state : State) (sent bucket : ℕ) → IsAt i j k w state sent → GivesOf c k bucket state gives
+      → bucket + length gives ≤ 256 → IsSmall (after_gives state gives)
+      → IsAt i j k (run_from rules w (whole_exchanges (link_of i j) (length gives) bucket sent)) (after_gives state gives) (sent + 2 * length gives)
   unfolding whole_exchanges
   run-all [] w state sent bucket at is few small =
       let many = at.many in
       record { here = at.here; there = at.there; many = omega (arith, many) }
-  run-all (r ∷ replies) w state sent bucket at is few small =
+  run-all (r ∷ gives) w state sent bucket at is few small =
       let one = one-exchange w state sent bucket r at is.0 (omega (arith, few))
-      (small-within (joined state r.content) (after_replies state (r ∷ replies)) (within-after (joined state r.content) replies) small) in
-      let later = run-all replies (run_from rules w (whole_exchange (link_of i j) bucket sent)) (joined state r.content) (sent + 2) (bucket + 1) one is.1
+      (small-within (joined state r.content) (after_gives state (r ∷ gives)) (within-after (joined state r.content) gives) small) in
+      let later = run-all gives (run_from rules w (whole_exchange (link_of i j) bucket sent)) (joined state r.content) (sent + 2) (bucket + 1) one is.1
       (omega (arith, few)) small in
       let many = later.many in
       record { here = later.here; there = later.there; many = many ∙ omega arith }
 
 -- ---- a whole pull
 
--- the answers that a pull got are those to its questions
-pub answers-of : (c : Configuration) (k : Meaning) (bucket : ℕ) (state : State) (replies : List Reply) (later : List Question)
-    (others : List Reply) → replies ++ others ≡ all-replies k (questions_of c bucket state replies ++ later) → AnswersOf c k bucket state replies
+-- the answers that a pull got are those to its haves
+pub answers-of : (c : Configuration) (k : Meaning) (bucket : ℕ) (state : State) (gives : List GiveMessage) (later : List HaveMessage)
+    (others : List GiveMessage) → gives ++ others ≡ all-gives k (haves_of c bucket state gives ++ later) → GivesOf c k bucket state gives
 answers-of c k bucket state [] later others e = tt
-answers-of c k bucket state (r ∷ replies) later others e =
-    let head : r ≡ reply_of k (question_in c state bucket) = cc in
-    let tail : replies ++ others ≡ all-replies k (questions_of c (bucket + 1) (joined state r.content) replies ++ later) = cc in
-    (head, answers-of c k (bucket + 1) (joined state r.content) replies later others tail)
+answers-of c k bucket state (r ∷ gives) later others e =
+    let head : r ≡ give_of k (have_in c state bucket) = cc in
+    let tail : gives ++ others ≡ all-gives k (haves_of c (bucket + 1) (joined state r.content) gives ++ later) = cc in
+    (head, answers-of c k (bucket + 1) (joined state r.content) gives later others tail)
 
--- the answers of a whole pull are those that the other side gives to its questions
-pub replies-given : (m k held : Meaning) (asked replied rest : List ℕ) (count : ℕ) → IsMeaning m → IsMeaning k → IsMeaning held
+-- the answers of a whole pull are those that the other side gives to its haves
+pub gives-given : (m k held : Meaning) (asked replied rest : List ℕ) (count : ℕ) → IsMeaning m → IsMeaning k → IsMeaning held
     → config_id_of m.config ≡ config_id_of k.config → ServesAll (known_run asked replied) k count
-    → (pulls : PullsAll (known_run (replied ++ rest) asked) m held) → pulls.replies ≡ all-replies k (all-asked m pulls.replies ++ [])
-replies-given m k held asked replied rest count valid other kept same all pulls =
-    let questions = all-asked m pulls.replies ++ [] in
+    → (pulls : PullsAll (known_run (replied ++ rest) asked) m held) → pulls.gives ≡ all-gives k (all-asked m pulls.gives ++ [])
+gives-given m k held asked replied rest count valid other kept same all pulls =
+    let haves = all-asked m pulls.gives ++ [] in
     let asks = whole-asked m held (Some (replied ++ rest)) asked valid kept pulls in
-    let text = replied-is m k asked replied count questions same asks all in
-    let many = length-map questions (reply_of k) in
-    let both = length-append (all-asked m pulls.replies) [] in
-    let each = length-asked m.config 0 (state_of m) pulls.replies in
-    both-replies m.config (replied ++ rest) pulls.replies (all-replies k questions) pulls.left (Some rest) pulls.session.each
-    (replies-in-turn m.config k 0 questions other (sym same) asks.each) (omega (arith, many, both, each)) pulls.session.text
+    let text = replied-is m k asked replied count haves same asks all in
+    let many = length-map haves (give_of k) in
+    let both = length-append (all-asked m pulls.gives) [] in
+    let each = length-asked m.config 0 (state_of m) pulls.gives in
+    both-gives m.config (replied ++ rest) pulls.gives (all-gives k haves) pulls.left (Some rest) pulls.session.each
+    (gives-in-turn m.config k 0 haves other (sym same) asks.each) (omega (arith, many, both, each)) pulls.session.text
     (ap (λ (t : List ℕ). t ++ rest) text)
 
 -- What a pull holds is what its replica holds after whole exchanges about all buckets.
@@ -198,45 +198,45 @@ pub pull-in-world : (m k held : Meaning) (n i j : ℕ) (w : World) (asked replie
     → PullsAll (known_run (replied ++ rest) asked) m held
     → (run_from (rules_of m.config n) w (whole_exchanges (link_of i j) 256 0 (length w.sent))).now i ≡ state_of held
 pull-in-world m k held n i j w asked replied rest count l h apart here there valid other kept same all pulls =
-    let replies = pulls.replies in
-    let equal = replies-given m k held asked replied rest count valid other kept same all pulls in
+    let gives = pulls.gives in
+    let equal = gives-given m k held asked replied rest count valid other kept same all pulls in
     let all_of_it = pulls.all in
-    let final : IsMeaning (meaning_of_state m.config (after_replies (state_of m) replies)) = subst IsMeaning pulls.meaning kept in
-    let run = run-all (rules_of m.config n) i j l h (λ e. apart (sym e)) m.config k replies w (state_of m) (length w.sent) 0
+    let final : IsMeaning (meaning_of_state m.config (after_gives (state_of m) gives)) = subst IsMeaning pulls.meaning kept in
+    let run = run-all (rules_of m.config n) i j l h (λ e. apart (sym e)) m.config k gives w (state_of m) (length w.sent) 0
     (record { here = here; there = there; many = refl })
-    (answers-of m.config k 0 (state_of m) replies [] [] (append-nil replies ∙ equal)) (omega (arith, all_of_it))
+    (answers-of m.config k 0 (state_of m) gives [] [] (append-nil gives ∙ equal)) (omega (arith, all_of_it))
     (record { receipts = final.few; records = final.few_records }) in
-    subst (λ (b : ℕ). (run_from (rules_of m.config n) w (whole_exchanges (link_of i j) b 0 (length w.sent))).now i ≡ after_replies (state_of m) replies)
+    subst (λ (b : ℕ). (run_from (rules_of m.config n) w (whole_exchanges (link_of i j) b 0 (length w.sent))).now i ≡ after_gives (state_of m) gives)
     all_of_it run.here ∙ ap state_of (sym pulls.meaning)
 
 -- ---- a pull that was cut
 
--- The others are the first of the replies, and what is left begins with the later ones.
-record IsFront (replies others : List Reply) (rest left : List ℕ) : Type 0 where
-  pub later : List Reply
-  pub whole : replies ≡ others ++ later
-  pub follows : left ≡ reply_texts later ++ rest
+-- The others are the first of the gives, and what is left begins with the later ones.
+record IsFront (gives others : List GiveMessage) (rest left : List ℕ) : Type 0 where
+  pub later : List GiveMessage
+  pub whole : gives ≡ others ++ later
+  pub follows : left ≡ give_texts later ++ rest
 
 -- what was taken whole are the first of the answers that were written
-first-replies : (c : Configuration) (start : ℕ) (replies others : List Reply) (rest left : List ℕ) → AreReplies c start replies
-    → AreReplies c start others → length others ≤ length replies → reply_texts replies ++ rest ≡ reply_texts others ++ left
-    → IsFront replies others rest left
-first-replies c start replies [] rest left is valid few e = record { later = replies; whole = refl; follows = sym e }
-first-replies c start [] (o ∷ others) rest left is valid few e = absurd (omega (arith, few))
-first-replies c start (r ∷ replies) (o ∷ others) rest left is valid few e =
-    let same = same-reply (reply_texts (r ∷ replies) ++ rest) r o (reply_texts replies ++ rest) (reply_texts others ++ left)
-    is.0.answer valid.0.answer (joined-texts r replies rest) (e ∙ joined-texts o others left) in
-    let front = first-replies c (start + 1) replies others rest left is.1 valid.1 (omega (arith, few)) same.follows in
-    record { later = front.later; whole = (λ t. same.reply t ∷ front.whole t); follows = front.follows }
+first-gives : (c : Configuration) (start : ℕ) (gives others : List GiveMessage) (rest left : List ℕ) → AreGives c start gives
+    → AreGives c start others → length others ≤ length gives → give_texts gives ++ rest ≡ give_texts others ++ left
+    → IsFront gives others rest left
+first-gives c start gives [] rest left is valid few e = record { later = gives; whole = refl; follows = sym e }
+first-gives c start [] (o ∷ others) rest left is valid few e = absurd (omega (arith, few))
+first-gives c start (r ∷ gives) (o ∷ others) rest left is valid few e =
+    let same = same-give (give_texts (r ∷ gives) ++ rest) r o (give_texts gives ++ rest) (give_texts others ++ left)
+    is.0.form valid.0.form (joined-texts r gives rest) (e ∙ joined-texts o others left) in
+    let front = first-gives c (start + 1) gives others rest left is.1 valid.1 (omega (arith, few)) same.follows in
+    record { later = front.later; whole = (λ t. same.give t ∷ front.whole t); follows = front.follows }
 
 -- after so many answers one is left
-last-one : (k : Meaning) (qs : List Question) (q : Question) (others later : List Reply) → length others ≡ length qs
-    → all-replies k (qs ++ q ∷ []) ≡ others ++ later → later ≡ reply_of k q ∷ []
+last-one : (k : Meaning) (qs : List HaveMessage) (q : HaveMessage) (others later : List GiveMessage) → length others ≡ length qs
+    → all-gives k (qs ++ q ∷ []) ≡ others ++ later → later ≡ give_of k q ∷ []
 last-one k [] q [] later n e = sym e
 last-one k [] q (o ∷ others) later n e = absurd (omega (arith, n))
 last-one k (x ∷ qs) q [] later n e = absurd (omega (arith, n))
 last-one k (x ∷ qs) q (o ∷ others) later n e =
-    let tail : all-replies k (qs ++ q ∷ []) ≡ others ++ later = cc in
+    let tail : all-gives k (qs ++ q ∷ []) ≡ others ++ later = cc in
     last-one k qs q others later (omega (arith, n)) tail
 
 -- the first receipts
@@ -309,26 +309,26 @@ record IsCut (whole content : State) : Type 0 where
   pub is : first_of lines whole ≡ content
 
 -- of an answer that was not taken to its end the first lines were taken
-part-is-cut : (c : Configuration) (state : State) (bucket first : ℕ) (content : State) (left lost : List ℕ) (r : Reply) (rest : List ℕ)
-    (e : SyncError) → IsReply c bucket r → left ++ lost ≡ reply_text r ++ rest
-    → RefusesAnswer c state bucket first content (Some left) e → IsCut r.content content
+part-is-cut : (c : Configuration) (state : State) (bucket first : ℕ) (content : State) (left lost : List ℕ) (r : GiveMessage) (rest : List ℕ)
+    (e : SyncError) → IsGiveAbout c bucket r → left ++ lost ≡ give_text r ++ rest
+    → RefusesGiveAbout c state bucket first content (Some left) e → IsCut r.content content
 part-is-cut c state bucket first content left lost r rest e is begins (inl head) =
     record { lines = 0; is = no-lines r.content ∙ sym head.none }
 part-is-cut c state bucket first content left lost r rest e is begins (inr fault) =
     cut-after fault.count fault.distrusts fault.further fault.begins
   where
     cut-after : (count distrusts : ℕ) (further : Option (List ℕ))
-        → AnswerBegins (Some (record { config = c; bucket = bucket })) (Some left) count distrusts content further → IsCut r.content content
+        → GiveBegins (Some (record { config = c; bucket = bucket })) (Some left) count distrusts content further → IsCut r.content content
     cut-after count distrusts None b = absurd b.text
     cut-after count distrusts (Some further) b =
-        let more : AnswerBegins (Some (record { config = c; bucket = bucket })) (Some (left ++ lost)) count distrusts content (Some (further ++ lost)) =
+        let more : GiveBegins (Some (record { config = c; bucket = bucket })) (Some (left ++ lost)) count distrusts content (Some (further ++ lost)) =
         record {
           first = b.first;
           heads = b.heads;
           begun = b.begun;
           text = ap (λ (t : List ℕ). t ++ lost) b.text ∙ append_assoc (ended b.first ++ text_of_lines (content_lines content)) further lost;
         } in
-        let part = is-part (Some (record { config = c; bucket = bucket })) (left ++ lost) r rest is.answer is.about is.own begins
+        let part = is-part (Some (record { config = c; bucket = bucket })) (left ++ lost) r rest is.form is.about is.own begins
         count distrusts content (further ++ lost) more in
         let records = part.records in
         let receipts = part.receipts in
@@ -339,8 +339,8 @@ part-is-cut c state bucket first content left lost r rest e is begins (inr fault
         record {
           lines = length content.records + length content.held;
           is = first-lines r.content content within order
-              (front-content content.records r.content.records content.held r.content.held _ _ b.begun.valid.records is.answer.valid.records
-              b.begun.valid.receipts is.answer.valid.receipts
+              (front-content content.records r.content.records content.held r.content.held _ _ b.begun.valid.records is.form.valid.records
+              b.begun.valid.receipts is.form.valid.receipts
               (sym (append_assoc (map distrust_line content.records) (map line content.held) _) ∙ part.lines
               ∙ append_assoc (map distrust_line r.content.records) (map line r.content.held) _)
               within order (omega (arith, receipts, few_receipts)));
@@ -348,8 +348,8 @@ part-is-cut c state bucket first content left lost r rest e is begins (inr fault
 
 -- After an exchange that was cut the puller has joined what came.
 cut-exchange-is : (rules : Rules) (i j : ℕ) (l : i < rules.replicas) (n : j < rules.replicas) (c : Configuration) (k : Meaning)
-    (w : World) (state : State) (sent bucket : ℕ) (r : Reply) (content : State) → IsAt i j k w state sent
-    → r ≡ reply_of k (question_in c state bucket) → bucket ≤ 255 → is_within_limits (joined state content) ≡ true
+    (w : World) (state : State) (sent bucket : ℕ) (r : GiveMessage) (content : State) → IsAt i j k w state sent
+    → r ≡ give_of k (have_in c state bucket) → bucket ≤ 255 → is_within_limits (joined state content) ≡ true
     → (cut : IsCut r.content content) → (run_from rules w (cut_exchange (link_of i j) bucket sent cut.lines)).now i ≡ joined state content
 cut-exchange-is rules i j l n c k w state sent bucket r content at is low room cut =
     let same = same-content i j c k w state sent bucket r at is in
@@ -368,50 +368,50 @@ pub cut-in-world : (m k held : Meaning) (n i j : ℕ) (w : World) (asked replied
 cut-in-world m k held n i j w asked replied rest bytes lost count e l h apart here there valid other kept same all begins part calm ample =
     cut-at part.left part.session.text part.cause
   where
-    cut-at : (left : Option (List ℕ)) → Consumes (Some bytes) left (reply_texts part.replies)
-        → RefusesAnswer m.config (after_replies (state_of m) part.replies) (length part.replies) (line_count part.replies + 1) part.content left e
+    cut-at : (left : Option (List ℕ)) → Consumes (Some bytes) left (give_texts part.gives)
+        → RefusesGiveAbout m.config (after_gives (state_of m) part.gives) (length part.gives) (line_count part.gives + 1) part.content left e
         → EndsCut (rules_of m.config n) w (link_of i j) (state_of held)
     cut-at None text cause = absurd text
     cut-at (Some left) text cause =
-        let state = after_replies (state_of m) part.replies in
-        let questions = all-asked m part.replies ++ last-asked m part.replies in
+        let state = after_gives (state_of m) part.gives in
+        let haves = all-asked m part.gives ++ last-asked m part.gives in
         let asks = part-asked m held (Some bytes) asked e valid kept calm ample part in
-        let give_header_text = replied-is m k asked replied count questions same asks all in
-        let each = replies-in-turn m.config k 0 questions other (sym same) asks.each in
-        let many = length-map questions (reply_of k) in
-        let both = length-append (all-asked m part.replies) (last-asked m part.replies) in
-        let size = length-asked m.config 0 (state_of m) part.replies in
-        let front = first-replies m.config 0 (all-replies k questions) part.replies rest (left ++ lost) each part.session.each
+        let give_header_text = replied-is m k asked replied count haves same asks all in
+        let each = gives-in-turn m.config k 0 haves other (sym same) asks.each in
+        let many = length-map haves (give_of k) in
+        let both = length-append (all-asked m part.gives) (last-asked m part.gives) in
+        let size = length-asked m.config 0 (state_of m) part.gives in
+        let front = first-gives m.config 0 (all-gives k haves) part.gives rest (left ++ lost) each part.session.each
         (omega (arith, many, both, size))
         (sym (ap (λ (t : List ℕ). t ++ rest) give_header_text) ∙ sym begins ∙ ap (λ (t : List ℕ). t ++ lost) text
-        ∙ append_assoc (reply_texts part.replies) left lost) in
-        let last = question_in m.config state (length part.replies) in
-        let reply = reply_of k last in
-        let one = last-one k (all-asked m part.replies) last part.replies front.later (sym size) front.whole in
+        ∙ append_assoc (give_texts part.gives) left lost) in
+        let last = have_in m.config state (length part.gives) in
+        let give = give_of k last in
+        let one = last-one k (all-asked m part.gives) last part.gives front.later (sym size) front.whole in
         let final : IsMeaning (meaning_of_state m.config (joined state part.content)) = subst IsMeaning part.meaning kept in
         let now : IsMeaning (meaning_of_state m.config state) =
         meaning-within m.config state (joined state part.content) (within-joined state part.content)
-        (rising-after (state_of m) part.replies (rising-meaning m valid)) final in
+        (rising-after (state_of m) part.gives (rising-meaning m valid)) final in
         let few = part.few in
-        let is : IsReply m.config (length part.replies) reply =
-        record { own = sym same; about = refl; answer = answer-given k last other (own-question m.config state (length part.replies) now few).askable } in
-        let follows : left ++ lost ≡ reply_text reply ++ rest =
-        front.follows ∙ ap (λ (ls : List Reply). reply_texts ls ++ rest) one ∙ ap (λ (t : List ℕ). t ++ rest) (append-nil (reply_text reply)) in
-        let cut = part-is-cut m.config state (length part.replies) (line_count part.replies + 1) part.content left lost reply rest e is follows cause in
+        let is : IsGiveAbout m.config (length part.gives) give =
+        record { own = sym same; about = refl; form = answer-given k last other (own-have m.config state (length part.gives) now few).askable } in
+        let follows : left ++ lost ≡ give_text give ++ rest =
+        front.follows ∙ ap (λ (ls : List GiveMessage). give_texts ls ++ rest) one ∙ ap (λ (t : List ℕ). t ++ rest) (append-nil (give_text give)) in
+        let cut = part-is-cut m.config state (length part.gives) (line_count part.gives + 1) part.content left lost give rest e is follows cause in
         let room = small-within (joined state part.content) (joined state part.content) (within-itself (joined state part.content))
         (record { receipts = final.few; records = final.few_records }) in
-        let run = run-all (rules_of m.config n) i j l h (λ s. apart (sym s)) m.config k part.replies w (state_of m) (length w.sent) 0
+        let run = run-all (rules_of m.config n) i j l h (λ s. apart (sym s)) m.config k part.gives w (state_of m) (length w.sent) 0
         (record { here = here; there = there; many = refl })
-        (answers-of m.config k 0 (state_of m) part.replies (last-asked m part.replies) front.later (sym front.whole)) (omega (arith, few))
+        (answers-of m.config k 0 (state_of m) part.gives (last-asked m part.gives) front.later (sym front.whole)) (omega (arith, few))
         (record { receipts = now.few; records = now.few_records }) in
         record {
-          buckets = length part.replies;
+          buckets = length part.gives;
           few = few;
           lines = cut.lines;
           holds = ap (λ (v : World). v.now i)
-              (fold-append (happens (rules_of m.config n)) w (whole_exchanges (link_of i j) (length part.replies) 0 (length w.sent))
-              (cut_exchange (link_of i j) (length part.replies) (length w.sent + 2 * length part.replies) cut.lines))
-              ∙ cut-exchange-is (rules_of m.config n) i j l h m.config k _ state (length w.sent + 2 * length part.replies)
-              (length part.replies) reply part.content run refl (omega (arith, few)) room cut
+              (fold-append (happens (rules_of m.config n)) w (whole_exchanges (link_of i j) (length part.gives) 0 (length w.sent))
+              (cut_exchange (link_of i j) (length part.gives) (length w.sent + 2 * length part.gives) cut.lines))
+              ∙ cut-exchange-is (rules_of m.config n) i j l h m.config k _ state (length w.sent + 2 * length part.gives)
+              (length part.gives) give part.content run refl (omega (arith, few)) room cut
               ∙ ap state_of (sym part.meaning);
         }

@@ -69,21 +69,32 @@ pub record IsRefused (wanted : Wanted) (m : Meaning) (last text : List ℕ)
   pub next : IsNextEntry wanted last text entry
   pub cause : RefusesEntry m entry why
 
--- what is wrong with the text alone
-abbrev pub RefusesEntryText : Wanted → List ℕ → ℕ → List ℕ → SyncError → Type 0
-RefusesEntryText wanted last number text (NotCanonical n) = (n ≡ number) × IsNoLineOf wanted text
-RefusesEntryText wanted last number text (NotRising n) = (n ≡ number) × IsNotAbove wanted last text
-RefusesEntryText wanted last number text NoMemory = length text ≤ receipt_line_limit
-RefusesEntryText wanted last number text _ = ⊥
+-- a line at its place: what may stand there, the line before it, its number, and its text
+pub record PlacedLine : Type 0 where
+  pub wanted : Wanted
+  pub last : List ℕ
+  pub number : ℕ
+  pub text : List ℕ
 
--- The faults of the line with this number, where the closure means m: the first of these that
--- holds.
-abbrev pub RefusesEntryLine : Wanted → Meaning → List ℕ → ℕ → List ℕ → SyncError → Type 0
-RefusesEntryLine wanted m last number text (NotCanonical n) = (n ≡ number) × IsNoLineOf wanted text
-RefusesEntryLine wanted m last number text (NotRising n) = (n ≡ number)
-    × IsNotAbove wanted last text
-RefusesEntryLine wanted m last number text (Refused n why) = (n ≡ number) × (why ≢ NoTakeMemory)
-    × IsRefused wanted m last text why
-RefusesEntryLine wanted m last number text NoMemory = (length text ≤ receipt_line_limit)
-    ⊎ IsRefused wanted m last text NoTakeMemory
-RefusesEntryLine wanted m last number text _ = ⊥
+abbrev pub placed_line : Wanted → List ℕ → ℕ → List ℕ → PlacedLine
+placed_line wanted last number text =
+    record { wanted = wanted; last = last; number = number; text = text }
+
+-- what is wrong with the text alone
+abbrev pub RefusesEntryText : PlacedLine → SyncError → Type 0
+RefusesEntryText line (NotCanonical n) = (n ≡ line.number) × IsNoLineOf line.wanted line.text
+RefusesEntryText line (NotRising n) = (n ≡ line.number)
+    × IsNotAbove line.wanted line.last line.text
+RefusesEntryText line NoMemory = length line.text ≤ receipt_line_limit
+RefusesEntryText line _ = ⊥
+
+-- The faults of a line, where the closure means m: the first of these that holds.
+abbrev pub RefusesEntryLine : Meaning → PlacedLine → SyncError → Type 0
+RefusesEntryLine m line (NotCanonical n) = (n ≡ line.number) × IsNoLineOf line.wanted line.text
+RefusesEntryLine m line (NotRising n) = (n ≡ line.number)
+    × IsNotAbove line.wanted line.last line.text
+RefusesEntryLine m line (Refused n why) = (n ≡ line.number) × (why ≢ NoTakeMemory)
+    × IsRefused line.wanted m line.last line.text why
+RefusesEntryLine m line NoMemory = (length line.text ≤ receipt_line_limit)
+    ⊎ IsRefused line.wanted m line.last line.text NoTakeMemory
+RefusesEntryLine m line _ = ⊥

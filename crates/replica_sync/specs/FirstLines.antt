@@ -4,8 +4,8 @@ use Rattle.std.specs.List.{AllByRecursion}
 use Rattle.fed_config.specs.Configuration.{Configuration, config_id_of}
 use Rattle.byte_lines.specs.Lines.{HasLine}
 use Rattle.receipt_core.specs.Receipt.{IsDigest}
-use Rattle.replica_core.specs.Session.{IsQuestion}
-use Rattle.replica_sync.specs.Messages.{Asked, asked_text, GiveHeader, give_header_text}
+use Rattle.replica_core.specs.Session.{IsHave}
+use Rattle.replica_sync.specs.Messages.{AnyHave, any_have_text, GiveHeader, give_header_text}
 use Rattle.replica_core.specs.declared.error.SyncError.{SyncError}
 use Rattle.replica_core.specs.declared.error.SyncError.TheVariants.{BadHeader, ConfigDiffers}
 use Rattle.replica_core.specs.declared.error.SyncError.TheVariants.{VersionDiffers}
@@ -26,42 +26,42 @@ abbrev pub HasOtherDigest : Option Configuration → List ℕ → Type 0
 HasOtherDigest None digest = ⊥
 HasOtherDigest (Some config) digest = digest ≢ config_id_of config
 
--- ---- questions
+-- ---- haves
 
 -- The bucket is one of so many, the numbers have 64 bits, digests 32 bytes, and the ids rise.
-pub record IsAsked (a : Asked) : Type 0 where
-  pub bucket : a.question.bucket < a.buckets
+pub record IsAnyHave (a : AnyHave) : Type 0 where
+  pub bucket : a.have.bucket < a.buckets
   pub format : a.format < 2 ^ 64
   pub buckets : a.buckets < 2 ^ 64
-  pub config : IsDigest a.question.config
-  pub ids : AllByRecursion IsDigest a.question.ids
-  pub rising : IsQuestion a.question
+  pub config : IsDigest a.have.config
+  pub ids : AllByRecursion IsDigest a.have.ids
+  pub rising : IsHave a.have
 
--- It is spelt as a question's line, and says this.
-pub record IsAskedLine (text : List ℕ) (a : Asked) : Type 0 where
-  pub is : IsAsked a
-  pub spelt : text ≡ asked_text a
+-- It is spelt as a have's line, and says this.
+pub record IsAnyHaveLine (text : List ℕ) (a : AnyHave) : Type 0 where
+  pub is : IsAnyHave a
+  pub spelt : text ≡ any_have_text a
 
--- It is a question's line of another configuration.
-pub record AsksOther (config : Option Configuration) (text : List ℕ) : Type 0 where
-  pub asked : Asked
-  pub line : IsAskedLine text asked
-  pub other : HasOtherDigest config asked.question.config
+-- It is a have's line of another configuration.
+pub record IsHaveOfOther (config : Option Configuration) (text : List ℕ) : Type 0 where
+  pub asked : AnyHave
+  pub line : IsAnyHaveLine text asked
+  pub other : HasOtherDigest config asked.have.config
 
 -- It is one of this configuration, of another format or number of buckets.
-pub record AsksUnsupported (config : Option Configuration) (text : List ℕ) : Type 0 where
-  pub asked : Asked
-  pub line : IsAskedLine text asked
-  pub own : HasDigestOf config asked.question.config
+pub record IsHaveOfOtherVersion (config : Option Configuration) (text : List ℕ) : Type 0 where
+  pub asked : AnyHave
+  pub line : IsAnyHaveLine text asked
+  pub own : HasDigestOf config asked.have.config
   pub unsupported : IsSupportedVersion asked.format asked.buckets → ⊥
 
--- what is wrong with the line where a question's is wanted
-abbrev pub RefusesAsked : Option Configuration → List ℕ → SyncError → Type 0
-RefusesAsked config text BadHeader = (asked : Asked) → IsAskedLine text asked → ⊥
-RefusesAsked config text ConfigDiffers = AsksOther config text
-RefusesAsked config text VersionDiffers = AsksUnsupported config text
-RefusesAsked config text NoMemory = Unit {0}
-RefusesAsked config text _ = ⊥
+-- what is wrong with the line where a have's is wanted
+abbrev pub RefusesHaveLine : Option Configuration → List ℕ → SyncError → Type 0
+RefusesHaveLine config text BadHeader = (asked : AnyHave) → IsAnyHaveLine text asked → ⊥
+RefusesHaveLine config text ConfigDiffers = IsHaveOfOther config text
+RefusesHaveLine config text VersionDiffers = IsHaveOfOtherVersion config text
+RefusesHaveLine config text NoMemory = Unit {0}
+RefusesHaveLine config text _ = ⊥
 
 -- ---- answers
 

@@ -4,7 +4,7 @@ pub mod Reading
 pub mod WritingSteps
 pub mod Spelling
 pub mod IdList
-pub mod Asking
+pub mod HaveLines
 pub mod Gathering
 pub mod Taking
 pub mod Serving

@@ -7,8 +7,8 @@ pub mod Writing
 pub mod Messages
 pub mod FirstLines
 pub mod SessionRun
-pub mod Questions
-pub mod Answers
+pub mod Haves
+pub mod Gives
 pub mod Pulling
 pub mod Events
 pub mod SoleLines

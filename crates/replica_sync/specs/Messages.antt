@@ -1,4 +1,4 @@
--- The texts of questions and answers: JSON without spaces, its members in the order of their names.
+-- The texts of haves and answers: JSON without spaces, its members in the order of their names.
 use Rattle.std.specs.Prelude.{ℕ, List, [], ◌++◌, length, flat_map, codes, decimal, Option, Some}
 use Rattle.std.specs.Prelude.{None, Result, MatchResult}
 use Rattle.std.specs.Io.KnownBytes.{Appends}
@@ -7,26 +7,26 @@ use Rattle.hex.specs.Hex.{encode_lower}
 use Rattle.receipt_core.specs.declared.distrust.Distrust.{Distrust}
 use Rattle.receipt_core.specs.Receipt.{Receipt, line, distrust_line}
 use Rattle.byte_lines.specs.Device.{AppendsBeginning}
-use Rattle.replica_core.specs.Session.{Question, Reply}
+use Rattle.replica_core.specs.Session.{HaveMessage, GiveMessage}
 use Rattle.replica_sync.specs.Snapshots.{ended}
 
 abbrev pub quoted : List ℕ → List ℕ
 quoted id = codes "\"" ++ (encode_lower id ++ codes "\"")
 
--- what the line of a question says, of whatever format and number of buckets
-pub record Asked : Type 0 where
-  pub question : Question
+-- what the line of a have says, of whatever format and number of buckets
+pub record AnyHave : Type 0 where
+  pub have : HaveMessage
   pub format : ℕ
   pub buckets : ℕ
 
-unfoldable pub asked_text : Asked → List ℕ
-asked_text a =
+unfoldable pub any_have_text : AnyHave → List ℕ
+any_have_text a =
     codes "{\"bucket\":" ++
-    (decimal a.question.bucket
+    (decimal a.have.bucket
     ++ (codes ",\"config\":\""
-    ++ (encode_lower a.question.config ++ (codes "\",\"format\":" ++ (decimal a.format
+    ++ (encode_lower a.have.config ++ (codes "\",\"format\":" ++ (decimal a.format
     ++ (codes ",\"have\":["
-    ++ (join_by quoted (codes ",") a.question.ids
+    ++ (join_by quoted (codes ",") a.have.ids
     ++ (codes "],\"of\":" ++ (decimal a.buckets ++ codes "}")))))))))
 
 -- what the first line of an answer says, of whatever format and number of buckets; in the first
@@ -52,14 +52,14 @@ give_header_text t =
     ++ (codes ",\"format\":"
     ++ (decimal t.format ++ (codes ",\"of\":" ++ (decimal t.buckets ++ codes "}"))))))))))
 
-abbrev pub asked_of : Question → Asked
-asked_of q = record { question = q; format = 2; buckets = 256 }
+abbrev pub as_any_have : HaveMessage → AnyHave
+as_any_have q = record { have = q; format = 2; buckets = 256 }
 
--- the question's one line, of format 2 with 256 buckets
-abbrev pub question_text : Question → List ℕ
-question_text q = ended (asked_text (asked_of q))
+-- the have's one line, of format 2 with 256 buckets
+abbrev pub have_text : HaveMessage → List ℕ
+have_text q = ended (any_have_text (as_any_have q))
 
-abbrev pub give_header_of : Reply → GiveHeader
+abbrev pub give_header_of : GiveMessage → GiveHeader
 give_header_of r = record {
   bucket = r.bucket;
   config = r.config;
@@ -76,8 +76,8 @@ abbrev pub receipt_text : Receipt → List ℕ
 receipt_text r = ended (line r)
 
 -- the answer: its first line, a line for each record, and a line for each receipt
-abbrev pub reply_text : Reply → List ℕ
-reply_text r = ended (give_header_text (give_header_of r))
+abbrev pub give_text : GiveMessage → List ℕ
+give_text r = ended (give_header_text (give_header_of r))
     ++ (flat_map record_text r.content.records ++ flat_map receipt_text r.content.held)
 
 -- exactly the text was written; at a fault a beginning of it

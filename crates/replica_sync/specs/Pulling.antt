@@ -6,62 +6,63 @@ use Rattle.fed_config.specs.Configuration.{Configuration, config_id_of}
 use Rattle.receipt_core.specs.Receipt.{Receipt, receipt_id_of}
 use Rattle.receipt_core.specs.Acceptance.{Meaning}
 use Rattle.replica_core.specs.State.{State, no_state, joined, meaning_of_state}
-use Rattle.replica_core.specs.Session.{Question, Reply, question_of, state_of}
-use Rattle.replica_sync.specs.Entries.{RefusesEntryLine}
+use Rattle.replica_core.specs.Session.{HaveMessage, GiveMessage, have_of, state_of}
+use Rattle.replica_sync.specs.Entries.{RefusesEntryLine, placed_line}
 use Rattle.replica_sync.specs.declared.entry_line.Wanted.{Wanted}
 use Rattle.replica_core.specs.declared.error.SyncError.{SyncError}
-use Rattle.replica_sync.specs.Messages.{question_text, reply_text}
+use Rattle.replica_sync.specs.Messages.{have_text, give_text}
 use Rattle.replica_sync.specs.Snapshots.{is_io}
-use Rattle.replica_sync.specs.Answers.{IsAnswer, AnswerBegins, RefusesHead, RefusesNextEntry}
-use Rattle.replica_sync.specs.Answers.{next_entry_number}
+use Rattle.replica_sync.specs.Gives.{IsGive, GiveBegins, RefusesHead, RefusesNextEntry}
+use Rattle.replica_sync.specs.Gives.{next_entry_number}
 use Rattle.replica_sync.specs.SessionRun.{SessionRun}
-use Rattle.replica_sync.specs.Questions.{IsWritten}
+use Rattle.replica_sync.specs.Haves.{IsWritten}
 use Rattle.replica_sync.specs.declared.pulling.PullFault.{PullFault}
 
 -- It is an answer of this configuration about the bucket.
-pub record IsReply (config : Configuration) (bucket : ℕ) (reply : Reply) : Type 0 where
-  pub own : reply.config ≡ config_id_of config
-  pub about : reply.bucket ≡ bucket
-  pub answer : IsAnswer reply
+pub record IsGiveAbout (config : Configuration) (bucket : ℕ) (give : GiveMessage) : Type 0 where
+  pub own : give.config ≡ config_id_of config
+  pub about : give.bucket ≡ bucket
+  pub form : IsGive give
 
 -- the answers about this bucket and those after it, one each
-abbrev pub AreReplies : Configuration → ℕ → List Reply → Type 0
-AreReplies config bucket [] = Unit {0}
-AreReplies config bucket (reply ∷ replies) = IsReply config bucket reply
-    × AreReplies config (bucket + 1) replies
+abbrev pub AreGives : Configuration → ℕ → List GiveMessage → Type 0
+AreGives config bucket [] = Unit {0}
+AreGives config bucket (give ∷ gives) = IsGiveAbout config bucket give
+    × AreGives config (bucket + 1) gives
 
 -- The stream begins with answers about the buckets from 0 on, and `left` is what follows them.
-pub record Session (config : Configuration) (stream : Option (List ℕ)) (replies : List Reply)
+pub record Session (config : Configuration) (stream : Option (List ℕ)) (gives : List GiveMessage)
     (left : Option (List ℕ)) : Type 0 where
-  pub each : AreReplies config 0 replies
-  pub text : Consumes stream left (flat_map reply_text replies)
+  pub each : AreGives config 0 gives
+  pub text : Consumes stream left (flat_map give_text gives)
 
 -- what is held after them
-abbrev pub after_replies : State → List Reply → State
-after_replies state replies = fold (λ held reply. joined held reply.content) state replies
+abbrev pub after_gives : State → List GiveMessage → State
+after_gives state gives = fold (λ held give. joined held give.content) state gives
 
--- the question about the bucket of a replica that holds this
-abbrev pub question_in : Configuration → State → ℕ → Question
-question_in config state bucket = question_of (meaning_of_state config state) bucket
+-- the have about the bucket of a replica that holds this
+abbrev pub have_in : Configuration → State → ℕ → HaveMessage
+have_in config state bucket = have_of (meaning_of_state config state) bucket
 
--- The questions to which these are the answers: each has the ids that were held when it was asked.
-abbrev pub questions_of : Configuration → ℕ → State → List Reply → List Question
-questions_of config bucket state [] = []
-questions_of config bucket state (reply ∷ replies) = question_in config state bucket
-    ∷ questions_of config (bucket + 1) (joined state reply.content) replies
+-- The haves to which these are the answers: each has the ids that were held when it was asked.
+abbrev pub haves_of : Configuration → ℕ → State → List GiveMessage → List HaveMessage
+haves_of config bucket state [] = []
+haves_of config bucket state (give ∷ gives) = have_in config state bucket
+    ∷ haves_of config (bucket + 1) (joined state give.content) gives
 
 -- how many lines they have
-abbrev pub line_count : List Reply → ℕ
+abbrev pub line_count : List GiveMessage → ℕ
 line_count [] = 0
-line_count (reply ∷ replies) = 1 + length reply.content.records + length reply.content.held
-    + line_count replies
+line_count (give ∷ gives) = 1 + length give.content.records + length give.content.held
+    + line_count gives
 
 -- what is wrong with a line, where the replica held this before the answer and has taken so much of
 -- it
 abbrev pub refused_line : Configuration → State → ℕ → State → Wanted → List ℕ → List ℕ → SyncError
     → Type 0
-refused_line config state first content wanted last text e = RefusesEntryLine wanted
-    (meaning_of_state config (joined state content)) last (next_entry_number first content) text e
+refused_line config state first content wanted last text e = RefusesEntryLine
+    (meaning_of_state config (joined state content))
+    (placed_line wanted last (next_entry_number first content) text) e
 
 -- A good beginning of the answer, and after it this fault.
 pub record FailsWithin (config : Configuration) (state : State) (bucket first : ℕ) (content : State)
@@ -70,7 +71,7 @@ pub record FailsWithin (config : Configuration) (state : State) (bucket first : 
   pub distrusts : ℕ
   pub further : Option (List ℕ)
   pub after : Option (List ℕ)
-  pub begins : AnswerBegins (Some (record { config = config; bucket = bucket })) left count
+  pub begins : GiveBegins (Some (record { config = config; bucket = bucket })) left count
       distrusts content further
   pub cause : RefusesNextEntry (refused_line config state first content) count distrusts content
       further after e
@@ -84,36 +85,36 @@ pub record FailsFirst (config : Configuration) (bucket : ℕ) (content : State)
 
 -- why the answer about the bucket is not read to its end, where its first line has the number and
 -- so much of it was taken
-abbrev pub RefusesAnswer : Configuration → State → ℕ → ℕ → State → Option (List ℕ) → SyncError
+abbrev pub RefusesGiveAbout : Configuration → State → ℕ → ℕ → State → Option (List ℕ) → SyncError
     → Type 0
-RefusesAnswer config state bucket first content left e = FailsFirst config bucket content left e
+RefusesGiveAbout config state bucket first content left e = FailsFirst config bucket content left e
     ⊎ FailsWithin config state bucket first content left e
 
 -- All buckets are asked about, and what the answers have is held now.
 pub record PullsAll (run : SessionRun) (old new : Meaning) : Type 0 where
-  pub replies : List Reply
+  pub gives : List GiveMessage
   pub left : Option (List ℕ)
-  pub session : Session old.config run.source replies left
-  pub all : length replies ≡ 256
-  pub meaning : new ≡ meaning_of_state old.config (after_replies (state_of old) replies)
+  pub session : Session old.config run.source gives left
+  pub all : length gives ≡ 256
+  pub meaning : new ≡ meaning_of_state old.config (after_gives (state_of old) gives)
   pub asked : Appends run.before run.after
-      (flat_map question_text (questions_of old.config 0 (state_of old) replies))
+      (flat_map have_text (haves_of old.config 0 (state_of old) gives))
 
 -- What the lines before the fault have is held now.
 pub record PullsUpTo (run : SessionRun) (old new : Meaning) (e : SyncError) : Type 0 where
-  pub replies : List Reply
+  pub gives : List GiveMessage
   pub left : Option (List ℕ)
-  pub session : Session old.config run.source replies left
-  pub few : length replies < 256
+  pub session : Session old.config run.source gives left
+  pub few : length gives < 256
   pub content : State
-  pub cause : RefusesAnswer old.config (after_replies (state_of old) replies) (length replies)
-      (line_count replies + 1) content left e
+  pub cause : RefusesGiveAbout old.config (after_gives (state_of old) gives) (length gives)
+      (line_count gives + 1) content left e
   pub meaning : new ≡ meaning_of_state old.config
-      (joined (after_replies (state_of old) replies) content)
+      (joined (after_gives (state_of old) gives) content)
   pub asked : IsWritten e run.before run.after
-      (flat_map question_text
-      (questions_of old.config 0 (state_of old) replies
-      ++ question_in old.config (after_replies (state_of old) replies) (length replies) ∷ []))
+      (flat_map have_text
+      (haves_of old.config 0 (state_of old) gives
+      ++ have_in old.config (after_gives (state_of old) gives) (length gives) ∷ []))
 
 -- no two receipts that are held have one id
 abbrev pub HasDistinctIds : State → Type 0

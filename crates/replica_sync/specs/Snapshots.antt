@@ -9,7 +9,7 @@ use Rattle.fed_config.specs.Configuration.{Configuration, config_id_of}
 use Rattle.receipt_core.specs.Receipt.{line, distrust_line}
 use Rattle.receipt_core.specs.Acceptance.{Meaning, IsMeaning}
 use Rattle.byte_lines.specs.Lines.{HasLine, HasNoLine, HasMore}
-use Rattle.replica_sync.specs.Entries.{RefusesEntryLine}
+use Rattle.replica_sync.specs.Entries.{RefusesEntryLine, placed_line}
 use Rattle.replica_sync.specs.declared.entry_line.Wanted.{Wanted}
 use Rattle.replica_sync.specs.declared.entry_line.Wanted.TheVariants.{Receipts, Either}
 use Rattle.replica_sync.specs.declared.format.Format.{Format}
@@ -184,7 +184,8 @@ pub record IsBadCount (format : Format) (m : Meaning) (text : List ℕ) : Type 0
 -- It does not begin as the last line does, and has a fault of one line.
 pub record IsBadLine (format : Format) (m : Meaning) (text : List ℕ) (e : SyncError) : Type 0 where
   pub further : IsCountLine text → ⊥
-  pub cause : RefusesEntryLine (wanted_of format) m (last_line m) (next_number m) text e
+  pub cause : RefusesEntryLine m
+      (placed_line (wanted_of format) (last_line m) (next_number m) text) e
 
 -- what is wrong with the line that follows the good beginning
 abbrev pub RefusesPlace : Format → Meaning → List ℕ → SyncError → Type 0

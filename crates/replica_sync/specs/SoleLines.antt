@@ -6,7 +6,7 @@ use Rattle.receipt_core.specs.Limits.{receipt_line_limit}
 use Rattle.closure_core.specs.declared.error.TakeError.{TakeError}
 use Rattle.closure_core.specs.declared.error.TakeError.TheVariants.{NoMemory as NoTakeMemory}
 use Rattle.replica_core.specs.Absorbing.{RefusesEntry, with_entry}
-use Rattle.replica_core.specs.Session.{Question}
+use Rattle.replica_core.specs.Session.{HaveMessage}
 use Rattle.replica_core.specs.declared.entry.Entry.{Entry}
 use Rattle.replica_core.specs.declared.error.SyncError.{SyncError}
 use Rattle.replica_core.specs.declared.error.SyncError.TheVariants.{BadHeader, ConfigDiffers}
@@ -15,8 +15,8 @@ use Rattle.replica_core.specs.declared.error.SyncError.TheVariants.{Refused, NoM
 use Rattle.replica_sync.specs.declared.entry_line.Wanted.TheVariants.{Either}
 use Rattle.replica_sync.specs.declared.format.Format.TheVariants.{First, Second}
 use Rattle.replica_sync.specs.Entries.{IsEntry, IsNoLineOf, IsWanted}
-use Rattle.replica_sync.specs.Messages.{asked_of}
-use Rattle.replica_sync.specs.FirstLines.{IsAskedLine}
+use Rattle.replica_sync.specs.Messages.{as_any_have}
+use Rattle.replica_sync.specs.FirstLines.{IsAnyHaveLine}
 use Rattle.replica_sync.specs.Snapshots.{IsNoHeader, IsOfOther, IsOfOtherFormat, header_line}
 
 -- ---- a receipt or a record
@@ -73,9 +73,9 @@ RefusesSoleHeader config text VersionDiffers = (text ≡ header_line First confi
     ⊎ IsOfOtherFormat config text
 RefusesSoleHeader config text _ = ⊥
 
--- ---- a question
+-- ---- a have
 
--- It is the line of this question, which is of the configuration.
-pub record IsQuestionLine (config : Configuration) (text : List ℕ) (q : Question) : Type 0 where
-  pub line : IsAskedLine text (asked_of q)
+-- It is the line of this have, which is of the configuration.
+pub record IsHaveLine (config : Configuration) (text : List ℕ) (q : HaveMessage) : Type 0 where
+  pub line : IsAnyHaveLine text (as_any_have q)
   pub own : q.config ≡ config_id_of config

@@ -4,7 +4,7 @@ ghost use Rattle.std.specs.Prelude.{◌≡◌, MatchResult, length};
 ghost use Rattle.receipt_core.specs.Line.{RefusesRecord, RefusesReceiptLine as RefusesReceipt};
 ghost use Rattle.replica_sync.specs.Entries.{IsEntry, IsNextEntry};
 ghost use Rattle.replica_sync.specs.Inside.EntrySteps.{RefusesSpelling};
-ghost use Rattle.replica_sync.specs.Entries.{RefusesEntryText};
+ghost use Rattle.replica_sync.specs.Entries.{RefusesEntryText, placed_line};
 ghost use Rattle.replica_sync.specs.Inside.EntrySteps.{TakesEntry, TakesEntryText};
 ghost use Rattle.replica_sync.specs.Inside.EntrySteps.{HasRefusedEntry, HasRefusedLine};
 
@@ -26,7 +26,7 @@ pub enum Wanted {
 }
 
 /// Reads the line with this number, where `last` is the line before it, which is empty for the
-/// first, and takes what it says. Answers how many receipts are held now and were not.
+/// first, and takes what it says. Returns how many receipts are held now and were not.
 pub(crate) fn take_line<C: Closure>(
     alloc: Global,
     closure: &mut C,
@@ -66,7 +66,7 @@ pub fn next_entry(
     text: &[u8],
 ) -> Result<Entry, SyncError>
     ensures { MatchResult result (IsNextEntry wanted last.now text.now)
-        (RefusesEntryText wanted last.now number text.now) }
+        (RefusesEntryText (placed_line wanted last.now number text.now)) }
 {
     match read_entry(alloc, wanted, text) {
         Ok(entry) => {

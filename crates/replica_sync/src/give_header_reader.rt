@@ -7,7 +7,7 @@ ghost use Rattle.replica_sync.specs.Snapshots.{is_io};
 ghost use Rattle.replica_sync.specs.Messages.{GiveHeader, distrusts_part, give_header_text};
 ghost use Rattle.replica_sync.specs.FirstLines.{IsAbout, HasDigestOf, IsRecordCount, IsGiveHeader};
 ghost use Rattle.replica_sync.specs.FirstLines.{IsGiveHeaderLine, RefusesGiveLine, config_of};
-ghost use Rattle.replica_sync.specs.Answers.{RefusesHead};
+ghost use Rattle.replica_sync.specs.Gives.{RefusesHead};
 ghost use Rattle.replica_sync.specs.Inside.Spelling.{HasHead, HasWords, IsHeadOf};
 ghost use Rattle.replica_sync.specs.Inside.Spelling.{RefusesGiveHeader, IsHeadLine, expected_by};
 ghost use Rattle.replica_sync.specs.Inside.Spelling.{header_by};

@@ -1,12 +1,12 @@
-//! The lines of questions, read: what the line says is guessed, written again by `spelling` and
+//! The lines of haves, read: what the line says is guessed, written again by `spelling` and
 //! compared with the line. So a line is read exactly where it has the one spelling.
 ghost use Rattle.std.specs.Prelude.{◌≡◌, ◌<◌, ◌^◌, ◌↔◌, IsTrue, IfOk, MatchOption, map};
 ghost use Rattle.std.specs.List.Sorted.{IsStrictlySortedBy};
 ghost use Rattle.receipt_core.specs.Receipt.{IsDigest};
 ghost use Rattle.replica_core.specs.State.{id_cmp};
-ghost use Rattle.replica_sync.specs.Messages.{Asked, asked_text};
-ghost use Rattle.replica_sync.specs.FirstLines.{IsAskedLine};
-ghost use Rattle.replica_sync.specs.Inside.Asking.{ArePartsOf, IsOfParts, asking_by};
+ghost use Rattle.replica_sync.specs.Messages.{AnyHave, any_have_text};
+ghost use Rattle.replica_sync.specs.FirstLines.{IsAnyHaveLine};
+ghost use Rattle.replica_sync.specs.Inside.HaveLines.{ArePartsOf, IsOfParts, versioned_have_says};
 
 use crate::have_fields::{HaveFields, VersionedHave};
 use crate::id_list::{list_after, read_ids};
@@ -16,30 +16,30 @@ use receipt_core::ReceiptId;
 use replica_core::Have;
 use std::alloc::{AllocError, Global};
 
-/// Reads the line of a question. There is none where the line is not spelt as one, or its bucket is
+/// Reads the line of a have. There is none where the line is not spelt as one, or its bucket is
 /// not below the number of buckets, or its ids do not rise.
-pub(crate) fn read_have_line(
+pub(crate) fn read_versioned_have(
     alloc: Global,
     text: &[u8],
 ) -> Result<Option<VersionedHave>, AllocError>
-    ensures { IfOk result (λ found. MatchOption found ((a : Asked) → IsAskedLine text.now a → ⊥)
-        (λ a. IsAskedLine text.now (asking_by a))) }
+    ensures { IfOk result (λ found. MatchOption found ((a : AnyHave) → IsAnyHaveLine text.now a → ⊥)
+        (λ a. IsAnyHaveLine text.now (versioned_have_says a))) }
 {
     let parts = guess(text);
     let ids = read_ids(alloc, parts.ids)?;
-    let Some(asking) = asking_of(&parts, ids) else {
+    let Some(versioned) = have_of_fields(&parts, ids) else {
         return Ok(None);
     };
-    if is_spelt(alloc, &asking, text)? {
-        Ok(Some(asking))
+    if is_spelt(alloc, &versioned, text)? {
+        Ok(Some(versioned))
     } else {
         Ok(None)
     }
 }
 
-// The parts of the line where it is a question's, and else any.
+// The parts of the line where it is a have's, and else any.
 fn guess(text: &[u8]) -> HaveFields<'_>
-    ensures parts { (a : Asked) → IsAskedLine text.now a → ArePartsOf result a }
+    ensures parts { (a : AnyHave) → IsAnyHaveLine text.now a → ArePartsOf result a }
     ensures config { IsDigest result.config.0 }
     ensures few { (result.format < 2 ^ 64) × (result.buckets < 2 ^ 64) }
 {
@@ -57,7 +57,7 @@ fn guess(text: &[u8]) -> HaveFields<'_>
     }
 }
 
-fn asking_of(parts: &HaveFields<'_>, ids: Vec<ReceiptId>) -> Option<VersionedHave>
+fn have_of_fields(parts: &HaveFields<'_>, ids: Vec<ReceiptId>) -> Option<VersionedHave>
     ensures { MatchOption result
         (parts.now.bucket < parts.now.buckets
         → IsStrictlySortedBy id_cmp (map (λ id. id.0) ids.items) → ⊥)
@@ -66,7 +66,7 @@ fn asking_of(parts: &HaveFields<'_>, ids: Vec<ReceiptId>) -> Option<VersionedHav
     if parts.bucket >= parts.buckets {
         return None;
     }
-    // A bucket past 255 is of no question that is answered.
+    // A bucket past 255 is of no have that is answered.
     let have = Have::new((parts.bucket % 256) as u8, parts.config, ids)?;
     Some(VersionedHave {
         bucket: parts.bucket,
@@ -76,15 +76,16 @@ fn asking_of(parts: &HaveFields<'_>, ids: Vec<ReceiptId>) -> Option<VersionedHav
     })
 }
 
-fn is_spelt(alloc: Global, asking: &VersionedHave, text: &[u8]) -> Result<bool, AllocError>
-    ensures { IfOk result (λ same. IsTrue same ↔ (text.now ≡ asked_text (asking_by asking.now))) }
+fn is_spelt(alloc: Global, versioned: &VersionedHave, text: &[u8]) -> Result<bool, AllocError>
+    ensures { IfOk result (λ same. IsTrue same
+        ↔ (text.now ≡ any_have_text (versioned_have_says versioned.now))) }
 {
     let line = HaveLine {
-        bucket: asking.bucket,
-        config: asking.have.config(),
-        format: asking.format,
-        ids: asking.have.ids(),
-        buckets: asking.buckets,
+        bucket: versioned.bucket,
+        config: versioned.have.config(),
+        format: versioned.format,
+        ids: versioned.have.ids(),
+        buckets: versioned.buckets,
     };
     let mut spelt = Vec::new(alloc);
     push_have_line(&mut spelt, &line)?;

@@ -9,7 +9,7 @@ ghost use Rattle.replica_sync.specs.Snapshots.{RefusesHeader, header_line, count
 ghost use Rattle.replica_sync.specs.Snapshots.{digits_of, records_part, version_of};
 
 use crate::format::Format;
-use crate::number::{are_digits, read_number};
+use crate::number_text::{are_digits, read_number};
 use byte_lines::{Line, LineBuf, Source, push_digits, push_number};
 use fed_config::Config;
 use replica_core::SyncError;

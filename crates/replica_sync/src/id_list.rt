@@ -1,4 +1,4 @@
-//! The ids in the line of a question.
+//! The ids in the line of a have.
 ghost use Rattle.std.specs.Prelude.{◌≡◌, ◌++◌, ◌∷◌, ◌<◌, ◌≤◌, ℕ, List, IfOk, IfSome, MatchOption};
 ghost use Rattle.std.specs.Prelude.{codes, drop, map, length};
 ghost use Rattle.std.specs.List.{AllByRecursion, AllPass, join_by};

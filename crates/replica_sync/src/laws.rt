@@ -8,7 +8,7 @@ ghost use Rattle.byte_lines.specs.Lines.{HasNoFeed};
 ghost use Rattle.receipt_core.specs.Acceptance.{Meaning, IsMeaning};
 ghost use Rattle.closure_core.specs.declared.error.TakeError.{TakeError};
 ghost use Rattle.replica_core.specs.Convergence.{AreEvents, HasAll, Settles};
-ghost use Rattle.replica_core.specs.Session.{Question, Reply, question_of, reply_of, state_of};
+ghost use Rattle.replica_core.specs.Session.{HaveMessage, GiveMessage, have_of, give_of, state_of};
 ghost use Rattle.replica_core.specs.State.{is_within_limits, joined, meaning_of_state};
 ghost use Rattle.replica_core.specs.World.{World, WorldRun, rules_of, rules_in, run_from};
 ghost use Rattle.replica_core.specs.World.{world_after, held_by, followed_by};
@@ -17,10 +17,10 @@ ghost use Rattle.replica_core.specs.declared.event.Event.{Event};
 ghost use Rattle.replica_core.specs.declared.error.SyncError.{SyncError};
 ghost use Rattle.replica_core.specs.declared.error.SyncError.TheVariants.{Io, NoMemory, Refused};
 ghost use Rattle.replica_sync.specs.Entries.{entry_line};
-ghost use Rattle.replica_sync.specs.Messages.{question_text, reply_text};
+ghost use Rattle.replica_sync.specs.Messages.{have_text, give_text};
 ghost use Rattle.replica_sync.specs.FirstLines.{HasDigestOf};
-ghost use Rattle.replica_sync.specs.Questions.{IsAskable, RefusesQuestion, ServesAll, ServesUpTo};
-ghost use Rattle.replica_sync.specs.Answers.{IsAnswer, RefusesGive};
+ghost use Rattle.replica_sync.specs.Haves.{IsAskable, RefusesHave, ServesAll, ServesUpTo};
+ghost use Rattle.replica_sync.specs.Gives.{IsGive, RefusesGive};
 ghost use Rattle.replica_sync.specs.SessionRun.{ReadSame, SessionRun, known_run, session_run};
 ghost use Rattle.replica_sync.specs.Events.{EndsCut, whole_exchanges};
 ghost use Rattle.replica_sync.specs.Pulling.{HasDistinctIds, Pulls, PullsAll, PullsUpTo};
@@ -49,28 +49,28 @@ pub fn snapshots()
         → RefusesSnapshot config (Some bytes) d → RefusesSnapshot config (Some bytes) e → d ≡ e }
 {}
 
-/// What a stream asks is one, and a question that a line can ask is read. Only a source that fails,
+/// What a stream asks is one, and a have that a line can ask is read. Only a source that fails,
 /// or lack of memory, may keep it from being read.
 ///
-/// - `one`: of two questions that it begins with, both are the same, and so is what follows them.
-/// - `read`: where it begins with a question, of the configuration if one is wanted, it has no
+/// - `one`: of two haves that it begins with, both are the same, and so is what follows them.
+/// - `read`: where it begins with a have, of the configuration if one is wanted, it has no
 ///   fault there.
 /// - `one_cause`: where it begins with none, it has one fault there.
-pub fn questions()
-    ensures one { (bytes : List ℕ) (p q : Question) (left rest : Option (List ℕ))
+pub fn haves()
+    ensures one { (bytes : List ℕ) (p q : HaveMessage) (left rest : Option (List ℕ))
         → IsAskable p → IsAskable q
-        → Consumes (Some bytes) left (question_text p)
-        → Consumes (Some bytes) rest (question_text q)
+        → Consumes (Some bytes) left (have_text p)
+        → Consumes (Some bytes) rest (have_text q)
         → (p ≡ q) × (left ≡ rest) }
-    ensures read { (config : Option Configuration) (bytes : List ℕ) (q : Question)
+    ensures read { (config : Option Configuration) (bytes : List ℕ) (q : HaveMessage)
         (left new : Option (List ℕ)) (e : SyncError)
         → IsAskable q → HasDigestOf config q.config → e ≢ Io → e ≢ NoMemory
-        → Consumes (Some bytes) left (question_text q) → RefusesQuestion config (Some bytes) new e
+        → Consumes (Some bytes) left (have_text q) → RefusesHave config (Some bytes) new e
         → ⊥ }
     ensures one_cause { (config : Option Configuration) (bytes : List ℕ)
         (new since : Option (List ℕ)) (d e : SyncError) → d ≢ Io → d ≢ NoMemory → e ≢ Io
-        → e ≢ NoMemory → RefusesQuestion config (Some bytes) new d
-        → RefusesQuestion config (Some bytes) since e → d ≡ e }
+        → e ≢ NoMemory → RefusesHave config (Some bytes) new d
+        → RefusesHave config (Some bytes) since e → d ≡ e }
 {}
 
 /// What a stream answers is one, and an answer that is there to its last byte is read. Only a
@@ -79,14 +79,14 @@ pub fn questions()
 /// - `one`: of two answers that it begins with, both are the same, and so is what follows them.
 /// - `read`: where it begins with a whole answer, it has no fault before that answer's end.
 /// - `one_cause`: where it begins with none, it has one fault.
-pub fn answers()
-    ensures one { (bytes : List ℕ) (a b : Reply) (left rest : Option (List ℕ))
-        → IsAnswer a → IsAnswer b
-        → Consumes (Some bytes) left (reply_text a) → Consumes (Some bytes) rest (reply_text b)
+pub fn gives()
+    ensures one { (bytes : List ℕ) (a b : GiveMessage) (left rest : Option (List ℕ))
+        → IsGive a → IsGive b
+        → Consumes (Some bytes) left (give_text a) → Consumes (Some bytes) rest (give_text b)
         → (a ≡ b) × (left ≡ rest) }
-    ensures read { (bytes : List ℕ) (a : Reply) (left new : Option (List ℕ)) (e : SyncError)
-        → IsAnswer a → e ≢ Io → e ≢ NoMemory
-        → Consumes (Some bytes) left (reply_text a) → RefusesGive (Some bytes) new e → ⊥ }
+    ensures read { (bytes : List ℕ) (a : GiveMessage) (left new : Option (List ℕ)) (e : SyncError)
+        → IsGive a → e ≢ Io → e ≢ NoMemory
+        → Consumes (Some bytes) left (give_text a) → RefusesGive (Some bytes) new e → ⊥ }
     ensures one_cause { (bytes : List ℕ) (new since : Option (List ℕ)) (d e : SyncError)
         → d ≢ Io → d ≢ NoMemory → e ≢ Io → e ≢ NoMemory
         → RefusesGive (Some bytes) new d → RefusesGive (Some bytes) since e → d ≡ e }
@@ -96,9 +96,9 @@ pub fn answers()
 /// determined by the bytes that are read. Only a device that fails, lack of memory, or a line whose
 /// receipt or record the replica cannot hold, ends it otherwise.
 ///
-/// - `served`: a stream that is wholly questions of the configuration has no fault, after
+/// - `served`: a stream that is wholly haves of the configuration has no fault, after
 ///   whichever of them.
-/// - `served_once`: it is this many questions, and no other number of them.
+/// - `served_once`: it is this many haves, and no other number of them.
 /// - `pulled`: a stream that begins with answers about all buckets has no fault in them, but that
 ///   what a line says is refused.
 /// - `taken`: nor is anything refused where a replica can hold all that they bring.
@@ -121,13 +121,13 @@ pub fn sessions()
 {}
 
 /// What one side writes the other takes: two replicas whose configurations have one digest never
-/// refuse each other's questions and answers. `asked` are the bytes that a pull wrote, and
+/// refuse each other's haves and answers. `asked` are the bytes that a pull wrote, and
 /// `replied` those that were written to them.
 ///
 /// - `asks`: what a replica asks about a bucket, a line can ask.
-/// - `answers`: what a replica answers to a question that a line can ask is an answer.
+/// - `answers`: what a replica answers to a have that a line can ask is an answer.
 /// - `served`: a session that serves what a pull wrote has no fault.
-/// - `pulled`: nor has a pull that reads what is written to its questions, but that what a line
+/// - `pulled`: nor has a pull that reads what is written to its haves, but that what a line
 ///   says is refused.
 /// - `taken`: nor is anything refused where the configuration is the same, and both together hold
 ///   65,536 receipts and 4,096 records at most. So nothing but a device or memory ends it early.
@@ -137,9 +137,9 @@ pub fn sessions()
 ///   together, and nothing else.
 pub fn understanding()
     ensures asks { (m : Meaning) (bucket : ℕ) → IsMeaning m → bucket < 256
-        → IsAskable (question_of m bucket) }
-    ensures answers { (m : Meaning) (q : Question) → IsMeaning m → IsAskable q
-        → IsAnswer (reply_of m q) }
+        → IsAskable (have_of m bucket) }
+    ensures answers { (m : Meaning) (q : HaveMessage) → IsMeaning m → IsAskable q
+        → IsGive (give_of m q) }
     ensures served { (m k held : Meaning) (stream : Option (List ℕ)) (asked : List ℕ)
         (result : Result ℕ PullFault) (before after : Option (List ℕ)) (e : SyncError)
         → IsMeaning m → IsMeaning held → config_id_of m.config ≡ config_id_of k.config

@@ -1,5 +1,5 @@
 //! All texts by which replicas come to hold the same receipts, and the sessions of which they are
-//! parts: snapshots, questions and answers. What these say is in `replica_core`.
+//! parts: snapshots, haves and answers. What these say is in `replica_core`.
 //!
 //! Snapshots: `header` and `format` are the first and the last line, read and written by
 //! `snapshot_reader` and `snapshot_writer`. First lines of messages: `scanner` guesses their parts,
@@ -11,20 +11,21 @@
 //! may still come are below 2^64 together, so no number can pass its type.
 #![tactic(auto)]
 
-mod answer_reader;
-mod answer_writer;
 mod entry_line;
 mod format;
 mod give_header_reader;
+mod give_reader;
+mod give_writer;
 mod have_fields;
 mod have_line_reader;
+mod have_reader;
+mod have_writer;
 mod header;
 mod id_list;
 pub mod laws;
-mod number;
+mod line_bytes;
+mod number_text;
 mod pulling;
-mod question_reader;
-mod question_writer;
 mod scanner;
 mod serving;
 mod snapshot_reader;
@@ -33,12 +34,12 @@ mod sole_line;
 mod spelling;
 mod taking;
 
-pub use answer_reader::read_give;
-pub use answer_writer::write_answer;
 pub use entry_line::{Wanted, next_entry};
+pub use give_reader::read_give;
+pub use give_writer::write_answer;
+pub use have_reader::read_have;
+pub use have_writer::write_have;
 pub use pulling::{PullFault, pull};
-pub use question_reader::read_have;
-pub use question_writer::write_have;
 pub use replica_core::{
     Answer, Event, Give, Have, Lacking, SyncError, absorb, answer, have, run_world,
 };
@@ -46,5 +47,5 @@ pub use serving::serve_one;
 pub use snapshot_reader::read_snapshot;
 pub use snapshot_writer::write_snapshot;
 pub use sole_line::{
-    read_answer_line, read_first_line, read_question_line, take_sole_line, write_first_line,
+    read_first_line, read_give_line, read_have_line, take_sole_line, write_first_line,
 };

@@ -3,17 +3,17 @@ ghost use Rattle.std.specs.Prelude.{◌≡◌, ◌+◌, ◌<◌, ◌≤◌, ◌^
 ghost use Rattle.std.specs.Prelude.{true, false};
 ghost use Rattle.std.specs.Io.KnownBytes.{Appends};
 ghost use Rattle.byte_lines.specs.Streams.{stream_of, left_of};
-ghost use Rattle.replica_core.specs.Session.{question_of};
-ghost use Rattle.replica_sync.specs.Messages.{question_text, WritesText};
+ghost use Rattle.replica_core.specs.Session.{have_of};
+ghost use Rattle.replica_sync.specs.Messages.{have_text, WritesText};
 ghost use Rattle.replica_sync.specs.Snapshots.{is_io};
 ghost use Rattle.replica_sync.specs.SessionRun.{session_run};
-ghost use Rattle.replica_sync.specs.Questions.{IsWritten};
+ghost use Rattle.replica_sync.specs.Haves.{IsWritten};
 ghost use Rattle.replica_sync.specs.Pulling.{Pulls, PullsAll, PullsUpTo, is_pull_io};
-ghost use Rattle.replica_sync.specs.Inside.Taking.{TakesReply, StopsReply};
+ghost use Rattle.replica_sync.specs.Inside.Taking.{TakesGive, StopsGive};
 ghost use Rattle.replica_core.specs.declared.error.SyncError.TheVariants.{Io, NoMemory};
 
-use crate::question_writer::write_have;
-use crate::taking::{Place, take_answer};
+use crate::have_writer::write_have;
+use crate::taking::{Place, take_give};
 use byte_lines::{LineBuf, Sink, Source};
 use closure_core::Closure;
 use replica_core::{SyncError, have};
@@ -30,24 +30,24 @@ pub struct PullFault {
     pub taken: u64,
 }
 
-/// Asks about each bucket in order, from 0 to 255, and takes each answer line by line. Answers how
+/// Asks about each bucket in order, from 0 to 255, and takes each answer line by line. Returns how
 /// many receipts are held now that were not.
 ///
-/// Each question has the ids that are held when it is asked. It is written whole before its answer
+/// Each have has the ids that are held when it is asked. It is written whole before its answer
 /// is read, and what follows the last answer is not taken. Beside what is held, memory is taken for
-/// one question and for a few lines, and never by a number that the other side says.
+/// one have and for a few lines, and never for a number that the other side says.
 ///
 /// # Errors
 /// What the lines before the fault say stays held, and [`PullFault::taken`] says how many receipts
 /// of it were new. Of several faults the one that comes first in the answers' bytes:
 /// - [`SyncError::Truncated`]: the source ends before the last answer does,
-/// - [`SyncError::BadHeader`]: an answer's first line is none, of whatever format and number of
+/// - [`SyncError::BadHeader`]: a line is no answer's first, of whatever format and number of
 ///   buckets, or is about another bucket than was asked about, or has more than 8,388,608 bytes,
 /// - [`SyncError::ConfigDiffers`]: it is of another configuration,
 /// - [`SyncError::VersionDiffers`]: it has another format than 2, or another number of buckets than
 ///   256,
-/// - [`SyncError::NotCanonical`]: a line is none of a record where a record should stand, or none
-///   of a receipt where a receipt should, or has more than 8,388,608 bytes,
+/// - [`SyncError::NotCanonical`]: a line is not a record's where a record should stand, or not a
+///   receipt's where a receipt should, or has more than 8,388,608 bytes,
 /// - [`SyncError::NotRising`]: a line is not greater than the one before it in its answer,
 /// - [`SyncError::Refused`]: a receipt or a record is not of the configuration, or is one too many,
 /// - [`SyncError::Io`]: the source or the sink failed,
@@ -128,18 +128,18 @@ fn pull_bucket<C: Closure, R: Source, W: Sink>(
 ) -> Result<(), SyncError>
     requires counted { place.old.read + left_of R.budget lines.old source.old < 2 ^ 64 }
     ensures ok { OnOk result
-        (TakesReply (C.state closure.old).meaning bucket
+        (TakesGive (C.state closure.old).meaning bucket
         (stream_of R.remaining lines.old source.old) place.old.read (C.state closure.new).meaning
         (stream_of R.remaining lines.new source.new) place.new.read) }
     ensures refused { IfErr result
-        (StopsReply (C.state closure.old).meaning bucket (place.old.read + 1)
+        (StopsGive (C.state closure.old).meaning bucket (place.old.read + 1)
         (stream_of R.remaining lines.old source.old) (C.state closure.new).meaning) }
     ensures asked { OnOk result
         (Appends (W.contents sink.old) (W.contents sink.new)
-        (question_text (question_of (C.state closure.old).meaning bucket))) }
+        (have_text (have_of (C.state closure.old).meaning bucket))) }
     ensures asks { IfErr result
         (λ e. IsWritten e (W.contents sink.old) (W.contents sink.new)
-        (question_text (question_of (C.state closure.old).meaning bucket))) }
+        (have_text (have_of (C.state closure.old).meaning bucket))) }
     ensures counted { OnOk result
         (place.new.read + left_of R.budget lines.new source.new
         ≤ place.old.read + left_of R.budget lines.old source.old) }
@@ -150,7 +150,7 @@ fn pull_bucket<C: Closure, R: Source, W: Sink>(
         × (W.has_failed sink.new ≡ W.has_failed sink.old) }
 {
     ask(alloc, closure, bucket, sink)?;
-    take_answer(alloc, closure, bucket, place, lines, source)
+    take_give(alloc, closure, bucket, place, lines, source)
 }
 
 // Asks about the bucket.
@@ -161,11 +161,11 @@ fn ask<C: Closure, W: Sink>(
     sink: &mut W,
 ) -> Result<(), SyncError>
     ensures writes { WritesText (W.contents sink.old) (W.contents sink.new) result
-        (question_text (question_of (C.state closure.now).meaning bucket)) }
+        (have_text (have_of (C.state closure.now).meaning bucket)) }
     ensures refused { IfErr result (λ e. (e ≡ Io) ⊎ (e ≡ NoMemory)) }
     ensures io { IsErrOf result Io → W.has_failed sink.new ≡ true }
     ensures fault { W.has_failed sink.new ≡ (is_io result || W.has_failed sink.old) }
 {
-    let question = have(alloc, closure, bucket)?;
-    write_have(alloc, &question, sink)
+    let own = have(alloc, closure, bucket)?;
+    write_have(alloc, &own, sink)
 }

@@ -6,7 +6,7 @@ ghost use Rattle.hex.specs.Hex.{encode_lower};
 ghost use Rattle.receipt_core.specs.Receipt.{IsDigest};
 ghost use Rattle.spiffe_name.specs.Bytes.{FirstFails};
 
-use crate::number::read_number;
+use crate::number_text::read_number;
 use fed_config::ConfigId;
 
 /// What follows the label, where the text begins with it.

@@ -3,31 +3,31 @@ ghost use Rattle.std.specs.Prelude.{◌≡◌, ◌<◌, ◌⊎◌, IfOk, IsErrOf
 ghost use Rattle.byte_lines.specs.Streams.{stream_of, left_of};
 ghost use Rattle.replica_sync.specs.Snapshots.{is_io};
 ghost use Rattle.replica_sync.specs.SessionRun.{session_run};
-ghost use Rattle.replica_sync.specs.Questions.{Serves};
+ghost use Rattle.replica_sync.specs.Haves.{Serves};
 ghost use Rattle.replica_sync.specs.Inside.Serving.{ServesNext};
 ghost use Rattle.replica_core.specs.declared.error.SyncError.TheVariants.{Io};
 
-use crate::answer_writer::write_answer;
-use crate::question_reader::next_own;
+use crate::give_writer::write_answer;
+use crate::have_reader::next_own;
 use byte_lines::{LineBuf, Sink, Source};
 use closure_core::Closure;
 use replica_core::{SyncError, answer};
 use std::alloc::Global;
 
-/// Answers the questions of the source, one after another, until it ends where a question would
-/// begin. Answers how many there were.
+/// Answers the haves of the source, one after another, until it ends where a have would
+/// begin. Returns how many there were.
 ///
-/// Only questions of the closure's configuration are answered, each with what the closure holds.
-/// Memory is taken for one question and for one line of an answer.
+/// Only haves of the closure's configuration are answered, each with what the closure holds.
+/// Memory is taken for one have and for one line of an answer.
 ///
 /// # Errors
-/// The questions before the fault are answered, and nothing else is written; where the sink failed
+/// The haves before the fault are answered, and nothing else is written; where the sink failed
 /// or memory ran out, a beginning of that. Of these the first that holds:
-/// - [`SyncError::Truncated`]: the source ends within a question,
-/// - [`SyncError::BadHeader`]: a line is no question's, of whatever format and number of buckets,
+/// - [`SyncError::Truncated`]: the source ends within a have,
+/// - [`SyncError::BadHeader`]: a line is no have's, of whatever format and number of buckets,
 ///   or its bucket is not below that number, or its ids do not rise strictly, or it has more than
 ///   8,388,608 bytes,
-/// - [`SyncError::ConfigDiffers`]: a question is of another configuration,
+/// - [`SyncError::ConfigDiffers`]: a have is of another configuration,
 /// - [`SyncError::VersionDiffers`]: it has another format than 2, or another number of buckets than
 ///   256,
 /// - [`SyncError::Io`]: the source or the sink failed,
@@ -49,13 +49,13 @@ pub fn serve_one<C: Closure, R: Source, W: Sink>(
 {
     let mut lines = LineBuf::new(alloc);
     let mut count = 0;
-    'questions: while serve_next(alloc, closure, &mut lines, source, sink)? {
+    'haves: while serve_next(alloc, closure, &mut lines, source, sink)? {
         count += 1;
     }
     Ok(count)
 }
 
-// Answers the next question, and returns whether there was one.
+// Answers the next have, and returns whether there was one.
 fn serve_next<C: Closure, R: Source, W: Sink>(
     alloc: Global,
     closure: &C,

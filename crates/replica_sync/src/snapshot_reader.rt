@@ -15,6 +15,7 @@ ghost use Rattle.byte_lines.specs.Limits.{line_limit};
 use crate::entry_line::{Wanted, take_line};
 use crate::format::Format;
 use crate::header::{read_first, write_count};
+use crate::line_bytes::set_last;
 use byte_lines::{Line, LineBuf, Source};
 use closure_core::Closure;
 use fed_config::Config;
@@ -32,11 +33,11 @@ use std::alloc::{AllocError, Global};
 /// # Errors
 /// There is no closure then. Of several faults the one that comes first in the bytes:
 /// - [`SyncError::Truncated`]: it ends before the last line's line feed,
-/// - [`SyncError::BadHeader`]: the first line is none, or has more than 8,388,608 bytes,
+/// - [`SyncError::BadHeader`]: the line is no first line, or has more than 8,388,608 bytes,
 /// - [`SyncError::ConfigDiffers`]: it is of another configuration,
 /// - [`SyncError::VersionDiffers`]: it is of another format than the first two,
-/// - [`SyncError::NotCanonical`]: a line is none of a record or a receipt, or of a record in the
-///   first format, or has more than 8,388,608 bytes, or something follows the last line,
+/// - [`SyncError::NotCanonical`]: a line is not that of a record or a receipt, or is a record's in
+///   the first format, or has more than 8,388,608 bytes, or something follows the last line,
 /// - [`SyncError::NotRising`]: a line is not greater than the one before,
 /// - [`SyncError::Refused`]: a receipt or a record is not of the configuration, or is one too many,
 /// - [`SyncError::BadCount`]: a line begins as the last one, and says other numbers,
@@ -184,13 +185,6 @@ fn wanted(format: Format) -> Wanted
         Format::First => Wanted::Receipts,
         Format::Second => Wanted::Either,
     }
-}
-
-fn set_last(last: &mut Vec<u8>, text: &[u8]) -> Result<(), AllocError>
-    ensures { OnOk result (last.new.items ≡ text.now) }
-{
-    last.clear();
-    last.extend_from_slice(text)
 }
 
 // Nothing may follow the last line; what does would begin the line with this number.

@@ -6,13 +6,11 @@ ghost use Rattle.replica_sync.specs.Writing.{Writes};
 
 use crate::format::Format;
 use crate::header::{write_count, write_header};
+use crate::line_bytes::record_line;
 use byte_lines::{Sink, write_all};
 use closure_core::Closure;
-use jwk_set::KeyId;
-use receipt_core::Distrust;
 use replica_core::SyncError;
-use spiffe_name::TrustDomain;
-use std::alloc::{AllocError, Global};
+use std::alloc::Global;
 
 /// Writes the snapshot of what is held: a first line with the configuration's digest, the lines of
 /// records of distrust and of receipts, each rising, and a last line with their numbers, each ended
@@ -93,15 +91,4 @@ fn put_line<W: Sink>(sink: &mut W, mut text: Vec<u8>) -> Result<(), SyncError>
     text.extend_from_slice(b"\n")?;
     write_all(sink, text.as_slice())?;
     Ok(())
-}
-
-fn record_line(alloc: Global, domain: &TrustDomain, key: &KeyId) -> Result<Vec<u8>, AllocError>
-    ensures { IfOk result (λ text. text.items
-        ≡ distrust_line (record { domain = domain.now; key = key.now })) }
-{
-    let record = Distrust {
-        domain: domain.try_clone(alloc)?,
-        key: *key,
-    };
-    record.write_line(alloc)
 }

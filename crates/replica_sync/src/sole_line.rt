@@ -1,17 +1,17 @@
 //! Single lines, for a caller that does not have them in a stream: a receipt or a record that
-//! stands anywhere, the first line of a snapshot, a question, and the first line of an answer.
+//! stands anywhere, the first line of a snapshot, a have, and the first line of an answer.
 ghost use Rattle.std.specs.Prelude.{◌≡◌, IfOk, IfErr, MatchResult, Some};
-ghost use Rattle.replica_sync.specs.Answers.{Heads};
+ghost use Rattle.replica_sync.specs.Gives.{Heads};
 ghost use Rattle.replica_sync.specs.Snapshots.{header_line};
 ghost use Rattle.replica_sync.specs.SoleLines.{HasRefusedSoleLine, RefusesSoleHeader};
-ghost use Rattle.replica_sync.specs.SoleLines.{TakesSoleLine, IsQuestionLine};
-ghost use Rattle.replica_sync.specs.FirstLines.{RefusesAsked, RefusesGiveLine};
+ghost use Rattle.replica_sync.specs.SoleLines.{TakesSoleLine, IsHaveLine};
+ghost use Rattle.replica_sync.specs.FirstLines.{RefusesHaveLine, RefusesGiveLine};
 
 use crate::entry_line::{Wanted, take_line};
 use crate::format::Format;
 use crate::give_header_reader::{Expected, read_head};
+use crate::have_reader::{own_have, versioned_have};
 use crate::header::{format_of, write_header};
-use crate::question_reader::{asked_line, own_question};
 use closure_core::Closure;
 use fed_config::Config;
 use replica_core::{Have, SyncError};
@@ -45,7 +45,7 @@ pub fn take_sole_line<C: Closure>(
 ///
 /// # Errors
 /// Of these the first that holds:
-/// - [`SyncError::BadHeader`]: the line is none,
+/// - [`SyncError::BadHeader`]: the line is no first line,
 /// - [`SyncError::ConfigDiffers`]: it is of another configuration,
 /// - [`SyncError::VersionDiffers`]: it is of another format.
 pub fn read_first_line(config: &Config, text: &[u8]) -> Result<(), SyncError>
@@ -66,23 +66,23 @@ pub fn write_first_line(alloc: Global, config: &Config) -> Result<Vec<u8>, Alloc
     write_header(alloc, config, Format::Second)
 }
 
-/// Reads a question of this configuration from its line, as [`read_have`](crate::read_have) reads
+/// Reads a have of this configuration from its line, as [`read_have`](crate::read_have) reads
 /// one from a stream.
 ///
 /// # Errors
 /// Of these the first that holds:
-/// - [`SyncError::BadHeader`]: the line is no question's, of whatever format and number of buckets,
+/// - [`SyncError::BadHeader`]: the line is no have's, of whatever format and number of buckets,
 ///   or its bucket is not below that number, or its ids do not rise strictly,
 /// - [`SyncError::ConfigDiffers`]: it is of another configuration,
 /// - [`SyncError::VersionDiffers`]: it has another format than 2, or another number of buckets than
 ///   256,
 /// - [`SyncError::NoMemory`]: memory ran out.
-pub fn read_question_line(alloc: Global, config: &Config, text: &[u8]) -> Result<Have, SyncError>
-    ensures { MatchResult result (IsQuestionLine config.now text.now)
-        (RefusesAsked (Some config.now) text.now) }
+pub fn read_have_line(alloc: Global, config: &Config, text: &[u8]) -> Result<Have, SyncError>
+    ensures { MatchResult result (IsHaveLine config.now text.now)
+        (RefusesHaveLine (Some config.now) text.now) }
 {
-    let asking = asked_line(alloc, text)?;
-    own_question(config, asking)
+    let versioned = versioned_have(alloc, text)?;
+    own_have(config, versioned)
 }
 
 /// Reads the first line of an answer of this configuration about this bucket, as
@@ -96,7 +96,7 @@ pub fn read_question_line(alloc: Global, config: &Config, text: &[u8]) -> Result
 /// - [`SyncError::VersionDiffers`]: it has another format than 2, or another number of buckets than
 ///   256,
 /// - [`SyncError::NoMemory`]: memory ran out.
-pub fn read_answer_line(
+pub fn read_give_line(
     alloc: Global,
     config: &Config,
     bucket: u8,

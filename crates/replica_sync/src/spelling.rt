@@ -1,15 +1,16 @@
 //! The first lines of messages: JSON without spaces, its members in the order of their names.
 ghost use Rattle.std.specs.Prelude.{◌≡◌, ◌++◌, OnOk, map, codes};
 ghost use Rattle.std.specs.List.{join_by};
-ghost use Rattle.replica_sync.specs.Messages.{asked_text, distrusts_part, quoted, give_header_text};
-ghost use Rattle.replica_sync.specs.Inside.Spelling.{asked_by, header_by};
+ghost use Rattle.replica_sync.specs.Messages.{any_have_text, distrusts_part, give_header_text};
+ghost use Rattle.replica_sync.specs.Messages.{quoted};
+ghost use Rattle.replica_sync.specs.Inside.Spelling.{have_line_says, header_by};
 
 use byte_lines::{push_digits, push_number};
 use fed_config::ConfigId;
 use receipt_core::ReceiptId;
 use std::alloc::AllocError;
 
-/// What the line of a question says, of whatever format and number of buckets.
+/// What the line of a have says, of whatever format and number of buckets.
 #[derive(Clone, Copy, Debug)]
 pub(crate) struct HaveLine<'a> {
     pub(crate) bucket: u64,
@@ -30,19 +31,20 @@ pub(crate) struct GiveHeaderLine {
     pub(crate) buckets: u64,
 }
 
-pub(crate) fn push_have_line(out: &mut Vec<u8>, asked: &HaveLine<'_>) -> Result<(), AllocError>
-    ensures { OnOk result (out.new.items ≡ out.old.items ++ asked_text (asked_by asked.now)) }
+pub(crate) fn push_have_line(out: &mut Vec<u8>, line: &HaveLine<'_>) -> Result<(), AllocError>
+    ensures { OnOk result
+        (out.new.items ≡ out.old.items ++ any_have_text (have_line_says line.now)) }
 {
     out.extend_from_slice(b"{\"bucket\":")?;
-    push_number(out, asked.bucket)?;
+    push_number(out, line.bucket)?;
     out.extend_from_slice(b",\"config\":\"")?;
-    push_digits(out, &asked.config.0)?;
+    push_digits(out, &line.config.0)?;
     out.extend_from_slice(b"\",\"format\":")?;
-    push_number(out, asked.format)?;
+    push_number(out, line.format)?;
     out.extend_from_slice(b",\"have\":[")?;
-    push_ids(out, asked.ids)?;
+    push_ids(out, line.ids)?;
     out.extend_from_slice(b"],\"of\":")?;
-    push_number(out, asked.buckets)?;
+    push_number(out, line.buckets)?;
     out.extend_from_slice(b"}")?;
     Ok(())
 }

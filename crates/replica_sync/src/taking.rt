@@ -3,7 +3,7 @@ ghost use Rattle.std.specs.Prelude.{◌≡◌, ◌+◌, ◌<◌, ◌≤◌, ◌^
 ghost use Rattle.std.specs.Prelude.{IsErrOf, MatchResult, Some};
 ghost use Rattle.byte_lines.specs.Streams.{stream_of, left_of};
 ghost use Rattle.replica_sync.specs.Snapshots.{is_io};
-ghost use Rattle.replica_sync.specs.Inside.Taking.{TakesReply, StopsReply, TakesLines, StopsWithin};
+ghost use Rattle.replica_sync.specs.Inside.Taking.{TakesGive, StopsGive, TakesLines, StopsWithin};
 ghost use Rattle.replica_sync.specs.Inside.Taking.{IsNextOf, TakesNext, HasNotTaken, TakesHere};
 ghost use Rattle.replica_sync.specs.Inside.Taking.{HasRefusedHere};
 ghost use Rattle.replica_core.specs.declared.error.SyncError.TheVariants.{Io};
@@ -24,7 +24,7 @@ pub(crate) struct Place {
 }
 
 /// Takes the answer about the bucket, which the stream is to have next.
-pub(crate) fn take_answer<C: Closure, R: Source>(
+pub(crate) fn take_give<C: Closure, R: Source>(
     alloc: Global,
     closure: &mut C,
     bucket: u8,
@@ -34,11 +34,11 @@ pub(crate) fn take_answer<C: Closure, R: Source>(
 ) -> Result<(), SyncError>
     requires counted { place.old.read + left_of R.budget lines.old source.old < 2 ^ 64 }
     ensures ok { OnOk result
-        (TakesReply (C.state closure.old).meaning bucket
+        (TakesGive (C.state closure.old).meaning bucket
         (stream_of R.remaining lines.old source.old) place.old.read (C.state closure.new).meaning
         (stream_of R.remaining lines.new source.new) place.new.read) }
     ensures refused { IfErr result
-        (StopsReply (C.state closure.old).meaning bucket (place.old.read + 1)
+        (StopsGive (C.state closure.old).meaning bucket (place.old.read + 1)
         (stream_of R.remaining lines.old source.old) (C.state closure.new).meaning) }
     ensures counted { OnOk result
         (place.new.read + left_of R.budget lines.new source.new

@@ -1,9 +1,9 @@
 //! What both closures have: what is held, its different documents, and how another closure is
 //! merged in.
 mod copies;
-mod counts;
+mod document_counts;
 pub(crate) mod held;
-pub(crate) mod merge;
 pub(crate) mod pairs;
 mod probes;
 pub(crate) mod records;
+pub(crate) mod union;

@@ -6,7 +6,7 @@ use row_script::Script;
 use std::alloc::{AllocError, Global};
 
 /// More bytes than what any row prints has.
-const AMPLE_ROOM: usize = 100_000;
+pub(crate) const AMPLE_ROOM: usize = 100_000;
 
 /// Tells what is printed of the configuration, or why the bytes are none.
 pub(crate) fn print(

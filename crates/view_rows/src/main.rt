@@ -3,14 +3,21 @@
 //!
 //! - `config = CONFIGURATION`: what is printed of a configuration,
 //! - `difference NAME = CONFIGURATION`: what is printed of where it differs from the one that is
-//!   the text of this name.
+//!   the text of this name,
+//! - `list CONFIG = LINES`, `list CONFIG DOMAIN = LINES`: what is printed of what a replica holds
+//!   that was given these lines of receipts and of records of distrust. The text of the name CONFIG
+//!   is its configuration.
+//! - `diff CONFIG NAME = LINES`: what is printed of what only one of two replicas holds: that one,
+//!   and another that was given the text of this name.
 #![tactic(auto)]
 
 mod configurations;
+mod states;
 
 use row_script::{Row, Rows, Script};
 use std::alloc::{AllocError, Global};
 use std::io;
+use trust_closure::IndexedClosure;
 
 fn main(rt: HostRuntime) -> io::Result<()> {
     row_script::run(&rt, &mut Calls { alloc: rt.alloc() })
@@ -33,7 +40,29 @@ impl Rows for Calls {
         match row.verb {
             "config" => configurations::print(self.alloc, script, text, answer),
             "difference" => configurations::compare(self.alloc, script, row.words, text, answer),
+            "list" => list(self.alloc, script, row.words, text, answer),
+            "diff" => diff(self.alloc, script, row.words, text, answer),
             _ => answer.push_str("unknown verb\n"),
         }
     }
+}
+
+fn list(
+    alloc: Global,
+    script: &Script,
+    words: &str,
+    lines: &[u8],
+    answer: &mut String,
+) -> Result<(), AllocError> {
+    states::list::<IndexedClosure>(alloc, script, words, lines, answer)
+}
+
+fn diff(
+    alloc: Global,
+    script: &Script,
+    words: &str,
+    lines: &[u8],
+    answer: &mut String,
+) -> Result<(), AllocError> {
+    states::compare::<IndexedClosure>(alloc, script, words, lines, answer)
 }

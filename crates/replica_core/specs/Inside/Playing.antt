@@ -7,12 +7,12 @@ use Rattle.receipt_core.specs.declared.distrust.Distrust.{Distrust}
 use Rattle.receipt_core.specs.Receipt.{Receipt, receipt_cmp, distrust_cmp}
 use Rattle.receipt_core.specs.Acceptance.{Meaning, IsFitting}
 use Rattle.replica_core.specs.State.{State, joined, is_within_limits}
-use Rattle.replica_core.specs.World.{Message, question, answer, World, rules_of, happens}
+use Rattle.replica_core.specs.World.{Message, have_sent, give_sent, World, rules_of, happens}
 use Rattle.replica_core.specs.World.{AreOf, MeansState}
 use Rattle.replica_core.specs.declared.event.Event.{Event}
-use Rattle.replica_core.specs.declared.message.StoredReply.{StoredReply}
+use Rattle.replica_core.specs.declared.message.StoredGive.{StoredGive}
 use Rattle.replica_core.specs.declared.message.Message.{Message as Sent}
-use Rattle.replica_core.specs.declared.message.Message.TheVariants.{Question, Answer}
+use Rattle.replica_core.specs.declared.message.Message.TheVariants.{Have, Give}
 use Rattle.replica_core.specs.declared.playing.Playing.{Playing}
 use Rattle.receipt_core.specs.Limits.{receipt_limit, record_limit}
 
@@ -22,22 +22,22 @@ grown state gain = cond (is_within_limits (joined state gain)) (joined state gai
 
 -- ---- messages
 
-abbrev pub content_of : StoredReply → State
+abbrev pub content_of : StoredGive → State
 content_of c = record { held = c.receipts.items; records = c.records.items }
 
 abbrev pub message_of : Sent → Message
-message_of (Question asker have) = question asker have.bucket have.ids
-message_of (Answer answerer place content) = answer answerer place (content_of content)
+message_of (Have asker have) = have_sent asker have.bucket have.ids
+message_of (Give answerer place content) = give_sent answerer place (content_of content)
 
-abbrev pub answered : Option Message → Option State
-answered None = None
-answered (Some (question asker bucket ids)) = None
-answered (Some (answer answerer place content)) = Some content
+abbrev pub give_in_message : Option Message → Option State
+give_in_message None = None
+give_in_message (Some (have_sent asker bucket ids)) = None
+give_in_message (Some (give_sent answerer place content)) = Some content
 
-abbrev pub asked : Option Message → Option (ℕ × List (List ℕ))
-asked None = None
-asked (Some (question asker bucket ids)) = Some (bucket, ids)
-asked (Some (answer answerer place content)) = None
+abbrev pub have_in_message : Option Message → Option (ℕ × List (List ℕ))
+have_in_message None = None
+have_in_message (Some (have_sent asker bucket ids)) = Some (bucket, ids)
+have_in_message (Some (give_sent answerer place content)) = None
 
 -- A closure of the configuration can hold these receipts: they fit, they rise, and they are not too
 -- many.
@@ -54,8 +54,8 @@ pub record CanHoldRecords (config : Configuration) (records : List Distrust) : T
 
 -- what is answered can be held
 abbrev pub IsSound : Configuration → Message → Type 0
-IsSound config (question asker bucket ids) = ⊤
-IsSound config (answer answerer place content) = CanHold config content.held
+IsSound config (have_sent asker bucket ids) = ⊤
+IsSound config (give_sent answerer place content) = CanHold config content.held
     × CanHoldRecords config content.records
 
 -- ---- worlds

@@ -10,7 +10,6 @@ use Rattle.replica_core.specs.declared.entry.Entry.{Entry}
 use Rattle.replica_core.specs.declared.error.SyncError.{SyncError}
 use Rattle.replica_core.specs.declared.error.SyncError.TheVariants.{BadHeader, ConfigDiffers}
 use Rattle.replica_core.specs.declared.error.SyncError.TheVariants.{VersionDiffers, NotCanonical}
-use Rattle.replica_core.specs.declared.error.SyncError.TheVariants.{NotRising, BadCount, Truncated}
 use Rattle.replica_core.specs.declared.error.SyncError.TheVariants.{Refused, Io, NoMemory}
 use Rattle.replica_sync.specs.Entries.{entry_line}
 use Rattle.replica_sync.specs.Snapshots.{text_of_lines}
@@ -36,13 +35,9 @@ abbrev pub FailsStart : Configuration → Option (List ℕ) → SyncError → Ty
 FailsStart config stream BadHeader = StartsBadly config stream BadHeader
 FailsStart config stream ConfigDiffers = StartsBadly config stream ConfigDiffers
 FailsStart config stream VersionDiffers = StartsBadly config stream VersionDiffers
-FailsStart config stream (NotCanonical n) = ⊥
-FailsStart config stream (NotRising n) = ⊥
-FailsStart config stream BadCount = ⊥
-FailsStart config stream Truncated = ⊥
-FailsStart config stream (Refused n why) = ⊥
 FailsStart config stream Io = Unit {0}
 FailsStart config stream NoMemory = Unit {0}
+FailsStart config stream _ = ⊥
 
 -- ---- one line after it
 
@@ -69,16 +64,11 @@ pub record HasBadSoleLine (m : Meaning) (number : ℕ) (stream : Option (List �
   pub cause : RefusesSoleLine m number text e
 
 abbrev pub FailsNext : Meaning → ℕ → Option (List ℕ) → SyncError → Type 0
-FailsNext m number stream BadHeader = ⊥
-FailsNext m number stream ConfigDiffers = ⊥
-FailsNext m number stream VersionDiffers = ⊥
 FailsNext m number stream (NotCanonical n) = HasBadSoleLine m number stream (NotCanonical n)
-FailsNext m number stream (NotRising n) = ⊥
-FailsNext m number stream BadCount = ⊥
-FailsNext m number stream Truncated = ⊥
 FailsNext m number stream (Refused n why) = HasBadSoleLine m number stream (Refused n why)
 FailsNext m number stream Io = Unit {0}
 FailsNext m number stream NoMemory = Unit {0}
+FailsNext m number stream _ = ⊥
 
 -- ---- all of them
 

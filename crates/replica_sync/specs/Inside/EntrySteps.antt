@@ -1,7 +1,7 @@
 -- How one line of receipts and records is read and taken.
 use Rattle.std.specs.Prelude.{◌+◌, ◌<◌, List, length, ℕ, ◌≡◌, ◌≤◌}
 use Rattle.replica_core.specs.declared.entry.Entry.{Entry}
-use Rattle.replica_sync.specs.Entries.{IsNextEntry, IsNoEntry, RefusesEntryLine}
+use Rattle.replica_sync.specs.Entries.{IsNextEntry, IsNoEntry, RefusesEntryLine, placed_line}
 use Rattle.receipt_core.specs.Acceptance.{Meaning}
 use Rattle.replica_core.specs.Absorbing.{RefusesEntry, with_entry}
 use Rattle.replica_core.specs.declared.error.SyncError.{SyncError}
@@ -41,5 +41,5 @@ pub record TakesEntryText (wanted : Wanted) (old : Meaning) (last text : List �
 -- The line has this fault, and nothing has changed.
 pub record HasRefusedLine (wanted : Wanted) (old : Meaning) (last : List ℕ) (number : ℕ)
     (text : List ℕ) (new : Meaning) (why : SyncError) : Type 0 where
-  pub cause : RefusesEntryLine wanted old last number text why
+  pub cause : RefusesEntryLine old (placed_line wanted last number text) why
   pub same : new ≡ old

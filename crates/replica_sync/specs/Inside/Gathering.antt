@@ -9,12 +9,12 @@ use Rattle.replica_core.specs.declared.entry.Entry.{Entry}
 use Rattle.replica_core.specs.declared.entry.Entry.TheVariants.{Record, Receipt as AReceipt}
 use Rattle.replica_sync.specs.declared.entry_line.Wanted.{Wanted}
 use Rattle.replica_core.specs.declared.error.SyncError.{SyncError}
-use Rattle.replica_sync.specs.Answers.{IsBegun, RefusesNextEntry, Wants, content_lines}
-use Rattle.replica_sync.specs.Answers.{refused_text}
-use Rattle.replica_sync.specs.declared.answer_reader.AnswerBody.{AnswerBody}
+use Rattle.replica_sync.specs.Gives.{IsBegun, RefusesNextEntry, Wants, content_lines}
+use Rattle.replica_sync.specs.Gives.{refused_text}
+use Rattle.replica_sync.specs.declared.give_reader.GiveBody.{GiveBody}
 
-abbrev pub answer_content : AnswerBody → State
-answer_content c = record { held = c.receipts.items; records = c.distrusts.items }
+abbrev pub body_content : GiveBody → State
+body_content c = record { held = c.receipts.items; records = c.distrusts.items }
 
 -- with one more at the end of its list
 abbrev pub pushed : Entry → State → State
@@ -28,7 +28,7 @@ pub record Pushes (wanted : Wanted) (old : State) (text : List ℕ) (new : State
   pub now : new ≡ pushed entry old
 
 -- The stream's first line is the one that is wanted. It is used up.
-pub record IsNextAnswerLine (count distrusts : ℕ) (old : State) (before : Option (List ℕ))
+pub record IsNextGiveLine (count distrusts : ℕ) (old : State) (before : Option (List ℕ))
     (new : State) (after : Option (List ℕ)) : Type 0 where
   pub wanted : Wanted
   pub wants : Wants count distrusts old wanted
@@ -49,11 +49,11 @@ pub record IsDone (count distrusts : ℕ) (old : State) (before : Option (List �
   pub rest : after ≡ before
 
 -- whether there was one more line
-abbrev pub StepsThroughAnswer : ℕ → ℕ → State → Option (List ℕ) → State → Option (List ℕ) → Bool
+abbrev pub StepsThroughGive : ℕ → ℕ → State → Option (List ℕ) → State → Option (List ℕ) → Bool
     → Type 0
-StepsThroughAnswer count distrusts old before new after true = IsNextAnswerLine count distrusts old
+StepsThroughGive count distrusts old before new after true = IsNextGiveLine count distrusts old
     before new after
-StepsThroughAnswer count distrusts old before new after false = IsDone count distrusts old before
+StepsThroughGive count distrusts old before new after false = IsDone count distrusts old before
     new after
 
 -- The stream begins with the lines of so much of the answer, and `left` is what follows.

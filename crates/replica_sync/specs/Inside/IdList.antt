@@ -1,4 +1,4 @@
--- How the ids of a question's line are taken, one by one.
+-- How the ids of a have's line are taken, one by one.
 use Rattle.std.specs.Prelude.{◌≡◌, ℕ, List, [], ◌∷◌, ◌==◌, Bool, not, codes, Option, Some, None}
 use Rattle.std.specs.Borrow.{Bor}
 use Rattle.std.specs.List.{join_by}

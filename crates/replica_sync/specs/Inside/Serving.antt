@@ -1,32 +1,32 @@
--- How the questions of a session are answered, one by one.
+-- How the haves of a session are answered, one by one.
 use Rattle.std.specs.Prelude.{◌≡◌, ℕ, ◌⊎◌, List, [], length, Bool, true, false, Option, Result, Ok}
 use Rattle.std.specs.Prelude.{Err}
 use Rattle.std.specs.Io.KnownBytes.{Appends, Consumes, IsAtEnd}
 use Rattle.receipt_core.specs.Acceptance.{Meaning}
 use Rattle.byte_lines.specs.Device.{AppendsBeginning}
-use Rattle.replica_core.specs.Session.{Question, reply_of}
+use Rattle.replica_core.specs.Session.{HaveMessage, give_of}
 use Rattle.replica_core.specs.declared.error.SyncError.{SyncError}
 use Rattle.replica_core.specs.declared.error.SyncError.TheVariants.{Io, NoMemory}
-use Rattle.replica_sync.specs.Messages.{question_text, reply_text}
-use Rattle.replica_sync.specs.Questions.{Asks, IsQuestionOf, RefusesFurther, replies_text}
+use Rattle.replica_sync.specs.Messages.{have_text, give_text}
+use Rattle.replica_sync.specs.Haves.{BeginsWithHaves, IsHaveOf, RefusesFurther, gives_text}
 
 -- the device failed, or memory ran out
 abbrev pub IsServingFault : SyncError → Type 0
 IsServingFault e = (e ≡ Io) ⊎ (e ≡ NoMemory)
 
--- The next question was read, and answered.
+-- The next have was read, and answered.
 pub record ServesOne (m : Meaning) (stream left old new : Option (List ℕ)) : Type 0 where
-  pub question : Question
-  pub own : IsQuestionOf m.config question
-  pub text : Consumes stream left (question_text question)
-  pub written : Appends old new (reply_text (reply_of m question))
+  pub have : HaveMessage
+  pub own : IsHaveOf m.config have
+  pub text : Consumes stream left (have_text have)
+  pub written : Appends old new (give_text (give_of m have))
 
 -- There was none, and nothing was written.
 pub record ServesNone (stream old new : Option (List ℕ)) : Type 0 where
   pub ends : IsAtEnd stream
   pub nothing : Appends old new []
 
--- The next question is not read, and nothing was written.
+-- The next have is not read, and nothing was written.
 pub record FailsReading (m : Meaning) (stream old new : Option (List ℕ))
     (e : SyncError) : Type 0 where
   pub cause : RefusesFurther m.config stream e
@@ -36,10 +36,10 @@ pub record FailsReading (m : Meaning) (stream old new : Option (List ℕ))
 pub record FailsWriting (m : Meaning) (stream left old new : Option (List ℕ))
     (e : SyncError) : Type 0 where
   pub cause : IsServingFault e
-  pub question : Question
-  pub own : IsQuestionOf m.config question
-  pub text : Consumes stream left (question_text question)
-  pub begun : AppendsBeginning old new (reply_text (reply_of m question))
+  pub have : HaveMessage
+  pub own : IsHaveOf m.config have
+  pub text : Consumes stream left (have_text have)
+  pub begun : AppendsBeginning old new (give_text (give_of m have))
 
 abbrev pub ServesNext : Meaning → Option (List ℕ) → Option (List ℕ) → Option (List ℕ)
     → Option (List ℕ) → Result Bool SyncError → Type 0
@@ -48,9 +48,9 @@ ServesNext m stream left old new (Ok false) = ServesNone stream old new
 ServesNext m stream left old new (Err e) = FailsReading m stream old new e
     ⊎ FailsWriting m stream left old new e
 
--- So many questions were read and answered.
+-- So many haves were read and answered.
 pub record Served (m : Meaning) (stream left old new : Option (List ℕ)) (count : ℕ) : Type 0 where
-  pub questions : List Question
-  pub asks : Asks m.config stream questions left
-  pub number : count ≡ length questions
-  pub written : Appends old new (replies_text m questions)
+  pub haves : List HaveMessage
+  pub asks : BeginsWithHaves m.config stream haves left
+  pub number : count ≡ length haves
+  pub written : Appends old new (gives_text m haves)

@@ -5,7 +5,7 @@ use Rattle.receipt_core.specs.Receipt.{IsDigest}
 use Rattle.replica_core.specs.declared.error.SyncError.{SyncError}
 use Rattle.replica_core.specs.declared.error.SyncError.TheVariants.{BadHeader, ConfigDiffers}
 use Rattle.replica_core.specs.declared.error.SyncError.TheVariants.{VersionDiffers}
-use Rattle.replica_sync.specs.Messages.{Asked, GiveHeader}
+use Rattle.replica_sync.specs.Messages.{AnyHave, GiveHeader}
 use Rattle.replica_sync.specs.FirstLines.{Expected, IsAbout, HasDigestOf, HasOtherDigest}
 use Rattle.replica_sync.specs.FirstLines.{IsSupportedVersion, IsWantedHeader, config_of}
 use Rattle.replica_sync.specs.declared.spelling.HaveLine.{HaveLine}
@@ -13,9 +13,9 @@ use Rattle.replica_sync.specs.declared.spelling.GiveHeaderLine.{GiveHeaderLine}
 use Rattle.replica_sync.specs.declared.give_header_reader.Expected.{Expected as Wish}
 use Rattle.replica_sync.specs.declared.give_header_reader.Head.{Head}
 
-abbrev pub asked_by : HaveLine → Asked
-asked_by a = record {
-  question =
+abbrev pub have_line_says : HaveLine → AnyHave
+have_line_says a = record {
+  have =
       record { bucket = a.bucket; config = a.config.0; ids = map (λ id. id.0) a.ids.now };
   format = a.format;
   buckets = a.buckets;

@@ -4,16 +4,16 @@ use Rattle.std.specs.Io.KnownBytes.{Appends, Consumes}
 use Rattle.receipt_core.specs.Acceptance.{Meaning}
 use Rattle.byte_lines.specs.Lines.{HasLine, HasNoLine}
 use Rattle.replica_core.specs.State.{State, joined, meaning_of_state}
-use Rattle.replica_core.specs.Session.{Reply, state_of}
+use Rattle.replica_core.specs.Session.{GiveMessage, state_of}
 use Rattle.replica_sync.specs.Snapshots.{last_of, text_of_lines}
 use Rattle.replica_sync.specs.Inside.EntrySteps.{TakesEntryText}
-use Rattle.replica_sync.specs.Entries.{RefusesEntryLine}
+use Rattle.replica_sync.specs.Entries.{RefusesEntryLine, placed_line}
 use Rattle.replica_sync.specs.declared.entry_line.Wanted.{Wanted}
 use Rattle.replica_sync.specs.declared.entry_line.Wanted.TheVariants.{Records, Receipts, Either}
-use Rattle.replica_sync.specs.Messages.{question_text, reply_text}
-use Rattle.replica_sync.specs.Answers.{content_lines, IsBegun, RefusesNextEntry}
-use Rattle.replica_sync.specs.Pulling.{IsReply, RefusesAnswer, Session, after_replies, line_count}
-use Rattle.replica_sync.specs.Pulling.{questions_of, refused_line}
+use Rattle.replica_sync.specs.Messages.{have_text, give_text}
+use Rattle.replica_sync.specs.Gives.{content_lines, IsBegun, RefusesNextEntry}
+use Rattle.replica_sync.specs.Pulling.{IsGiveAbout, RefusesGiveAbout, Session, after_gives}
+use Rattle.replica_sync.specs.Pulling.{haves_of, line_count, refused_line}
 use Rattle.replica_core.specs.declared.error.SyncError.{SyncError}
 use Rattle.replica_core.specs.declared.error.SyncError.TheVariants.{NotCanonical}
 use Rattle.replica_core.specs.declared.error.SyncError.TheVariants.{NotRising, Truncated}
@@ -39,7 +39,7 @@ pub record TakesNext (wanted : Wanted) (old : Meaning) (last : List ℕ) (stream
 -- besides
 abbrev pub RefusesHere : Wanted → Meaning → List ℕ → ℕ → List ℕ → SyncError → Type 0
 RefusesHere wanted m last number text e = (e ≡ NoMemory)
-    ⊎ RefusesEntryLine wanted m last number text e
+    ⊎ RefusesEntryLine m (placed_line wanted last number text) e
 
 -- The line has this fault, and nothing has changed.
 pub record HasRefusedHere (wanted : Wanted) (old : Meaning) (last : List ℕ) (number : ℕ)
@@ -52,7 +52,7 @@ pub record HasBadEntryLine (wanted : Wanted) (m : Meaning) (last : List ℕ) (nu
     (stream left : Option (List ℕ)) (e : SyncError) : Type 0 where
   pub text : List ℕ
   pub is : HasLine stream left text
-  pub cause : RefusesEntryLine wanted m last number text e
+  pub cause : RefusesEntryLine m (placed_line wanted last number text) e
 
 -- why no line is taken where one is wanted
 abbrev pub RefusesTakingLine : Wanted → Meaning → List ℕ → ℕ → Option (List ℕ) → Option (List ℕ)
@@ -127,19 +127,19 @@ pub record StopsWithin (old : Meaning) (stream : Option (List ℕ)) (count distr
 -- ---- an answer
 
 -- The stream begins with an answer about the bucket, and what it has is held.
-pub record TakesReply (old : Meaning) (bucket : ℕ) (stream : Option (List ℕ)) (before : ℕ)
+pub record TakesGive (old : Meaning) (bucket : ℕ) (stream : Option (List ℕ)) (before : ℕ)
     (new : Meaning) (left : Option (List ℕ)) (read : ℕ) : Type 0 where
-  pub reply : Reply
-  pub is : IsReply old.config bucket reply
-  pub text : Consumes stream left (reply_text reply)
-  pub meaning : new ≡ meaning_gained old reply.content
-  pub read_is : read ≡ before + 1 + length reply.content.records + length reply.content.held
+  pub give : GiveMessage
+  pub is : IsGiveAbout old.config bucket give
+  pub text : Consumes stream left (give_text give)
+  pub meaning : new ≡ meaning_gained old give.content
+  pub read_is : read ≡ before + 1 + length give.content.records + length give.content.held
 
 -- It is not taken to its end; what the lines before the fault have is held.
-pub record StopsReply (old : Meaning) (bucket first : ℕ) (stream : Option (List ℕ)) (new : Meaning)
+pub record StopsGive (old : Meaning) (bucket first : ℕ) (stream : Option (List ℕ)) (new : Meaning)
     (e : SyncError) : Type 0 where
   pub content : State
-  pub cause : RefusesAnswer old.config (state_of old) bucket first content stream e
+  pub cause : RefusesGiveAbout old.config (state_of old) bucket first content stream e
   pub meaning : new ≡ meaning_gained old content
 
 -- ---- the answers of a session
@@ -147,10 +147,10 @@ pub record StopsReply (old : Meaning) (bucket first : ℕ) (stream : Option (Lis
 -- The buckets before this one were asked about, and all that was answered is held.
 pub record AskedUpTo (old : Meaning) (stream before : Option (List ℕ)) (bucket : ℕ) (now : Meaning)
     (left after : Option (List ℕ)) (read : ℕ) : Type 0 where
-  pub replies : List Reply
-  pub session : Session old.config stream replies left
-  pub number : length replies ≡ bucket
-  pub meaning : now ≡ meaning_of_state old.config (after_replies (state_of old) replies)
+  pub gives : List GiveMessage
+  pub session : Session old.config stream gives left
+  pub number : length gives ≡ bucket
+  pub meaning : now ≡ meaning_of_state old.config (after_gives (state_of old) gives)
   pub asked : Appends before after
-      (flat_map question_text (questions_of old.config 0 (state_of old) replies))
-  pub read_is : read ≡ line_count replies
+      (flat_map have_text (haves_of old.config 0 (state_of old) gives))
+  pub read_is : read ≡ line_count gives

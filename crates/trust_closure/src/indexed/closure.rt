@@ -9,8 +9,8 @@ use crate::indexed::grow::{lose, lose_all};
 use crate::indexed::labels::LabelIndex;
 use crate::indexed::seeds::add_seeds;
 use crate::shared::held::Held;
-use crate::shared::merge::{Mergeable, merge_into};
 use crate::shared::pairs::Pairs;
+use crate::shared::union::{Mergeable, merge_into};
 use bundle_doc::Document;
 use closure_core::{
     Accepted, Closure, Distrusted, Distrusts, NoMemory, Receipts, Refused, TakeError, Taken,

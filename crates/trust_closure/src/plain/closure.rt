@@ -3,8 +3,8 @@ use crate::plain::changes::{lose, lose_all, reserve, take_into};
 use crate::plain::rounds::{count_accepted, count_raised};
 use crate::plain::seeds::sow_all;
 use crate::shared::held::Held;
-use crate::shared::merge::{Mergeable, merge_into};
 use crate::shared::pairs::Pairs;
+use crate::shared::union::{Mergeable, merge_into};
 use bundle_doc::Document;
 use closure_core::{
     Accepted, Closure, Distrusted, Distrusts, NoMemory, Receipts, Refused, TakeError, Taken,

@@ -10,7 +10,7 @@ ghost use Rattle.trust_closure.specs.Inside.Pairs.{IsDocumentTable, AreRising, P
 ghost use Rattle.trust_closure.specs.Inside.Pairs.{HasRaised, raised_of};
 ghost use Rattle.closure_core.specs.AcceptedList.{document_cmp, document_of};
 
-use crate::shared::counts::{clear, lower_all, raise_all};
+use crate::shared::document_counts::{clear, lower_all, raise_all};
 use bundle_doc::Document;
 use closure_core::{Accepted, document_at, domain_at};
 use fed_config::Seed;

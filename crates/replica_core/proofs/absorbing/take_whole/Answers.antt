@@ -6,7 +6,7 @@ use Rattle.receipt_core.specs.Rising.{with_items}
 use Rattle.receipt_core.specs.Acceptance.{Meaning}
 use Rattle.closure_core.specs.Refusals.{Room, IsRoomier}
 use Rattle.replica_core.specs.Absorbing.{AreWelcome, of_receipts, of_records, room_for}
-use Rattle.replica_core.specs.Session.{Reply}
+use Rattle.replica_core.specs.Session.{GiveMessage}
 use Rattle.replica_core.proofs.AbsorbFacts.{welcome-front, receipts-welcome}
 use Rattle.replica_core.proofs.PlaceFacts.{with_items-grows}
 use Rattle.replica_core.proofs.absorbing.take_whole.Goals as goal
@@ -22,7 +22,7 @@ pub take_all-requires-clause-welcome : goal.take_all-requires-clause-welcome
 take_all-requires-clause-welcome g c =
     let m = (g.C.Closure.state c.args.closure.now).meaning in
     let content = c.args.give.content in
-    let held : c.give.inside.receipts.items ≡ content.held = ap (λ (r : Reply). r.content.held) c.give.view_is in
+    let held : c.give.inside.receipts.items ≡ content.held = ap (λ (r : GiveMessage). r.content.held) c.give.view_is in
     subst (λ (rs : List Receipt). AreWelcome (g.C.Closure.state c.distrust_all.new.closure).meaning (of_receipts rs)) (sym held)
     (subst (λ (k : Meaning). AreWelcome k (of_receipts content.held)) (sym c.distrust_all.ensures.meaning)
     (subst (λ (xs : List Distrust). AreWelcome (record m { records = with_items distrust_cmp xs m.records })
@@ -33,7 +33,7 @@ pub take_all-requires-clause-room : goal.take_all-requires-clause-room
 take_all-requires-clause-room g c =
     let m = (g.C.Closure.state c.args.closure.now).meaning in
     let content = c.args.give.content in
-    let held : c.give.inside.receipts.items ≡ content.held = ap (λ (r : Reply). r.content.held) c.give.view_is in
+    let held : c.give.inside.receipts.items ≡ content.held = ap (λ (r : GiveMessage). r.content.held) c.give.view_is in
     let now = g.C.Closure.state c.distrust_all.new.closure in
     subst (λ (rs : List Receipt). IsRoomier (room_for now.meaning rs) now.room) (sym held)
     (subst (λ (k : Meaning). IsRoomier (room_for k content.held) now.room) (sym c.distrust_all.ensures.meaning)

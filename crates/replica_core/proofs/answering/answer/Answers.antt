@@ -1,5 +1,5 @@
 use Rattle.std.proofs.Common.{◌+◌, ◌<◌, ◌^◌, arith, length, inl, ap}
-use Rattle.replica_core.proofs.ReplyFacts.{few-lacking}
+use Rattle.replica_core.proofs.LentGiveFacts.{few-lacking}
 use Rattle.replica_core.proofs.answering.answer.Goals as goal
 
 pub count-requires-clause-fits : goal.count-requires-clause-fits

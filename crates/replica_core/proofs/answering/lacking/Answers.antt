@@ -2,7 +2,7 @@ use Rattle.std.proofs.Common.{◌∙◌, ℕ, ap}
 use Rattle.std.specs.Prelude.{not, filter}
 use Rattle.replica_core.specs.State.{is_of_bucket, is_named}
 use Rattle.replica_core.specs.Lacking.{not_named}
-use Rattle.replica_core.proofs.ReplyFacts.{filter-filter}
+use Rattle.replica_core.proofs.LentGiveFacts.{filter-filter}
 use Rattle.replica_core.proofs.answering.lacking.Goals as goal
 
 pub returns : goal.returns

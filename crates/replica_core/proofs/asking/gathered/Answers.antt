@@ -1,7 +1,7 @@
 use Rattle.std.proofs.Common.{◌≡◌, ◌∙◌, ◌++◌, ap, sym, map, append-nil, rules}
 use Rattle.receipt_core.specs.Receipt.{receipt_id_of}
 use Rattle.closure_core.specs.AcceptedList.{receipts_in}
-use Rattle.replica_core.proofs.QuestionFacts.{bytes_of}
+use Rattle.replica_core.proofs.HaveFacts.{bytes_of}
 use Rattle.replica_core.proofs.IdFacts.{more-gathered}
 use Rattle.replica_core.proofs.asking.gathered.Goals as goal
 

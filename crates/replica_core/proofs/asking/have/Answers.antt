@@ -2,7 +2,7 @@ use Rattle.std.proofs.Common.{sym, subst}
 use Rattle.std.specs.List.Sorted.{IsStrictlySortedBy}
 use Rattle.replica_core.specs.State.{id_cmp}
 use Rattle.replica_core.specs.Session.{state_of}
-use Rattle.replica_core.proofs.QuestionFacts.{held-rising}
+use Rattle.replica_core.proofs.HaveFacts.{held-rising}
 use Rattle.replica_core.proofs.asking.have.Goals as goal
 
 pub invariant_of-result : goal.invariant_of-result

@@ -2,7 +2,7 @@ use Rattle.std.proofs.Common.{sym, subst, map}
 use Rattle.std.specs.Bool.{IsTrue}
 use Rattle.std.specs.List.{Contains}
 use Rattle.std.specs.Prelude.{◌↔◌}
-use Rattle.replica_core.proofs.QuestionFacts.{bytes_of, id_found}
+use Rattle.replica_core.proofs.HaveFacts.{bytes_of, id_found}
 use Rattle.replica_core.proofs.asking.is_named.Goals as goal
 
 pub returns : goal.returns

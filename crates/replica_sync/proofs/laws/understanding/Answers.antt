@@ -1,10 +1,10 @@
-use Rattle.replica_sync.proofs.OwnMessageFacts.{answer-given, askable-question}
+use Rattle.replica_sync.proofs.OwnMessageFacts.{answer-given, askable-have}
 use Rattle.replica_sync.proofs.UnderstandingFacts.{answered-pulled, answered-taken, pull-served}
 use Rattle.replica_sync.proofs.BringsFacts.{all-brought, both-held}
 use Rattle.replica_sync.proofs.laws.understanding.Goals as goal
 
 pub returns-clause-asks : goal.returns-clause-asks
-returns-clause-asks c = askable-question
+returns-clause-asks c = askable-have
 
 pub returns-clause-answers : goal.returns-clause-answers
 returns-clause-answers c = answer-given

@@ -1,8 +1,8 @@
 use Rattle.std.proofs.Common.{◌+◌}
 use Rattle.byte_lines.specs.Streams.{stream_of}
 use Rattle.replica_sync.proofs.SnapshotFacts.{refused_by}
-use Rattle.replica_sync.specs.Inside.Taking.{StopsReply}
-use Rattle.replica_sync.proofs.AnswerFacts.{answer_unread}
+use Rattle.replica_sync.specs.Inside.Taking.{StopsGive}
+use Rattle.replica_sync.proofs.GiveTakingFacts.{give_unread}
 use Rattle.replica_sync.proofs.PullingFacts.{asked_whole}
 use Rattle.replica_sync.proofs.pulling.pull_bucket.Goals as goal
 
@@ -11,8 +11,8 @@ returns-in_err-ask-clause-refused g c =
     let old = (g.C.Closure.state c.args.closure.now).meaning in
     let stream = stream_of g.R.Source.remaining c.args.lines.now c.args.source.now in
     let first = c.args.place.now.read + 1 in
-    refused_by c.from_residual.result (StopsReply old c.args.bucket first stream old) c.in_err-ask.field-0.0 c.from_residual.ensures.1
-    (answer_unread old c.args.bucket first stream c.in_err-ask.field-0.0 c.in_err-ask.ensures.refused)
+    refused_by c.from_residual.result (StopsGive old c.args.bucket first stream old) c.in_err-ask.field-0.0 c.from_residual.ensures.1
+    (give_unread old c.args.bucket first stream c.in_err-ask.field-0.0 c.in_err-ask.ensures.refused)
 
 pub returns-clause-asks : goal.returns-clause-asks
-returns-clause-asks g c = asked_whole c.take_answer.result _ _ _ c.in_ok-ask.ensures.writes
+returns-clause-asks g c = asked_whole c.take_give.result _ _ _ c.in_ok-ask.ensures.writes

@@ -1,7 +1,7 @@
 use Rattle.std.proofs.Common.{inl, subst}
 use Rattle.std.proofs.lemmas.Result.{err_from_is_err_and}
 use Rattle.byte_lines.specs.Streams.{stream_of}
-use Rattle.replica_sync.specs.Questions.{RefusesFurther}
+use Rattle.replica_sync.specs.Haves.{RefusesFurther}
 use Rattle.replica_sync.proofs.WrittenPieceFacts.{nothing-appended}
 use Rattle.replica_sync.proofs.serving.serve_next.Goals as goal
 

@@ -9,22 +9,22 @@ returns-in_err-serve_next-clause-serves g c =
     let p = err_from_is_err_and c.from_residual.result c.from_residual.ensures.1 in
     rw (p.1, p.2)
     (served-up-to (g.C.Closure.state c.args.closure.now).meaning (g.R.Source.remaining c.args.source.now)
-    (stream_of g.R.Source.remaining c.questions.lines c.questions.source)
+    (stream_of g.R.Source.remaining c.haves.lines c.haves.source)
     (stream_of g.R.Source.remaining c.serve_next.new.lines c.serve_next.new.source) (g.W.Sink.contents c.args.sink.now)
-    (g.W.Sink.contents c.questions.sink) (g.W.Sink.contents c.serve_next.new.sink) c.questions.count _
-    c.questions.invariant.served c.in_err-serve_next.ensures.serves)
+    (g.W.Sink.contents c.haves.sink) (g.W.Sink.contents c.serve_next.new.sink) c.haves.count _
+    c.haves.invariant.served c.in_err-serve_next.ensures.serves)
 
-pub questions-preserved : goal.questions-preserved
-questions-preserved g c =
+pub haves-preserved : goal.haves-preserved
+haves-preserved g c =
     let one = rw c.if-branch.true at c.in_ok-serve_next.ensures.serves in
     let less = c.in_ok-serve_next.ensures.falls c.if-branch.true in
     record {
       served = served-more (g.C.Closure.state c.args.closure.now).meaning (g.R.Source.remaining c.args.source.now)
-          (stream_of g.R.Source.remaining c.questions.lines c.questions.source)
+          (stream_of g.R.Source.remaining c.haves.lines c.haves.source)
           (stream_of g.R.Source.remaining c.serve_next.new.lines c.serve_next.new.source)
-          (g.W.Sink.contents c.args.sink.now) (g.W.Sink.contents c.questions.sink)
-          (g.W.Sink.contents c.serve_next.new.sink) c.questions.count c.questions.invariant.served one;
-      below = let before = c.questions.invariant.below in omega (arith, before, less);
-      source = (c.in_ok-serve_next.ensures.fault refl).0 ∙ c.questions.invariant.source;
-      sink = (c.in_ok-serve_next.ensures.fault refl).1 ∙ c.questions.invariant.sink;
+          (g.W.Sink.contents c.args.sink.now) (g.W.Sink.contents c.haves.sink)
+          (g.W.Sink.contents c.serve_next.new.sink) c.haves.count c.haves.invariant.served one;
+      below = let before = c.haves.invariant.below in omega (arith, before, less);
+      source = (c.in_ok-serve_next.ensures.fault refl).0 ∙ c.haves.invariant.source;
+      sink = (c.in_ok-serve_next.ensures.fault refl).1 ∙ c.haves.invariant.sink;
     }

@@ -1,11 +1,11 @@
--- The questions so far were answered, and each took at least one byte.
+-- The haves so far were answered, and each took at least one byte.
 use Rattle.std.proofs.Common.{◌≡◌, ◌+◌, ◌^◌, ◌<◌}
 use Rattle.byte_lines.specs.Streams.{stream_of, left_of}
 use Rattle.replica_sync.specs.Inside.Serving.{Served}
 use Rattle.replica_sync.proofs.serving.serve_one.Given as goal
 
-abbrev pub invariant-questions : goal.invariant-questions
-invariant-questions g l = record {
+abbrev pub invariant-haves : goal.invariant-haves
+invariant-haves g l = record {
   served : Served (g.C.Closure.state l.closure).meaning (g.R.Source.remaining l.fn.source)
       (stream_of g.R.Source.remaining l.lines l.source) (g.W.Sink.contents l.fn.sink) (g.W.Sink.contents l.sink)
       l.count;
@@ -14,5 +14,5 @@ invariant-questions g l = record {
   sink : g.W.Sink.has_failed l.sink ≡ g.W.Sink.has_failed l.fn.sink;
 }
 
-abbrev pub decreases-questions : goal.decreases-questions
-decreases-questions g l = left_of g.R.Source.budget l.lines l.source
+abbrev pub decreases-haves : goal.decreases-haves
+decreases-haves g l = left_of g.R.Source.budget l.lines l.source

@@ -1,5 +1,5 @@
 use Rattle.std.proofs.Common.{◌≡◌, ◌+◌, ◌<◌, ◌≤◌, ◌-◌, length, arith, subst, refl, take, ◌++◌}
-use Rattle.replica_service.specs.Pieces.{kept_part, EndsLine, IsOverlong}
+use Rattle.replica_service.specs.Pieces.{kept_part, EndsLine, IsOverlong, piece_run}
 use Rattle.replica_service.proofs.CutFacts.{ends_line, kept_open, overlong}
 use Rattle.replica_service.proofs.line_part.LinePart.take.Goals as goal
 
@@ -27,8 +27,8 @@ returns-clause-takes c =
     let few : count ≤ part.limit - length part.line.items = omega arith in
     let room : length part.line.items ≤ part.limit = omega (arith, part.within) in
     let made : c.extend_from_slice.new.self.items ≡ part.line.items ++ take count piece = c.in_ok-extend_from_slice.ensures.items in (
-      subst (λ l. EndsLine c.args.self.now.limit l piece (count + 1) c.extend_from_slice.new.self.items) same
-          (subst (λ n. EndsLine n part.line.items piece (count + 1) c.extend_from_slice.new.self.items) c.begin.ensures.limit
+      subst (λ l. EndsLine (piece_run c.args.self.now.limit l piece) (count + 1) c.extend_from_slice.new.self.items) same
+          (subst (λ n. EndsLine (piece_run n part.line.items piece) (count + 1) c.extend_from_slice.new.self.items) c.begin.ensures.limit
           (ends_line part.limit part.line.items piece c.extend_from_slice.new.self.items c.line_feed-place.result count part.unbroken
           c.line_feed-place.ensures c.unwrap_or-count.ensures room few c.if-is_none.ensures made)),
       refl,

@@ -1,0 +1,3 @@
+mod DocumentFacts
+mod PickedFacts
+mod EffectFacts

@@ -1,0 +1,10 @@
+//! What a record of distrust changes, as lines for operators: before it is made, or as it is made.
+//! It knows closures by their trait alone.
+#![tactic(auto)]
+
+mod effect;
+mod fallen;
+mod keys;
+mod warning;
+
+pub use effect::write_distrust_effect;

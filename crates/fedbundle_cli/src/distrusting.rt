@@ -1,0 +1,40 @@
+// `distrust`: a record of distrust, made or only shown.
+use crate::exit::Exit;
+use crate::options::{domain, key, manner_of, wanted};
+use crate::streams::{complaints, output};
+use fedbundle::{Call, OptionName, run_distrust, show_distrust};
+use receipt_core::Distrust;
+use trust_closure::IndexedClosure;
+
+/// Prints what the record would change.
+pub(crate) fn show(
+    rt: &HostRuntime,
+    closure: &IndexedClosure,
+    call: &Call<'_>,
+) -> Result<u8, Exit> {
+    let record = record_of(rt, call)?;
+    show_distrust(rt.alloc(), closure, &record, &mut output(rt))?;
+    Ok(0)
+}
+
+/// Makes the record.
+pub(crate) fn make(
+    rt: &HostRuntime,
+    closure: &mut IndexedClosure,
+    call: &Call<'_>,
+) -> Result<(), Exit> {
+    let record = record_of(rt, call)?;
+    if manner_of(call)?.is_verbose {
+        // That it cannot be said keeps no key from being distrusted.
+        let _ = show_distrust(rt.alloc(), closure, &record, &mut complaints(rt));
+    }
+    run_distrust(closure, &record.domain, record.key)?;
+    Ok(())
+}
+
+fn record_of(rt: &HostRuntime, call: &Call<'_>) -> Result<Distrust, Exit> {
+    Ok(Distrust {
+        domain: domain(rt.alloc(), wanted(call, OptionName::Domain)?)?,
+        key: key(wanted(call, OptionName::Key)?)?,
+    })
+}

@@ -1,0 +1,98 @@
+// The subcommands that show what a state file holds, and write no file: they take no lock. The
+// replica is made and given back in one place, and each command only borrows it.
+use crate::exit::Exit;
+use crate::keeping::{keeping_of, look};
+use crate::options::{given, wanted};
+use crate::streams::{complaints, input, output};
+use crate::{anew, distrusting, options, printing, viewing};
+use fed_config::Config;
+use fedbundle::{Call, CommandName, OptionName, run_bundle, run_explain, run_migrate, run_polls};
+use migration::Choice;
+use trust_closure::IndexedClosure;
+
+/// Shows what the command asks for, of what the state file holds.
+pub(crate) fn show(rt: &HostRuntime, config: &Config, call: &Call<'_>) -> Result<u8, Exit> {
+    let closure = look(rt, config, keeping_of(call)?)?;
+    show_of(rt, config, &closure, call)
+}
+
+fn show_of(
+    rt: &HostRuntime,
+    config: &Config,
+    closure: &IndexedClosure,
+    call: &Call<'_>,
+) -> Result<u8, Exit> {
+    match call.name {
+        CommandName::Report => printing::report_state(rt, closure),
+        CommandName::List => viewing::list(rt, closure, call),
+        CommandName::Diff => viewing::diff(rt, config, closure, call),
+        CommandName::Bundle => bundle(rt, closure, wanted(call, OptionName::Domain)?),
+        CommandName::Explain => explain(rt, closure, wanted(call, OptionName::Domain)?),
+        CommandName::Migrate => migrate(rt, closure, call),
+        CommandName::Reseed => anew::reseed(rt, closure, call),
+        CommandName::Polls => polls(rt, closure, wanted(call, OptionName::Now)?),
+        CommandName::Distrust => distrusting::show(rt, closure, call),
+        _ => Err(Exit::Usage),
+    }
+}
+
+fn bundle(rt: &HostRuntime, closure: &IndexedClosure, domain: &str) -> Result<u8, Exit> {
+    let domain = options::domain(rt.alloc(), domain)?;
+    if run_bundle(closure, &domain, &mut output(rt))? {
+        Ok(0)
+    } else {
+        Err(Exit::NoBundle)
+    }
+}
+
+fn explain(rt: &HostRuntime, closure: &IndexedClosure, domain: &str) -> Result<u8, Exit> {
+    let domain = options::domain(rt.alloc(), domain)?;
+    if run_explain(
+        rt.alloc(),
+        closure,
+        &domain,
+        &mut input(rt),
+        &mut output(rt),
+    )? {
+        Ok(0)
+    } else {
+        Err(Exit::NotAccepted)
+    }
+}
+
+// The other configuration is read after the state, as each further option is.
+fn migrate(rt: &HostRuntime, closure: &IndexedClosure, call: &Call<'_>) -> Result<u8, Exit> {
+    let to = options::config(rt, rt.alloc(), wanted(call, OptionName::To)?)?;
+    let choice = if given(call, OptionName::RecordsOnly) == Some("true") {
+        Choice::RecordsOnly
+    } else {
+        Choice::All
+    };
+    migrate_to(rt, closure, &to, choice)
+}
+
+fn migrate_to(
+    rt: &HostRuntime,
+    closure: &IndexedClosure,
+    to: &Config,
+    choice: Choice,
+) -> Result<u8, Exit> {
+    let mut errors = complaints(rt);
+    match run_migrate(
+        rt.alloc(),
+        closure,
+        to,
+        choice,
+        &mut output(rt),
+        &mut errors,
+    )? {
+        0 => Ok(0),
+        _ => Ok(1),
+    }
+}
+
+fn polls(rt: &HostRuntime, closure: &IndexedClosure, now: &str) -> Result<u8, Exit> {
+    let now = options::moment(now)?;
+    run_polls(rt.alloc(), closure, now, &mut input(rt), &mut output(rt))?;
+    Ok(0)
+}

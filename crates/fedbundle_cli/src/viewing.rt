@@ -1,0 +1,56 @@
+// What a state file holds, or only one of two, printed.
+use crate::exit::Exit;
+use crate::keeping::load;
+use crate::options;
+use crate::options::{given, wanted};
+use crate::streams::output;
+use fed_config::Config;
+use fedbundle::{Call, CommandError, OptionName};
+use replica_view::{write_held, write_held_difference};
+use spiffe_name::TrustDomain;
+use trust_closure::IndexedClosure;
+
+/// Prints each receipt and each record of distrust, or those of a domain.
+pub(crate) fn list(
+    rt: &HostRuntime,
+    closure: &IndexedClosure,
+    call: &Call<'_>,
+) -> Result<u8, Exit> {
+    match given(call, OptionName::OptionalDomain) {
+        Some(domain) => list_of(rt, closure, domain),
+        None => list_on(rt, closure, None),
+    }
+}
+
+fn list_of(rt: &HostRuntime, closure: &IndexedClosure, domain: &str) -> Result<u8, Exit> {
+    let domain = options::domain(rt.alloc(), domain)?;
+    list_on(rt, closure, Some(&domain))
+}
+
+fn list_on(
+    rt: &HostRuntime,
+    closure: &IndexedClosure,
+    domain: Option<&TrustDomain>,
+) -> Result<u8, Exit> {
+    write_held(rt.alloc(), closure, domain, &mut output(rt)).map_err(CommandError::from)?;
+    Ok(0)
+}
+
+/// Prints what only one of two state files holds. Where they hold different things the exit status
+/// is 1.
+pub(crate) fn diff(
+    rt: &HostRuntime,
+    config: &Config,
+    closure: &IndexedClosure,
+    call: &Call<'_>,
+) -> Result<u8, Exit> {
+    let other = load(rt, config, wanted(call, OptionName::With)?)?;
+    compare(rt, closure, &other)
+}
+
+fn compare(rt: &HostRuntime, one: &IndexedClosure, other: &IndexedClosure) -> Result<u8, Exit> {
+    match write_held_difference(rt.alloc(), one, other, &mut output(rt)) {
+        Ok(is_same) => Ok(u8::from(!is_same)),
+        Err(error) => Err(Exit::Refused(CommandError::from(error))),
+    }
+}

@@ -1,0 +1,2 @@
+pub mod OfferFacts
+pub mod MadeLineFacts

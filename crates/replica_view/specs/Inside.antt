@@ -1,0 +1,3 @@
+-- What the accepted documents offer, and lines as far as they are made.
+pub mod Offered
+pub mod MadeLines

@@ -1,0 +1,4 @@
+-- `HeldLines` and `HeldTexts` have what a caller cites; `Inside` has how far the work has come.
+pub mod HeldLines
+pub mod HeldTexts
+pub mod Inside

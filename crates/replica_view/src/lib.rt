@@ -1,0 +1,13 @@
+//! What a replica holds, printed for operators: all of it, or what one state has that another one
+//! lacks. It knows closures by their trait alone.
+#![tactic(auto)]
+
+mod comparing;
+mod held_lines;
+mod listing;
+mod offered;
+mod receipt_status;
+
+pub use comparing::write_held_difference;
+pub use listing::write_held;
+pub use receipt_status::ReceiptStatus;

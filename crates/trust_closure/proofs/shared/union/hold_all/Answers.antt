@@ -1,0 +1,45 @@
+-- One more is held.
+use Rattle.std.proofs.Common.{List, inr, refl, sym, ap, subst, ◌∙◌}
+use Rattle.receipt_core.specs.declared.distrust.Distrust.{Distrust}
+use Rattle.receipt_core.specs.Receipt.{distrust_cmp}
+use Rattle.receipt_core.specs.Rising.{with_items}
+use Rattle.trust_closure.specs.Inside.Held.{meaning_of}
+use Rattle.trust_closure.specs.Inside.Merge.{AreKnown}
+use Rattle.trust_closure.proofs.JoinFacts.{IsDistrusting-start, IsDistrusting-next, IsDistrusting-end, grown_next}
+use Rattle.trust_closure.proofs.shared.union.hold_all.Goals as goal
+
+pub loop-domain-init : goal.loop-domain-init
+loop-domain-init c = record {
+  holding = IsDistrusting-start (meaning_of c.args.held.now) c.into_iter-domain-iterator.result
+      (subst (AreKnown (meaning_of c.args.held.now))
+      (sym c.into_iter-domain-iterator.ensures.into_iter_gives) c.requires);
+  arrived = refl;
+  capacity = refl;
+  grown = inr refl;
+}
+
+pub loop-domain-preserved : goal.loop-domain-preserved
+loop-domain-preserved c =
+    let start = meaning_of c.args.held.now in
+    let now = meaning_of c.loop-domain.held in
+    let new = meaning_of c.add_record.new.self in
+    let x : Distrust = record { domain = c.in-Some.domain.now; key = c.in-Some.key.now } in
+    let i = c.loop-domain.invariant in
+    record {
+      holding = IsDistrusting-next start now new c.into_iter-domain-iterator.result
+          c.loop-domain.domain-iterator c.next.new.self x c.add_record.result
+          c.config-valid.ensures.valid i.holding c.in-Some.ensures.steps
+          c.add_record.ensures.meaning;
+      arrived = c.add_record.ensures.arrived ∙ i.arrived;
+      capacity = c.add_record.ensures.capacity ∙ i.capacity;
+      grown = grown_next start now new x c.add_record.result c.add_record.ensures.meaning i.grown;
+    }
+
+pub returns-clause-meaning : goal.returns-clause-meaning
+returns-clause-meaning c =
+    let start = meaning_of c.args.held.now in
+    IsDistrusting-end start (meaning_of c.loop-domain.held) c.into_iter-domain-iterator.result
+    c.loop-domain.domain-iterator c.loop-domain.invariant.holding c.in-None.ensures.steps.0
+    ∙ ap (λ (xs : List Distrust). record start
+    { records = with_items distrust_cmp xs start.records })
+    c.into_iter-domain-iterator.ensures.into_iter_gives
