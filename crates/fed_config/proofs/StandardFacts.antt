@@ -120,6 +120,7 @@ read_of (Err e) = ([], [], [])
 read_of_endpoint : (text : List ℕ) (parts : Parts) → IsParsed text parts → read_of (parse_url None text) ≡ (codes "https", [], [])
 read_of_endpoint text parts h = ap read_of h.parses ∙ (λ i. (h.scheme i, h.username i, h.password i))
 
+-- the parts of the URL in the first example
 abbrev endpoint_url : Parts
 endpoint_url = record {
   scheme = codes "https";
@@ -132,40 +133,49 @@ endpoint_url = record {
   fragment = None;
 }
 
+-- A port, a path and capital letters are read.
 pub with_a_port : IsParsed (codes "HTTPS://A.b:8443/x") endpoint_url
 unfolding url_on_literals
 with_a_port = record { limit = lit≤ tt; parses = refl; scheme = refl; username = refl; password = refl }
 
+-- What is read of a URL with the scheme http: its scheme is not that of an endpoint.
 read_of_http : read_of (parse_url None (codes "http://a.b/x")) ≡ (codes "http", [], [])
 unfolding url_on_literals
 read_of_http = refl
 
+-- So it is refused.
 pub with_another_scheme : (parts : Parts) → IsParsed (codes "http://a.b/x") parts → ⊥
 with_another_scheme parts h =
     let e = ap (λ (p : List ℕ × List ℕ × List ℕ). length p.0) (sym read_of_http ∙ read_of_endpoint (codes "http://a.b/x") parts h) in omega (arith, e)
 
+-- What is read of a URL with a user name.
 read_of_user : read_of (parse_url None (codes "https://u@a.b/x")) ≡ (codes "https", codes "u", [])
 unfolding url_on_literals
 read_of_user = refl
 
+-- So it is refused.
 pub with_a_user : (parts : Parts) → IsParsed (codes "https://u@a.b/x") parts → ⊥
 with_a_user parts h =
     let e = ap (λ (p : List ℕ × List ℕ × List ℕ). length p.1) (sym read_of_user ∙ read_of_endpoint (codes "https://u@a.b/x") parts h) in omega (arith, e)
 
+-- What is read of a URL with a password and no user name.
 read_of_password : read_of (parse_url None (codes "https://:p@a.b/x")) ≡ (codes "https", [], codes "p")
 unfolding url_on_literals
 read_of_password = refl
 
+-- So it is refused.
 pub with_a_password : (parts : Parts) → IsParsed (codes "https://:p@a.b/x") parts → ⊥
 with_a_password parts h =
     let e = ap (λ (p : List ℕ × List ℕ × List ℕ). length p.2) (sym read_of_password ∙ read_of_endpoint (codes "https://:p@a.b/x") parts h) in
     omega (arith, e)
 
+-- One byte more than the limit of 2,048 is refused, whatever the text says.
 pub longer_text : (text : List ℕ) (parts : Parts) → length text ≡ 2049 → IsParsed text parts → ⊥
 longer_text text parts e h = omega (arith, e, h.limit)
 
 -- ---- how many there may be
 
+-- 1,024 relationships, 4,096 seeds and 1,024 domains are not too many.
 pub most : (w : Written) → length w.relationships ≡ 1024 → length w.seeds ≡ 4096
     → ((c : Configuration) (domains : List (List ℕ)) → IsMeant w c → AreDomains c domains → length domains ≡ 1024) → HasFew w
 most w r s d = record {
@@ -174,12 +184,15 @@ most w r s d = record {
   domains = λ c domains meant are. let e = d c domains meant are in omega (arith, e);
 }
 
+-- 1,025 relationships are.
 pub one_relationship_more : (w : Written) → length w.relationships ≡ 1025 → HasFew w → ⊥
 one_relationship_more w e h = omega (arith, e, h.relationships)
 
+-- So are 4,097 seeds.
 pub one_seed_more : (w : Written) → length w.seeds ≡ 4097 → HasFew w → ⊥
 one_seed_more w e h = omega (arith, e, h.seeds)
 
+-- So are 1,025 domains.
 pub one_domain_more : (w : Written) (c : Configuration) (domains : List (List ℕ)) → IsMeant w c → AreDomains c domains → length domains ≡ 1025
     → HasFew w → ⊥
 one_domain_more w c domains meant are e h = let few = h.domains c domains meant are in omega (arith, e, few)
