@@ -10,21 +10,21 @@ ghost use Rattle.bundle_doc.specs.CanonicalReader.{ReadsBundle, ReadsKeys, Reads
 ghost use Rattle.bundle_doc.specs.Entries.{FitsWord};
 
 use crate::canonical_authority::{GivesUp, after, read_authority};
-use crate::numbers::write_numbers;
+use crate::document_numbers::write_numbers;
 use jwk_set::Authority;
 use std::alloc::{AllocError, Global};
 use std::cmp::Ordering;
 
 /// What a canonical text says.
 #[derive(Drop)]
-pub(crate) struct Parts {
+pub(crate) struct DocumentFields {
     pub(crate) authorities: Vec<Authority>,
     pub(crate) hint: Option<u64>,
     pub(crate) rank: Option<u64>,
 }
 
 /// The parts of a canonical text, where it is one that this reader takes.
-pub(crate) fn read_parts(alloc: Global, text: &str) -> Result<Option<Parts>, AllocError>
+pub(crate) fn read_parts(alloc: Global, text: &str) -> Result<Option<DocumentFields>, AllocError>
     ensures { IfOk result (λ o. IfSome o
         (λ p. ReadsBundle text.now p.authorities.items p.hint p.rank)) }
 {
@@ -35,13 +35,13 @@ pub(crate) fn read_parts(alloc: Global, text: &str) -> Result<Option<Parts>, All
     }
 }
 
-fn read_bundle(alloc: Global, text: &str) -> Result<Parts, GivesUp>
+fn read_bundle(alloc: Global, text: &str) -> Result<DocumentFields, GivesUp>
     ensures { IfOk result (λ p. ReadsBundle text.now p.authorities.items p.hint p.rank) }
 {
     let keys = after(text, "{\"keys\":[")?;
     let (authorities, rest) = read_keys(alloc, keys)?;
     let (hint, rank) = read_numbers(alloc, rest)?;
-    Ok(Parts {
+    Ok(DocumentFields {
         authorities,
         hint,
         rank,

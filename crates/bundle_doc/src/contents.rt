@@ -6,9 +6,9 @@ ghost use Rattle.bundle_doc.specs.Bundle.{document_limit};
 ghost use Rattle.bundle_doc.specs.Entries.{IsContents, IsContentsOfText};
 ghost use Rattle.bundle_doc.specs.Refusal.{RefusesBytes, RefusesTree};
 
+use crate::document_numbers::read_number;
 use crate::elements::{elements_of, gather};
 use crate::error::DocError;
-use crate::numbers::read_number;
 use jwk_set::Authority;
 use serde_json::Value;
 use std::alloc::Global;

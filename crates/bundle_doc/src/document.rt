@@ -9,9 +9,9 @@ ghost use Rattle.bundle_doc.specs.Refusal.{IsBuildFault, RefusesBytes, RefusesTr
 use crate::authorities::{copies_of, has_key_id, values_of};
 use crate::canonical_reader::read_parts;
 use crate::contents::Contents;
+use crate::document_numbers::{put_number, write_numbers};
 use crate::elements::write_elements;
 use crate::error::DocError;
-use crate::numbers::{put_number, write_numbers};
 use jwk_set::{Authority, KeyId};
 use serde_json::Value;
 use sha2::{Digest, Sha256};

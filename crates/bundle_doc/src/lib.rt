@@ -7,10 +7,10 @@ mod canonical_authority;
 mod canonical_reader;
 mod contents;
 mod document;
+mod document_numbers;
 mod elements;
 mod error;
 pub mod laws;
-mod numbers;
 
 pub use document::{DocId, Document, MAX_DOCUMENT_BYTES};
 pub use error::DocError;

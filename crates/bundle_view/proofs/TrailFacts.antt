@@ -109,7 +109,7 @@ at_start seeds waiting p visited strides b = record {
 }
 
 -- the offers of the step at the place were followed, and the search is at the next one: the step of
--- the loop in `go_on`
+-- the loop in `follow_all`
 pub at_next : (seeds : List Seed) (waiting : List Receipt) (p : Pair) (flags visited : List Bool)
     (old new : List Stride) (place : ℕ) (s : Stride) → IsAt seeds waiting p flags old place
     → slice_get old place ≡ Some s → (pair_of s.receipt ≡ p → ⊥)

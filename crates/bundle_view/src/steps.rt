@@ -60,7 +60,7 @@ pub(crate) fn search<'a>(
         (document_of domain.now document.now)) }
 {
     let mut visited = lowered(alloc, waiting.len())?;
-    go_on(
+    follow_all(
         alloc,
         seeds,
         waiting,
@@ -101,8 +101,9 @@ pub(crate) fn chain_to(
     Ok(chain)
 }
 
-/// The same with flags of which none is raised: which receipts were come to.
-fn go_on<'a>(
+/// Follows the seeds and then each step, until one is of the document. Returns its place among the
+/// steps.
+fn follow_all<'a>(
     alloc: Global,
     seeds: &[Seed],
     waiting: &[TrustedReceipt<'a>],

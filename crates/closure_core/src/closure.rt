@@ -5,7 +5,7 @@ ghost use Rattle.std.specs.Prelude.{◌≡◌, ℕ, ◌≤◌, ◌↔◌, IsTrue
 ghost use Rattle.std.specs.Prelude.{Contains};
 
 use crate::error::TakeError;
-use crate::lent::{Accepted, Distrusts, Receipts};
+use crate::lending::{Accepted, Distrusts, Receipts};
 use crate::outcome::{Distrusted, Refused, Taken};
 use bundle_doc::Document;
 use fed_config::Config;

@@ -55,8 +55,8 @@ fn fills_with<C: Closure>(
 
 fn fits<C: Closure>(alloc: Global, here: &C, report: &[u8]) -> Result<bool, AllocError> {
     let mut sink = MemSink::new(alloc, report.len())?;
-    let told = write_report(alloc, here, &mut sink);
-    Ok(told.is_ok() && sink.as_bytes() == report)
+    let written = write_report(alloc, here, &mut sink);
+    Ok(written.is_ok() && sink.as_bytes() == report)
 }
 
 fn holds_beginning<C: Closure>(
@@ -66,8 +66,8 @@ fn holds_beginning<C: Closure>(
     room: usize,
 ) -> Result<bool, AllocError> {
     let mut sink = MemSink::new(alloc, room)?;
-    let told = write_report(alloc, here, &mut sink);
+    let written = write_report(alloc, here, &mut sink);
     let held = sink.as_bytes();
     let is_beginning = held.len() == room && report.starts_with(held);
-    Ok(told == Err(ReportError::Io) && sink.failed() && is_beginning)
+    Ok(written == Err(ReportError::Io) && sink.failed() && is_beginning)
 }

@@ -19,7 +19,7 @@ pub(crate) struct Limits {
     /// The bytes that fit where a command writes, and a session where it sends.
     pub(crate) room: usize,
     /// The bytes that fit where complaints go.
-    pub(crate) told: usize,
+    pub(crate) error_room: usize,
 }
 
 impl Limits {
@@ -29,7 +29,7 @@ impl Limits {
             piece,
             reads: u64::MAX,
             room: AMPLE_ROOM,
-            told: AMPLE_ROOM,
+            error_room: AMPLE_ROOM,
         }
     }
 }
@@ -58,12 +58,16 @@ impl Devices {
         limits: Limits,
         is_session: bool,
     ) -> Result<Devices, AllocError> {
-        let output_room = if is_session { limits.told } else { limits.room };
+        let output_room = if is_session {
+            limits.error_room
+        } else {
+            limits.room
+        };
         Ok(Devices {
             input: FuseSource::new(in_pieces(alloc, input, limits.piece)?, limits.reads),
             sent: MemSink::new(alloc, limits.room)?,
             output: MemSink::new(alloc, output_room)?,
-            errors: MemSink::new(alloc, limits.told)?,
+            errors: MemSink::new(alloc, limits.error_room)?,
             state: MemSink::new(alloc, AMPLE_ROOM)?,
             is_state_new: false,
             status: 0,

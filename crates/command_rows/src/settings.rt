@@ -101,7 +101,7 @@ fn limits_of(trial: Trial, number: u32) -> Limits {
             ..whole
         },
         Trial::Untold => Limits {
-            told: number as usize,
+            error_room: number as usize,
             ..whole
         },
     }

@@ -2,7 +2,7 @@
 //! exchange receipts only where their configurations are equal.
 #![tactic(auto)]
 
-mod lines;
-mod writing;
+mod config_output;
+mod shown_lines;
 
-pub use writing::{write_config, write_config_difference};
+pub use config_output::{write_config, write_config_difference};

@@ -8,7 +8,7 @@ ghost use Rattle.fed_config.specs.Configuration.{config_text, config_id_of, rela
 ghost use Rattle.fed_config.specs.Configuration.{seed_tree};
 ghost use Rattle.serde_json.specs.Written.{compact_text};
 
-use crate::id::ConfigId;
+use crate::config_id::ConfigId;
 use crate::relationship::Relationship;
 use crate::seed::Seed;
 use serde_json::Value;

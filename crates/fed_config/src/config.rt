@@ -3,7 +3,7 @@ ghost use Rattle.std.specs.Prelude.{◌≡◌, IfOk, option_copied};
 ghost use Rattle.fed_config.specs.Configuration.{AreDomains, IsConfiguration, IsRelationshipOf};
 ghost use Rattle.fed_config.specs.Configuration.{IsPlace, config_id_of};
 
-use crate::id::ConfigId;
+use crate::config_id::ConfigId;
 use crate::relationship::Relationship;
 use crate::seed::Seed;
 use spiffe_name::TrustDomain;

@@ -3,9 +3,9 @@
 
 mod canonical;
 mod config;
+mod config_id;
 mod domains;
 mod error;
-mod id;
 pub mod laws;
 mod names;
 mod read;
@@ -15,7 +15,7 @@ mod sets;
 mod written;
 
 pub use config::Config;
+pub use config_id::ConfigId;
 pub use error::ConfigError;
-pub use id::ConfigId;
 pub use relationship::{EndpointUrl, Relationship};
 pub use seed::Seed;

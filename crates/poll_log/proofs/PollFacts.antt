@@ -22,11 +22,11 @@ use Rattle.std.proofs.lemmas.Slice.Eq.{bytes_eq-Decides}
 use Rattle.spiffe_name.specs.TrustDomain.{IsDomainText}
 use Rattle.fed_config.specs.Configuration.{Configuration, IsConfiguration, IsRelationship, domain_cmp, relationship_cmp}
 use Rattle.fed_config.specs.declared.relationship.Relationship.{Relationship}
-use Rattle.poll_log.specs.Polling.{Poll, is_of_domain, has_failed, polls_of, first_moment, Standing, standing_of}
+use Rattle.poll_log.specs.Polling.{Poll, is_of_domain, has_failed, polls_of, first_moment, PollStatus, standing_of}
 use Rattle.poll_log.specs.Polling.{log_of, polled_domains, IsLog, RecordsPoll, standing_in, IsNextAfter, IsNext}
 use Rattle.poll_log.specs.Polling.{IsDueAfter, IsPollDue}
-use Rattle.poll_log.specs.Inside.Standings.{AreNames, after, kept_standing, IsIn, IsPlaceOf}
-use Rattle.poll_log.specs.declared.log.Standing as held
+use Rattle.poll_log.specs.Inside.Statuses.{AreNames, after, kept_status, IsIn, IsPlaceOf}
+use Rattle.poll_log.specs.declared.log.PollStatus as held
 use Rattle.poll_log.specs.declared.error.PollError.{PollError}
 use Rattle.poll_log.proofs.MemberFacts.{not_below_itself, contains_first, contains_later, contains_cases}
 
@@ -100,7 +100,7 @@ each_at P (y ∷ ys) zero x all at = let same : y ≡ x = cc in subst P same all
 each_at P (y ∷ ys) (suc k) x all at = each_at P ys k x all.1 at
 
 -- what is kept for the poll's domain changes, and nothing else
-pub log_of-more : (domains : List (List ℕ)) (polls : List Poll) (p : Poll) (k : ℕ) (d : Standing)
+pub log_of-more : (domains : List (List ℕ)) (polls : List Poll) (p : Poll) (k : ℕ) (d : PollStatus)
     → IsStrictlySortedBy domain_cmp domains → slice_get domains k ≡ Some p.domain
     → set (log_of domains polls) k (after (get_or (log_of domains polls) k d) p.moment p.ok) ≡ log_of domains (polls ++ p ∷ [])
 unfolding IsStrictlySortedBy
@@ -116,11 +116,11 @@ log_of-more (x ∷ xs) polls p (suc k) d rising at =
     ap₂ (λ s l. s ∷ l) (sym (standing_of-other polls p x (λ e. differs x p.domain below (sym e)))) (log_of-more xs polls p k d rising.1 at)
 
 -- the domains of a log rise
-pub rising_of : (log : List Standing) → IsLog log → IsStrictlySortedBy domain_cmp (polled_domains log)
+pub rising_of : (log : List PollStatus) → IsLog log → IsStrictlySortedBy domain_cmp (polled_domains log)
 rising_of log is = subst (IsStrictlySortedBy domain_cmp) (sym (ap polled_domains is.is ∙ domains_of-log is.domains is.polls)) is.rising
 
 -- the change that the code makes at the domain's place records the poll
-pub Adds-at : (log : List Standing) (p : Poll) (k : ℕ) (d : Standing) → IsLog log
+pub Adds-at : (log : List PollStatus) (p : Poll) (k : ℕ) (d : PollStatus) → IsLog log
     → slice_get (polled_domains log) k ≡ Some p.domain
     → RecordsPoll log p (set log k (after (get_or log k d) p.moment p.ok))
 Adds-at log p k d is at domains polls log_is =
@@ -130,7 +130,7 @@ Adds-at log p k d is at domains polls log_is =
     ∙ log_of-more domains polls p k d rising (subst (λ l. slice_get l k ≡ Some p.domain) own at)
 
 -- a log in which one more poll was recorded is a log
-pub IsLog-more : (old new : List Standing) (p : Poll) → IsLog old → RecordsPoll old p new → IsLog new
+pub IsLog-more : (old new : List PollStatus) (p : Poll) → IsLog old → RecordsPoll old p new → IsLog new
 IsLog-more old new p is adds = record {
   domains = is.domains;
   rising = is.rising;
@@ -142,7 +142,7 @@ IsLog-more old new p is adds = record {
 -- ---- searches
 
 -- what the log keeps for a domain stands at the domain's place
-pub standing_in-at : (log : List Standing) (domain : List ℕ) (k : ℕ) (d : Standing)
+pub standing_in-at : (log : List PollStatus) (domain : List ℕ) (k : ℕ) (d : PollStatus)
     → IsStrictlySortedBy domain_cmp (polled_domains log) → slice_get (polled_domains log) k ≡ Some domain
     → standing_in log domain ≡ Some (get_or log k d)
 unfolding IsStrictlySortedBy
@@ -157,7 +157,7 @@ standing_in-at (s ∷ log) domain (suc k) d rising at =
     ap (λ q. cond q (Some s) (standing_in log domain)) test ∙ standing_in-at log domain k d rising.1 at
 
 -- the log keeps nothing for a domain that it lacks
-pub standing_in-none : (log : List Standing) (domain : List ℕ) → (Contains (polled_domains log) domain → ⊥) → standing_in log domain ≡ None
+pub standing_in-none : (log : List PollStatus) (domain : List ℕ) → (Contains (polled_domains log) domain → ⊥) → standing_in log domain ≡ None
 standing_in-none [] domain lacks = refl
 standing_in-none (s ∷ log) domain lacks =
     let test : bytes_eq s.domain domain ≡ false = other_bytes s.domain domain (λ e. lacks (0, omega arith, e)) in
@@ -216,19 +216,19 @@ module _ {X : Type 0} (key : X → List ℕ) where
   place_found xs x (Ok k) rising within found = slice_get_key xs k x within (λ d. exact_bytes (key (get_or xs k d)) x (found d))
   place_found xs x (Err i) rising within splits = not_found xs x i rising splits
 
--- the domains of a log are those of the standings in memory
-domains_of-kept : (xs : List held.Standing) → polled_domains (map kept_standing xs) ≡ map (λ (s : held.Standing). s.domain) xs
+-- the domains of a log are those of the statuses in memory
+domains_of-kept : (xs : List held.PollStatus) → polled_domains (map kept_status xs) ≡ map (λ (s : held.PollStatus). s.domain) xs
 domains_of-kept [] = refl
 domains_of-kept (x ∷ xs) = ap (λ l. x.domain ∷ l) (domains_of-kept xs)
 
--- the same for a search in the standings in memory
-pub standing_found : (xs : List held.Standing) (log : List Standing) (x : List ℕ) (r : Result ℕ ℕ)
-    → map kept_standing xs ≡ log → IsLog log → IsSearchInRange r (length xs)
-    → IsBinarySearchResult (λ (s : held.Standing). slice_cmp nat_cmp s.domain x) xs r → IsPlaceOf log x (result_ok r)
+-- the same for a search in the statuses in memory
+pub standing_found : (xs : List held.PollStatus) (log : List PollStatus) (x : List ℕ) (r : Result ℕ ℕ)
+    → map kept_status xs ≡ log → IsLog log → IsSearchInRange r (length xs)
+    → IsBinarySearchResult (λ (s : held.PollStatus). slice_cmp nat_cmp s.domain x) xs r → IsPlaceOf log x (result_ok r)
 standing_found xs log x r log_is is within answer =
-    let same : polled_domains log ≡ map (λ (s : held.Standing). s.domain) xs = sym (ap polled_domains log_is) ∙ domains_of-kept xs in
+    let same : polled_domains log ≡ map (λ (s : held.PollStatus). s.domain) xs = sym (ap polled_domains log_is) ∙ domains_of-kept xs in
     subst (λ names. IsIn names x (result_ok r)) (sym same)
-    (place_found (λ (s : held.Standing). s.domain) xs x r (subst (IsStrictlySortedBy domain_cmp) same (rising_of log is)) within answer)
+    (place_found (λ (s : held.PollStatus). s.domain) xs x r (subst (IsStrictlySortedBy domain_cmp) same (rising_of log is)) within answer)
 
 -- ---- a new log
 
@@ -253,7 +253,7 @@ each_name (r ∷ rs) all domain has = elim (contains_cases r.domain (map (λ r. 
 ]
 
 -- a log of no polls, with a place for each relationship, is a log
-pub IsLog-new : (c : Configuration) (rs : List Relationship) (log : List Standing) → IsConfiguration c
+pub IsLog-new : (c : Configuration) (rs : List Relationship) (log : List PollStatus) → IsConfiguration c
     → rs ≡ c.relationships → log ≡ log_of (map (λ r. r.domain) rs) [] → IsLog log
 IsLog-new c rs log form same is = record {
   domains = map (λ r. r.domain) rs;
@@ -263,34 +263,34 @@ IsLog-new c rs log form same is = record {
   is = is;
 }
 
--- ---- the standings as they are held
+-- ---- the statuses as they are held
 
 -- the standing at a place in memory is the log's at that place
-kept_at : (items : List held.Standing) (log : List Standing) (k : ℕ) (x : held.Standing) → map kept_standing items ≡ log
-    → x ≡ get_or items k x → k < length items → get_or log k (kept_standing x) ≡ kept_standing x
-kept_at items log k x log_is there within = ap (λ l. get_or l k (kept_standing x)) (sym log_is)
-    ∙ get_or-map kept_standing items k x (kept_standing x) within ∙ ap kept_standing (sym there)
+kept_at : (items : List held.PollStatus) (log : List PollStatus) (k : ℕ) (x : held.PollStatus) → map kept_status items ≡ log
+    → x ≡ get_or items k x → k < length items → get_or log k (kept_status x) ≡ kept_status x
+kept_at items log k x log_is there within = ap (λ l. get_or l k (kept_status x)) (sym log_is)
+    ∙ get_or-map kept_status items k x (kept_status x) within ∙ ap kept_status (sym there)
 
 -- a standing that is replaced in memory is replaced in the log
-pub kept-set : (items : List held.Standing) (log : List Standing) (k : ℕ) (x y : held.Standing) (moment : ℤ) (ok : Bool)
-    → map kept_standing items ≡ log → x ≡ get_or items k x → k < length log
-    → kept_standing y ≡ after (kept_standing x) moment ok
-    → map kept_standing (set items k y) ≡ set log k (after (get_or log k (kept_standing x)) moment ok)
+pub kept-set : (items : List held.PollStatus) (log : List PollStatus) (k : ℕ) (x y : held.PollStatus) (moment : ℤ) (ok : Bool)
+    → map kept_status items ≡ log → x ≡ get_or items k x → k < length log
+    → kept_status y ≡ after (kept_status x) moment ok
+    → map kept_status (set items k y) ≡ set log k (after (get_or log k (kept_status x)) moment ok)
 kept-set items log k x y moment ok log_is there within changed =
-    let inside : k < length items = omega (arith, ap length log_is, length-map items kept_standing) in
-    map-set kept_standing items k y ∙ ap₂ (λ l s. set l k s) log_is (changed ∙ ap (λ s. after s moment ok) (sym (kept_at items log k x log_is there inside)))
+    let inside : k < length items = omega (arith, ap length log_is, length-map items kept_status) in
+    map-set kept_status items k y ∙ ap₂ (λ l s. set l k s) log_is (changed ∙ ap (λ s. after s moment ok) (sym (kept_at items log k x log_is there inside)))
 
 -- what the log keeps for a domain is the standing in memory at the domain's place
-pub standing_in-held : (items : List held.Standing) (log : List Standing) (domain : List ℕ) (k : ℕ) (x : held.Standing)
-    → map kept_standing items ≡ log → IsLog log → slice_get (polled_domains log) k ≡ Some domain → x ≡ get_or items k x
+pub standing_in-held : (items : List held.PollStatus) (log : List PollStatus) (domain : List ℕ) (k : ℕ) (x : held.PollStatus)
+    → map kept_status items ≡ log → IsLog log → slice_get (polled_domains log) k ≡ Some domain → x ≡ get_or items k x
     → k < length items
-    → standing_in log domain ≡ Some (kept_standing x)
+    → standing_in log domain ≡ Some (kept_status x)
 standing_in-held items log domain k x log_is is at there within =
-    standing_in-at log domain k (kept_standing x) (rising_of log is) at
+    standing_in-at log domain k (kept_status x) (rising_of log is) at
     ∙ ap Some (kept_at items log k x log_is there within)
 
 -- a place that is given lies within
-pub within_log : (log : List Standing) (k : ℕ) (domain : List ℕ) → slice_get (polled_domains log) k ≡ Some domain → k < length log
+pub within_log : (log : List PollStatus) (k : ℕ) (domain : List ℕ) → slice_get (polled_domains log) k ≡ Some domain → k < length log
 within_log [] k domain at = cc
 within_log (s ∷ log) zero domain at = omega arith
 within_log (s ∷ log) (suc k) domain at = omega (arith, within_log log k domain at)
@@ -304,15 +304,15 @@ not_due_after hint failures None now e refused due = cc
 not_due_after hint failures (Some last) now e refused due = refused.1 due.0
 
 -- the same for a domain of which there may be no standing
-pub not_due : (hint : Option ℕ) (s : Option Standing) (now : ℤ) (e : PollError) → IsNext hint s (Err e) → IsPollDue hint s now → ⊥
+pub not_due : (hint : Option ℕ) (s : Option PollStatus) (now : ℤ) (e : PollError) → IsNext hint s (Err e) → IsPollDue hint s now → ⊥
 not_due hint None now e refused due = due
 not_due hint (Some s) now e refused due = not_due_after hint s.failures s.last now e refused due
 
 -- the domain at a place is that of the standing there
-pub slice_get-domain : (log : List Standing) (k : ℕ) (s : Standing) → k < length log → slice_get (polled_domains log) k ≡ Some (get_or log k s).domain
-slice_get-domain log k s within = slice_get-map (λ (x : Standing). x.domain) log k
-    ∙ ap (option_map (λ (x : Standing). x.domain)) (slice_get-get_or log k s within)
+pub slice_get-domain : (log : List PollStatus) (k : ℕ) (s : PollStatus) → k < length log → slice_get (polled_domains log) k ≡ Some (get_or log k s).domain
+slice_get-domain log k s within = slice_get-map (λ (x : PollStatus). x.domain) log k
+    ∙ ap (option_map (λ (x : PollStatus). x.domain)) (slice_get-get_or log k s within)
 
 -- the domains of a log are domain names
-pub names_of : (log : List Standing) → IsLog log → AreNames (polled_domains log)
+pub names_of : (log : List PollStatus) → IsLog log → AreNames (polled_domains log)
 names_of log is = subst AreNames (sym (ap polled_domains is.is ∙ domains_of-log is.domains is.polls)) is.names

@@ -4,9 +4,9 @@ use Rattle.std.specs.List.{AllZip}
 use Rattle.std.specs.Fmt.{signed_decimal}
 use Rattle.fed_config.specs.Configuration.{Configuration, IsConfiguration}
 use Rattle.byte_lines.specs.Lines.{lines_of}
-use Rattle.poll_log.specs.Polling.{Poll, Standing, log_of, polled}
-use Rattle.poll_log.specs.Inside.Standings.{AreNames}
-use Rattle.poll_log.specs.PollLines.{FirstBad, HasMoment, IsLogOf, RefusesPolls, SaysPoll, Tells, TellsNoMoment, TellsNothing, ToldPoll, outcome_text, poll_of}
+use Rattle.poll_log.specs.Polling.{Poll, PollStatus, log_of, polled}
+use Rattle.poll_log.specs.Inside.Statuses.{AreNames}
+use Rattle.poll_log.specs.PollLines.{FirstBad, HasMoment, IsLogOf, RefusesPolls, SaysPoll, SaysPoll, SaysNoMoment, SaysNoPoll, SaidPoll, outcome_text, poll_of}
 use Rattle.poll_log.specs.declared.error.PollError.{PollError}
 use Rattle.poll_log.specs.declared.error.PollError.TheVariants.{NoRelationship, PastRange, NoMemory, BadLine, BadMoment, Io}
 use Rattle.poll_log.proofs.PollFacts.{each_name}
@@ -20,8 +20,8 @@ one_outcome true false e = cc
 one_outcome false true e = cc
 one_outcome false false e = refl
 
--- a line tells one thing at most
-one_told : (domains : List (List ℕ)) (text : List ℕ) (s t : ToldPoll) → AreNames domains → Tells domains text s → Tells domains text t → s ≡ t
+-- a line says one thing at most
+one_told : (domains : List (List ℕ)) (text : List ℕ) (s t : SaidPoll) → AreNames domains → SaysPoll domains text s → SaysPoll domains text t → s ≡ t
 one_told domains text s t names p q =
     let words = one_word s.domain t.domain _ _ (plain_name s.domain (names s.domain p.known))
     (plain_name t.domain (names t.domain q.known)) (sym p.is ∙ q.is) in
@@ -33,7 +33,7 @@ one_told domains text s t names p q =
 
 -- a line says one poll at most
 one_poll : (domains : List (List ℕ)) (text : List ℕ) (p q : Poll) → AreNames domains → SaysPoll domains text p → SaysPoll domains text q → p ≡ q
-one_poll domains text p q names a b = a.is ∙ ap poll_of (one_told domains text a.told b.told names a.tells b.tells) ∙ sym b.is
+one_poll domains text p q names a b = a.is ∙ ap poll_of (one_told domains text a.said b.said names a.says b.says) ∙ sym b.is
 
 -- lines say one list of polls at most
 one_list : (domains : List (List ℕ)) (lines : List (List ℕ)) (ps qs : List Poll) → AreNames domains
@@ -50,7 +50,7 @@ names_in : (c : Configuration) → IsConfiguration c → AreNames (polled c)
 names_in c form = each_name c.relationships form.each_relationship
 
 -- bytes have one log at most, as `laws::one_log` says
-pub one_log : (c : Configuration) (bytes : List ℕ) (a b : List Standing) → IsConfiguration c → IsLogOf (polled c) bytes a → IsLogOf (polled c) bytes b → a ≡ b
+pub one_log : (c : Configuration) (bytes : List ℕ) (a b : List PollStatus) → IsConfiguration c → IsLogOf (polled c) bytes a → IsLogOf (polled c) bytes b → a ≡ b
 one_log c bytes a b form p q =
     p.is ∙ ap (log_of (polled c)) (one_list (polled c) (lines_of bytes).whole p.polls q.polls (names_in c form) p.say
     q.say) ∙ sym q.is
@@ -64,7 +64,7 @@ said_there domains (l ∷ front) text later [] say = absurd say
 said_there domains (l ∷ front) text later (p ∷ ps) say = said_there domains front text later ps say.1
 
 -- where bytes have a log, also the line with the fault says a poll
-found : (domains : List (List ℕ)) (bytes : List ℕ) (log : List Standing) (n : ℕ) (Fault : List ℕ → Type 0)
+found : (domains : List (List ℕ)) (bytes : List ℕ) (log : List PollStatus) (n : ℕ) (Fault : List ℕ → Type 0)
     → (bad : FirstBad domains (lines_of bytes).whole n Fault) → IsLogOf domains bytes log
     → (p : Poll) × SaysPoll domains bad.text p
 found domains bytes log n Fault bad is =
@@ -73,19 +73,19 @@ found domains bytes log n Fault bad is =
 
 -- bytes that are refused, other than for memory or a fault of the source, have no log, as
 -- `laws::one_log` says
-pub no_log : (c : Configuration) (bytes : List ℕ) (e : PollError) (log : List Standing) → IsConfiguration c
+pub no_log : (c : Configuration) (bytes : List ℕ) (e : PollError) (log : List PollStatus) → IsConfiguration c
     → RefusesPolls (polled c) bytes e → (e ≡ NoMemory → ⊥) → (e ≡ Io → ⊥) → IsLogOf (polled c) bytes log → ⊥
 no_log c bytes NoMemory log form refused memory io is = memory refl
 no_log c bytes Io log form refused memory io is = io refl
 no_log c bytes NoRelationship log form refused memory io is = refused
 no_log c bytes PastRange log form refused memory io is = refused
 no_log c bytes (BadLine n) log form refused memory io is = elim refused [
-  | inl bad ↦ let said = found (polled c) bytes log n (TellsNothing (polled c)) bad is in bad.bad said.1.told said.1.tells
+  | inl bad ↦ let said = found (polled c) bytes log n (SaysNoPoll (polled c)) bad is in bad.bad said.1.said said.1.says
   | inr cut ↦ cut.more is.ended
 ]
 no_log c bytes (BadMoment n) log form refused memory io is =
-    let said = found (polled c) bytes log n (TellsNoMoment (polled c)) refused is in
-    let same : said.1.told ≡ refused.bad.told =
-    one_told (polled c) refused.text said.1.told refused.bad.told (names_in c form) said.1.tells refused.bad.tells
+    let said = found (polled c) bytes log n (SaysNoMoment (polled c)) refused is in
+    let same : said.1.said ≡ refused.bad.said =
+    one_told (polled c) refused.text said.1.said refused.bad.said (names_in c form) said.1.says refused.bad.says
     in
     refused.bad.past (subst HasMoment same said.1.moment)

@@ -1,4 +1,4 @@
--- What a poll line tells, word by word
+-- What a poll line says, word by word
 use Rattle.std.proofs.Common.{◌≡◌, ℕ, zero, suc, ◌==◌, not, Bool, true, false, List, [], ◌∷◌, ◌++◌, get_or, drop, None}
 use Rattle.std.proofs.Common.{Some, refl, sym, ap, ap₂, ◌∙◌, subst, arith}
 use Rattle.std.specs.Int.{w64}
@@ -8,10 +8,10 @@ use Rattle.std.specs.List.{AllPass, Contains, slice_get}
 use Rattle.std.proofs.lemmas.Bool.{eqb-true}
 use Rattle.spiffe_name.specs.Bytes.{is_domain_byte}
 use Rattle.spiffe_name.specs.TrustDomain.{IsDomainText}
-use Rattle.poll_log.specs.Inside.Standings.{AreNames}
-use Rattle.poll_log.specs.PollLines.{ReadsSeconds, Tells, TellsNothing, ToldPoll, outcome_text}
-use Rattle.poll_log.specs.Inside.PollSteps.{IsWord, TellsParts, is_no_space}
-use Rattle.poll_log.specs.declared.lines.Parts.{Parts}
+use Rattle.poll_log.specs.Inside.Statuses.{AreNames}
+use Rattle.poll_log.specs.PollLines.{ReadsSeconds, SaysPoll, SaysNoPoll, SaidPoll, outcome_text}
+use Rattle.poll_log.specs.Inside.PollSteps.{IsWord, SaysFields, is_no_space}
+use Rattle.poll_log.specs.declared.poll_lines.PollFields.{PollFields}
 use Rattle.poll_log.proofs.MemberFacts.{contains_later}
 
 -- ---- spaces
@@ -60,33 +60,33 @@ one_word (b ∷ word) (c ∷ other) rest more p q e =
     let later = one_word word other rest more (all_later b word p) (all_later c other q) (ap (drop 1) e) in
     (ap₂ (λ x l. x ∷ l) first later.0, later.1)
 
--- ---- what a line tells
+-- ---- what a line says
 
--- the domain that a line tells of is its first word, and the outcome and the seconds are the rest
-told_words : (domains : List (List ℕ)) (text word rest : List ℕ) (t : ToldPoll) → AreNames domains → IsWord text word rest → Tells domains text t
+-- the domain that a line says of is its first word, and the outcome and the seconds are the rest
+told_words : (domains : List (List ℕ)) (text word rest : List ℕ) (t : SaidPoll) → AreNames domains → IsWord text word rest → SaysPoll domains text t
     → (t.domain ≡ word) × (outcome_text t.ok ++ (32 ∷ signed_decimal t.seconds) ≡ rest)
-told_words domains text word rest t names split tells =
-    one_word t.domain word _ rest (plain_name t.domain (names t.domain tells.known)) split.plain (sym tells.is ∙ split.whole)
+told_words domains text word rest t names split says =
+    one_word t.domain word _ rest (plain_name t.domain (names t.domain says.known)) split.plain (sym says.is ∙ split.whole)
 
--- a line without a space tells of no poll
-pub no_words : (domains : List (List ℕ)) (text : List ℕ) → AllPass is_no_space text → TellsNothing domains text
-no_words domains text plain t tells = has_space t.domain (outcome_text t.ok ++ (32 ∷ signed_decimal t.seconds)) (subst (AllPass is_no_space) tells.is plain)
+-- a line without a space says of no poll
+pub no_words : (domains : List (List ℕ)) (text : List ℕ) → AllPass is_no_space text → SaysNoPoll domains text
+no_words domains text plain t says = has_space t.domain (outcome_text t.ok ++ (32 ∷ signed_decimal t.seconds)) (subst (AllPass is_no_space) says.is plain)
 
 module _ (domains : List (List ℕ)) (text word rest : List ℕ) (names : AreNames domains) (split : IsWord text word rest) where
-  -- a line whose first word is no polled domain tells of no poll
-  pub no_domain : (Contains domains word → ⊥) → TellsNothing domains text
-  no_domain lacks t tells = lacks (subst (Contains domains) (told_words domains text word rest t names split tells).0 tells.known)
+  -- a line whose first word is no polled domain says of no poll
+  pub no_domain : (Contains domains word → ⊥) → SaysNoPoll domains text
+  no_domain lacks t says = lacks (subst (Contains domains) (told_words domains text word rest t names split says).0 says.known)
 
-  -- a line without an outcome after its first word tells of no poll
-  pub no_outcome : ((ok : Bool) (more : List ℕ) → rest ≡ outcome_text ok ++ (32 ∷ more) → ⊥) → TellsNothing domains text
-  no_outcome none t tells = none t.ok (signed_decimal t.seconds) (sym (told_words domains text word rest t names split tells).1)
+  -- a line without an outcome after its first word says of no poll
+  pub no_outcome : ((ok : Bool) (more : List ℕ) → rest ≡ outcome_text ok ++ (32 ∷ more) → ⊥) → SaysNoPoll domains text
+  no_outcome none t says = none t.ok (signed_decimal t.seconds) (sym (told_words domains text word rest t names split says).1)
 
-  -- a line without a number of seconds after its outcome tells of no poll
-  pub no_seconds : (ok : Bool) (seconds : List ℕ) → rest ≡ outcome_text ok ++ (32 ∷ seconds) → ReadsSeconds seconds None → TellsNothing domains text
-  no_seconds ok seconds is none t tells =
+  -- a line without a number of seconds after its outcome says of no poll
+  pub no_seconds : (ok : Bool) (seconds : List ℕ) → rest ≡ outcome_text ok ++ (32 ∷ seconds) → ReadsSeconds seconds None → SaysNoPoll domains text
+  no_seconds ok seconds is none t says =
       let both = one_word (outcome_text t.ok) (outcome_text ok) (signed_decimal t.seconds) seconds (plain_outcome t.ok)
-      (plain_outcome ok) ((told_words domains text word rest t names split tells).1 ∙ is) in
-      none t.seconds tells.within (sym both.1)
+      (plain_outcome ok) ((told_words domains text word rest t names split says).1 ∙ is) in
+      none t.seconds says.within (sym both.1)
 
 -- an item at a place is a member
 contains_at : {X : Type 0} (xs : List X) (k : ℕ) (x : X) → slice_get xs k ≡ Some x → Contains xs x
@@ -94,13 +94,13 @@ contains_at [] k x at = cc
 contains_at (y ∷ xs) zero x at = let same : y ≡ x = cc in (0, omega arith, same)
 contains_at (y ∷ xs) (suc k) x at = contains_later y xs x (contains_at xs k x at)
 
--- a line whose parts were all read tells of these parts
-pub tells_parts : (domains : List (List ℕ)) (text word rest seconds : List ℕ) (parts : Parts) → IsWord text word rest
+-- a line whose parts were all read says of these parts
+pub tells_parts : (domains : List (List ℕ)) (text word rest seconds : List ℕ) (parts : PollFields) → IsWord text word rest
     → slice_get domains parts.place ≡ Some word → rest ≡ outcome_text parts.ok ++ (32 ∷ seconds)
-    → seconds ≡ signed_decimal parts.seconds → FitsSigned w64 parts.seconds → TellsParts domains text parts
+    → seconds ≡ signed_decimal parts.seconds → FitsSigned w64 parts.seconds → SaysFields domains text parts
 tells_parts domains text word rest seconds parts split at outcome read fits = record {
-  told = record { domain = word; ok = parts.ok; seconds = parts.seconds };
-  tells = record {
+  said = record { domain = word; ok = parts.ok; seconds = parts.seconds };
+  says = record {
     is = split.whole ∙ ap (λ l. word ++ (32 ∷ l)) (outcome ∙ ap (λ l. outcome_text parts.ok ++ (32 ∷ l)) read);
     within = fits;
     known = contains_at domains parts.place word at;

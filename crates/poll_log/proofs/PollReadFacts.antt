@@ -8,9 +8,9 @@ use Rattle.std.specs.Io.KnownBytes.{IsAtEnd, prepend_known}
 use Rattle.fed_config.specs.Configuration.{Configuration, IsConfiguration}
 use Rattle.byte_lines.specs.Lines.{Lines, lines_of, with_line, HasLine, HasNoLine, HasMore}
 use Rattle.byte_lines.proofs.StreamFacts.{lines_of-line, lines_of-rest}
-use Rattle.poll_log.specs.Polling.{Poll, Standing, polled_domains, log_of, polled}
-use Rattle.poll_log.specs.Inside.Standings.{AreNames}
-use Rattle.poll_log.specs.PollLines.{FirstBad, IsLogOf, RefusesPolls, SaysPoll, Tells, TellsNoMoment, TellsNothing, outcome_text, poll_of}
+use Rattle.poll_log.specs.Polling.{Poll, PollStatus, polled_domains, log_of, polled}
+use Rattle.poll_log.specs.Inside.Statuses.{AreNames}
+use Rattle.poll_log.specs.PollLines.{FirstBad, IsLogOf, RefusesPolls, SaysPoll, SaysPoll, SaysNoMoment, SaysNoPoll, outcome_text, poll_of}
 use Rattle.poll_log.specs.Inside.PollSteps.{AddsLine, HasRead, ReadTo, RecordsLine}
 use Rattle.poll_log.specs.declared.error.PollError.TheVariants.{NoRelationship, PastRange, NoMemory, BadLine, BadMoment, Io}
 use Rattle.poll_log.specs.declared.error.PollError.{PollError}
@@ -32,7 +32,7 @@ begin domains None = tt
 begin domains (Some xs) = record { front = []; say = tt; whole = refl; rest = refl; counted = refl }
 
 -- before the first line the log is that of no polls
-pub HasRead-none : (domains : List (List ℕ)) (a : Option (List ℕ)) (log : List Standing) → log ≡ log_of domains []
+pub HasRead-none : (domains : List (List ℕ)) (a : Option (List ℕ)) (log : List PollStatus) → log ≡ log_of domains []
     → HasRead domains a (prepend_known [] a) log 0
 HasRead-none domains a log is = record { polls = []; is = is; lines = begin domains a }
 
@@ -60,25 +60,25 @@ passed domains (Some xs) (Some ys) (Some zs) polls n text p read line says =
     }
 
 -- one more line was recorded: the step of the loop in `read_polls`
-pub HasRead-line : (domains : List (List ℕ)) (a b c : Option (List ℕ)) (old new : List Standing) (n : ℕ) (text : List ℕ)
+pub HasRead-line : (domains : List (List ℕ)) (a b c : Option (List ℕ)) (old new : List PollStatus) (n : ℕ) (text : List ℕ)
     → HasRead domains a b old n → HasLine b c text → AddsLine old text new → HasRead domains a c new (n + 1)
 HasRead-line domains a b c old new n text read line added =
     let own : polled_domains old ≡ domains = ap polled_domains read.is ∙ domains_of-log domains read.polls in
     record {
-      polls = read.polls ++ poll_of added.told ∷ [];
+      polls = read.polls ++ poll_of added.said ∷ [];
       is = added.adds domains read.polls read.is;
-      lines = passed domains a b c read.polls n text (poll_of added.told) read.lines line
-          (record { told = added.told; tells = subst (λ ds. Tells ds text added.told) own added.tells; moment = added.moment; is = refl });
+      lines = passed domains a b c read.polls n text (poll_of added.said) read.lines line
+          (record { said = added.said; says = subst (λ ds. SaysPoll ds text added.said) own added.says; moment = added.moment; is = refl });
     }
 
 -- a log that is read keeps the domains that it began with
-pub own_domains : (domains : List (List ℕ)) (a b : Option (List ℕ)) (log : List Standing) (n : ℕ) → HasRead domains a b log n → polled_domains log ≡ domains
+pub own_domains : (domains : List (List ℕ)) (a b : Option (List ℕ)) (log : List PollStatus) (n : ℕ) → HasRead domains a b log n → polled_domains log ≡ domains
 own_domains domains a b log n read = ap polled_domains read.is ∙ domains_of-log domains read.polls
 
 -- ---- the first bad line
 
 -- a line with a fault after lines that say polls is the first bad one
-bad : (domains : List (List ℕ)) (a b c : Option (List ℕ)) (log : List Standing) (n : ℕ) (text : List ℕ) (Fault : List ℕ
+bad : (domains : List (List ℕ)) (a b c : Option (List ℕ)) (log : List PollStatus) (n : ℕ) (text : List ℕ) (Fault : List ℕ
     → Type 0) → HasRead domains a b log n → HasLine b c text → Fault text
     → IfSome a (λ xs. FirstBad domains (lines_of xs).whole (n + 1) Fault)
 bad domains None b c log n text Fault read line fault = tt
@@ -102,36 +102,36 @@ if_some : (a : Option (List ℕ)) (P Q : List ℕ → Type 0) → ((xs : List �
 if_some None P Q f h = tt
 if_some (Some xs) P Q f h = f xs h
 
--- a line that tells of no poll refuses the bytes, by its number
-pub RefusesPolls-line : (domains : List (List ℕ)) (a b c : Option (List ℕ)) (log : List Standing) (n : ℕ)
-    (text : List ℕ) → HasRead domains a b log n → HasLine b c text → TellsNothing (polled_domains log) text
+-- a line that says of no poll refuses the bytes, by its number
+pub RefusesPolls-line : (domains : List (List ℕ)) (a b c : Option (List ℕ)) (log : List PollStatus) (n : ℕ)
+    (text : List ℕ) → HasRead domains a b log n → HasLine b c text → SaysNoPoll (polled_domains log) text
     → IfSome a (λ xs. RefusesPolls domains xs (BadLine (n + 1)))
 RefusesPolls-line domains a b c log n text read line nothing =
     if_some a _ _ (λ xs first. inl first)
-    (bad domains a b c log n text (TellsNothing domains) read line (subst (λ ds. TellsNothing ds text) (own_domains domains a b log n read) nothing))
+    (bad domains a b c log n text (SaysNoPoll domains) read line (subst (λ ds. SaysNoPoll ds text) (own_domains domains a b log n read) nothing))
 
--- a line that tells of a poll at no moment refuses the bytes, by its number
-pub RefusesPolls-moment : (domains : List (List ℕ)) (a b c : Option (List ℕ)) (log : List Standing) (n : ℕ)
-    (text : List ℕ) → HasRead domains a b log n → HasLine b c text → TellsNoMoment (polled_domains log) text
+-- a line that says of a poll at no moment refuses the bytes, by its number
+pub RefusesPolls-moment : (domains : List (List ℕ)) (a b c : Option (List ℕ)) (log : List PollStatus) (n : ℕ)
+    (text : List ℕ) → HasRead domains a b log n → HasLine b c text → SaysNoMoment (polled_domains log) text
     → IfSome a (λ xs. RefusesPolls domains xs (BadMoment (n + 1)))
 RefusesPolls-moment domains a b c log n text read line none =
-    bad domains a b c log n text (TellsNoMoment domains) read line (subst (λ ds. TellsNoMoment ds text) (own_domains domains a b log n read) none)
+    bad domains a b c log n text (SaysNoMoment domains) read line (subst (λ ds. SaysNoMoment ds text) (own_domains domains a b log n read) none)
 
 -- the text of an outcome has four bytes at most
 length-outcome : (ok : Bool) → length (outcome_text ok) ≤ 4
 length-outcome true = omega arith
 length-outcome false = omega arith
 
--- a poll's line has a name, an outcome and a number, so one that is too long for a line tells of no
+-- a poll's line has a name, an outcome and a number, so one that is too long for a line says of no
 -- poll
-pub too_long : (domains : List (List ℕ)) (text : List ℕ) → AreNames domains → 8388608 < length text → TellsNothing domains text
-too_long domains text names long t tells =
-    let name = (names t.domain tells.known).limit in
-    let seconds = length-seconds t.seconds tells.within in
+pub too_long : (domains : List (List ℕ)) (text : List ℕ) → AreNames domains → 8388608 < length text → SaysNoPoll domains text
+too_long domains text names long t says =
+    let name = (names t.domain says.known).limit in
+    let seconds = length-seconds t.seconds says.within in
     let outcome = length-outcome t.ok in
     omega (
       arith,
-      ap length tells.is,
+      ap length says.is,
       length-append t.domain
           (32 ∷ (outcome_text t.ok ++ (32 ∷ signed_decimal t.seconds))),
       length-append (outcome_text t.ok) (32 ∷ signed_decimal t.seconds),
@@ -140,7 +140,7 @@ too_long domains text names long t tells =
 -- ---- the end
 
 -- bytes after the last line feed refuse the bytes
-pub RefusesPolls-cut : (domains : List (List ℕ)) (a b : Option (List ℕ)) (log : List Standing) (n : ℕ)
+pub RefusesPolls-cut : (domains : List (List ℕ)) (a b : Option (List ℕ)) (log : List PollStatus) (n : ℕ)
     → HasRead domains a b log n → HasNoLine b → HasMore b → IfSome a (λ xs. RefusesPolls domains xs (BadLine (n + 1)))
 RefusesPolls-cut domains None b log n read none more = tt
 RefusesPolls-cut domains (Some xs) None log n read none more = absurd read.lines
@@ -156,7 +156,7 @@ RefusesPolls-cut domains (Some xs) (Some ys) log n read none more =
     })
 
 -- at the end of the stream the log is that of all its lines
-pub IsLogOf-end : (domains : List (List ℕ)) (a b : Option (List ℕ)) (log : List Standing) (n : ℕ)
+pub IsLogOf-end : (domains : List (List ℕ)) (a b : Option (List ℕ)) (log : List PollStatus) (n : ℕ)
     → HasRead domains a b log n → IsAtEnd b → IfSome a (λ xs. IsLogOf domains xs log)
 IsLogOf-end domains None b log n read end = tt
 IsLogOf-end domains (Some xs) None log n read end = absurd read.lines
@@ -180,7 +180,7 @@ IsAtEnd-source (b ∷ kept) (Some xs) end = cc
 -- ---- the refusals of a line
 
 -- what `record_line` refuses a line for refuses the bytes
-pub RefusesPolls-record : (domains : List (List ℕ)) (a b c : Option (List ℕ)) (log new : List Standing) (n : ℕ)
+pub RefusesPolls-record : (domains : List (List ℕ)) (a b c : Option (List ℕ)) (log new : List PollStatus) (n : ℕ)
     (text : List ℕ) (e : PollError) → HasRead domains a b log n → HasLine b c text
     → RecordsLine log text (n + 1) new (Err e)
     → IfSome a (λ xs. RefusesPolls domains xs e)
@@ -194,7 +194,7 @@ RefusesPolls-record domains a b c log new n text NoMemory read line refused = ab
 RefusesPolls-record domains a b c log new n text Io read line refused = absurd refused
 
 -- a line that is too long refuses the bytes
-pub RefusesPolls-long : (config : Configuration) (a b c : Option (List ℕ)) (log : List Standing) (n : ℕ) (text : List ℕ)
+pub RefusesPolls-long : (config : Configuration) (a b c : Option (List ℕ)) (log : List PollStatus) (n : ℕ) (text : List ℕ)
     → IsConfiguration config → HasRead (polled config) a b log n → HasLine b c text → 8388608 < length text
     → IfSome a (λ xs. RefusesPolls (polled config) xs (BadLine (n + 1)))
 RefusesPolls-long config a b c log n text form read line long =

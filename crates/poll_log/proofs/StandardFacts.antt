@@ -40,7 +40,7 @@ twelve_failures = refl
 thirteen_failures : wait_of (Some 86400) 13 ≡ 61440
 thirteen_failures = refl
 
--- ---- standings: the last poll of the domain counts, and the failures since its last success
+-- ---- statuses: the last poll of the domain counts, and the failures since its last success
 
 -- two failures in a row count, whatever comes before and of other domains; the last poll's moment
 -- is kept, also where it is not the latest

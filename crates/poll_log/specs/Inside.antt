@@ -1,3 +1,3 @@
 -- A log as the code holds it, and the steps of reading one
-pub mod Standings
+pub mod Statuses
 pub mod PollSteps

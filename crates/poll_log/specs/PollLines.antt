@@ -6,7 +6,7 @@ use Rattle.std.specs.Fmt.{signed_decimal}
 use Rattle.std.specs.List.{AllZip}
 use Rattle.jiff.specs.Words.{IsTimestampNanos, nanos_of_seconds}
 use Rattle.byte_lines.specs.Lines.{Lines, lines_of}
-use Rattle.poll_log.specs.Polling.{Poll, Standing, log_of}
+use Rattle.poll_log.specs.Polling.{Poll, PollStatus, log_of}
 use Rattle.poll_log.specs.declared.error.PollError.{PollError}
 use Rattle.poll_log.specs.declared.error.PollError.TheVariants.{NoMemory}
 use Rattle.poll_log.specs.declared.error.PollError.TheVariants.{BadLine, BadMoment, Io}
@@ -22,7 +22,7 @@ ReadsSeconds text (Some n) = (text ≡ signed_decimal n) × FitsSigned w64 n
 -- ---- a line
 
 -- a poll as it is written: its moment in seconds since the Unix epoch
-pub record ToldPoll : Type 0 where
+pub record SaidPoll : Type 0 where
   pub domain : List ℕ
   pub ok : Bool
   pub seconds : ℤ
@@ -32,45 +32,45 @@ outcome_text true = codes "ok"
 outcome_text false = codes "fail"
 
 -- with single spaces
-abbrev pub line_text : ToldPoll → List ℕ
+abbrev pub line_text : SaidPoll → List ℕ
 line_text t = t.domain ++
     (codes " " ++ (outcome_text t.ok ++ (codes " " ++ signed_decimal t.seconds)))
 
--- the line tells this of one of these domains, and the seconds are within 64 bits
-pub record Tells (domains : List (List ℕ)) (text : List ℕ) (t : ToldPoll) : Type 0 where
+-- the line says this of one of these domains, and the seconds are within 64 bits
+pub record SaysPoll (domains : List (List ℕ)) (text : List ℕ) (t : SaidPoll) : Type 0 where
   pub is : text ≡ line_text t
   pub within : FitsSigned w64 t.seconds
   pub known : Contains domains t.domain
 
 -- the moment is within the range of moments
-abbrev pub HasMoment : ToldPoll → Type 0
+abbrev pub HasMoment : SaidPoll → Type 0
 HasMoment t = IsTimestampNanos (nanos_of_seconds t.seconds)
 
-abbrev pub poll_of : ToldPoll → Poll
+abbrev pub poll_of : SaidPoll → Poll
 poll_of t = record { domain = t.domain; moment = nanos_of_seconds t.seconds; ok = t.ok }
 
 -- the line says this poll
 pub record SaysPoll (domains : List (List ℕ)) (text : List ℕ) (p : Poll) : Type 0 where
-  pub told : ToldPoll
-  pub tells : Tells domains text told
-  pub moment : HasMoment told
-  pub is : p ≡ poll_of told
+  pub said : SaidPoll
+  pub says : SaysPoll domains text said
+  pub moment : HasMoment said
+  pub is : p ≡ poll_of said
 
--- it tells of no poll
-abbrev pub TellsNothing : List (List ℕ) → List ℕ → Type 0
-TellsNothing domains text = (t : ToldPoll) → Tells domains text t → ⊥
+-- it says of no poll
+abbrev pub SaysNoPoll : List (List ℕ) → List ℕ → Type 0
+SaysNoPoll domains text = (t : SaidPoll) → SaysPoll domains text t → ⊥
 
--- it tells of a poll at no moment that there is
-pub record TellsNoMoment (domains : List (List ℕ)) (text : List ℕ) : Type 0 where
-  pub told : ToldPoll
-  pub tells : Tells domains text told
-  pub past : HasMoment told → ⊥
+-- it says of a poll at no moment that there is
+pub record SaysNoMoment (domains : List (List ℕ)) (text : List ℕ) : Type 0 where
+  pub said : SaidPoll
+  pub says : SaysPoll domains text said
+  pub past : HasMoment said → ⊥
 
 -- ---- all lines
 
 -- each line says a poll, nothing follows the last line, and the log is that of these polls in their
 -- order
-pub record IsLogOf (domains : List (List ℕ)) (bytes : List ℕ) (log : List Standing) : Type 0 where
+pub record IsLogOf (domains : List (List ℕ)) (bytes : List ℕ) (log : List PollStatus) : Type 0 where
   pub polls : List Poll
   pub say : AllZip (SaysPoll domains) (lines_of bytes).whole polls
   pub ended : (lines_of bytes).rest ≡ []
@@ -100,9 +100,9 @@ pub record IsCut (domains : List (List ℕ)) (lines : Lines) (number : ℕ) : Ty
 -- says nothing of them
 abbrev pub RefusesPolls : List (List ℕ) → List ℕ → PollError → Type 0
 RefusesPolls domains bytes (BadLine n) = FirstBad domains (lines_of bytes).whole n
-    (TellsNothing domains) ⊎ IsCut domains (lines_of bytes) n
+    (SaysNoPoll domains) ⊎ IsCut domains (lines_of bytes) n
 RefusesPolls domains bytes (BadMoment n) = FirstBad domains (lines_of bytes).whole n
-    (TellsNoMoment domains)
+    (SaysNoMoment domains)
 RefusesPolls domains bytes NoMemory = ⊤
 RefusesPolls domains bytes Io = ⊤
 RefusesPolls domains bytes _ = ⊥

@@ -51,14 +51,14 @@ first_moment (p ∷ others) = Some p.moment
 -- ---- a log
 
 -- what is kept of a domain's polls
-pub record Standing : Type 0 where
+pub record PollStatus : Type 0 where
   pub domain : List ℕ
   pub last : Option ℤ
   pub failures : ℕ
 
 -- the moment of the last one, if there was any, and how many failed in a row up to it, counted to
 -- twelve
-abbrev pub standing_of : List Poll → List ℕ → Standing
+abbrev pub standing_of : List Poll → List ℕ → PollStatus
 standing_of polls domain = record {
   domain = domain;
   last = first_moment (reverse (polls_of domain polls));
@@ -66,10 +66,10 @@ standing_of polls domain = record {
 }
 
 -- the log of polls: what is kept for each of these domains
-abbrev pub log_of : List (List ℕ) → List Poll → List Standing
+abbrev pub log_of : List (List ℕ) → List Poll → List PollStatus
 log_of domains polls = map (standing_of polls) domains
 
-abbrev pub polled_domains : List Standing → List (List ℕ)
+abbrev pub polled_domains : List PollStatus → List (List ℕ)
 polled_domains log = map (λ s. s.domain) log
 
 -- the domains that are polled: those with a relationship
@@ -77,7 +77,7 @@ abbrev pub polled : Configuration → List (List ℕ)
 polled c = map (λ r. r.domain) c.relationships
 
 -- a log of some polls
-pub record IsLog (log : List Standing) : Type 0 where
+pub record IsLog (log : List PollStatus) : Type 0 where
   pub domains : List (List ℕ)
   pub rising : IsStrictlySortedBy domain_cmp domains
   pub names : (domain : List ℕ) → Contains domains domain → IsDomainText domain
@@ -85,12 +85,12 @@ pub record IsLog (log : List Standing) : Type 0 where
   pub is : log ≡ log_of domains polls
 
 -- the log of any polls became that of the same polls with one more after them
-abbrev pub RecordsPoll : List Standing → Poll → List Standing → Type 0
+abbrev pub RecordsPoll : List PollStatus → Poll → List PollStatus → Type 0
 RecordsPoll old p new = (domains : List (List ℕ)) (polls : List Poll) → old ≡ log_of domains polls
     → new ≡ log_of domains (polls ++ p ∷ [])
 
 -- what `record` does: refused only where the log has no such domain, and then it is as it was
-abbrev pub Records : List Standing → Poll → List Standing → Result (Unit {0}) PollError → Type 0
+abbrev pub Records : List PollStatus → Poll → List PollStatus → Result (Unit {0}) PollError → Type 0
 Records old p new (Ok _) = Contains (polled_domains old) p.domain × RecordsPoll old p new
 Records old p new (Err e) = (e ≡ NoRelationship) × (Contains (polled_domains old) p.domain → ⊥)
     × (new ≡ old)
@@ -98,7 +98,7 @@ Records old p new (Err e) = (e ≡ NoRelationship) × (Contains (polled_domains 
 -- ---- the next poll
 
 -- what is kept for the domain, if it is polled
-abbrev pub standing_in : List Standing → List ℕ → Option Standing
+abbrev pub standing_in : List PollStatus → List ℕ → Option PollStatus
 standing_in log domain = find (λ s. bytes_eq s.domain domain) log
 
 -- the last moment and then the wait, in nanoseconds since the Unix epoch
@@ -117,7 +117,7 @@ IsNextAfter hint failures (Some last) r =
     MatchResult r (λ next. IsMoment next (next_nanos hint failures last))
     (λ e. (e ≡ PastRange) × (IsTimestampNanos (next_nanos hint failures last) → ⊥))
 
-abbrev pub IsNext : Option ℕ → Option Standing → Result (Option Timestamp) PollError → Type 0
+abbrev pub IsNext : Option ℕ → Option PollStatus → Result (Option Timestamp) PollError → Type 0
 IsNext hint None r = r ≡ Err NoRelationship
 IsNext hint (Some s) r = IsNextAfter hint s.failures s.last r
 
@@ -128,6 +128,6 @@ IsDueAfter hint failures None now = ⊤
 IsDueAfter hint failures (Some last) now = IsTimestampNanos (next_nanos hint failures last)
     × (next_nanos hint failures last ≤ℤ now)
 
-abbrev pub IsPollDue : Option ℕ → Option Standing → ℤ → Type 0
+abbrev pub IsPollDue : Option ℕ → Option PollStatus → ℤ → Type 0
 IsPollDue hint None now = ⊥
 IsPollDue hint (Some s) now = IsDueAfter hint s.failures s.last now

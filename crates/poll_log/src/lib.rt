@@ -4,11 +4,11 @@
 
 mod error;
 pub mod laws;
-mod lines;
 mod log;
+mod poll_lines;
 mod waiting;
 
 pub use error::PollError;
-pub use lines::{read_polls, read_seconds};
 pub use log::PollLog;
+pub use poll_lines::{read_polls, read_seconds};
 pub use waiting::{interval, wait};

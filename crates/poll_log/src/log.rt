@@ -4,7 +4,7 @@ ghost use Rattle.std.specs.Prelude.{MatchResult, slice_get};
 ghost use Rattle.fed_config.specs.Configuration.{IsConfiguration};
 ghost use Rattle.poll_log.specs.Polling.{RecordsPoll, IsPollDue, IsNext, Records, polled_domains};
 ghost use Rattle.poll_log.specs.Polling.{log_of, polled, standing_in};
-ghost use Rattle.poll_log.specs.Inside.Standings.{AreNames, IsPlaceOf, after, kept_standing};
+ghost use Rattle.poll_log.specs.Inside.Statuses.{AreNames, IsPlaceOf, after, kept_status};
 
 use crate::error::PollError;
 use crate::waiting::{MOST_FAILURES, wait};
@@ -22,19 +22,19 @@ use std::time::Duration;
 #[derive(Debug, Drop)]
 pub struct PollLog {
     // One for each relationship, rising by domain.
-    standings: Vec<Standing>,
+    statuses: Vec<PollStatus>,
 }
 
 impl Model for PollLog {
     ghost use Rattle.std.specs.Prelude.{List, map};
-    ghost use Rattle.poll_log.specs.Polling.{Standing as Kept, IsLog};
-    ghost use Rattle.poll_log.specs.Inside.Standings.{kept_standing};
+    ghost use Rattle.poll_log.specs.Polling.{PollStatus as Kept, IsLog};
+    ghost use Rattle.poll_log.specs.Inside.Statuses.{kept_status};
 
     ghost Value = { List Kept };
 
-    ghost view = { λ log. map kept_standing log.standings.items };
+    ghost view = { λ log. map kept_status log.statuses.items };
 
-    ghost invariant = { λ log. IsLog (map kept_standing log.standings.items) };
+    ghost invariant = { λ log. IsLog (map kept_status log.statuses.items) };
 }
 
 impl PollLog {
@@ -50,7 +50,7 @@ impl PollLog {
         // It says that the relationships rise.
         let _ = config.domains();
         Ok(PollLog {
-            standings: never_polled(alloc, config.relationships())?,
+            statuses: never_polled(alloc, config.relationships())?,
         })
     }
 
@@ -92,7 +92,7 @@ impl PollLog {
         ensures { IsNext hint (standing_in self.now domain.now) result }
     {
         match self.place_of(domain.as_str().as_bytes()) {
-            Some(place) => self.standings[place].next_poll(hint),
+            Some(place) => self.statuses[place].next_poll(hint),
             None => Err(PollError::NoRelationship),
         }
     }
@@ -115,7 +115,7 @@ impl PollLog {
         ensures place { IsPlaceOf self.now domain.now result }
         ensures names { AreNames (polled_domains self.now) }
     {
-        self.standings
+        self.statuses
             .binary_search_by(|standing| standing.domain.as_str().as_bytes().cmp(domain))
             .ok()
     }
@@ -127,23 +127,23 @@ impl PollLog {
             → RecordsPoll self.old (record { domain = domain; moment = moment.nanosecond; ok = ok })
             self.new }
     {
-        self.standings[place].add(moment, ok);
+        self.statuses[place].add(moment, ok);
     }
 }
 
 /// What is kept of the polls of a domain.
 #[derive(Debug, Drop)]
-struct Standing {
+struct PollStatus {
     domain: TrustDomain,
     last: Option<Timestamp>,
     failures: u32,
 }
 
-impl Standing {
+impl PollStatus {
     ghost use Rattle.poll_log.specs.Polling.{IsNextAfter};
 
     fn add(&mut self, moment: Timestamp, ok: bool)
-        ensures { kept_standing self.new ≡ after (kept_standing self.old) moment.nanosecond ok }
+        ensures { kept_status self.new ≡ after (kept_status self.old) moment.nanosecond ok }
     {
         self.last = Some(moment);
         self.failures = if ok {
@@ -154,7 +154,7 @@ impl Standing {
     }
 
     fn next_poll(&self, hint: Option<u64>) -> Result<Option<Timestamp>, PollError>
-        ensures { IsNextAfter hint (kept_standing self.now).failures (kept_standing self.now).last
+        ensures { IsNextAfter hint (kept_status self.now).failures (kept_status self.now).last
             result }
     {
         let Some(last) = self.last else {
@@ -167,19 +167,22 @@ impl Standing {
     }
 }
 
-fn never_polled(alloc: Global, relationships: &[Relationship]) -> Result<Vec<Standing>, AllocError>
+fn never_polled(
+    alloc: Global,
+    relationships: &[Relationship],
+) -> Result<Vec<PollStatus>, AllocError>
     ensures { MatchResult result
-        (λ standings. map kept_standing standings.items
+        (λ statuses. map kept_status statuses.items
         ≡ log_of (map (λ r. r.domain) relationships.now) [])
         (λ _. 0 < length relationships.now) }
 {
-    let mut standings = Vec::with_capacity(alloc, relationships.len())?;
+    let mut statuses = Vec::with_capacity(alloc, relationships.len())?;
     for relationship in relationships {
-        standings.push(Standing {
+        statuses.push(PollStatus {
             domain: relationship.domain.try_clone(alloc)?,
             last: None,
             failures: 0,
         })?;
     }
-    Ok(standings)
+    Ok(statuses)
 }

@@ -134,14 +134,14 @@ fn document_of(alloc: Global, value: &Value) -> Result<Option<Document>, AllocEr
     match Document::from_value(alloc, value) {
         Ok(document) => Ok(Some(document)),
         Err(error) => {
-            told(error)?;
+            memory_only(error)?;
             Ok(None)
         }
     }
 }
 
 // Lack of memory, apart from what the value itself is refused for.
-fn told(error: DocError) -> Result<(), AllocError>
+fn memory_only(error: DocError) -> Result<(), AllocError>
     ensures { OnOk result (error ≡ DocError.NoMemory → ⊥) }
 {
     match error {

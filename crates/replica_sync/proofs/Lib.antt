@@ -32,6 +32,6 @@ mod OwnMessageFacts
 mod UnderstandingFacts
 mod WorldFacts
 mod BringsFacts
-mod FaultFacts
+mod MessageFaultFacts
 mod SnapshotFaultFacts
 mod StandardFacts

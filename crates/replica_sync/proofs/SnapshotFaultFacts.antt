@@ -24,7 +24,7 @@ use Rattle.replica_sync.specs.declared.format.Format.{Format}
 use Rattle.replica_sync.proofs.ApartFacts.{begun_front, count_apart, one_format, plain_count, refused_first}
 use Rattle.replica_sync.proofs.CountFacts.{no_fault_of_count}
 use Rattle.replica_sync.proofs.DigestFacts.{short_header}
-use Rattle.replica_sync.proofs.FaultFacts.{line-or-none, no-entry-here, one-first-line}
+use Rattle.replica_sync.proofs.MessageFaultFacts.{line-or-none, no-entry-here, one-first-line}
 use Rattle.replica_sync.proofs.GiveFacts.{HasFurther, further, same-front}
 use Rattle.replica_sync.proofs.HeaderFacts.{one_header}
 use Rattle.replica_sync.proofs.NextFacts.{no_fault_of_held, one_entry}

@@ -5,7 +5,7 @@
 mod config_writer;
 mod doubt;
 mod refusals;
-mod seeds;
+mod seed_choice;
 mod starting_anew;
 
 pub use doubt::SeedDoubt;

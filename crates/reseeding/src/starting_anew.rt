@@ -4,7 +4,7 @@ ghost use Rattle.reseeding.specs.Reseeding.{IsNewConfig, Reseeds};
 
 use crate::config_writer::write_config;
 use crate::refusals::refusal_text;
-use crate::seeds::current_seeds;
+use crate::seed_choice::current_seeds;
 use closure_core::Closure;
 use spiffe_name::TrustDomain;
 use std::alloc::{AllocError, Global};

@@ -38,8 +38,10 @@ pub trait ItemProbe<T> {
 /// What is sought among numbers of items, by those items.
 #[derive(Drop)]
 pub struct ByItem<'a, T, P> {
-    items: &'a [T],
-    probe: &'a P,
+    /// The items that the numbers stand for.
+    pub items: &'a [T],
+    /// What is sought.
+    pub probe: &'a P,
 }
 
 impl<'a, T, P: ItemProbe<T>> ByItem<'a, T, P> {

@@ -3,11 +3,11 @@
 #![tactic(auto)]
 
 mod difference;
-mod numbers;
+mod line_writer;
+mod optional_number;
 mod text_line;
-mod writing;
 
 pub use difference::write_difference;
-pub use numbers::push_number_or_none;
+pub use line_writer::write_lines;
+pub use optional_number::push_number_or_none;
 pub use text_line::TextLine;
-pub use writing::write_lines;

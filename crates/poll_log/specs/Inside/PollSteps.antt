@@ -3,10 +3,10 @@ use Rattle.std.specs.Prelude.{◌≡◌, ℕ, ◌==◌, ◌++◌, ◌∷◌, Lis
 use Rattle.std.specs.Prelude.{slice_get, Result, Ok, Err, length}
 use Rattle.std.specs.List.{AllPass, AllZip}
 use Rattle.byte_lines.specs.Lines.{Lines, lines_of}
-use Rattle.poll_log.specs.Polling.{RecordsPoll, Poll, Standing, polled_domains, log_of}
-use Rattle.poll_log.specs.PollLines.{HasMoment, SaysPoll, Tells, TellsNoMoment, TellsNothing}
-use Rattle.poll_log.specs.PollLines.{ToldPoll, poll_of}
-use Rattle.poll_log.specs.declared.lines.Parts.{Parts}
+use Rattle.poll_log.specs.Polling.{RecordsPoll, Poll, PollStatus, polled_domains, log_of}
+use Rattle.poll_log.specs.PollLines.{HasMoment, SaysPoll, SaysPoll, SaysNoMoment, SaysNoPoll}
+use Rattle.poll_log.specs.PollLines.{SaidPoll, poll_of}
+use Rattle.poll_log.specs.declared.poll_lines.PollFields.{PollFields}
 use Rattle.poll_log.specs.declared.error.PollError.{PollError}
 use Rattle.poll_log.specs.declared.error.PollError.TheVariants.{BadLine, BadMoment}
 
@@ -18,28 +18,28 @@ pub record IsWord (text word rest : List ℕ) : Type 0 where
   pub whole : text ≡ word ++ (32 ∷ rest)
   pub plain : AllPass is_no_space word
 
--- the line tells of these parts
-pub record TellsParts (domains : List (List ℕ)) (text : List ℕ) (parts : Parts) : Type 0 where
-  pub told : ToldPoll
-  pub tells : Tells domains text told
-  pub place : slice_get domains parts.place ≡ Some told.domain
-  pub ok : parts.ok ≡ told.ok
-  pub seconds : parts.seconds ≡ told.seconds
+-- the line says of these parts
+pub record SaysFields (domains : List (List ℕ)) (text : List ℕ) (parts : PollFields) : Type 0 where
+  pub said : SaidPoll
+  pub says : SaysPoll domains text said
+  pub place : slice_get domains parts.place ≡ Some said.domain
+  pub ok : parts.ok ≡ said.ok
+  pub seconds : parts.seconds ≡ said.seconds
 
 -- the poll that the line says was recorded
-pub record AddsLine (old : List Standing) (text : List ℕ) (new : List Standing) : Type 0 where
-  pub told : ToldPoll
-  pub tells : Tells (polled_domains old) text told
-  pub moment : HasMoment told
-  pub adds : RecordsPoll old (poll_of told) new
+pub record AddsLine (old : List PollStatus) (text : List ℕ) (new : List PollStatus) : Type 0 where
+  pub said : SaidPoll
+  pub says : SaysPoll (polled_domains old) text said
+  pub moment : HasMoment said
+  pub adds : RecordsPoll old (poll_of said) new
 
-abbrev pub RecordsLine : List Standing → List ℕ → ℕ → List Standing → Result (Unit {0}) PollError
-    → Type 0
+abbrev pub RecordsLine : List PollStatus → List ℕ → ℕ → List PollStatus
+    → Result (Unit {0}) PollError → Type 0
 RecordsLine old text number new (Ok done) = AddsLine old text new
 RecordsLine old text number new (Err (BadLine n)) = (n ≡ number)
-    × TellsNothing (polled_domains old) text
+    × SaysNoPoll (polled_domains old) text
 RecordsLine old text number new (Err (BadMoment n)) = (n ≡ number)
-    × TellsNoMoment (polled_domains old) text
+    × SaysNoMoment (polled_domains old) text
 RecordsLine old text number new (Err _) = ⊥
 
 -- These are the lines so far, which say these polls, and those that are left.
@@ -58,7 +58,7 @@ ReadTo domains (Some xs) (Some ys) polls number = ReadLines domains (lines_of xs
     polls number
 
 -- the log is that of the polls so far, which so many lines said
-pub record HasRead (domains : List (List ℕ)) (old new : Option (List ℕ)) (log : List Standing)
+pub record HasRead (domains : List (List ℕ)) (old new : Option (List ℕ)) (log : List PollStatus)
     (number : ℕ) : Type 0 where
   pub polls : List Poll
   pub is : log ≡ log_of domains polls

@@ -22,8 +22,8 @@ use Rattle.closure_core.specs.declared.error.TakeError.{TakeError}
 use Rattle.closure_core.specs.declared.error.TakeError.TheVariants.{UnknownDomain, WrongEndpoint}
 use Rattle.closure_core.specs.declared.error.TakeError.TheVariants.{Full}
 use Rattle.closure_core.specs.declared.record.Record.{Record}
-use Rattle.trust_closure.specs.declared.shared.held.Standing.{Standing}
-use Rattle.trust_closure.specs.declared.shared.held.Standing.TheVariants.{Present, Absent}
+use Rattle.trust_closure.specs.declared.shared.held.Lookup.{Lookup}
+use Rattle.trust_closure.specs.declared.shared.held.Lookup.TheVariants.{Present, Absent}
 use Rattle.trust_closure.specs.declared.shared.records.Insertion.{Insertion}
 use Rattle.trust_closure.specs.declared.shared.records.Insertion.TheVariants.{Added, There}
 use Rattle.trust_closure.specs.declared.shared.records.Insertion.TheVariants.{Full as NoPlace}
@@ -78,7 +78,7 @@ pub record IsAbsent (m : Meaning) (r : Receipt) (place : ℕ) : Type 0 where
   pub few : length m.held < receipt_limit
   pub missing : IsMissing (λ s. receipt_cmp s r) m.held place
 
-abbrev pub Stands : Meaning → Receipt → Standing → Type 0
+abbrev pub Stands : Meaning → Receipt → Lookup → Type 0
 Stands m r Present = Contains m.held r
 Stands m r (Absent place) = IsAbsent m r place
 

@@ -11,7 +11,7 @@ ghost use Rattle.trust_closure.specs.Inside.Indexed.{closure_state};
 
 use crate::indexed::grow::add;
 use crate::indexed::labels::LabelIndex;
-use crate::shared::held::{Held, Standing};
+use crate::shared::held::{Held, Lookup};
 use crate::shared::pairs::Pairs;
 use closure_core::{Refused, TakeError, Taken};
 use receipt_core::Receipt;
@@ -41,8 +41,8 @@ pub(crate) fn take_into(
         ≡ label_index.old.marked }
 {
     let place = match held.standing(&receipt) {
-        Ok(Standing::Present) => return Ok(Taken::Already),
-        Ok(Standing::Absent(place)) => place,
+        Ok(Lookup::Present) => return Ok(Taken::Already),
+        Ok(Lookup::Absent(place)) => place,
         Err(why) => return Err(Refused { why, receipt }),
     };
     let offers = receipt.offers().len();

@@ -5,7 +5,7 @@ ghost use Rattle.closure_core.specs.Refusals.{IsRoomier};
 ghost use Rattle.trust_closure.specs.Work.{Works, MergesOnce};
 
 use crate::indexed::changes::{FreeRoom, reserve, take_into};
-use crate::indexed::grow::{lose, lose_all};
+use crate::indexed::grow::{retract, retract_all};
 use crate::indexed::labels::LabelIndex;
 use crate::indexed::seeds::add_seeds;
 use crate::shared::held::Held;
@@ -122,7 +122,7 @@ impl IndexedClosure {
         ensures work { Works self.old (record { domain = domain.now; key = key }) self.new result }
         ensures room { self.new.state.room ≡ self.old.state.room }
     {
-        lose(
+        retract(
             &mut self.held,
             &mut self.pairs,
             &mut self.label_index,
@@ -268,7 +268,7 @@ impl Mergeable for IndexedClosure {
     }
 
     fn distrust_all(&mut self, records: Distrusts<'_>) {
-        lose_all(
+        retract_all(
             &mut self.held,
             &mut self.pairs,
             &mut self.label_index,

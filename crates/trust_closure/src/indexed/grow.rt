@@ -114,7 +114,7 @@ struct Fall {
 ///
 /// # Errors
 /// The domain is none of the configuration, or there are as many records as there may be.
-pub(crate) fn lose(
+pub(crate) fn retract(
     held: &mut Held,
     pairs: &mut Pairs,
     label_index: &mut LabelIndex,
@@ -182,7 +182,7 @@ fn close(
 
 /// Distrusts keys in domains of the configuration, as many as there may be. It takes no memory.
 /// Where one of the records is new, all their labels are closed at once, and the work is noted.
-pub(crate) fn lose_all(
+pub(crate) fn retract_all(
     held: &mut Held,
     pairs: &mut Pairs,
     label_index: &mut LabelIndex,

@@ -16,8 +16,8 @@ ghost use Rattle.trust_closure.specs.Inside.Plain.{IsPlainClosure};
 ghost use Rattle.trust_closure.specs.Inside.Plain.{plain_state, IsRoomierTable};
 
 use crate::plain::flags::lower_all;
-use crate::plain::rounds::{count_accepted, spread};
-use crate::shared::held::{Held, Standing};
+use crate::plain::rounds::{count_accepted, run_rounds};
+use crate::shared::held::{Held, Lookup};
 use crate::shared::pairs::Pairs;
 use crate::shared::records::Insertion;
 use crate::shared::union::hold_all;
@@ -44,8 +44,8 @@ pub(crate) fn take_into(
         result }
 {
     let place = match held.standing(&receipt) {
-        Ok(Standing::Present) => return Ok(Taken::Already),
-        Ok(Standing::Absent(place)) => place,
+        Ok(Lookup::Present) => return Ok(Taken::Already),
+        Ok(Lookup::Absent(place)) => place,
         Err(why) => return Err(Refused { why, receipt }),
     };
     match reserve(held, pairs, seed_offers, released, spare, 1) {
@@ -158,7 +158,7 @@ fn place_receipt(
 ///
 /// # Errors
 /// The domain is none of the configuration, or there are as many records as there may be.
-pub(crate) fn lose(
+pub(crate) fn retract(
     held: &mut Held,
     pairs: &mut Pairs,
     seed_offers: &[Triple],
@@ -188,7 +188,7 @@ pub(crate) fn lose(
 
 /// Distrusts keys in domains of the configuration, as many as there may be: the flags are lowered
 /// once, and rounds raise anew those that stand.
-pub(crate) fn lose_all(
+pub(crate) fn retract_all(
     held: &mut Held,
     pairs: &mut Pairs,
     seed_offers: &[Triple],
@@ -250,7 +250,7 @@ fn settle(held: &Held, seed_offers: &[Triple], released: &mut Vec<bool>)
     ensures released { AreReleased (meaning_of held.now) held.now.arrived released.new.items }
     ensures capacity { vec_capacity released.new ≡ vec_capacity released.old }
 {
-    spread(held, seed_offers, released);
+    run_rounds(held, seed_offers, released);
 }
 
 /// Grows all that a receipt more needs, by this many receipts.

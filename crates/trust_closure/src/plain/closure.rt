@@ -1,5 +1,5 @@
 //! The closure that anybody can read.
-use crate::plain::changes::{lose, lose_all, reserve, take_into};
+use crate::plain::changes::{reserve, retract, retract_all, take_into};
 use crate::plain::rounds::{count_accepted, count_raised};
 use crate::plain::seeds::sow_all;
 use crate::shared::held::Held;
@@ -81,7 +81,7 @@ impl Closure for PlainClosure {
     }
 
     fn distrust(&mut self, domain: &TrustDomain, key: KeyId) -> Result<Distrusted, TakeError> {
-        lose(
+        retract(
             &mut self.held,
             &mut self.pairs,
             &self.seed_offers,
@@ -167,7 +167,7 @@ impl Mergeable for PlainClosure {
     }
 
     fn distrust_all(&mut self, records: Distrusts<'_>) {
-        lose_all(
+        retract_all(
             &mut self.held,
             &mut self.pairs,
             &self.seed_offers,

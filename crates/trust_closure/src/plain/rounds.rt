@@ -26,7 +26,7 @@ use wait_index::NodeNo;
 
 /// Rounds until one raises no flag: then the flags are those of the receipts that an accepted
 /// document vouches for.
-pub(crate) fn spread(held: &Held, seed_offers: &[Triple], released: &mut [bool])
+pub(crate) fn run_rounds(held: &Held, seed_offers: &[Triple], released: &mut [bool])
     requires offers { AreSeedOffers held.now.config.seeds seed_offers.now }
     requires size { length released.old ≡ length held.now.arrived }
     requires same { (r : Receipt) → Contains held.now.held r ↔ Contains held.now.arrived r }

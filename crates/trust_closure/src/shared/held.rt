@@ -27,7 +27,7 @@ use std::alloc::Global;
 use std::marker::Model;
 
 /// Where a receipt that fits stands.
-pub(crate) enum Standing {
+pub(crate) enum Lookup {
     /// It is held.
     Present,
     /// It is not held, and its place among the held ones is this.
@@ -90,7 +90,7 @@ impl Held {
     }
 
     /// Whether the receipt fits, and is held.
-    pub(crate) fn standing(&self, receipt: &Receipt) -> Result<Standing, TakeError>
+    pub(crate) fn standing(&self, receipt: &Receipt) -> Result<Lookup, TakeError>
         ensures { MatchResult result (Stands (meaning_of self.now) receipt.now)
             (RefusesNew (meaning_of self.now) receipt.now) }
     {
@@ -98,9 +98,9 @@ impl Held {
             return Err(why);
         }
         match self.receipts.find(&OfReceipt::new(receipt)) {
-            Ok(_) => Ok(Standing::Present),
+            Ok(_) => Ok(Lookup::Present),
             Err(_) if self.receipts.len() >= MOST_RECEIPTS => Err(TakeError::Full),
-            Err(place) => Ok(Standing::Absent(place)),
+            Err(place) => Ok(Lookup::Absent(place)),
         }
     }
 

@@ -1,5 +1,5 @@
 use Rattle.replica_sync.proofs.GiveFacts.{one-give, give-read}
-use Rattle.replica_sync.proofs.FaultFacts.{one-give-cause}
+use Rattle.replica_sync.proofs.MessageFaultFacts.{one-give-cause}
 use Rattle.replica_sync.proofs.laws.gives.Goals as goal
 
 pub returns-clause-one : goal.returns-clause-one

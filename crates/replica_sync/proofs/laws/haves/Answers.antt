@@ -1,5 +1,5 @@
 use Rattle.replica_sync.proofs.OneHaveFacts.{one-have, have-read}
-use Rattle.replica_sync.proofs.FaultFacts.{one-have-cause}
+use Rattle.replica_sync.proofs.MessageFaultFacts.{one-have-cause}
 use Rattle.replica_sync.proofs.laws.haves.Goals as goal
 
 pub returns-clause-one : goal.returns-clause-one

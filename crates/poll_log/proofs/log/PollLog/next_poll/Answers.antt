@@ -2,7 +2,7 @@ use Rattle.std.proofs.Common.{◌≡◌, ◌∙◌, ◌<◌, refl, Err, None, So
 use Rattle.std.specs.List.{slice_get, Contains}
 use Rattle.std.proofs.lemmas.List.{length-map}
 use Rattle.poll_log.specs.Polling.{IsLog, IsNext, polled_domains, standing_in}
-use Rattle.poll_log.specs.Inside.Standings.{kept_standing}
+use Rattle.poll_log.specs.Inside.Statuses.{kept_status}
 use Rattle.poll_log.specs.declared.error.PollError.TheVariants.{NoRelationship}
 use Rattle.poll_log.proofs.PollFacts.{standing_in-held, standing_in-none, within_log}
 use Rattle.poll_log.proofs.log.PollLog.next_poll.Goals as goal
@@ -13,15 +13,15 @@ returns-in-Some c =
     let at : slice_get (polled_domains c.args.self.now) c.in-Some.place ≡ Some c.args.domain.now = c.in-Some.ensures.place ∙ ap Some same in
     let is : IsLog c.args.self.now = subst IsLog c.self.view_is c.self.invariant in
     let size = ap length c.self.view_is in
-    let within : c.in-Some.place < length c.self.inside.standings.items =
+    let within : c.in-Some.place < length c.self.inside.statuses.items =
     omega (
       arith,
       size,
-      length-map c.self.inside.standings.items kept_standing,
+      length-map c.self.inside.statuses.items kept_status,
       within_log c.args.self.now c.in-Some.place c.args.domain.now at,
     ) in
     subst (λ s. IsNext c.args.hint s c.next_poll.result)
-    (sym (standing_in-held c.self.inside.standings.items c.args.self.now c.args.domain.now c.in-Some.place
+    (sym (standing_in-held c.self.inside.statuses.items c.args.self.now c.args.domain.now c.in-Some.place
     c.index.result.now c.self.view_is is at c.index.ensures within))
     c.next_poll.ensures
 

@@ -9,8 +9,8 @@ pub returns-clause-released : goal.returns-clause-released
 returns-clause-released c =
     let h = c.args.held.now in
     let v = c.args.released.now in
-    let xs = c.spread.new.released in
-    let size : v.len ≡ length xs = omega (arith, v.ok.0, c.spread.ensures.size, ap length c.deref_mut.ensures.value) in
+    let xs = c.run_rounds.new.released in
+    let size : v.len ≡ length xs = omega (arith, v.ok.0, c.run_rounds.ensures.size, ap length c.deref_mut.ensures.value) in
     let same : take v.len (xs ++ drop (length xs) v.items) ≡ xs =
     ap (λ n. take n (xs ++ drop (length xs) v.items)) size ∙ take-append_seam xs (drop (length xs) v.items) in
-    subst (AreReleased (meaning_of h) h.arrived) (sym same) c.spread.ensures.released
+    subst (AreReleased (meaning_of h) h.arrived) (sym same) c.run_rounds.ensures.released

@@ -8,7 +8,7 @@ use Rattle.trust_closure.proofs.indexed.closure.IndexedClosure.distrust.Goals as
 pub returns-clause-work : goal.returns-clause-work
 returns-clause-work c =
     let x : Distrust = record { domain = c.args.domain.now; key = c.args.key } in
-    let after : Indexed = indexed_of c.lose.new.held c.lose.new.label_index c.self.inside.spare
-    c.lose.new.work in
-    subst (λ v. Works v x after c.lose.result) c.self.view_is
-    (c.lose.ensures.work c.self.inside.spare)
+    let after : Indexed = indexed_of c.retract.new.held c.retract.new.label_index c.self.inside.spare
+    c.retract.new.work in
+    subst (λ v. Works v x after c.retract.result) c.self.view_is
+    (c.retract.ensures.work c.self.inside.spare)

@@ -7,7 +7,7 @@ use Rattle.trust_closure.proofs.indexed.closure.IndexedClosureMergeable.distrust
 pub returns-clause-work : goal.returns-clause-work
 returns-clause-work c =
     let inside = c.self.inside in
-    let new = c.lose_all.new in
+    let new = c.retract_all.new in
     let after : Indexed = indexed_of new.held new.label_index inside.spare new.work in
     subst (λ v. WorksOnce v c.args.records after) c.self.view_is
-    (c.lose_all.ensures.work inside.spare)
+    (c.retract_all.ensures.work inside.spare)
