@@ -5,7 +5,7 @@ use crate::command_name::{CommandName, OptionName};
 /// those in the first lines that are written.
 pub(crate) const VERSION: &str = "\
 0.1.0
-kit rattle-kit-13b logic dac8208d650f15bf
+kit rattle-kit-13f logic dac8208d650f15bf
 state format 2, and 1 is read
 journal format 2
 have format 2 of 256
