@@ -1,0 +1,3 @@
+pub mod RequestLimits
+pub mod RequestBytes
+pub mod Replies
