@@ -1,0 +1,41 @@
+//! What can be wrong with a part of a configuration.
+use crate::place::Place;
+use crate::url_flaws::UrlFlaw;
+use bundle_doc::DocError;
+use spiffe_name::NameError;
+
+/// What is wrong with a part of a configuration. Texts are lent by its JSON value.
+#[derive(Clone, Copy, Debug)]
+pub enum Flaw<'a> {
+    /// It is no object.
+    NotObject,
+    /// It has a member of this name, which it may not have.
+    UnknownMember(&'a str),
+    /// It lacks the member of this name.
+    MissingMember(&'a str),
+    /// This member is no text.
+    NotText(&'a str),
+    /// This member is no array.
+    NotArray(&'a str),
+    /// Its `domain` is this text, which names no trust domain.
+    BadDomain(&'a str, NameError),
+    /// Its `endpoint` is this text, which is no SPIFFE ID.
+    BadEndpoint(&'a str, NameError),
+    /// Its `url` is not that of an endpoint.
+    BadUrl(UrlFlaw),
+    /// Its `profile` is this text, and not `https_spiffe`.
+    OtherProfile(&'a str),
+    /// Its `domain` is this text, as that of the relationship with this number.
+    SameDomain(&'a str, usize),
+    /// Its `bundle` is no bundle.
+    BadBundle(DocError),
+}
+
+/// A place in a configuration, and what is wrong there.
+#[derive(Clone, Copy, Debug)]
+pub struct Found<'a> {
+    /// Where it is.
+    pub place: Place,
+    /// What is wrong there.
+    pub flaw: Flaw<'a>,
+}

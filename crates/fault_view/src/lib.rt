@@ -1,0 +1,24 @@
+//! Where an input is at fault: a second look at what was refused, for a message to an operator.
+//!
+//! Reading a configuration or a bundle returns the first cause alone, and no place. What is found
+//! here is looked for only where a message is wanted. Each contract says that what is named really
+//! is at fault where it is named; no clause says that something is found, which rows show.
+#![tactic(auto)]
+
+mod finding;
+mod flaws;
+mod ignored_keys;
+mod json_place;
+mod part_flaws;
+mod place;
+mod quoting;
+mod shape_flaws;
+mod url_flaws;
+
+pub use finding::find_flaw;
+pub use flaws::{Flaw, Found};
+pub use ignored_keys::is_ignored;
+pub use json_place::{JsonFault, json_fault};
+pub use place::Place;
+pub use quoting::{push_quoted, push_shown};
+pub use url_flaws::UrlFlaw;

@@ -1,0 +1,62 @@
+//! Places in a configuration.
+ghost use Rattle.std.specs.Prelude.{◌≡◌, option_map};
+ghost use Rattle.serde_json.specs.View.{view};
+ghost use Rattle.fault_view.specs.Flaws.{is_member_at, part_of};
+
+use serde_json::Value;
+
+/// A part of a configuration: all of it, or an element of one of its arrays, counted from 0.
+#[derive(Clone, Copy, Debug, PartialEq, Eq)]
+pub enum Place {
+    /// All of it.
+    Whole,
+    /// The element of `relationships` with this number.
+    Relationship(usize),
+    /// The element of `seeds` with this number.
+    Seed(usize),
+}
+
+impl Place {
+    /// Whether what stands there has a member of this name.
+    pub(crate) fn has_member(self, name: &str) -> bool
+        ensures { result ≡ is_member_at self name.now }
+    {
+        match self {
+            Place::Whole => name == "relationships" || name == "seeds",
+            Place::Relationship(_) => is_of_relationship(name),
+            Place::Seed(_) => name == "bundle" || name == "domain",
+        }
+    }
+
+    /// The names of these members.
+    pub(crate) fn member_names(self) -> &'static [&'static str] {
+        match self {
+            Place::Whole => WHOLE.as_slice(),
+            Place::Relationship(_) => RELATIONSHIP.as_slice(),
+            Place::Seed(_) => SEED.as_slice(),
+        }
+    }
+
+    /// What stands there.
+    pub(crate) fn part_in<'a>(self, config: &'a Value) -> Option<&'a Value>
+        ensures { option_map (λ v. view v.now) result ≡ part_of (view config.now) self }
+    {
+        match self {
+            Place::Whole => Some(config),
+            Place::Relationship(number) => config.get("relationships")?.get(number),
+            Place::Seed(number) => config.get("seeds")?.get(number),
+        }
+    }
+}
+
+static WHOLE: [&str; 2] = ["relationships", "seeds"];
+
+static RELATIONSHIP: [&str; 4] = ["domain", "endpoint", "profile", "url"];
+
+static SEED: [&str; 2] = ["bundle", "domain"];
+
+fn is_of_relationship(name: &str) -> bool
+    ensures { result ≡ is_member_at (Place.Relationship 0) name.now }
+{
+    name == "domain" || name == "endpoint" || name == "profile" || name == "url"
+}

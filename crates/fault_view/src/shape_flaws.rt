@@ -1,0 +1,79 @@
+//! Objects with a member too much or too little, or one that is not what it has to be.
+ghost use Rattle.std.specs.Prelude.{◌≡◌, false, IsTrue, IfSome, IsSome, option_map};
+ghost use Rattle.serde_json.specs.View.{view};
+ghost use Rattle.serde_json.specs.Find.{get};
+ghost use Rattle.jwk_set.specs.Element.{HasText};
+ghost use Rattle.jwk_set.specs.Forms.{FindsMember};
+ghost use Rattle.fault_view.specs.Flaws.{IsFlawOf, is_member_at};
+
+use crate::flaws::Flaw;
+use crate::place::Place;
+use fed_config::ConfigError;
+use serde_json::{Map, Value};
+
+/// What is wrong with the shape of what stands at a place.
+pub(crate) fn shape_flaw<'a>(part: &'a Value, place: Place) -> Option<Flaw<'a>>
+    ensures { IfSome result (IsFlawOf ConfigError.Shape place (view part.now)) }
+{
+    let Some(members) = part.as_object() else {
+        return Some(Flaw::NotObject);
+    };
+    if let Some(flaw) = unknown_member(part, members, place) {
+        return Some(flaw);
+    }
+    'names: for &name in place.member_names() {
+        if let Some(flaw) = member_flaw(part, place, name) {
+            return Some(flaw);
+        }
+    }
+    None
+}
+
+fn unknown_member<'a>(
+    part: &'a Value,
+    members: &'a Map<String, Value>,
+    place: Place,
+) -> Option<Flaw<'a>>
+    ensures { IfSome result (IsFlawOf ConfigError.Shape place (view part.now)) }
+{
+    'names: for name in members.keys() {
+        if is_unknown(part, place, name.as_str()) {
+            return Some(Flaw::UnknownMember(name.as_str()));
+        }
+    }
+    None
+}
+
+fn is_unknown(part: &Value, place: Place, name: &str) -> bool
+    ensures { IsTrue result → IsSome (get name.now (view part.now))
+        × (is_member_at place name.now ≡ false) }
+{
+    part.get(name).is_some() && !place.has_member(name)
+}
+
+// What is wrong with a member that has to be there.
+fn member_flaw<'a>(part: &Value, place: Place, name: &'a str) -> Option<Flaw<'a>>
+    ensures { IfSome result (IsFlawOf ConfigError.Shape place (view part.now)) }
+{
+    if !place.has_member(name) {
+        return None;
+    }
+    let Some(member) = part.get(name) else {
+        return Some(Flaw::MissingMember(name));
+    };
+    match place {
+        Place::Whole if member.as_array().is_none() => Some(Flaw::NotArray(name)),
+        Place::Relationship(_) if member.as_str().is_none() => Some(Flaw::NotText(name)),
+        Place::Seed(_) if name == "domain" && member.as_str().is_none() => Some(Flaw::NotText(
+            name,
+        )),
+        _ => None,
+    }
+}
+
+/// The text of a member.
+pub(crate) fn text_of<'a>(part: &'a Value, name: &str) -> Option<&'a str>
+    ensures { FindsMember (option_map (λ s. s.now) result) (HasText (view part.now) name.now) }
+{
+    part.get(name)?.as_str()
+}
