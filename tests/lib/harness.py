@@ -28,8 +28,8 @@ TOLD = struct.Struct("<11Qqq24s4000s")
 UNSEEN = {
     "__errno_location", "__libc_start_main", "__stack_chk_fail", "__sysv_signal", "__tls_get_addr",
     "__x86_get_cpuid_feature_leaf", "__xpg_strerror_r", "abort", "bcmp", "clock_gettime", "environ", "exit", "_exit",
-    "free", "getauxval", "getenv", "getpid", "ioctl", "lseek", "memchr", "memcmp", "memcpy", "memmove", "memset",
-    "nanosleep", "poll", "pthread_sigmask", "sigaddset", "sigemptyset", "sigismember", "signal", "sigpending",
+    "free", "getauxval", "getenv", "getpid", "ioctl", "isatty", "lseek", "memchr", "memcmp", "memcpy", "memmove",
+    "memset", "nanosleep", "poll", "pthread_sigmask", "sigaddset", "sigemptyset", "sigismember", "signal", "sigpending",
     "sigtimedwait", "statx", "strlen", "sysconf",
 }
 

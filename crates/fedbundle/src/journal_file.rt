@@ -4,7 +4,7 @@
 //! What a file holds is outside all contracts: these calls are proved only to be safe and to
 //! return, and shown by runs of the program.
 use crate::error::CommandError;
-use crate::state::{fault_of, found, load_snapshot, save_snapshot, with_ending};
+use crate::state::{FileFault, fault_of, found, load_snapshot, save_snapshot, with_ending};
 use byte_lines::FromRead;
 use closure_core::Closure;
 use fed_config::Config;
@@ -53,7 +53,7 @@ pub fn load_state<C: Closure, R: Files>(
         Err(error) if error.kind() == io::ErrorKind::NotFound => {
             Ok(load_snapshot(files, alloc, config, path)?)
         }
-        Err(error) => Err(CommandError::Journal(fault_of(&error))),
+        Err(error) => Err(CommandError::Journal(fault_of(&error).why)),
     }
 }
 
@@ -69,7 +69,7 @@ pub fn save_state<C: Closure, R: Files<File = File>>(
     alloc: Global,
     closure: &C,
     path: &str,
-) -> Result<(), SyncError> {
+) -> Result<(), FileFault> {
     let name = journal_path(alloc, path)?;
     save_snapshot(files, alloc, closure, path)?;
     found(fs::remove_file(files, name.as_str()))?;

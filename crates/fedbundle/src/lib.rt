@@ -44,5 +44,5 @@ pub use report::{run_report, run_report_with};
 pub use run_error::RunError;
 pub use serve::{run_serve, write_served};
 pub use sessions::read_sessions;
-pub use state::{SeenState, StateLock, see_state, state_bytes, try_lock_state};
-pub use words::{Call, WordsError, read_words};
+pub use state::{FileFault, SeenState, StateLock, see_state, state_bytes, try_lock_state};
+pub use words::{Call, WordsError, command_of, read_words};

@@ -2,6 +2,7 @@
 //!
 //! What a file holds is outside all contracts: these calls are proved only to be safe and to
 //! return, and shown by runs of the program.
+use crate::error::CommandError;
 use byte_lines::{FromRead, FromWrite};
 use closure_core::Closure;
 use fed_config::Config;
@@ -28,6 +29,33 @@ const BITS_BUT_GROUP: u32 = 0o707;
 /// How often the lock is taken anew because its file was removed or replaced meanwhile.
 const MAX_LOCK_TRIES: u32 = 100;
 
+/// Why a call on a state file failed, and what the system said.
+#[derive(Clone, Copy, Debug, PartialEq, Eq)]
+pub struct FileFault {
+    /// Why it failed.
+    pub why: SyncError,
+    /// The system's number of the fault, where the system refused a call.
+    pub code: Option<i32>,
+}
+
+impl From<SyncError> for FileFault {
+    fn from(why: SyncError) -> FileFault {
+        FileFault { why, code: None }
+    }
+}
+
+impl From<AllocError> for FileFault {
+    fn from(_refused: AllocError) -> FileFault {
+        FileFault::from(SyncError::NoMemory)
+    }
+}
+
+impl From<FileFault> for CommandError {
+    fn from(fault: FileFault) -> CommandError {
+        CommandError::Sync(fault.why)
+    }
+}
+
 /// Keeps other commands that write the same state file waiting, until it is dropped or the process
 /// ends. It is an exclusive lock of the file named like the state file with `.lock` after it,
 /// which stays where it is.
@@ -47,7 +75,7 @@ pub fn try_lock_state<R: Files<File = File>>(
     files: &R,
     alloc: Global,
     path: &str,
-) -> Result<Option<StateLock>, SyncError> {
+) -> Result<Option<StateLock>, FileFault> {
     let name = with_ending(alloc, path, ".lock")?;
     for _ in 0..MAX_LOCK_TRIES {
         let file = open_lock(files, name.as_str())?;
@@ -58,14 +86,14 @@ pub fn try_lock_state<R: Files<File = File>>(
             return Ok(Some(StateLock { _file: file }));
         }
     }
-    Err(SyncError::Io)
+    Err(FileFault::from(SyncError::Io))
 }
 
 /// How many bytes the state file has, or `None` where there is none.
 ///
 /// # Errors
 /// Where the system does not say: `NoMemory` if memory ran out, and else `Io`.
-pub fn state_bytes<R: Files>(files: &R, path: &str) -> Result<Option<u64>, SyncError> {
+pub fn state_bytes<R: Files>(files: &R, path: &str) -> Result<Option<u64>, FileFault> {
     Ok(found(fs::metadata(files, path))?.map(|state| state.len()))
 }
 
@@ -81,7 +109,7 @@ pub struct SeenState {
 /// # Errors
 /// Where the file is there and cannot be opened, `NoMemory` if the system says that memory ran out,
 /// and else `Io`.
-pub fn see_state<R: Files<File = File>>(files: &R, path: &str) -> Result<SeenState, SyncError> {
+pub fn see_state<R: Files<File = File>>(files: &R, path: &str) -> Result<SeenState, FileFault> {
     let file = found(fs::open(files, path))?;
     Ok(SeenState { file })
 }
@@ -91,7 +119,7 @@ impl SeenState {
     ///
     /// # Errors
     /// Where the system does not say: `NoMemory` if memory ran out, and else `Io`.
-    pub fn is_last<R: Files>(&self, files: &R, path: &str) -> Result<bool, SyncError> {
+    pub fn is_last<R: Files>(&self, files: &R, path: &str) -> Result<bool, FileFault> {
         match &self.file {
             Some(file) => is_named(files, file, path),
             None => Ok(found(fs::metadata(files, path))?.is_none()),
@@ -114,7 +142,7 @@ pub(crate) fn load_snapshot<C: Closure, R: Files>(
     match fs::open(files, path) {
         Ok(file) => read_snapshot(alloc, config, &mut FromRead::new(file)),
         Err(error) if error.kind() == io::ErrorKind::NotFound => Ok(C::new(alloc, config)?),
-        Err(error) => Err(fault_of(&error)),
+        Err(error) => Err(fault_of(&error).why),
     }
 }
 
@@ -137,27 +165,69 @@ pub(crate) fn save_snapshot<C: Closure, R: Files<File = File>>(
     alloc: Global,
     closure: &C,
     path: &str,
-) -> Result<(), SyncError> {
+) -> Result<(), FileFault> {
     let name = with_ending(alloc, path, ".new")?;
-    let file = create_new(files, name.as_str(), path)?;
-    let buffer = to_sync(BufWriter::with_capacity(alloc, BUFFER_BYTES, file))?;
-    let mut sink = FromWrite::new(buffer);
-    write_snapshot(alloc, closure, &mut sink)?;
-    let file = written_out(sink.into_inner())?;
-    to_sync(file.sync_all())?;
+    let mut file = NotingFile::new(create_new(files, name.as_str(), path)?);
+    if let Err(why) = write_into(alloc, closure, &mut file) {
+        let code = file.code;
+        return Err(FileFault { why, code });
+    }
+    to_sync(file.file.sync_all())?;
     drop(file);
     to_sync(fs::rename(files, name.as_str(), path))?;
     sync_folder(files, path)
 }
 
-fn open_lock<R: Files<File = File>>(files: &R, name: &str) -> Result<File, SyncError> {
+// A file that keeps the system's number of the last fault of a write.
+#[derive(Drop)]
+struct NotingFile {
+    file: File,
+    code: Option<i32>,
+}
+
+impl NotingFile {
+    fn new(file: File) -> NotingFile {
+        NotingFile { file, code: None }
+    }
+}
+
+impl io::Write for NotingFile {
+    fn write(&mut self, bytes: &[u8]) -> io::Result<usize> {
+        let mut file = &self.file;
+        let written = file.write(bytes);
+        if let Err(error) = &written {
+            self.code = error.raw_os_error();
+        }
+        written
+    }
+
+    fn flush(&mut self) -> io::Result<()> {
+        Ok(())
+    }
+}
+
+fn write_into<C: Closure>(
+    alloc: Global,
+    closure: &C,
+    file: &mut NotingFile,
+) -> Result<(), SyncError> {
+    let buffer = match BufWriter::with_capacity(alloc, BUFFER_BYTES, file) {
+        Ok(buffer) => buffer,
+        Err(error) => return Err(fault_of(&error).why),
+    };
+    let mut sink = FromWrite::new(buffer);
+    write_snapshot(alloc, closure, &mut sink)?;
+    written_out(sink.into_inner())
+}
+
+fn open_lock<R: Files<File = File>>(files: &R, name: &str) -> Result<File, FileFault> {
     let mut options = OpenOptions::new();
     options.write(true).create(true).mode(OWNER_ONLY);
     to_sync(options.open(files, name))
 }
 
 // Whether the file is locked now; else another open of it has the lock.
-fn has_locked(file: &File) -> Result<bool, SyncError> {
+fn has_locked(file: &File) -> Result<bool, FileFault> {
     match file.try_lock() {
         Ok(()) => Ok(true),
         Err(TryLockError::WouldBlock) => Ok(false),
@@ -166,14 +236,14 @@ fn has_locked(file: &File) -> Result<bool, SyncError> {
 }
 
 // Whether the open file is the one that has the name now.
-fn is_named<R: Files>(files: &R, file: &File, name: &str) -> Result<bool, SyncError> {
+fn is_named<R: Files>(files: &R, file: &File, name: &str) -> Result<bool, FileFault> {
     let own = to_sync(file.metadata())?;
     let named = found(fs::metadata(files, name))?;
     Ok(named.is_some_and(|it| (it.dev(), it.ino()) == (own.dev(), own.ino())))
 }
 
 // The file that is to replace the one at the path.
-fn create_new<R: Files<File = File>>(files: &R, name: &str, path: &str) -> Result<File, SyncError> {
+fn create_new<R: Files<File = File>>(files: &R, name: &str, path: &str) -> Result<File, FileFault> {
     found(fs::remove_file(files, name))?;
     let mut options = OpenOptions::new();
     options.write(true).create_new(true).mode(OWNER_ONLY);
@@ -185,7 +255,7 @@ fn create_new<R: Files<File = File>>(files: &R, name: &str, path: &str) -> Resul
 }
 
 // Gives the file the owner, the group and the mode of another.
-fn take_access(file: &File, other: &Metadata) -> Result<(), SyncError> {
+fn take_access(file: &File, other: &Metadata) -> Result<(), FileFault> {
     let own = to_sync(file.metadata())?;
     let is_of_same = (own.uid(), own.gid()) == (other.uid(), other.gid());
     let has_group = is_of_same || fchown(file, Some(other.uid()), Some(other.gid())).is_ok();
@@ -199,7 +269,7 @@ fn take_access(file: &File, other: &Metadata) -> Result<(), SyncError> {
 }
 
 // What the system says of a name, or `None` where nothing has the name.
-pub(crate) fn found<T: Drop>(answer: io::Result<T>) -> Result<Option<T>, SyncError> {
+pub(crate) fn found<T: Drop>(answer: io::Result<T>) -> Result<Option<T>, FileFault> {
     match answer {
         Ok(value) => Ok(Some(value)),
         Err(error) if error.kind() == io::ErrorKind::NotFound => Ok(None),
@@ -207,17 +277,17 @@ pub(crate) fn found<T: Drop>(answer: io::Result<T>) -> Result<Option<T>, SyncErr
     }
 }
 
-// The buffer's file, once the buffer has given it all.
-fn written_out<W: io::Write + Drop>(buffer: BufWriter<W>) -> Result<W, SyncError> {
+// Has the buffer give all of its bytes.
+fn written_out<W: io::Write + Drop>(buffer: BufWriter<W>) -> Result<(), SyncError> {
     match buffer.into_inner() {
-        Ok(file) => Ok(file),
+        Ok(_) => Ok(()),
         Err(_) => Err(SyncError::Io),
     }
 }
 
 // Has the system write the folder in which the file lies, so that the new name outlasts a loss of
 // power.
-fn sync_folder<R: Files>(files: &R, path: &str) -> Result<(), SyncError> {
+fn sync_folder<R: Files>(files: &R, path: &str) -> Result<(), FileFault> {
     let folder = match path.rfind('/') {
         Some(0) => "/",
         Some(end) => &path[..end],
@@ -234,7 +304,7 @@ pub(crate) fn with_ending(alloc: Global, path: &str, ending: &str) -> Result<Str
     Ok(name)
 }
 
-fn to_sync<T: Drop>(answer: io::Result<T>) -> Result<T, SyncError> {
+fn to_sync<T: Drop>(answer: io::Result<T>) -> Result<T, FileFault> {
     match answer {
         Ok(value) => Ok(value),
         Err(error) => Err(fault_of(&error)),
@@ -242,9 +312,13 @@ fn to_sync<T: Drop>(answer: io::Result<T>) -> Result<T, SyncError> {
 }
 
 // Of all faults of the system lack of memory alone has a name of its own.
-pub(crate) fn fault_of(error: &io::Error) -> SyncError {
-    match error.kind() {
+pub(crate) fn fault_of(error: &io::Error) -> FileFault {
+    let why = match error.kind() {
         io::ErrorKind::OutOfMemory => SyncError::NoMemory,
         _ => SyncError::Io,
+    };
+    FileFault {
+        why,
+        code: error.raw_os_error(),
     }
 }

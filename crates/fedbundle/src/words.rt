@@ -131,6 +131,13 @@ fn argument<'a>(alloc: Global, option: OptionName) -> Arg<'a>
     }
 }
 
+/// The subcommand that has this word, if there is one.
+pub fn command_of(word: &str) -> Option<CommandName>
+    ensures { IfSome result (λ name. word.now ≡ name_text name) }
+{
+    name_of(word)
+}
+
 fn name_of(word: &str) -> Option<CommandName>
     ensures { IfSome result (λ name. word.now ≡ name_text name) }
 {

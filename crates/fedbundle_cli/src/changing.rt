@@ -6,7 +6,7 @@ use crate::keeping::{keeping_of, load, lock, room_left, save};
 use crate::limited::Limited;
 use crate::options::wanted;
 use crate::streams::{input, output, output_line};
-use crate::{distrusting, options};
+use crate::{distrusting, options, reasons};
 use bundle_doc::MAX_DOCUMENT_BYTES;
 use bundle_view::Verdict;
 use byte_lines::{FromRead, read_up_to};
@@ -30,10 +30,15 @@ enum Coming<'a> {
 /// Takes the bundle that standard input has.
 pub(crate) fn observe(rt: &HostRuntime, config: &Config, call: &Call<'_>) -> Result<u8, Exit> {
     let bytes = read_bundle(rt);
-    change(rt, config, call, Coming::Bundle(&bytes))
+    let done = change(rt, config, call, Coming::Bundle(&bytes));
+    match &bytes {
+        Ok(bytes) => Ok(reasons::status_of_bundle(rt, call, done, bytes.as_slice())),
+        Err(_) => done,
+    }
 }
 
-fn read_bundle(rt: &HostRuntime) -> Result<Vec<u8>, CommandError> {
+/// The bytes of the bundle that standard input has, and one more where it has too many.
+pub(crate) fn read_bundle(rt: &HostRuntime) -> Result<Vec<u8>, CommandError> {
     Ok(read_up_to(rt.alloc(), &mut input(rt), MAX_DOCUMENT_BYTES + 1)?)
 }
 

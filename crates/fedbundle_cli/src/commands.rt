@@ -4,11 +4,13 @@
 use crate::exit::{Exit, print_clap};
 use crate::options::{given, wanted};
 use crate::streams::{complaints, input, output};
-use crate::{changing, command_line, exchange, options, printing, showing};
+use crate::{changing, command_line, exchange, lacking, options, printing, reasons, showing};
+use byte_lines::FromRead;
 use fed_config::Config;
 use fedbundle::{
     Call, CommandError, CommandName, OptionName, WordsError, read_words, run_canon, run_report,
 };
+use spiffe_name::TrustDomain;
 
 /// What the words ask for, done: the exit status 0, or 1 where an input was refused and the rest is
 /// done.
@@ -16,33 +18,33 @@ pub(crate) fn run(rt: &HostRuntime) -> Result<u8, Exit> {
     let words = command_line::words_of_process(rt)?;
     let texts = command_line::texts(rt.alloc(), words.as_slice())?;
     match read_words(rt.alloc(), texts.as_slice()) {
-        Ok(call) => carry_out(rt, &call),
-        Err(error) => end_by_words(rt, &error),
+        Ok(call) => Ok(reasons::status_of(rt, &call, carry_out(rt, &call))),
+        Err(error) => end_by_words(rt, texts.as_slice(), &error),
     }
 }
 
 // The words are none of a command, or ask for help or for the version.
-fn end_by_words(rt: &HostRuntime, error: &WordsError) -> Result<u8, Exit> {
+fn end_by_words(rt: &HostRuntime, words: &[&str], error: &WordsError) -> Result<u8, Exit> {
     match error {
         WordsError::Words(shown) => Ok(print_clap(rt, shown)),
-        WordsError::Usage => Err(Exit::Usage),
+        WordsError::Usage => Ok(lacking::end(rt, words)),
         WordsError::NoMemory => Err(Exit::Refused(CommandError::NoMemory)),
     }
 }
 
 fn carry_out(rt: &HostRuntime, call: &Call<'_>) -> Result<u8, Exit> {
-    if has_empty_path(call) {
-        return Err(Exit::Usage);
+    if let Some(option) = empty_path(call) {
+        return Err(Exit::EmptyPath(option));
     }
     options::manner_of(call)?;
     match call.name {
-        CommandName::Canon => canon(rt, wanted(call, OptionName::Domain)?),
+        CommandName::Canon => canon(rt, call),
         CommandName::Serve => serve(rt, call),
         _ => carry_out_with(rt, call),
     }
 }
 
-fn has_empty_path(call: &Call<'_>) -> bool {
+fn empty_path(call: &Call<'_>) -> Option<OptionName> {
     let paths = [
         OptionName::Config,
         OptionName::State,
@@ -50,7 +52,10 @@ fn has_empty_path(call: &Call<'_>) -> bool {
         OptionName::To,
         OptionName::With,
     ];
-    paths.iter().any(|option| given(call, *option) == Some(""))
+    paths
+        .iter()
+        .find(|option| given(call, **option) == Some(""))
+        .copied()
 }
 
 fn serve(rt: &HostRuntime, call: &Call<'_>) -> Result<u8, Exit> {
@@ -84,9 +89,20 @@ fn carry_out_under(rt: &HostRuntime, config: &Config, call: &Call<'_>) -> Result
     }
 }
 
-fn canon(rt: &HostRuntime, domain: &str) -> Result<u8, Exit> {
-    let domain = options::domain(rt.alloc(), domain)?;
-    run_canon(rt.alloc(), &domain, &mut input(rt), &mut output(rt))?;
+fn canon(rt: &HostRuntime, call: &Call<'_>) -> Result<u8, Exit> {
+    let domain = options::domain(rt.alloc(), wanted(call, OptionName::Domain)?)?;
+    let bytes = changing::read_bundle(rt)?;
+    let done = canon_of(rt, &domain, bytes.as_slice());
+    Ok(reasons::status_of_bundle(rt, call, done, bytes.as_slice()))
+}
+
+fn canon_of(rt: &HostRuntime, domain: &TrustDomain, bytes: &[u8]) -> Result<u8, Exit> {
+    run_canon(
+        rt.alloc(),
+        domain,
+        &mut FromRead::new(bytes),
+        &mut output(rt),
+    )?;
     Ok(0)
 }
 

@@ -1,5 +1,5 @@
 // Connections with other replicas, and how long they may keep this one.
-use crate::exit::Exit;
+use crate::exit::{Exit, Step, SystemFault};
 use fedbundle::CommandError;
 use replica_core::SyncError;
 use std::io::{ErrorKind, Read, Write};
@@ -40,18 +40,18 @@ pub(crate) struct Direction<'a> {
 pub(crate) fn listen(rt: &HostRuntime, address: SocketAddr) -> Result<TcpListener, Exit> {
     match TcpListener::bind(rt, address) {
         Ok(listener) => Ok(listener),
-        Err(error) => Err(Exit::Refused(fault_of(&error))),
+        Err(error) => Err(fault_at(Step::Listen, &error)),
     }
 }
 
 /// The connection that the next client makes. How long it is waited for has no limit. A fault is
 /// returned after a pause.
-pub(crate) fn accept(rt: &HostRuntime, listener: &TcpListener) -> Result<Connection, CommandError> {
+pub(crate) fn accept(rt: &HostRuntime, listener: &TcpListener) -> Result<Connection, Exit> {
     match accept_stream(rt, listener) {
         Ok(connection) => Ok(connection),
         Err(error) => {
             thread::sleep(rt, Duration::from_millis(PAUSE_MILLIS));
-            Err(fault_of(&error))
+            Err(fault_at(Step::Accept, &error))
         }
     }
 }
@@ -60,7 +60,7 @@ pub(crate) fn accept(rt: &HostRuntime, listener: &TcpListener) -> Result<Connect
 pub(crate) fn connect(rt: &HostRuntime, address: SocketAddr) -> Result<Connection, Exit> {
     match connect_stream(rt, address) {
         Ok(connection) => Ok(connection),
-        Err(error) => Err(Exit::Refused(fault_of(&error))),
+        Err(error) => Err(fault_at(Step::Connect, &error)),
     }
 }
 
@@ -124,6 +124,14 @@ impl Write for Direction<'_> {
 // A signal came before any byte moved.
 fn is_interruption(error: &io::Error) -> bool {
     error.kind() == ErrorKind::Interrupted
+}
+
+fn fault_at(step: Step, error: &io::Error) -> Exit {
+    Exit::System(SystemFault {
+        error: fault_of(error),
+        step,
+        code: error.raw_os_error(),
+    })
 }
 
 // Of all faults of the system lack of memory alone has a name of its own.

@@ -2,11 +2,11 @@
 // reads the address, and opens the socket before a session begins; `pull` saves the state at the
 // end.
 use crate::connection::{Connection, accept, connect, listen};
-use crate::exit::{Exit, print_exit};
+use crate::exit::{Exit, Step, print_exit};
 use crate::keeping::{Keeping, keeping_of, load, lock, look, room_left, save};
 use crate::limited::Limited;
-use crate::options;
 use crate::streams::{error_lines, output_line};
+use crate::{options, reasons};
 use byte_lines::{FromRead, FromWrite};
 use fed_config::Config;
 use fedbundle::{
@@ -141,7 +141,8 @@ pub(crate) fn pull(rt: &HostRuntime, config: &Config, call: &Call<'_>) -> Result
     let mut begun = begin(rt, config, state)?;
     let peer = options::wanted(call, OptionName::Peer)?;
     let pulled = pull_from(rt, &mut begun.closure, peer, room_left(rt, state))?;
-    Ok(end_pull(rt, config, state, &begun, pulled))
+    let saved = end_saving(rt, config, state, &begun);
+    Ok(end_pull(rt, call, pulled, saved))
 }
 
 // How the session ended. Where there is no connection there was none.
@@ -160,7 +161,7 @@ fn begin(rt: &HostRuntime, config: &Config, state: Keeping<'_>) -> Result<Begun,
     let closure = load(rt, config, state.path)?;
     match see_state(rt, state.path) {
         Ok(file) => Ok(Begun { closure, file }),
-        Err(error) => Err(Exit::Refused(CommandError::Sync(error))),
+        Err(fault) => Err(Exit::of_file(Step::See, fault)),
     }
 }
 
@@ -198,14 +199,12 @@ fn pull_on<R: Read>(
 // The state is written before a fault of the session is reported.
 fn end_pull(
     rt: &HostRuntime,
-    config: &Config,
-    state: Keeping<'_>,
-    begun: &Begun,
+    call: &Call<'_>,
     pulled: Result<(), Exit>,
+    saved: Result<(), Exit>,
 ) -> u8 {
-    let saved = end_saving(rt, config, state, begun);
-    let ended = status_of(rt, pulled);
-    status_of(rt, saved).max(ended)
+    let ended = reasons::status_of(rt, call, pulled.map(|()| 0));
+    reasons::status_of(rt, call, saved.map(|()| 0)).max(ended)
 }
 
 // Where another command has written the state meanwhile, or there is a journal, what was pulled is
@@ -230,7 +229,7 @@ fn is_as_begun(rt: &HostRuntime, file: &SeenState, path: &str) -> Result<bool, E
     }
     match file.is_last(rt, path) {
         Ok(is_last) => Ok(is_last),
-        Err(error) => Err(Exit::Refused(CommandError::Sync(error))),
+        Err(fault) => Err(Exit::of_file(Step::See, fault)),
     }
 }
 

@@ -1,16 +1,19 @@
 // Why the program ends before its command is done.
 use crate::streams::complaints;
 use byte_lines::write_all;
-use fedbundle::{CommandError, status, write_fault};
+use fedbundle::{CommandError, FileFault, OptionName, status, write_fault};
 use std::alloc::AllocError;
 
 /// Why the program ends before its command is done. It owns nothing, so a function may hold it
 /// beside what it owns itself.
 #[derive(Clone, Copy)]
 pub(crate) enum Exit {
-    /// A word is not text, the subcommand or an option is missing, the path of a file is empty, or
-    /// a number is none or out of its range.
+    /// A word is not text, or the subcommand or an option is missing.
     Usage,
+    /// The path of a file is empty.
+    EmptyPath(OptionName),
+    /// A number is none or out of its range.
+    BadNumber(OptionName),
     /// `--key` is not 64 lower-case hexadecimal digits.
     BadKey,
     /// `--now` is not a moment.
@@ -25,8 +28,46 @@ pub(crate) enum Exit {
     Locked,
     /// More bytes would be held than the limit says.
     TooManyBytes,
+    /// The system refused a call at this step.
+    System(SystemFault),
     /// The command was refused.
     Refused(CommandError),
+}
+
+/// What a command was at when the system refused a call.
+#[derive(Clone, Copy)]
+pub(crate) enum Step {
+    /// It locked the state.
+    Lock,
+    /// It looked whether the state file is the one that it had read.
+    See,
+    /// It wrote the state.
+    Save,
+    /// It was to listen at an address.
+    Listen,
+    /// It waited for a client.
+    Accept,
+    /// It was to connect.
+    Connect,
+}
+
+/// A fault of the system: what is reported, where it came up, and the system's number of it.
+#[derive(Clone, Copy)]
+pub(crate) struct SystemFault {
+    pub(crate) error: CommandError,
+    pub(crate) step: Step,
+    pub(crate) code: Option<i32>,
+}
+
+impl Exit {
+    /// The end by a fault of a state file.
+    pub(crate) fn of_file(step: Step, fault: FileFault) -> Exit {
+        Exit::System(SystemFault {
+            error: CommandError::from(fault),
+            step,
+            code: fault.code,
+        })
+    }
 }
 
 impl From<CommandError> for Exit {
@@ -44,7 +85,10 @@ impl From<AllocError> for Exit {
 /// Prints on standard error why the program ends, and returns its exit status.
 pub(crate) fn print_exit(rt: &HostRuntime, exit: &Exit) -> u8 {
     let (status, written) = match exit {
-        Exit::Usage => (2, write_stderr(rt, b"fedbundle: usage\n")),
+        Exit::Usage | Exit::EmptyPath(_) | Exit::BadNumber(_) => (
+            2,
+            write_stderr(rt, b"fedbundle: usage\n"),
+        ),
         Exit::BadKey => (1, write_stderr(rt, b"fedbundle: bad key\n")),
         Exit::BadMoment => (1, write_stderr(rt, b"fedbundle: bad moment\n")),
         Exit::BadAddress => (1, write_stderr(rt, b"fedbundle: bad address\n")),
@@ -52,6 +96,7 @@ pub(crate) fn print_exit(rt: &HostRuntime, exit: &Exit) -> u8 {
         Exit::NotAccepted => (1, write_stderr(rt, b"fedbundle: not accepted\n")),
         Exit::Locked => (3, write_stderr(rt, b"fedbundle: locked\n")),
         Exit::TooManyBytes => (1, write_stderr(rt, b"fedbundle: too many bytes\n")),
+        Exit::System(fault) => return print_fault(rt, &fault.error),
         Exit::Refused(error) => return print_fault(rt, error),
     };
     if written { status } else { status.max(3) }

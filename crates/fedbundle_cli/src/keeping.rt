@@ -1,8 +1,9 @@
 // The state file as the commands use it: its lock, which is waited for within a limit, what it
 // holds, and how much may come to that.
-use crate::exit::Exit;
+use crate::exit::{Exit, Step};
 use crate::options;
 use crate::options::Manner;
+use crate::speaking::speaks_unasked;
 use crate::streams::error_lines;
 use fed_config::Config;
 use fedbundle::{
@@ -45,7 +46,7 @@ pub(crate) fn lock(rt: &HostRuntime, state: Keeping<'_>) -> Result<StateLock, Ex
     if let Some(lock) = try_lock(rt, state.path)? {
         return Ok(lock);
     }
-    if state.manner.is_verbose {
+    if is_more_wanted(rt, state) {
         // That it cannot be said changes nothing.
         let _ = writeln!(
             error_lines(rt),
@@ -54,6 +55,10 @@ pub(crate) fn lock(rt: &HostRuntime, state: Keeping<'_>) -> Result<StateLock, Ex
         );
     }
     wait_for_lock(rt, state)
+}
+
+fn is_more_wanted(rt: &HostRuntime, state: Keeping<'_>) -> bool {
+    state.manner.is_verbose || speaks_unasked(rt)
 }
 
 fn wait_for_lock(rt: &HostRuntime, state: Keeping<'_>) -> Result<StateLock, Exit> {
@@ -70,7 +75,7 @@ fn wait_for_lock(rt: &HostRuntime, state: Keeping<'_>) -> Result<StateLock, Exit
 fn try_lock(rt: &HostRuntime, path: &str) -> Result<Option<StateLock>, Exit> {
     match try_lock_state(rt, rt.alloc(), path) {
         Ok(lock) => Ok(lock),
-        Err(error) => Err(Exit::Refused(CommandError::Sync(error))),
+        Err(fault) => Err(Exit::of_file(Step::Lock, fault)),
     }
 }
 
@@ -89,7 +94,7 @@ pub(crate) fn look(
     config: &Config,
     state: Keeping<'_>,
 ) -> Result<IndexedClosure, CommandError> {
-    if state.manner.is_verbose && matches!(state_bytes(rt, state.path), Ok(None)) {
+    if is_more_wanted(rt, state) && matches!(state_bytes(rt, state.path), Ok(None)) {
         // That it cannot be said changes nothing.
         let _ = writeln!(
             error_lines(rt),
@@ -103,7 +108,7 @@ pub(crate) fn look(
 pub(crate) fn save(rt: &HostRuntime, closure: &IndexedClosure, path: &str) -> Result<(), Exit> {
     match save_state(rt, rt.alloc(), closure, path) {
         Ok(()) => Ok(()),
-        Err(error) => Err(Exit::Refused(CommandError::Sync(error))),
+        Err(fault) => Err(Exit::of_file(Step::Save, fault)),
     }
 }
 

@@ -12,10 +12,14 @@ mod distrusting;
 mod exchange;
 mod exit;
 mod keeping;
+mod lacking;
 mod limited;
 mod options;
 mod printing;
+mod reasons;
+mod second_look;
 mod showing;
+mod speaking;
 mod streams;
 mod viewing;
 

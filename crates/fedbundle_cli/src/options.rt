@@ -47,21 +47,25 @@ pub(crate) fn manner_of(call: &Call<'_>) -> Result<Manner, Exit> {
     let most = given(call, OptionName::MostBytes);
     let verbose = given(call, OptionName::Verbose);
     Ok(Manner {
-        wait_seconds: number_up_to(wait, WAIT_SECONDS, MAX_WAIT_SECONDS)?,
-        most_bytes: number_up_to(most, MOST_BYTES, u64::MAX)?,
+        wait_seconds: number_up_to(wait, WAIT_SECONDS, MAX_WAIT_SECONDS).ok_or(Exit::BadNumber(
+            OptionName::Wait,
+        ))?,
+        most_bytes: number_up_to(most, MOST_BYTES, u64::MAX).ok_or(Exit::BadNumber(
+            OptionName::MostBytes,
+        ))?,
         is_verbose: verbose == Some("true"),
     })
 }
 
 // The number of the text, or the other one where there is no text.
-fn number_up_to(text: Option<&str>, otherwise: u64, most: u64) -> Result<u64, Exit> {
+fn number_up_to(text: Option<&str>, otherwise: u64, most: u64) -> Option<u64> {
     let Some(text) = text else {
-        return Ok(otherwise);
+        return Some(otherwise);
     };
     let has_digits = text.bytes().all(|byte| byte.is_ascii_digit());
     match text.parse::<u64>() {
-        Ok(number) if has_digits && number <= most => Ok(number),
-        _ => Err(Exit::Usage),
+        Ok(number) if has_digits && number <= most => Some(number),
+        _ => None,
     }
 }
 
@@ -121,5 +125,5 @@ pub(crate) fn address(text: &str) -> Result<SocketAddr, Exit> {
 
 /// How many sessions are served.
 pub(crate) fn sessions(text: &str) -> Result<u32, Exit> {
-    read_sessions(text).ok_or(Exit::Usage)
+    read_sessions(text).ok_or(Exit::BadNumber(OptionName::Sessions))
 }

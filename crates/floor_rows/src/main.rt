@@ -1,11 +1,13 @@
 //! The program `floor_rows`: it reads rows from standard input, makes the calls that read names,
-//! elements, documents and configurations, and prints what came of each.
+//! elements, documents and configurations, or that find where one is at fault, and prints what came
+//! of each.
 #![tactic(auto)]
 
 mod configurations;
 mod documents;
 mod elements;
 mod errors;
+mod found_flaws;
 mod names;
 mod words;
 
@@ -50,6 +52,10 @@ fn call_with_bytes(
         "has_key" => documents::has_key(alloc, row.words, text, answer),
         "config" => configurations::read(alloc, text, answer),
         "relationship" => configurations::look_up(alloc, row.words, text, answer),
+        "flaw" => found_flaws::find(alloc, text, answer),
+        "json" => found_flaws::place(alloc, text, answer),
+        "ignored" => found_flaws::ignored(alloc, text, answer),
+        "quoted" => found_flaws::quote(alloc, text, answer),
         "errors" => errors::report_all(answer),
         _ => match str::from_utf8(text) {
             Ok(text) => call_with_text(alloc, script, row, text, answer),
