@@ -1,11 +1,11 @@
 -- Keys, domains and conflicts, as a status is made of them.
 use Rattle.std.proofs.Common.{◌≡◌, ◌↔◌, ℕ, List, [], ◌∷◌, ◌++◌, map, length, filter, Bool, true, false, refl, sym, ap, ◌∙◌, subst, arith}
-use Rattle.std.proofs.Common.{IsTrue, ◌+◌, cond, ◌&&◌, ◌||◌, inl, inr}
+use Rattle.std.proofs.Common.{IsTrue, suc, cond, ◌&&◌, ◌||◌, inl, inr}
 use Rattle.std.proofs.lemmas.Bool.{and_from, cases_Bool, or_left, or_right}
 use Rattle.std.proofs.lemmas.Slice.Eq.{bytes_eq-Decides}
 use Rattle.std.proofs.lemmas.List.{map-append}
 use Rattle.std.proofs.lemmas.List.Elements.{Contains-push_cases}
-use Rattle.std.specs.List.{Contains, count_by, list_any}
+use Rattle.std.specs.List.{Contains, list_any}
 use Rattle.std.specs.Str.{bytes_eq}
 use Rattle.closure_core.proofs.ContainsFacts.{contains_cases, contains_first, contains_later, contains_none}
 use Rattle.jwk_set.specs.declared.authority.KeyId.{KeyId}
@@ -74,11 +74,19 @@ against_any domain key records held same =
     (λ e. let one = which_passes (is_against domain key) records e in
     same.1 (subst (Contains records) (against_is domain key one.0 one.2) one.1))
 
--- how many conflicts are of the domain, as they are and as they are reported
+-- one more item, or none, on both of two lists of one length
+pub same_length : {X Y : Type 0} (b : Bool) (x : X) (xs : List X) (y : Y) (ys : List Y) → length xs ≡ length ys
+    → length (cond b (x ∷ xs) xs) ≡ length (cond b (y ∷ ys) ys)
+same_length true x xs y ys e = ap suc e
+same_length false x xs y ys e = e
+
+-- how many conflicts are of the domain, as they are reported and as they are
 pub reported_count : (domain : List ℕ) (clashes : List Conflict)
-    → count_by (is_clash_of domain) (map reported_by clashes) ≡ count_by (λ (c : Conflict). bytes_eq c.domain domain) clashes
+    → length (filter (is_clash_of domain) (map reported_by clashes)) ≡ length (filter (λ (c : Conflict). bytes_eq c.domain domain) clashes)
 reported_count domain [] = refl
-reported_count domain (c ∷ clashes) = ap (λ n. cond (bytes_eq c.domain domain) 1 0 + n) (reported_count domain clashes)
+reported_count domain (c ∷ clashes) =
+    same_length (bytes_eq c.domain domain) (reported_by c) (filter (is_clash_of domain) (map reported_by clashes)) c
+    (filter (λ (k : Conflict). bytes_eq k.domain domain) clashes) (reported_count domain clashes)
 
 -- how the keys stand that a document can vouch by
 pub offer_statuses : (records : List Distrust) (p : Pair) (keys : List KeyId)
