@@ -3,7 +3,7 @@ _fedbundle() {
     local word=${COMP_WORDS[COMP_CWORD]} before=${COMP_WORDS[COMP_CWORD - 1]} words
     COMPREPLY=()
     if [ "$COMP_CWORD" -eq 1 ]; then
-        COMPREPLY=($(compgen -W 'canon config report list diff bundle explain observe merge migrate reseed polls distrust serve pull help --help --version' -- "$word"))
+        COMPREPLY=($(compgen -W 'canon config report list diff status bundle explain observe merge migrate reseed polls distrust serve pull help --help --version' -- "$word"))
         return
     fi
     case $before in
@@ -12,7 +12,7 @@ _fedbundle() {
             COMPREPLY=($(compgen -f -- "$word"))
             return
             ;;
-        --allow|--domain|--endpoint|--key|--listen|--most-bytes|--now|--peer|--sessions|--wait) return ;;
+        --allow|--domain|--endpoint|--format|--key|--listen|--most-bytes|--now|--peer|--sessions|--wait) return ;;
     esac
     case ${COMP_WORDS[1]} in
         canon) words='--domain --help' ;;
@@ -20,8 +20,9 @@ _fedbundle() {
         report) words='--config --state --help' ;;
         list) words='--config --state --domain --verbose --help' ;;
         diff) words='--config --state --with --verbose --help' ;;
-        bundle) words='--config --state --domain --verbose --help' ;;
-        explain) words='--config --state --domain --verbose --help' ;;
+        status) words='--config --state --format --verbose --help' ;;
+        bundle) words='--config --state --domain --format --verbose --help' ;;
+        explain) words='--config --state --domain --short --verbose --help' ;;
         observe) words='--config --state --domain --endpoint --key --wait --verbose --help' ;;
         merge) words='--config --state --wait --most-bytes --verbose --help' ;;
         migrate) words='--config --state --to --records-only --help' ;;
@@ -30,7 +31,7 @@ _fedbundle() {
         distrust) words='--config --state --domain --key --dry-run --wait --verbose --help' ;;
         serve) words='--config --state --listen --sessions --verbose --help' ;;
         pull) words='--config --state --peer --wait --most-bytes --verbose --help' ;;
-        help) words='canon config report list diff bundle explain observe merge migrate reseed polls distrust serve pull help' ;;
+        help) words='canon config report list diff status bundle explain observe merge migrate reseed polls distrust serve pull help' ;;
         *) return ;;
     esac
     COMPREPLY=($(compgen -W "$words" -- "$word"))

@@ -1,5 +1,5 @@
 #!/usr/bin/env python3
-"""Prints what `fedbundle list`, `diff` and `status` print for state files under a configuration.
+"""Prints what `fedbundle list` and `diff` print for state files under a configuration.
 
 It is written from the rules alone, with Python's own json and hashlib and with canon.py and report.py, and shares nothing
 with the program. It takes files that are well formed, and refuses nothing. The lines of a state file may stand in any

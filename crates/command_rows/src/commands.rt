@@ -10,9 +10,10 @@ use closure_core::Closure;
 use config_view::{write_config, write_config_difference};
 use fed_config::Config;
 use fedbundle::{
-    Call, CommandError, CommandName, RunError, WordsError, read_sessions, read_words, run_bundle,
-    run_canon, run_distrust, run_explain, run_merge, run_migrate, run_observe, run_polls, run_pull,
-    run_report, run_report_with, run_serve, show_distrust, status, write_fault, write_served,
+    Call, CommandError, CommandName, ExplanationForm, RunError, WordsError, read_sessions,
+    read_words, run_bundle, run_bundle_pem, run_canon, run_distrust, run_explain, run_merge,
+    run_migrate, run_observe, run_polls, run_pull, run_report, run_report_with, run_serve,
+    show_distrust, status, write_fault, write_served,
 };
 use jiff::Timestamp;
 use jwk_set::KeyId;
@@ -273,8 +274,12 @@ fn do_asked<C: Closure>(
         (CommandName::Report, []) => report_held(case.alloc, closure, devices),
         (CommandName::List, [domain, _]) => list_held(case, closure, *domain, devices),
         (CommandName::Diff, [Some(with), _]) => compare_held(case, closure, with, devices),
-        (CommandName::Bundle, [Some(domain), _]) => bundle(case, closure, domain, devices),
-        (CommandName::Explain, [Some(domain), _]) => explain(case, closure, domain, devices),
+        (CommandName::Bundle, [Some(domain), format, _]) => {
+            bundle(case, closure, domain, *format, devices)
+        }
+        (CommandName::Explain, [Some(domain), Some(short), _]) => {
+            explain(case, closure, domain, short, devices)
+        }
         (CommandName::Observe, [Some(domain), Some(endpoint), Some(key), ..]) => {
             observe(case, closure, domain, endpoint, key, devices)
         }
@@ -361,10 +366,16 @@ fn bundle<C: Closure>(
     case: &Case<'_>,
     closure: &C,
     domain: &str,
+    format: Option<&str>,
     devices: &mut Devices,
 ) -> Result<(), CommandError> {
     let domain = TrustDomain::read(case.alloc, domain)?;
-    if !run_bundle(closure, &domain, &mut devices.output)? {
+    let is_printed = if format == Some("pem") {
+        run_bundle_pem(case.alloc, closure, &domain, &mut devices.output)?
+    } else {
+        run_bundle(closure, &domain, &mut devices.output)?
+    };
+    if !is_printed {
         tell(b"fedbundle: no current bundle\n", 1, devices);
     }
     Ok(())
@@ -374,11 +385,17 @@ fn explain<C: Closure>(
     case: &Case<'_>,
     closure: &C,
     domain: &str,
+    short: &str,
     devices: &mut Devices,
 ) -> Result<(), CommandError> {
     let domain = TrustDomain::read(case.alloc, domain)?;
+    let form = if short == "true" {
+        ExplanationForm::Steps
+    } else {
+        ExplanationForm::Receipts
+    };
     let (input, output) = (&mut devices.input, &mut devices.output);
-    if !run_explain(case.alloc, closure, &domain, input, output)? {
+    if !run_explain(case.alloc, closure, &domain, form, input, output)? {
         tell(b"fedbundle: not accepted\n", 1, devices);
     }
     Ok(())

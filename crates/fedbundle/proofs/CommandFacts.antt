@@ -7,7 +7,7 @@ use Rattle.byte_lines.specs.declared.error.DeviceError.TheVariants.{NoMemory as 
 use Rattle.fedbundle.specs.CommandRun.{CommandRun, StateRun, HasFailed, WritesNothing}
 use Rattle.fedbundle.specs.Canon.{RunsCanon}
 use Rattle.fedbundle.specs.Errors.{of_read}
-use Rattle.fedbundle.specs.Explain.{RunsExplain}
+use Rattle.fedbundle.specs.Explain.{ExplanationCall, RunsExplain}
 use Rattle.fedbundle.specs.Observe.{Fetched, IsAsHeld, RunsObserve}
 
 -- Where the source failed or memory ran out, nothing was written: the promise of `canon` at both.
@@ -17,10 +17,10 @@ canon_unread run domain SourceFailed failed same = inl (failed refl, same)
 canon_unread run domain NoMemoryForBytes failed same = same
 
 -- the same of `explain`
-pub explain_unread : (run : CommandRun) (m : Meaning) (domain : List ℕ) (e : DeviceError) → (e ≡ SourceFailed → HasFailed run.source)
-    → WritesNothing run.sink → RunsExplain run m domain (Err (of_read e))
-explain_unread run m domain SourceFailed failed same = inl (failed refl, same)
-explain_unread run m domain NoMemoryForBytes failed same = same
+pub explain_unread : (run : CommandRun) (m : Meaning) (call : ExplanationCall) (e : DeviceError)
+    → (e ≡ SourceFailed → HasFailed run.source) → WritesNothing run.sink → RunsExplain run m call (Err (of_read e))
+explain_unread run m call SourceFailed failed same = inl (failed refl, same)
+explain_unread run m call NoMemoryForBytes failed same = same
 
 -- the same of `observe`, which has observed nothing either
 pub observe_unread : (run : CommandRun) (state : StateRun) (fetched : Fetched) (e : DeviceError)

@@ -15,7 +15,8 @@ use Rattle.fedbundle.specs.declared.command_name.OptionName.TheVariants.{To, Rec
 use Rattle.fedbundle.specs.declared.command_name.OptionName.TheVariants.{OptionalState, With}
 use Rattle.fedbundle.specs.declared.command_name.OptionName.TheVariants.{At, Wait, MostBytes}
 use Rattle.fedbundle.specs.declared.command_name.OptionName.TheVariants.{Allow, DryRun, Verbose}
-use Rattle.fedbundle.specs.declared.command_name.OptionName.TheVariants.{OptionalDomain}
+use Rattle.fedbundle.specs.declared.command_name.OptionName.TheVariants.{OptionalDomain, Format}
+use Rattle.fedbundle.specs.declared.command_name.OptionName.TheVariants.{Short}
 
 abbrev pub option_text : OptionName → List ℕ
 option_text Config = codes "config"
@@ -38,12 +39,15 @@ option_text MostBytes = codes "most-bytes"
 option_text Allow = codes "allow"
 option_text DryRun = codes "dry-run"
 option_text Verbose = codes "verbose"
+option_text Format = codes "format"
+option_text Short = codes "short"
 
 -- it has no text after it
 abbrev pub is_flag : OptionName → Bool
 is_flag RecordsOnly = true
 is_flag DryRun = true
 is_flag Verbose = true
+is_flag Short = true
 is_flag option = false
 
 -- the words may leave it out
@@ -55,6 +59,7 @@ may_be_left_out At = true
 may_be_left_out Wait = true
 may_be_left_out MostBytes = true
 may_be_left_out Allow = true
+may_be_left_out Format = true
 may_be_left_out option = false
 
 -- it names a file that a running replica has itself, so words with `--at` leave it out
@@ -69,6 +74,7 @@ name_text command.Config = codes "config"
 name_text command.Report = codes "report"
 name_text command.List = codes "list"
 name_text command.Diff = codes "diff"
+name_text command.Status = codes "status"
 name_text command.Bundle = codes "bundle"
 name_text command.Explain = codes "explain"
 name_text command.Observe = codes "observe"
@@ -86,8 +92,9 @@ options_of command.Config = Config ∷ With ∷ []
 options_of command.Report = Config ∷ OptionalState ∷ []
 options_of command.List = Config ∷ State ∷ OptionalDomain ∷ Verbose ∷ []
 options_of command.Diff = Config ∷ State ∷ With ∷ Verbose ∷ []
-options_of command.Bundle = Config ∷ State ∷ Domain ∷ Verbose ∷ []
-options_of command.Explain = Config ∷ State ∷ Domain ∷ Verbose ∷ []
+options_of command.Status = Config ∷ State ∷ Format ∷ Verbose ∷ []
+options_of command.Bundle = Config ∷ State ∷ Domain ∷ Format ∷ Verbose ∷ []
+options_of command.Explain = Config ∷ State ∷ Domain ∷ Short ∷ Verbose ∷ []
 options_of command.Observe = Config ∷ State ∷ Domain ∷ Endpoint ∷ Key ∷ Wait ∷ Verbose ∷ []
 options_of command.Merge = Config ∷ State ∷ Wait ∷ MostBytes ∷ Verbose ∷ []
 options_of command.Migrate = Config ∷ State ∷ To ∷ RecordsOnly ∷ []
@@ -99,8 +106,9 @@ options_of command.Pull = Config ∷ State ∷ Peer ∷ Wait ∷ MostBytes ∷ V
 
 abbrev pub all_names : List CommandName
 all_names = command.Canon ∷ command.Config ∷ command.Report ∷ command.List ∷ command.Diff
-    ∷ command.Bundle ∷ command.Explain ∷ command.Observe ∷ command.Merge ∷ command.Migrate
-    ∷ command.Reseed ∷ command.Polls ∷ command.Distrust ∷ command.Serve ∷ command.Pull ∷ []
+    ∷ command.Status ∷ command.Bundle ∷ command.Explain ∷ command.Observe ∷ command.Merge
+    ∷ command.Migrate ∷ command.Reseed ∷ command.Polls ∷ command.Distrust ∷ command.Serve
+    ∷ command.Pull ∷ []
 
 -- ---- the command, as clap knows it
 

@@ -29,6 +29,8 @@ pub enum OptionName {
     Allow,
     DryRun,
     Verbose,
+    Format,
+    Short,
 }
 
 /// A subcommand.
@@ -44,6 +46,8 @@ pub enum CommandName {
     List,
     /// Prints what only one of two state files holds.
     Diff,
+    /// Prints how a replica stands.
+    Status,
     /// Prints the current bundle of a domain.
     Bundle,
     /// Prints the receipts by which a document is accepted.
@@ -67,12 +71,13 @@ pub enum CommandName {
 }
 
 /// All subcommands, in the order in which help lists them.
-pub(crate) static COMMANDS: [CommandName; 15] = [
+pub(crate) static COMMANDS: [CommandName; 16] = [
     CommandName::Canon,
     CommandName::Config,
     CommandName::Report,
     CommandName::List,
     CommandName::Diff,
+    CommandName::Status,
     CommandName::Bundle,
     CommandName::Explain,
     CommandName::Observe,
@@ -111,6 +116,8 @@ impl OptionName {
             OptionName::Allow => "allow",
             OptionName::DryRun => "dry-run",
             OptionName::Verbose => "verbose",
+            OptionName::Format => "format",
+            OptionName::Short => "short",
         }
     }
 
@@ -120,7 +127,7 @@ impl OptionName {
     {
         matches!(
             self,
-            OptionName::RecordsOnly | OptionName::DryRun | OptionName::Verbose
+            OptionName::RecordsOnly | OptionName::DryRun | OptionName::Verbose | OptionName::Short
         )
     }
 
@@ -137,6 +144,7 @@ impl OptionName {
                 | OptionName::Wait
                 | OptionName::MostBytes
                 | OptionName::Allow
+                | OptionName::Format
         )
     }
 
@@ -168,10 +176,26 @@ static DIFF: [OptionName; 4] = [
     OptionName::Verbose,
 ];
 
-static STATE_DOMAIN: [OptionName; 4] = [
+static STATUS: [OptionName; 4] = [
+    OptionName::Config,
+    OptionName::State,
+    OptionName::Format,
+    OptionName::Verbose,
+];
+
+static BUNDLE: [OptionName; 5] = [
     OptionName::Config,
     OptionName::State,
     OptionName::Domain,
+    OptionName::Format,
+    OptionName::Verbose,
+];
+
+static EXPLAIN: [OptionName; 5] = [
+    OptionName::Config,
+    OptionName::State,
+    OptionName::Domain,
+    OptionName::Short,
     OptionName::Verbose,
 ];
 
@@ -252,6 +276,7 @@ impl CommandName {
             CommandName::Report => "report",
             CommandName::List => "list",
             CommandName::Diff => "diff",
+            CommandName::Status => "status",
             CommandName::Bundle => "bundle",
             CommandName::Explain => "explain",
             CommandName::Observe => "observe",
@@ -275,8 +300,9 @@ impl CommandName {
             CommandName::Report => REPORT.as_slice(),
             CommandName::List => LIST.as_slice(),
             CommandName::Diff => DIFF.as_slice(),
-            CommandName::Bundle => STATE_DOMAIN.as_slice(),
-            CommandName::Explain => STATE_DOMAIN.as_slice(),
+            CommandName::Status => STATUS.as_slice(),
+            CommandName::Bundle => BUNDLE.as_slice(),
+            CommandName::Explain => EXPLAIN.as_slice(),
             CommandName::Observe => OBSERVE.as_slice(),
             CommandName::Merge => MERGE.as_slice(),
             CommandName::Migrate => MIGRATE.as_slice(),

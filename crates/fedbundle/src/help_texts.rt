@@ -89,14 +89,32 @@ that holds it. It writes no file.
 Ends with 0 where both hold the same, and then nothing is printed; with 1 where they do
 not; with 1 and nothing printed where anything read is refused.";
 
+const STATUS_NOTES: &str = "\
+Reads the configuration and the state file, and nothing from standard input.
+
+Writes to standard output how the replica stands: the configuration's digest, how many
+receipts and records of distrust are held, and for each trust domain its current bundle
+with the keys of that, and how many bundles are accepted and are in conflict. It writes
+no file. A line `warning` at the end comes for each configured bundle without an X.509
+authority, for each distrusted key that a current bundle lists, and where more than nine
+tenths of the receipts or of the records of distrust are held that may be.
+
+--format json prints one object, and --format prometheus gauges in the text format of
+Prometheus. Both have whether there is a warning.
+
+Ends with 0; with 1 where there is a warning, and all is printed; with 1 and nothing
+printed where anything read is refused; with 2 where the format is none of the three.";
+
 const BUNDLE_NOTES: &str = "\
 Reads the configuration and the state file, and nothing from standard input.
 
-Writes to standard output the domain's current document in its canonical form, on a line.
-It writes no file.
+Writes to standard output the domain's current document in its canonical form, on a line;
+with --format pem the certificates of its X.509 authorities as PEM, none where it has no
+such authority. It writes no file.
 
 Ends with 0; with 1 where the domain has no current document, or where the configuration,
-the state or the name of the domain is refused.";
+the state or the name of the domain is refused; with 2 where the format is neither json
+nor pem.";
 
 const EXPLAIN_NOTES: &str = "\
 Reads the configuration, the state file, and from standard input a bundle document, JSON
@@ -104,6 +122,11 @@ of at most 1,048,576 bytes.
 
 Writes to standard output the receipts, a line each, of a shortest chain that leads from a
 configured document to this one; none for a configured document. It writes no file.
+
+With --short it writes a line for each receipt of the chain, the last one first, and then
+one for the configured document:
+  DOCUMENT_ID sequence N <- key KEY_ID of DOCUMENT_ID
+  DOCUMENT_ID configured
 
 Ends with 0; with 1 where the document is not accepted, or where anything read is refused.";
 
@@ -250,6 +273,8 @@ impl OptionName {
             OptionName::Allow => "DOMAIN",
             OptionName::DryRun => "",
             OptionName::Verbose => "",
+            OptionName::Format => "FORMAT",
+            OptionName::Short => "",
         }
     }
 
@@ -282,6 +307,8 @@ impl OptionName {
             OptionName::Allow => "A domain whose current bundle may be a seed in any case",
             OptionName::DryRun => "Prints what would change, and writes no file",
             OptionName::Verbose => "Says more on standard error",
+            OptionName::Format => "The format of what is printed; the formats are named below",
+            OptionName::Short => "Prints a short line for each step",
         }
     }
 }
@@ -299,6 +326,7 @@ impl CommandName {
             }
             CommandName::List => "Prints each receipt and each record of distrust that is held",
             CommandName::Diff => "Prints what only one of two states holds",
+            CommandName::Status => "Prints how the replica stands, and what needs attention",
             CommandName::Bundle => "Prints the current bundle of a domain",
             CommandName::Explain => {
                 "Prints the receipts by which the document on standard input is accepted"
@@ -330,11 +358,14 @@ impl CommandName {
             CommandName::Diff => {
                 "fedbundle diff --config <FILE> --state <FILE> --with <FILE> [--verbose]"
             }
+            CommandName::Status => {
+                "fedbundle status --config <FILE> --state <FILE> [--format <FORMAT>] [--verbose]"
+            }
             CommandName::Bundle => {
-                "fedbundle bundle --config <FILE> --state <FILE> --domain <DOMAIN> [--verbose]"
+                "fedbundle bundle --config <FILE> --state <FILE> --domain <DOMAIN> [--format <FORMAT>] [--verbose]"
             }
             CommandName::Explain => {
-                "fedbundle explain --config <FILE> --state <FILE> --domain <DOMAIN> [--verbose]"
+                "fedbundle explain --config <FILE> --state <FILE> --domain <DOMAIN> [--short] [--verbose]"
             }
             CommandName::Observe => {
                 "fedbundle observe --config <FILE> --state <FILE> --domain <DOMAIN> --endpoint <SPIFFE_ID> --key <KEY_ID> [--wait <SECONDS>] [--verbose]"
@@ -371,6 +402,7 @@ impl CommandName {
             CommandName::Report => REPORT_NOTES,
             CommandName::List => LIST_NOTES,
             CommandName::Diff => DIFF_NOTES,
+            CommandName::Status => STATUS_NOTES,
             CommandName::Bundle => BUNDLE_NOTES,
             CommandName::Explain => EXPLAIN_NOTES,
             CommandName::Observe => OBSERVE_NOTES,

@@ -4,6 +4,7 @@
 
 mod bundle;
 mod canon;
+mod chain_text;
 mod command_name;
 mod complaint;
 mod counts;
@@ -27,8 +28,9 @@ mod sessions;
 mod state;
 mod words;
 
-pub use bundle::run_bundle;
+pub use bundle::{run_bundle, run_bundle_pem};
 pub use canon::run_canon;
+pub use chain_text::ExplanationForm;
 pub use command_name::{CommandName, OptionName};
 pub use distrust::{run_distrust, show_distrust};
 pub use error::{CommandError, status};

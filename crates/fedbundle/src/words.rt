@@ -46,6 +46,16 @@ pub fn read_words<'a>(alloc: Global, words: &'a [&'a str]) -> Result<Call<'a>, W
     ensures { IfOk result (λ call. Calls (map (λ w. w.now) words.now) call.name
         (map (option_map (λ t. t.now)) call.texts.items)) }
 {
+    match parse_words(alloc, words) {
+        Err(WordsError::Words(error)) => Err(with_all_names(alloc, error)),
+        read => read,
+    }
+}
+
+fn parse_words<'a>(alloc: Global, words: &'a [&'a str]) -> Result<Call<'a>, WordsError>
+    ensures { IfOk result (λ call. Calls (map (λ w. w.now) words.now) call.name
+        (map (option_map (λ t. t.now)) call.texts.items)) }
+{
     let matches = command(alloc)?.try_get_matches_from(words)?;
     let Some((word, options)) = matches.subcommand() else {
         return Err(WordsError::Usage);
@@ -59,6 +69,30 @@ pub fn read_words<'a>(alloc: Global, words: &'a [&'a str]) -> Result<Call<'a>, W
     }
     let texts = texts_of(alloc, options, wanted)?;
     Ok(Call { name, texts })
+}
+
+// For a word that is no subcommand clap tips the one that is closest to it. That may be `distrust`,
+// which cannot be taken back. So all are named instead.
+fn with_all_names(alloc: Global, error: clap::Error) -> WordsError {
+    match error.kind() {
+        ErrorKind::InvalidSubcommand => match name_all(alloc, &error) {
+            Ok(named) => WordsError::Words(named),
+            Err(_) => WordsError::NoMemory,
+        },
+        _ => WordsError::Words(error),
+    }
+}
+
+fn name_all(alloc: Global, error: &clap::Error) -> Result<clap::Error, AllocError> {
+    let shown = format!(in alloc; "{error}")?;
+    let first = shown.lines().next().unwrap_or("");
+    let mut message = String::from_str(alloc, first.strip_prefix("error: ").unwrap_or(first))?;
+    message.push_str("\n\nThe subcommands are:")?;
+    'names: for name in COMMANDS.as_slice() {
+        message.push_str(" ")?;
+        message.push_str(name.text())?;
+    }
+    command(alloc)?.error(ErrorKind::InvalidSubcommand, message.as_str())
 }
 
 impl From<AllocError> for WordsError {

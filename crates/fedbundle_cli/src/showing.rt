@@ -6,8 +6,12 @@ use crate::options::{given, wanted};
 use crate::streams::{complaints, input, output};
 use crate::{anew, distrusting, options, printing, viewing};
 use fed_config::Config;
-use fedbundle::{Call, CommandName, OptionName, run_bundle, run_explain, run_migrate, run_polls};
+use fedbundle::{
+    Call, CommandName, ExplanationForm, OptionName, run_bundle, run_bundle_pem, run_explain,
+    run_migrate, run_polls,
+};
 use migration::Choice;
+use spiffe_name::TrustDomain;
 use trust_closure::IndexedClosure;
 
 /// Shows what the command asks for, of what the state file holds.
@@ -26,8 +30,9 @@ fn show_of(
         CommandName::Report => printing::report_state(rt, closure),
         CommandName::List => viewing::list(rt, closure, call),
         CommandName::Diff => viewing::diff(rt, config, closure, call),
-        CommandName::Bundle => bundle(rt, closure, wanted(call, OptionName::Domain)?),
-        CommandName::Explain => explain(rt, closure, wanted(call, OptionName::Domain)?),
+        CommandName::Status => viewing::status(rt, closure, call),
+        CommandName::Bundle => bundle(rt, closure, call),
+        CommandName::Explain => explain(rt, closure, call),
         CommandName::Migrate => migrate(rt, closure, call),
         CommandName::Reseed => anew::reseed(rt, closure, call),
         CommandName::Polls => polls(rt, closure, wanted(call, OptionName::Now)?),
@@ -36,21 +41,41 @@ fn show_of(
     }
 }
 
-fn bundle(rt: &HostRuntime, closure: &IndexedClosure, domain: &str) -> Result<u8, Exit> {
-    let domain = options::domain(rt.alloc(), domain)?;
-    if run_bundle(closure, &domain, &mut output(rt))? {
+fn bundle(rt: &HostRuntime, closure: &IndexedClosure, call: &Call<'_>) -> Result<u8, Exit> {
+    let domain = options::domain(rt.alloc(), wanted(call, OptionName::Domain)?)?;
+    let is_printed = match given(call, OptionName::Format) {
+        None | Some("json") => run_bundle(closure, &domain, &mut output(rt))?,
+        Some("pem") => run_bundle_pem(rt.alloc(), closure, &domain, &mut output(rt))?,
+        Some(_) => return Err(Exit::Usage),
+    };
+    if is_printed {
         Ok(0)
     } else {
         Err(Exit::NoBundle)
     }
 }
 
-fn explain(rt: &HostRuntime, closure: &IndexedClosure, domain: &str) -> Result<u8, Exit> {
-    let domain = options::domain(rt.alloc(), domain)?;
+fn explain(rt: &HostRuntime, closure: &IndexedClosure, call: &Call<'_>) -> Result<u8, Exit> {
+    let domain = options::domain(rt.alloc(), wanted(call, OptionName::Domain)?)?;
+    let form = if given(call, OptionName::Short) == Some("true") {
+        ExplanationForm::Steps
+    } else {
+        ExplanationForm::Receipts
+    };
+    explain_in(rt, closure, &domain, form)
+}
+
+fn explain_in(
+    rt: &HostRuntime,
+    closure: &IndexedClosure,
+    domain: &TrustDomain,
+    form: ExplanationForm,
+) -> Result<u8, Exit> {
     if run_explain(
         rt.alloc(),
         closure,
-        &domain,
+        domain,
+        form,
         &mut input(rt),
         &mut output(rt),
     )? {

@@ -1,4 +1,4 @@
-// What a state file holds, or only one of two, printed.
+// What a state file holds, or only one of two, and how the replica stands, printed.
 use crate::exit::Exit;
 use crate::keeping::load;
 use crate::options;
@@ -8,6 +8,7 @@ use fed_config::Config;
 use fedbundle::{Call, CommandError, OptionName};
 use replica_view::{write_held, write_held_difference};
 use spiffe_name::TrustDomain;
+use status_view::{StatusFormat, write_status};
 use trust_closure::IndexedClosure;
 
 /// Prints each receipt and each record of distrust, or those of a domain.
@@ -52,5 +53,27 @@ fn compare(rt: &HostRuntime, one: &IndexedClosure, other: &IndexedClosure) -> Re
     match write_held_difference(rt.alloc(), one, other, &mut output(rt)) {
         Ok(is_same) => Ok(u8::from(!is_same)),
         Err(error) => Err(Exit::Refused(CommandError::from(error))),
+    }
+}
+
+/// Prints how the replica stands. Where there is a warning the exit status is 1.
+pub(crate) fn status(
+    rt: &HostRuntime,
+    closure: &IndexedClosure,
+    call: &Call<'_>,
+) -> Result<u8, Exit> {
+    let format = status_format(given(call, OptionName::Format))?;
+    match write_status(rt.alloc(), closure, format, &mut output(rt)) {
+        Ok(is_warned) => Ok(u8::from(is_warned)),
+        Err(error) => Err(Exit::Refused(CommandError::from(error))),
+    }
+}
+
+fn status_format(text: Option<&str>) -> Result<StatusFormat, Exit> {
+    match text {
+        None | Some("text") => Ok(StatusFormat::Text),
+        Some("json") => Ok(StatusFormat::Json),
+        Some("prometheus") => Ok(StatusFormat::Prometheus),
+        Some(_) => Err(Exit::Usage),
     }
 }

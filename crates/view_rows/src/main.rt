@@ -9,6 +9,8 @@
 //!   is its configuration.
 //! - `diff CONFIG NAME = LINES`: what is printed of what only one of two replicas holds: that one,
 //!   and another that was given the text of this name.
+//! - `status CONFIG FORMAT = LINES`: what is printed of how that replica stands, in one of the
+//!   formats `text`, `json` and `prometheus`, and whether there is a warning.
 #![tactic(auto)]
 
 mod configurations;
@@ -42,6 +44,7 @@ impl Rows for Calls {
             "difference" => configurations::compare(self.alloc, script, row.words, text, answer),
             "list" => list(self.alloc, script, row.words, text, answer),
             "diff" => diff(self.alloc, script, row.words, text, answer),
+            "status" => status(self.alloc, script, row.words, text, answer),
             _ => answer.push_str("unknown verb\n"),
         }
     }
@@ -65,4 +68,14 @@ fn diff(
     answer: &mut String,
 ) -> Result<(), AllocError> {
     states::compare::<IndexedClosure>(alloc, script, words, lines, answer)
+}
+
+fn status(
+    alloc: Global,
+    script: &Script,
+    words: &str,
+    lines: &[u8],
+    answer: &mut String,
+) -> Result<(), AllocError> {
+    states::stand::<IndexedClosure>(alloc, script, words, lines, answer)
 }

@@ -8,6 +8,7 @@ use receipt_core::{Distrust, Receipt};
 use replica_view::{write_held, write_held_difference};
 use row_script::Script;
 use spiffe_name::TrustDomain;
+use status_view::{StatusFormat, write_status};
 use std::alloc::{AllocError, Global};
 
 /// Tells what is printed of what a replica holds that was given these lines: `CONFIG`, or `CONFIG
@@ -73,6 +74,45 @@ fn show_difference<C: Closure>(
     match write_held_difference(alloc, one, other, &mut sink) {
         Ok(true) => answer.push_str("the same\n")?,
         Ok(false) => answer.push_str("different\n")?,
+        Err(error) => write!(answer, "{error}\n")?,
+    }
+    script.show_lines(sink.as_bytes(), answer)
+}
+
+/// Tells how a replica stands that was given these lines: `CONFIG FORMAT`.
+pub(crate) fn stand<C: Closure>(
+    alloc: Global,
+    script: &Script,
+    words: &str,
+    lines: &[u8],
+    answer: &mut String,
+) -> Result<(), AllocError> {
+    let (config, format) = words.split_once(" ").unwrap_or((words, ""));
+    match replica_of::<C>(alloc, script, config, lines)? {
+        Some(replica) => show_status(alloc, script, &replica, format_of(format), answer),
+        None => answer.push_str("no replica\n"),
+    }
+}
+
+fn format_of(word: &str) -> StatusFormat {
+    match word {
+        "json" => StatusFormat::Json,
+        "prometheus" => StatusFormat::Prometheus,
+        _ => StatusFormat::Text,
+    }
+}
+
+fn show_status<C: Closure>(
+    alloc: Global,
+    script: &Script,
+    replica: &C,
+    format: StatusFormat,
+    answer: &mut String,
+) -> Result<(), AllocError> {
+    let mut sink = MemSink::new(alloc, AMPLE_ROOM)?;
+    match write_status(alloc, replica, format, &mut sink) {
+        Ok(true) => answer.push_str("a warning\n")?,
+        Ok(false) => answer.push_str("no warning\n")?,
         Err(error) => write!(answer, "{error}\n")?,
     }
     script.show_lines(sink.as_bytes(), answer)

@@ -3,7 +3,7 @@ use Rattle.std.specs.List.{list_all}
 use Rattle.clap.specs.Words.{found_of, is_simple, rows_of, subcommand_of}
 use Rattle.fedbundle.specs.Words.{given, is_settled_in}
 use Rattle.fedbundle.proofs.WordsFacts.{joined_parts, simple_command}
-use Rattle.fedbundle.proofs.words.read_words.Goals as goal
+use Rattle.fedbundle.proofs.words.parse_words.Goals as goal
 
 pub returns : goal.returns
 returns c =

@@ -1,0 +1,2 @@
+mod PieceFacts
+mod StatusFacts

@@ -1,0 +1,22 @@
+use Rattle.std.proofs.Common.{codes, decimal}
+use Rattle.hex.specs.Hex.{encode_lower}
+use Rattle.status_view.proofs.PieceFacts.{two}
+use Rattle.status_view.proofs.json_writer.push_counts.Goals as goal
+
+pub returns : goal.returns
+returns c =
+    two c.args.out.now.items
+    (codes "\"config\":\"") _ _ _ c.in_ok-extend_from_slice.ensures.items
+    (two c.extend_from_slice.new.self.items
+    (encode_lower c.args.status.now.config.0) _ _ _ c.in_ok-push_digits.ensures
+    (two c.push_digits.new.out.items
+    (codes "\",\"receipts\":") _ _ _ c.in_ok-extend_from_slice-2.ensures.items
+    (two c.extend_from_slice-2.new.self.items
+    (decimal c.args.status.now.receipts) _ _ _ c.in_ok-push_number.ensures
+    (two c.push_number.new.out.items
+    (codes ",\"receipt_limit\":65536,\"pending\":") _ _ _ c.in_ok-extend_from_slice-3.ensures.items
+    (two c.extend_from_slice-3.new.self.items
+    (decimal c.args.status.now.pending) _ _ _ c.in_ok-push_number-2.ensures
+    (two c.push_number-2.new.out.items (codes ",\"record_limit\":4096,\"records\":")
+    (decimal c.args.status.now.records) _ _ c.in_ok-extend_from_slice-4.ensures.items
+    c.in_ok-push_number-3.ensures))))))

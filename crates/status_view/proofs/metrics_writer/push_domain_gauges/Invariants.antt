@@ -1,0 +1,8 @@
+use Rattle.std.proofs.Common.{◌≡◌, ◌++◌, drop, flat_map}
+use Rattle.status_view.specs.StatusMetrics.{domain_gauge_text}
+use Rattle.status_view.proofs.metrics_writer.push_domain_gauges.Given as goal
+
+abbrev pub invariant-loop-gauge : goal.invariant-loop-gauge
+invariant-loop-gauge l =
+    l.out.items ++ flat_map (domain_gauge_text l.status) (drop l.gauge-index l.gauge-items)
+    ≡ l.initial.out.items ++ flat_map (domain_gauge_text l.status) l.gauge-items

@@ -1,0 +1,7 @@
+use Rattle.std.proofs.Common.{◌≡◌, ◌++◌, drop, flat_map}
+use Rattle.status_view.specs.StatusLines.{distrusted_key_line}
+use Rattle.status_view.proofs.text_writer.push_distrusted_keys.Given as goal
+
+abbrev pub invariant-loop-key : goal.invariant-loop-key
+invariant-loop-key l =
+    l.out.items ++ flat_map (distrusted_key_line l.domain) (drop l.key-index l.keys) ≡ l.initial.out.items ++ flat_map (distrusted_key_line l.domain) l.keys

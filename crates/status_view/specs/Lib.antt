@@ -1,0 +1,8 @@
+-- `Status` has what a status says, the others how it is written; `Inside` has how far the work has
+-- come.
+pub mod Status
+pub mod StatusLines
+pub mod StatusJson
+pub mod StatusMetrics
+pub mod StatusRuns
+pub mod Inside

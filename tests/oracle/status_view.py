@@ -1,0 +1,172 @@
+#!/usr/bin/env python3
+"""Prints what `fedbundle status` prints for a configuration and a state file, in one of its three formats.
+
+It is written from the rules alone, with Python's own json and hashlib and with canon.py and report.py, and shares
+nothing with the program. It takes files that are well formed, and refuses nothing. A state file that is not there holds
+nothing.
+
+usage: status_view.py CONFIG STATE [text|json|prometheus]     the exit status is 1 where there is a warning
+"""
+import json
+import os
+import sys
+
+from report import Document, accepted_of, config_id
+
+RECEIPT_LIMIT, RECORD_LIMIT = 65536, 4096
+GAUGES = {
+    "fedbundle_receipts": "Receipts that are held.",
+    "fedbundle_receipt_limit": "The most receipts that are held.",
+    "fedbundle_pending_receipts": "Held receipts that no accepted bundle vouches for.",
+    "fedbundle_distrust_records": "Records of distrust that are held.",
+    "fedbundle_distrust_record_limit": "The most records of distrust that are held.",
+    "fedbundle_keyless_configured_bundles": "Configured bundles without an X.509 authority.",
+    "fedbundle_warning": "1 where status has a warning, and else 0.",
+}
+DOMAIN_GAUGES = {
+    "fedbundle_current_bundle_info": "The id of the current bundle of a trust domain.",
+    "fedbundle_current_sequence": "The sequence number of the current bundle, if it has one.",
+    "fedbundle_current_refresh_hint_seconds": "The refresh hint of the current bundle, if it has one.",
+    "fedbundle_current_keys": "Different keys of X.509 authorities in the current bundle.",
+    "fedbundle_current_distrusted_keys": "Those of these keys that are distrusted.",
+    "fedbundle_accepted_bundles": "Accepted bundles of a trust domain.",
+    "fedbundle_conflicts": "Sequence numbers that several accepted bundles have.",
+}
+
+
+def domains_of(config):
+    named = {r["domain"] for r in config["relationships"]} | {s["domain"] for s in config["seeds"]}
+    return sorted(named | {r["endpoint"].removeprefix("spiffe://").split("/")[0] for r in config["relationships"]})
+
+
+def current_of(document, distrusted):
+    keys = [{"id": key, "distrusted": (document.domain, key) in distrusted} for key in sorted(document.keys)]
+    return {"id": document.id, "sequence": document.sequence,
+            "refresh_hint": document.value.get("spiffe_refresh_hint"), "keys": keys}
+
+
+def domain_of(domain, accepted, distrusted):
+    documents = sorted((d for d in accepted if d.domain == domain), key=Document.order)
+    sequences = [d.sequence for d in documents if d.sequence is not None]
+    return {"domain": domain, "current": current_of(documents[-1], distrusted) if documents else None,
+            "accepted": len(documents), "conflicts": sum(sequences.count(s) > 1 for s in set(sequences))}
+
+
+def keyless_of(config):
+    """The configured bundles without an X.509 authority, each once, rising by domain and then by canonical text."""
+    seeds = {(s["domain"], d.text): d for s in config["seeds"] for d in [Document(s["domain"], s["bundle"])]}
+    return [{"domain": d.domain, "id": d.id} for _, d in sorted(seeds.items()) if not d.keys]
+
+
+def status(config, lines):
+    told = [json.loads(line) for line in set(lines)]
+    receipts = [r for r in told if "doc" in r]
+    distrusted = {(r["domain"], r["distrust"]) for r in told if "distrust" in r}
+    accepted, pending = accepted_of(config, receipts, distrusted)
+    stands = {"config": config_id(config), "receipts": len(receipts), "receipt_limit": RECEIPT_LIMIT, "pending": pending,
+              "record_limit": RECORD_LIMIT, "records": len(distrusted),
+              "domains": [domain_of(domain, accepted, distrusted) for domain in domains_of(config)],
+              "keyless_seeds": keyless_of(config)}
+    return {**stands, "warning": bool(list(warnings(stands)))}
+
+
+def keys_of(domain):
+    return domain["current"]["keys"] if domain["current"] else []
+
+
+def warnings(stands):
+    for seed in stands["keyless_seeds"]:
+        yield f"warning: the configured bundle {seed['id']} of {seed['domain']} has no X.509 authority"
+    for domain in stands["domains"]:
+        for key in keys_of(domain):
+            if key["distrusted"]:
+                yield f"warning: the current bundle of {domain['domain']} lists the distrusted key {key['id']}"
+    if stands["receipts"] / RECEIPT_LIMIT > 0.9:
+        yield f"warning: of {RECEIPT_LIMIT} receipts held: {stands['receipts']}"
+    if stands["records"] / RECORD_LIMIT > 0.9:
+        yield f"warning: of {RECORD_LIMIT} records of distrust held: {stands['records']}"
+
+
+def or_none(number):
+    return "none" if number is None else number
+
+
+def text_lines(stands):
+    yield f"config {stands['config']}"
+    yield f"receipts {stands['receipts']} of {RECEIPT_LIMIT} pending {stands['pending']}"
+    yield f"records {stands['records']} of {RECORD_LIMIT}"
+    for domain in stands["domains"]:
+        yield f"domain {domain['domain']}"
+        current = domain["current"]
+        if current:
+            sequence, hint = or_none(current["sequence"]), or_none(current["refresh_hint"])
+            yield f"  current {current['id']} sequence {sequence} refresh-hint {hint}"
+        else:
+            yield "  current none"
+        yield from (f"  key {key['id']}" + (" distrusted" if key["distrusted"] else "") for key in keys_of(domain))
+        yield f"  accepted {domain['accepted']} conflicts {domain['conflicts']}"
+    yield from warnings(stands)
+
+
+def head(name, what):
+    yield f"# HELP {name} {what}"
+    yield f"# TYPE {name} gauge"
+
+
+def gauge_values(stands):
+    return [stands["receipts"], RECEIPT_LIMIT, stands["pending"], stands["records"], RECORD_LIMIT,
+            len(stands["keyless_seeds"]), int(stands["warning"])]
+
+
+def domain_values(domain):
+    """The value of each gauge of a domain, none for one that it lacks."""
+    current, counts = domain["current"], [domain["accepted"], domain["conflicts"]]
+    if not current:
+        return [None] * 5 + counts
+    keys = current["keys"]
+    return [1, current["sequence"], current["refresh_hint"], len(keys), sum(key["distrusted"] for key in keys)] + counts
+
+
+def escaped(text):
+    return text.replace("\\", "\\\\").replace('"', '\\"').replace("\n", "\\n")
+
+
+def samples(stands, name, place):
+    for domain in stands["domains"]:
+        value = domain_values(domain)[place]
+        labels = {"domain": domain["domain"]}
+        if name.endswith("_info") and domain["current"]:
+            labels["id"] = domain["current"]["id"]
+        if value is not None:
+            yield name + "{" + ",".join(f'{key}="{escaped(text)}"' for key, text in labels.items()) + "} " + str(value)
+
+
+def metric_lines(stands):
+    yield from head("fedbundle_config_info", "The configuration's digest.")
+    yield f'fedbundle_config_info{{digest="{stands["config"]}"}} 1'
+    for (name, what), value in zip(GAUGES.items(), gauge_values(stands)):
+        yield from head(name, what)
+        yield f"{name} {value}"
+    for place, (name, what) in enumerate(DOMAIN_GAUGES.items()):
+        yield from head(name, what)
+        yield from samples(stands, name, place)
+
+
+def lines_in(stands, shape):
+    if shape == "json":
+        return [json.dumps(stands, separators=(",", ":"))]
+    return list(metric_lines(stands) if shape == "prometheus" else text_lines(stands))
+
+
+if __name__ == "__main__":
+    configuration_file, state, *shapes = sys.argv[1:]
+    with open(configuration_file, encoding="utf-8") as file:
+        configuration = json.load(file)
+    held_lines = []
+    if os.path.exists(state):
+        with open(state, encoding="utf-8") as file:
+            held_lines = file.read().splitlines()[1:-1]
+    standing = status(configuration, held_lines)
+    for line in lines_in(standing, shapes[0] if shapes else "text"):
+        print(line)
+    sys.exit(int(standing["warning"]))
