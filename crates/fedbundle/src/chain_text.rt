@@ -102,7 +102,8 @@ fn push_brought(text: &mut Vec<u8>, receipt: &Receipt) -> Result<(), AllocError>
 {
     push_digits(text, &receipt.document().id(receipt.domain()).0)?;
     text.extend_from_slice(b" sequence ")?;
-    push_number_or_none(text, receipt.document().rank())
+    push_number_or_none(text, receipt.document().rank())?;
+    Ok(())
 }
 
 fn push_vouched(text: &mut Vec<u8>, receipt: &Receipt) -> Result<(), AllocError>
