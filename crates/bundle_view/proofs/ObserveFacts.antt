@@ -27,6 +27,7 @@ use Rattle.closure_core.specs.Refusals.{Room, RefusesReceipt, IsOfWrongEndpoint}
 use Rattle.closure_core.specs.Changes.{HeldAndRoom, TakesOk, IsUnchanged}
 use Rattle.closure_core.specs.AcceptedList.{document_of}
 use Rattle.closure_core.proofs.MemberFacts.{leads_more}
+use Rattle.bundle_view.specs.Conflicts.{id_in}
 use Rattle.bundle_view.specs.Current.{IsCurrent}
 use Rattle.bundle_view.specs.Observe.{IsEndpointOf, IsVouchedFor, IsObservation, HasObserved, of_document}
 use Rattle.bundle_view.specs.Observe.{RefusesEndpoint, RefusesVerdict, RefusesTaking, RefusesObservation}
@@ -126,15 +127,15 @@ meaning_of_took old new r TakenAlready valid took =
     ∙ ap (λ (rs : List Receipt). record old.meaning { held = rs }) (sym (sets.present r old.meaning.held valid.rising took.held))
 
 -- where the receipt was taken, the observation is made
-pub observed : (old new : HeldAndRoom) (domain bytes : List ℕ) (verdict : Verdict) (id : DocId) (document : Bundle)
-    (copy : Receipt) → IsMeaning old.meaning → IsReceipt (observed_of domain verdict id document)
+observed : (old new : HeldAndRoom) (domain bytes : List ℕ) (verdict : Verdict) (id : DocId) (document : Bundle)
+    → IsMeaning old.meaning → IsReceipt (observed_of domain verdict id document)
     → IsVoucher old.meaning domain verdict id → IsDocument bytes document
-    → HasKept old (observed_of domain verdict id document) new copy
-    → HasObserved old.meaning (fetched_as domain bytes verdict) new.meaning copy
-observed old new domain bytes verdict id document copy valid form is read kept =
+    → HasKept old (observed_of domain verdict id document) new
+    → HasObserved old.meaning (fetched_as domain bytes verdict) new.meaning (observed_of domain verdict id document)
+observed old new domain bytes verdict id document valid form is read kept =
     let r : Receipt = observed_of domain verdict id document in
     let meaning : new.meaning ≡ holding old.meaning r = meaning_of_took old new r kept.taken valid kept.took in
-    subst (HasObserved old.meaning (fetched_as domain bytes verdict) new.meaning) (sym kept.same) record {
+    record {
       observation = observation old.meaning domain bytes verdict id document is read;
       meaning = meaning;
       held = subst (λ (m : Meaning). Contains m.held r) (sym meaning) ((sets.members r r old.meaning.held form valid.receipts).1 (inl refl));
@@ -148,7 +149,7 @@ vouched_for : (m : Meaning) (domain : List ℕ) (verdict : Verdict) (id : DocId)
 vouched_for m domain verdict id is = (is.voucher, is.authentic)
 
 -- where memory ran out after the bytes were read, the observation is refused for that
-pub wants_memory : (m : Meaning) (domain bytes : List ℕ) (verdict : Verdict) (id : DocId) (document : Bundle)
+wants_memory : (m : Meaning) (domain bytes : List ℕ) (verdict : Verdict) (id : DocId) (document : Bundle)
     → IsVoucher m domain verdict id → IsDocument bytes document
     → RefusesObservation m (fetched_as domain bytes verdict) (Take NoMemory)
 wants_memory m domain bytes verdict id document is read = (vouched_for m domain verdict id is, read.short)
@@ -177,20 +178,18 @@ other_endpoint m domain verdict r form is e f wrong =
 -- where the receipt was not taken, the observation is refused for that
 untaken : (m : Meaning) (room : Room) (domain bytes : List ℕ) (verdict : Verdict) (id : DocId) (document : Bundle)
     (e : TakeError) → IsConfiguration m.config → IsVoucher m domain verdict id → IsDocument bytes document
-    → (e ≡ NoMemory) ⊎ RefusesReceipt m room (observed_of domain verdict id document) e → RefusesTaking m (fetched_as domain bytes verdict) e
-untaken m room domain bytes verdict id document e form is read (inl memory) =
-    subst (RefusesTaking m (fetched_as domain bytes verdict)) (sym memory) (wants_memory m domain bytes verdict id document is read)
-untaken m room domain bytes verdict id document UnknownDomain form is read (inr refuses) =
+    → RefusesReceipt m room (observed_of domain verdict id document) e → RefusesTaking m (fetched_as domain bytes verdict) e
+untaken m room domain bytes verdict id document UnknownDomain form is read refuses =
     refuses is.authentic.endpoint.relationship is.authentic.endpoint.found.0 is.authentic.endpoint.found.1
-untaken m room domain bytes verdict id document OtherEndpoint form is read (inr refuses) =
+untaken m room domain bytes verdict id document OtherEndpoint form is read refuses =
     other_endpoint m domain verdict (observed_of domain verdict id document) form is.authentic.endpoint refl refl refuses
-untaken m room domain bytes verdict id document Full form is read (inr refuses) =
+untaken m room domain bytes verdict id document Full form is read refuses =
     (observed_of domain verdict id document, observation m domain bytes verdict id document is read, refuses)
-untaken m room domain bytes verdict id document NoMemory form is read (inr refuses) = wants_memory m domain bytes verdict id document is read
-untaken m room domain bytes verdict id document ConfigDiffers form is read (inr refuses) = refuses
+untaken m room domain bytes verdict id document NoMemory form is read refuses = wants_memory m domain bytes verdict id document is read
+untaken m room domain bytes verdict id document ConfigDiffers form is read refuses = refuses
 
 -- where the receipt was not taken, nothing is observed and nothing lost
-pub not_kept : (old new : HeldAndRoom) (domain bytes : List ℕ) (verdict : Verdict) (id : DocId) (document : Bundle)
+not_kept : (old new : HeldAndRoom) (domain bytes : List ℕ) (verdict : Verdict) (id : DocId) (document : Bundle)
     (why : ObserveError) → IsConfiguration old.meaning.config → IsVoucher old.meaning domain verdict id
     → IsDocument bytes document → HasNotKept old (observed_of domain verdict id document) new why → HasNotObserved old (fetched_as domain bytes verdict) new why
 not_kept old new domain bytes verdict id document why form is read kept = record {
@@ -231,23 +230,32 @@ copied domain d verdict e id document r is same_domain same_endpoint =
     is ∙ ap (λ (n : List ℕ). record { domain = n; endpoint = e; document = document; voucher = id; key = verdict.key }) same_domain
     ∙ ap (λ (i : Id). record { domain = domain; endpoint = i; document = document; voucher = id; key = verdict.key }) same_endpoint
 
--- what comes of taking the receipt is what comes of the observation
-concluded : (old new : HeldAndRoom) (domain bytes : List ℕ) (verdict : Verdict) (id : DocId) (document : Bundle)
-    (result : Result Receipt ObserveError) → IsMeaning old.meaning → IsConfiguration old.meaning.config
-    → IsReceipt (observed_of domain verdict id document) → IsVoucher old.meaning domain verdict id → IsDocument bytes document
-    → MatchResult result (HasKept old (observed_of domain verdict id document) new) (HasNotKept old (observed_of domain verdict id document) new)
-    → MatchResult result (HasObserved old.meaning (fetched_as domain bytes verdict) new.meaning) (HasNotObserved old (fetched_as domain bytes verdict) new)
-concluded old new domain bytes verdict id document (Ok copy) valid config form is read kept =
-    observed old new domain bytes verdict id document copy valid form is read kept
-concluded old new domain bytes verdict id document (Err why) valid config form is read kept =
-    not_kept old new domain bytes verdict id document why config is read kept
+-- the receipt that was made is that of the observation
+pub observation_made : (m : Meaning) (domain bytes : List ℕ) (verdict : Verdict) (id : DocId) (document : Bundle) (r : Receipt)
+    → r ≡ observed_of domain verdict id document → IsVoucher m domain verdict id → IsDocument bytes document
+    → IsObservation m (fetched_as domain bytes verdict) r
+observation_made m domain bytes verdict id document r e is read =
+    subst (IsObservation m (fetched_as domain bytes verdict)) (sym e) (observation m domain bytes verdict id document is read)
 
--- the same for the receipt as the code made it
-pub ended : (old new : HeldAndRoom) (domain bytes : List ℕ) (verdict : Verdict) (id : DocId) (document : Bundle)
-    (r : Receipt) (result : Result Receipt ObserveError) → r ≡ observed_of domain verdict id document
-    → IsMeaning old.meaning → IsConfiguration old.meaning.config → IsReceipt r → IsVoucher old.meaning domain verdict id → IsDocument bytes document
-    → MatchResult result (HasKept old r new) (HasNotKept old r new)
-    → MatchResult result (HasObserved old.meaning (fetched_as domain bytes verdict) new.meaning) (HasNotObserved old (fetched_as domain bytes verdict) new)
-ended old new domain bytes verdict id document r result e valid config form is read kept =
-    concluded old new domain bytes verdict id document result valid config (subst IsReceipt e form) is read
-    (subst (λ (x : Receipt). MatchResult result (HasKept old x new) (HasNotKept old x new)) e kept)
+-- where memory ran out once there is an observation, it is refused for that
+pub memory_for : (m : Meaning) (fetched : FetchedBundle) (r : Receipt) → IsObservation m fetched r
+    → RefusesObservation m fetched (Take NoMemory)
+memory_for m fetched r o = ((o.voucher, o.authentic), o.read.short)
+
+-- the voucher of an observation
+voucher_of : (m : Meaning) (fetched : FetchedBundle) (r : Receipt) (o : IsObservation m fetched r)
+    → IsVoucher m fetched.domain fetched.verdict (id_in fetched.verdict.endpoint.domain o.voucher)
+voucher_of m fetched r o = record { voucher = o.voucher; authentic = o.authentic; is = refl }
+
+-- what comes of taking the receipt is what comes of the observation
+pub concluded : (old new : HeldAndRoom) (fetched : FetchedBundle) (r : Receipt) (result : Result (Unit {0}) ObserveError)
+    → IsMeaning old.meaning → IsConfiguration old.meaning.config → IsReceipt r → IsObservation old.meaning fetched r
+    → MatchResult result (λ _. HasKept old r new) (HasNotKept old r new)
+    → MatchResult result (λ _. HasObserved old.meaning fetched new.meaning r) (HasNotObserved old fetched new)
+concluded old new fetched r (Ok _) valid config form o kept =
+    subst (HasObserved old.meaning fetched new.meaning) (sym o.is)
+    (observed old new fetched.domain fetched.bytes fetched.verdict (id_in fetched.verdict.endpoint.domain o.voucher) o.document valid
+    (subst IsReceipt o.is form) (voucher_of old.meaning fetched r o) o.read (subst (λ (x : Receipt). HasKept old x new) o.is kept))
+concluded old new fetched r (Err why) valid config form o kept =
+    not_kept old new fetched.domain fetched.bytes fetched.verdict (id_in fetched.verdict.endpoint.domain o.voucher) o.document why config
+    (voucher_of old.meaning fetched r o) o.read (subst (λ (x : Receipt). HasNotKept old x new why) o.is kept)

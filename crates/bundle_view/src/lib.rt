@@ -19,7 +19,7 @@ pub use conflict::{Conflict, ConflictKind, conflicts};
 pub use current_document::current;
 pub use error::ReportError;
 pub use explanation::explain;
-pub use observation::{Verdict, observe};
+pub use observation::{Verdict, observe, observed_receipt, take_observed};
 pub use observe_error::ObserveError;
 pub use poll_log::{PollError, PollLog, interval, read_polls, read_seconds, wait};
 pub use report_writer::write_report;

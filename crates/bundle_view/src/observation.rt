@@ -5,8 +5,9 @@ ghost use Rattle.std.specs.Prelude.{MatchResult};
 ghost use Rattle.fed_config.specs.Configuration.{IsConfiguration};
 ghost use Rattle.receipt_core.specs.Acceptance.{IsMeaning};
 ghost use Rattle.receipt_core.specs.Receipt.{IsReceipt};
-ghost use Rattle.bundle_view.specs.Observe.{HasNotObserved, HasObserved, IsEndpointOf};
-ghost use Rattle.bundle_view.specs.Observe.{RefusesEndpoint, RefusesVerdict};
+ghost use Rattle.bundle_view.specs.Observe.{FetchedBundle, HasNotObserved, HasObserved};
+ghost use Rattle.bundle_view.specs.Observe.{IsEndpointOf, IsObservation, RefusesEndpoint};
+ghost use Rattle.bundle_view.specs.Observe.{RefusesObservation, RefusesVerdict};
 ghost use Rattle.bundle_view.specs.Inside.Observing.{HasKept, HasNotKept, IsVoucher};
 
 use crate::current_document::current;
@@ -64,6 +65,29 @@ pub fn observe<C: Closure>(
         (record { domain = domain.now; bytes = bytes.now; verdict = verdict.now })
         (C.state closure.new)) }
 {
+    let receipt = observed_receipt(alloc, closure, domain, bytes, verdict)?;
+    let copy = receipt.try_clone(alloc)?;
+    take_observed(closure, receipt)?;
+    Ok(copy)
+}
+
+/// The receipt that [`observe`] takes of a bundle that was fetched. Nothing is taken here.
+///
+/// # Errors
+/// Those of [`observe`] but `Full`.
+pub fn observed_receipt<C: Closure>(
+    alloc: Global,
+    closure: &C,
+    domain: &TrustDomain,
+    bytes: &[u8],
+    verdict: &Verdict,
+) -> Result<Receipt, ObserveError>
+    ensures { MatchResult result
+        (IsObservation (C.state closure.now).meaning
+        (record { domain = domain.now; bytes = bytes.now; verdict = verdict.now }))
+        (RefusesObservation (C.state closure.now).meaning
+        (record { domain = domain.now; bytes = bytes.now; verdict = verdict.now })) }
+{
     let voucher = find_voucher(closure, domain, verdict)?;
     let document = Document::read(alloc, bytes)?;
     let receipt = Receipt::new(
@@ -74,7 +98,22 @@ pub fn observe<C: Closure>(
         voucher,
         verdict.key,
     )?;
-    keep(alloc, closure, receipt)
+    Ok(receipt)
+}
+
+/// Takes a receipt that [`observed_receipt`] returned of what is held: its document is accepted
+/// from now on.
+///
+/// # Errors
+/// What is held stays. [`ObserveError::Take`] with `Full`: the receipt is not held, and 65,536 are;
+/// or with `NoMemory`: memory ran out.
+pub fn take_observed<C: Closure>(closure: &mut C, receipt: Receipt) -> Result<(), ObserveError>
+    ensures { (fetched : FetchedBundle)
+        → IsObservation (C.state closure.old).meaning fetched receipt → MatchResult result
+        (λ _. HasObserved (C.state closure.old).meaning fetched (C.state closure.new).meaning receipt)
+        (HasNotObserved (C.state closure.old) fetched (C.state closure.new)) }
+{
+    keep(closure, receipt)
 }
 
 /// The id of the current document of the endpoint's trust domain, where the verdict is one that the
@@ -120,14 +159,9 @@ fn check_endpoint(
     }
 }
 
-/// Takes the receipt, and returns a copy of it, which is made before: so nothing is refused once it
-/// is taken.
-fn keep<C: Closure>(
-    alloc: Global,
-    closure: &mut C,
-    receipt: Receipt,
-) -> Result<Receipt, ObserveError>
-    ensures kept { MatchResult result (HasKept (C.state closure.old) receipt (C.state closure.new))
+fn keep<C: Closure>(closure: &mut C, receipt: Receipt) -> Result<(), ObserveError>
+    ensures kept { MatchResult result
+        (λ _. HasKept (C.state closure.old) receipt (C.state closure.new))
         (HasNotKept (C.state closure.old) receipt (C.state closure.new)) }
     ensures form { IsReceipt receipt }
     ensures valid { IsMeaning (C.state closure.old).meaning }
@@ -136,9 +170,8 @@ fn keep<C: Closure>(
     // What these lend tells the form of the receipt and of the configuration.
     let _domain = receipt.domain();
     let _domains = closure.config().domains();
-    let copy = receipt.try_clone(alloc)?;
     match closure.take(receipt) {
-        Ok(_) => Ok(copy),
+        Ok(_) => Ok(()),
         Err(refused) => Err(ObserveError::Take(refused.why)),
     }
 }

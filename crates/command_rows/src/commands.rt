@@ -139,7 +139,7 @@ fn do_under_config<C: Closure>(
     match (asked.name, asked.given) {
         (CommandName::Config, [None]) => print_config(case.alloc, config, devices),
         (CommandName::Config, [Some(with)]) => compare_configs(case, config, with, devices),
-        (CommandName::Report, [None]) => report::<C>(case, config, devices),
+        (CommandName::Report, [None, _]) => report::<C>(case, config, devices),
         (name, [Some(state), given @ ..]) => {
             let file = case.script.text(state);
             do_over_file::<C>(case, Asked { name, given }, config, file, devices)
@@ -270,11 +270,11 @@ fn do_asked<C: Closure>(
 ) -> Result<(), CommandError> {
     let (input, output) = (&mut devices.input, &mut devices.output);
     match (asked.name, asked.given) {
-        (CommandName::Report, []) => report_held(case.alloc, closure, devices),
+        (CommandName::Report, [_]) => report_held(case.alloc, closure, devices),
         (CommandName::List, [domain, _]) => list_held(case, closure, *domain, devices),
         (CommandName::Diff, [Some(with), _]) => compare_held(case, closure, with, devices),
-        (CommandName::Bundle, [Some(domain), _]) => bundle(case, closure, domain, devices),
-        (CommandName::Explain, [Some(domain), _]) => explain(case, closure, domain, devices),
+        (CommandName::Bundle, [Some(domain), ..]) => bundle(case, closure, domain, devices),
+        (CommandName::Explain, [Some(domain), ..]) => explain(case, closure, domain, devices),
         (CommandName::Observe, [Some(domain), Some(endpoint), Some(key), ..]) => {
             observe(case, closure, domain, endpoint, key, devices)
         }
@@ -282,7 +282,7 @@ fn do_asked<C: Closure>(
         (CommandName::Migrate, [Some(to), Some(records_only)]) => {
             migrate(case, closure, to, records_only, devices)
         }
-        (CommandName::Polls, [Some(now), _]) => polls(case, closure, now, devices),
+        (CommandName::Polls, [Some(now), ..]) => polls(case, closure, now, devices),
         (CommandName::Distrust, [Some(domain), Some(key), flags @ ..]) => {
             let record = record_of(case.alloc, domain, key)?;
             distrust(case, closure, &record, flags, devices)
@@ -430,7 +430,7 @@ fn distrust<C: Closure>(
     if is_dry(flags) {
         return show_distrust(case.alloc, closure, record, &mut devices.output);
     }
-    if flags.last() == Some(&Some("true")) {
+    if flags.get(2) == Some(&Some("true")) {
         let _ = show_distrust(case.alloc, closure, record, &mut devices.errors);
     }
     run_distrust(closure, &record.domain, record.key)

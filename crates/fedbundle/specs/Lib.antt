@@ -19,6 +19,7 @@ pub mod SameSets
 pub mod Serve
 pub mod Sessions
 pub mod Status
+pub mod Exits
 pub mod Stream
 pub mod Words
 pub mod Inside

@@ -6,7 +6,7 @@ ghost use Rattle.fedbundle.specs.Observe.{RunsObserve};
 
 use crate::error::CommandError;
 use bundle_doc::MAX_DOCUMENT_BYTES;
-use bundle_view::{Verdict, observe};
+use bundle_view::{Verdict, observed_receipt, take_observed};
 use byte_lines::{Sink, Source, read_up_to, write_all};
 use closure_core::Closure;
 use receipt_core::Receipt;
@@ -37,11 +37,36 @@ pub fn run_observe<C: Closure, R: Source, W: Sink>(
         (state_run (C.state closure.old) (C.state closure.new))
         (record { domain = domain.now; verdict = verdict.now }) result }
 {
-    let bytes = read_up_to(alloc, source, MAX_DOCUMENT_BYTES + 1)?;
-    let receipt = observe(alloc, closure, domain, bytes.as_slice(), verdict)?;
-    let text = render(alloc, &receipt)?;
-    write_all(sink, text.as_slice())?;
+    let observed = prepare_observe(alloc, closure, domain, verdict, source)?;
+    take_observed(closure, observed.receipt)?;
+    write_all(sink, observed.line.as_slice())?;
     Ok(())
+}
+
+/// A receipt that a bundle makes, before it is taken.
+#[derive(Debug, Drop)]
+pub struct Observed {
+    pub receipt: Receipt,
+    /// The receipt's line, with its line feed.
+    pub line: Vec<u8>,
+}
+
+/// The first half of [`run_observe`], which takes all its memory but for the receipt's place in
+/// what is held. Nothing is taken or written.
+///
+/// # Errors
+/// Those of [`run_observe`] before anything is taken.
+pub fn prepare_observe<C: Closure, R: Source>(
+    alloc: Global,
+    closure: &C,
+    domain: &TrustDomain,
+    verdict: &Verdict,
+    source: &mut R,
+) -> Result<Observed, CommandError> {
+    let bytes = read_up_to(alloc, source, MAX_DOCUMENT_BYTES + 1)?;
+    let receipt = observed_receipt(alloc, closure, domain, bytes.as_slice(), verdict)?;
+    let line = render(alloc, &receipt)?;
+    Ok(Observed { receipt, line })
 }
 
 fn render(alloc: Global, receipt: &Receipt) -> Result<Vec<u8>, AllocError>

@@ -1,14 +1,11 @@
 // The subcommands: the words are read, then the configuration, and then the command is carried out
 // by what it does with a state: it needs none, it shows what is held, it changes that, or it
 // talks with another replica.
-use crate::exit::{Exit, print_clap};
-use crate::options::{given, wanted};
+use crate::exit::print_clap;
 use crate::streams::{complaints, input, output};
 use crate::{changing, command_line, exchange, options, printing, showing};
 use fed_config::Config;
-use fedbundle::{
-    Call, CommandError, CommandName, OptionName, WordsError, read_words, run_canon, run_report,
-};
+use fedbundle::{Call, CommandError, CommandName, Exit, OptionName, WordsError, given, manner_of, read_words, run_canon, run_report, wanted};
 
 /// What the words ask for, done: the exit status 0, or 1 where an input was refused and the rest is
 /// done.
@@ -34,7 +31,7 @@ fn carry_out(rt: &HostRuntime, call: &Call<'_>) -> Result<u8, Exit> {
     if has_empty_path(call) {
         return Err(Exit::Usage);
     }
-    options::manner_of(call)?;
+    manner_of(call)?;
     match call.name {
         CommandName::Canon => canon(rt, wanted(call, OptionName::Domain)?),
         CommandName::Serve => serve(rt, call),
@@ -49,6 +46,7 @@ fn has_empty_path(call: &Call<'_>) -> bool {
         OptionName::OptionalState,
         OptionName::To,
         OptionName::With,
+        OptionName::At,
     ];
     paths.iter().any(|option| given(call, *option) == Some(""))
 }

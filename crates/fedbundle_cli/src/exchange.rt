@@ -2,17 +2,14 @@
 // reads the address, and opens the socket before a session begins; `pull` saves the state at the
 // end.
 use crate::connection::{Connection, accept, connect, listen};
-use crate::exit::{Exit, print_exit};
+use crate::exit::print_exit;
 use crate::keeping::{Keeping, keeping_of, load, lock, look, room_left, save};
 use crate::limited::Limited;
 use crate::options;
 use crate::streams::{error_lines, output_line};
 use byte_lines::{FromRead, FromWrite};
 use fed_config::Config;
-use fedbundle::{
-    Call, CommandError, OptionName, SeenState, journal_path, run_pull, run_serve, see_state,
-    write_served,
-};
+use fedbundle::{Call, CommandError, Exit, OptionName, SeenState, journal_path, run_pull, run_serve, see_state, wanted, write_served};
 use std::io::{Read, Write};
 use std::net::{SocketAddr, TcpListener};
 use std::{fs, io};
@@ -42,7 +39,7 @@ pub(crate) fn serve(
     serve_at(
         rt,
         &closure,
-        options::wanted(call, OptionName::Listen)?,
+        wanted(call, OptionName::Listen)?,
         service,
     )
 }
@@ -139,7 +136,7 @@ struct Begun {
 pub(crate) fn pull(rt: &HostRuntime, config: &Config, call: &Call<'_>) -> Result<u8, Exit> {
     let state = keeping_of(call)?;
     let mut begun = begin(rt, config, state)?;
-    let peer = options::wanted(call, OptionName::Peer)?;
+    let peer = wanted(call, OptionName::Peer)?;
     let pulled = pull_from(rt, &mut begun.closure, peer, room_left(rt, state))?;
     Ok(end_pull(rt, config, state, &begun, pulled))
 }

@@ -1,12 +1,10 @@
 // The subcommands that show what a state file holds, and write no file: they take no lock. The
 // replica is made and given back in one place, and each command only borrows it.
-use crate::exit::Exit;
 use crate::keeping::{keeping_of, look};
-use crate::options::{given, wanted};
 use crate::streams::{complaints, input, output};
 use crate::{anew, distrusting, options, printing, viewing};
 use fed_config::Config;
-use fedbundle::{Call, CommandName, OptionName, run_bundle, run_explain, run_migrate, run_polls};
+use fedbundle::{Call, CommandName, Exit, OptionName, given, read_moment, run_bundle, run_explain, run_migrate, run_polls, wanted};
 use migration::Choice;
 use trust_closure::IndexedClosure;
 
@@ -92,7 +90,7 @@ fn migrate_to(
 }
 
 fn polls(rt: &HostRuntime, closure: &IndexedClosure, now: &str) -> Result<u8, Exit> {
-    let now = options::moment(now)?;
+    let now = read_moment(now)?;
     run_polls(rt.alloc(), closure, now, &mut input(rt), &mut output(rt))?;
     Ok(0)
 }

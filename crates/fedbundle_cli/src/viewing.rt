@@ -1,11 +1,9 @@
 // What a state file holds, or only one of two, printed.
-use crate::exit::Exit;
 use crate::keeping::load;
 use crate::options;
-use crate::options::{given, wanted};
 use crate::streams::output;
 use fed_config::Config;
-use fedbundle::{Call, CommandError, OptionName};
+use fedbundle::{Call, CommandError, Exit, OptionName, given, wanted};
 use replica_view::{write_held, write_held_difference};
 use spiffe_name::TrustDomain;
 use trust_closure::IndexedClosure;

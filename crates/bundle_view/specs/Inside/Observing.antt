@@ -1,11 +1,10 @@
 -- An observation as far as it is made
-use Rattle.std.specs.Prelude.{◌≡◌, ℕ, ◌⊎◌, List}
+use Rattle.std.specs.Prelude.{◌≡◌, ℕ, List}
 use Rattle.bundle_doc.specs.Bundle.{Bundle}
 use Rattle.bundle_doc.specs.declared.document.DocId.{DocId}
 use Rattle.receipt_core.specs.Receipt.{Receipt}
 use Rattle.receipt_core.specs.Acceptance.{Meaning}
 use Rattle.closure_core.specs.declared.error.TakeError.{TakeError}
-use Rattle.closure_core.specs.declared.error.TakeError.TheVariants.{NoMemory}
 use Rattle.closure_core.specs.declared.outcome.Taken.{Taken}
 use Rattle.closure_core.specs.Refusals.{RefusesReceipt}
 use Rattle.closure_core.specs.Changes.{HeldAndRoom, TakesOk, IsUnchanged}
@@ -21,17 +20,15 @@ pub record IsVoucher (m : Meaning) (domain : List ℕ) (verdict : Verdict) (id :
   pub authentic : IsAuthentic m domain verdict voucher
   pub is : id ≡ id_in verdict.endpoint.domain voucher
 
--- The receipt was taken, and comes back.
-pub record HasKept (old : HeldAndRoom) (r : Receipt) (new : HeldAndRoom)
-    (copy : Receipt) : Type 0 where
-  pub same : copy ≡ r
+-- The receipt was taken.
+pub record HasKept (old : HeldAndRoom) (r : Receipt) (new : HeldAndRoom) : Type 0 where
   pub taken : Taken
   pub took : TakesOk old r new taken
 
--- It was not, or there was no memory to copy it.
+-- It was not.
 pub record HasNotKept (old : HeldAndRoom) (r : Receipt) (new : HeldAndRoom)
     (why : ObserveError) : Type 0 where
   pub error : TakeError
   pub is : why ≡ Take error
-  pub cause : (error ≡ NoMemory) ⊎ RefusesReceipt old.meaning old.room r error
+  pub cause : RefusesReceipt old.meaning old.room r error
   pub unchanged : IsUnchanged old new

@@ -3,7 +3,7 @@ use Rattle.std.specs.List.{list_all}
 use Rattle.clap.specs.Words.{found_of, is_simple, rows_of, subcommand_of}
 use Rattle.fedbundle.specs.Words.{given, is_settled_in}
 use Rattle.fedbundle.proofs.WordsFacts.{joined_parts, simple_command}
-use Rattle.fedbundle.proofs.words.read_words.Goals as goal
+use Rattle.fedbundle.proofs.words.read_call.Goals as goal
 
 pub returns : goal.returns
 returns c =
@@ -15,5 +15,5 @@ returns c =
       entered = ap (λ a. subcommand_of a words) (sym c.in_ok-command.ensures) ∙ sym parse.1
           ∙ joined_parts _ _ _ c.in-Some.word.now rows c.in-Some.ensures.name c.in-Some.ensures.rows ∙ ap (λ w. Some (w, rows)) c.in-Some-name_of.ensures;
       given = ap (map (given rows)) (sym c.options-wanted.ensures) ∙ c.in_ok-texts.ensures;
-      settled = ap (list_all (is_settled_in rows)) (sym c.options-wanted.ensures) ∙ sym c.are_settled.ensures ∙ search rules;
+      settled = ap (list_all (is_settled_in c.args.place rows)) (sym c.options-wanted.ensures) ∙ sym c.are_settled.ensures ∙ search rules;
     }
