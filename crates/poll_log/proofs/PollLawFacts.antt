@@ -6,7 +6,7 @@ use Rattle.fed_config.specs.Configuration.{Configuration, IsConfiguration}
 use Rattle.byte_lines.specs.Lines.{lines_of}
 use Rattle.poll_log.specs.Polling.{Poll, PollStatus, log_of, polled}
 use Rattle.poll_log.specs.Inside.Statuses.{AreNames}
-use Rattle.poll_log.specs.PollLines.{FirstBad, HasMoment, IsLogOf, RefusesPolls, SaysPoll, SaysPoll, SaysNoMoment, SaysNoPoll, SaidPoll, outcome_text, poll_of}
+use Rattle.poll_log.specs.PollLines.{FirstBad, HasMoment, IsLogOf, RefusesPolls, SaysPoll, SaysLine, SaysNoMoment, SaysNoPoll, SaidPoll, outcome_text, poll_of}
 use Rattle.poll_log.specs.declared.error.PollError.{PollError}
 use Rattle.poll_log.specs.declared.error.PollError.TheVariants.{NoRelationship, PastRange, NoMemory, BadLine, BadMoment, Io}
 use Rattle.poll_log.proofs.PollFacts.{each_name}
@@ -21,7 +21,7 @@ one_outcome false true e = cc
 one_outcome false false e = refl
 
 -- a line says one thing at most
-one_told : (domains : List (List ℕ)) (text : List ℕ) (s t : SaidPoll) → AreNames domains → SaysPoll domains text s → SaysPoll domains text t → s ≡ t
+one_told : (domains : List (List ℕ)) (text : List ℕ) (s t : SaidPoll) → AreNames domains → SaysLine domains text s → SaysLine domains text t → s ≡ t
 one_told domains text s t names p q =
     let words = one_word s.domain t.domain _ _ (plain_name s.domain (names s.domain p.known))
     (plain_name t.domain (names t.domain q.known)) (sym p.is ∙ q.is) in

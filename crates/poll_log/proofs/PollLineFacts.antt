@@ -9,7 +9,7 @@ use Rattle.std.proofs.lemmas.Bool.{eqb-true}
 use Rattle.spiffe_name.specs.Bytes.{is_domain_byte}
 use Rattle.spiffe_name.specs.TrustDomain.{IsDomainText}
 use Rattle.poll_log.specs.Inside.Statuses.{AreNames}
-use Rattle.poll_log.specs.PollLines.{ReadsSeconds, SaysPoll, SaysNoPoll, SaidPoll, outcome_text}
+use Rattle.poll_log.specs.PollLines.{ReadsSeconds, SaysLine, SaysNoPoll, SaidPoll, outcome_text}
 use Rattle.poll_log.specs.Inside.PollSteps.{IsWord, SaysFields, is_no_space}
 use Rattle.poll_log.specs.declared.poll_lines.PollFields.{PollFields}
 use Rattle.poll_log.proofs.MemberFacts.{contains_later}
@@ -63,7 +63,7 @@ one_word (b ∷ word) (c ∷ other) rest more p q e =
 -- ---- what a line says
 
 -- the domain that a line says of is its first word, and the outcome and the seconds are the rest
-told_words : (domains : List (List ℕ)) (text word rest : List ℕ) (t : SaidPoll) → AreNames domains → IsWord text word rest → SaysPoll domains text t
+told_words : (domains : List (List ℕ)) (text word rest : List ℕ) (t : SaidPoll) → AreNames domains → IsWord text word rest → SaysLine domains text t
     → (t.domain ≡ word) × (outcome_text t.ok ++ (32 ∷ signed_decimal t.seconds) ≡ rest)
 told_words domains text word rest t names split says =
     one_word t.domain word _ rest (plain_name t.domain (names t.domain says.known)) split.plain (sym says.is ∙ split.whole)

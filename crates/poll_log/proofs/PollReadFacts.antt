@@ -10,7 +10,7 @@ use Rattle.byte_lines.specs.Lines.{Lines, lines_of, with_line, HasLine, HasNoLin
 use Rattle.byte_lines.proofs.StreamFacts.{lines_of-line, lines_of-rest}
 use Rattle.poll_log.specs.Polling.{Poll, PollStatus, polled_domains, log_of, polled}
 use Rattle.poll_log.specs.Inside.Statuses.{AreNames}
-use Rattle.poll_log.specs.PollLines.{FirstBad, IsLogOf, RefusesPolls, SaysPoll, SaysPoll, SaysNoMoment, SaysNoPoll, outcome_text, poll_of}
+use Rattle.poll_log.specs.PollLines.{FirstBad, IsLogOf, RefusesPolls, SaysPoll, SaysLine, SaysNoMoment, SaysNoPoll, outcome_text, poll_of}
 use Rattle.poll_log.specs.Inside.PollSteps.{AddsLine, HasRead, ReadTo, RecordsLine}
 use Rattle.poll_log.specs.declared.error.PollError.TheVariants.{NoRelationship, PastRange, NoMemory, BadLine, BadMoment, Io}
 use Rattle.poll_log.specs.declared.error.PollError.{PollError}
@@ -68,7 +68,7 @@ HasRead-line domains a b c old new n text read line added =
       polls = read.polls ++ poll_of added.said ∷ [];
       is = added.adds domains read.polls read.is;
       lines = passed domains a b c read.polls n text (poll_of added.said) read.lines line
-          (record { said = added.said; says = subst (λ ds. SaysPoll ds text added.said) own added.says; moment = added.moment; is = refl });
+          (record { said = added.said; says = subst (λ ds. SaysLine ds text added.said) own added.says; moment = added.moment; is = refl });
     }
 
 -- a log that is read keeps the domains that it began with

@@ -37,7 +37,7 @@ line_text t = t.domain ++
     (codes " " ++ (outcome_text t.ok ++ (codes " " ++ signed_decimal t.seconds)))
 
 -- the line says this of one of these domains, and the seconds are within 64 bits
-pub record SaysPoll (domains : List (List ℕ)) (text : List ℕ) (t : SaidPoll) : Type 0 where
+pub record SaysLine (domains : List (List ℕ)) (text : List ℕ) (t : SaidPoll) : Type 0 where
   pub is : text ≡ line_text t
   pub within : FitsSigned w64 t.seconds
   pub known : Contains domains t.domain
@@ -52,18 +52,18 @@ poll_of t = record { domain = t.domain; moment = nanos_of_seconds t.seconds; ok 
 -- the line says this poll
 pub record SaysPoll (domains : List (List ℕ)) (text : List ℕ) (p : Poll) : Type 0 where
   pub said : SaidPoll
-  pub says : SaysPoll domains text said
+  pub says : SaysLine domains text said
   pub moment : HasMoment said
   pub is : p ≡ poll_of said
 
 -- it says of no poll
 abbrev pub SaysNoPoll : List (List ℕ) → List ℕ → Type 0
-SaysNoPoll domains text = (t : SaidPoll) → SaysPoll domains text t → ⊥
+SaysNoPoll domains text = (t : SaidPoll) → SaysLine domains text t → ⊥
 
 -- it says of a poll at no moment that there is
 pub record SaysNoMoment (domains : List (List ℕ)) (text : List ℕ) : Type 0 where
   pub said : SaidPoll
-  pub says : SaysPoll domains text said
+  pub says : SaysLine domains text said
   pub past : HasMoment said → ⊥
 
 -- ---- all lines

@@ -4,7 +4,7 @@ use Rattle.std.specs.Prelude.{slice_get, Result, Ok, Err, length}
 use Rattle.std.specs.List.{AllPass, AllZip}
 use Rattle.byte_lines.specs.Lines.{Lines, lines_of}
 use Rattle.poll_log.specs.Polling.{RecordsPoll, Poll, PollStatus, polled_domains, log_of}
-use Rattle.poll_log.specs.PollLines.{HasMoment, SaysPoll, SaysPoll, SaysNoMoment, SaysNoPoll}
+use Rattle.poll_log.specs.PollLines.{HasMoment, SaysPoll, SaysLine, SaysNoMoment, SaysNoPoll}
 use Rattle.poll_log.specs.PollLines.{SaidPoll, poll_of}
 use Rattle.poll_log.specs.declared.poll_lines.PollFields.{PollFields}
 use Rattle.poll_log.specs.declared.error.PollError.{PollError}
@@ -21,7 +21,7 @@ pub record IsWord (text word rest : List ℕ) : Type 0 where
 -- the line says of these parts
 pub record SaysFields (domains : List (List ℕ)) (text : List ℕ) (parts : PollFields) : Type 0 where
   pub said : SaidPoll
-  pub says : SaysPoll domains text said
+  pub says : SaysLine domains text said
   pub place : slice_get domains parts.place ≡ Some said.domain
   pub ok : parts.ok ≡ said.ok
   pub seconds : parts.seconds ≡ said.seconds
@@ -29,7 +29,7 @@ pub record SaysFields (domains : List (List ℕ)) (text : List ℕ) (parts : Pol
 -- the poll that the line says was recorded
 pub record AddsLine (old : List PollStatus) (text : List ℕ) (new : List PollStatus) : Type 0 where
   pub said : SaidPoll
-  pub says : SaysPoll (polled_domains old) text said
+  pub says : SaysLine (polled_domains old) text said
   pub moment : HasMoment said
   pub adds : RecordsPoll old (poll_of said) new
 
