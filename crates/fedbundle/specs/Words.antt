@@ -1,6 +1,7 @@
 -- The words of the command line, as clap's definition of a command reads them.
 use Rattle.std.specs.Prelude.{Bool, true, false, ◌&&◌, ◌||◌, not, if◌then◌else◌}
 use Rattle.std.specs.Prelude.{◌≡◌, ℕ, List, [], ◌∷◌, map, fold, codes, Option, Some, is_some}
+use Rattle.std.specs.Prelude.{slice_get}
 use Rattle.std.specs.List.{list_all}
 use Rattle.clap.specs.Words.{App, Row, Rule, Text, first_of, new_app, new_rule, subcommand_of}
 use Rattle.clap.specs.Words.{with_rule, with_subcommand}
@@ -179,3 +180,12 @@ pub record CallsFrom (place : WordsPlace) (words : List Text) (name : CommandNam
   pub entered : subcommand_of the_command words ≡ Some (name_text name, rows)
   pub given : map (given rows) (options_of name) ≡ texts
   pub settled : list_all (is_settled_in place rows) (options_of name) ≡ true
+
+-- ---- what a call says
+
+-- Among the texts of the subcommand's options this one is the option's.
+pub record HasText (name : CommandName) (texts : List (Option Text)) (option : OptionName)
+    (text : Text) : Type 0 where
+  pub place : ℕ
+  pub option_is : slice_get (options_of name) place ≡ Some option
+  pub text_is : slice_get texts place ≡ Some (Some text)

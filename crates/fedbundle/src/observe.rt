@@ -1,8 +1,8 @@
 //! `observe`: a bundle as it was fetched, taken on the word of TLS.
-ghost use Rattle.std.specs.Prelude.{◌≡◌, IfOk};
+ghost use Rattle.std.specs.Prelude.{◌≡◌, IfErr, IfOk};
 ghost use Rattle.fedbundle.specs.CommandRun.{device_run, run_of, state_run};
 ghost use Rattle.fedbundle.specs.Explain.{receipt_line};
-ghost use Rattle.fedbundle.specs.Observe.{RunsObserve};
+ghost use Rattle.fedbundle.specs.Observe.{MakesReceipt, RefusesToMake, RunsObserve};
 
 use crate::error::CommandError;
 use bundle_doc::MAX_DOCUMENT_BYTES;
@@ -19,10 +19,9 @@ use std::alloc::{AllocError, Global};
 ///
 /// # Errors
 /// `Observe` where nothing is observed: then what is held is as it was, and nothing was written.
-/// `NoMemory` where memory ran out while the bytes were read, so that nothing was observed, or for
-/// the receipt's line, which is then not written, though the receipt is held. `Io` where the source
-/// failed, and nothing was observed or written, or where the sink failed: then the receipt is held,
-/// and a beginning of its line was written.
+/// `NoMemory` where memory ran out for the bytes or for the receipt's line: then nothing was
+/// observed or written. `Io` where the source failed, and nothing was observed or written, or where
+/// the sink failed: then the receipt is held, and a beginning of its line was written.
 pub fn run_observe<C: Closure, R: Source, W: Sink>(
     alloc: Global,
     closure: &mut C,
@@ -62,7 +61,15 @@ pub fn prepare_observe<C: Closure, R: Source>(
     domain: &TrustDomain,
     verdict: &Verdict,
     source: &mut R,
-) -> Result<Observed, CommandError> {
+) -> Result<Observed, CommandError>
+    ensures receipt { IfOk result (λ observed. MakesReceipt
+        (device_run R.remaining R.has_failed source.old source.new) (C.state closure.now).meaning
+        (record { domain = domain.now; verdict = verdict.now }) observed.receipt) }
+    ensures line { IfOk result (λ observed. observed.line.items ≡ receipt_line observed.receipt) }
+    ensures refused { IfErr result (RefusesToMake
+        (device_run R.remaining R.has_failed source.old source.new) (C.state closure.now).meaning
+        (record { domain = domain.now; verdict = verdict.now })) }
+{
     let bytes = read_up_to(alloc, source, MAX_DOCUMENT_BYTES + 1)?;
     let receipt = observed_receipt(alloc, closure, domain, bytes.as_slice(), verdict)?;
     let line = render(alloc, &receipt)?;

@@ -1,4 +1,8 @@
 //! The texts of options, found and read.
+ghost use Rattle.std.specs.Prelude.{◌≡◌, IfOk, IfSome, Ok, map, option_map, slice_get, Some};
+ghost use Rattle.hex.specs.Hex.{decode_sized};
+ghost use Rattle.fedbundle.specs.Words.{HasText};
+
 use crate::command_name::OptionName;
 use crate::exit::Exit;
 use crate::words::Call;
@@ -26,16 +30,29 @@ pub struct Manner {
 }
 
 /// The text that the words give the option, where they give it one.
-pub fn given<'a>(call: &Call<'a>, wanted: OptionName) -> Option<&'a str> {
-    let place = call.name.options().iter().position(|it| *it == wanted)?;
+pub fn given<'a>(call: &Call<'a>, wanted: OptionName) -> Option<&'a str>
+    ensures { IfSome result (λ text. HasText call.now.name
+        (map (option_map (λ t. t.now)) call.now.texts.items) wanted text.now) }
+{
+    let place = place_of(call.name.options(), wanted)?;
     *call.texts.get(place)?
+}
+
+// Where the option stands among these.
+fn place_of(options: &[OptionName], wanted: OptionName) -> Option<usize>
+    ensures { IfSome result (λ place. slice_get options.now place ≡ Some wanted) }
+{
+    options.iter().position(|it| *it == wanted)
 }
 
 /// The text of an option that the command wants.
 ///
 /// # Errors
 /// The words leave it out.
-pub fn wanted<'a>(call: &Call<'a>, wanted: OptionName) -> Result<&'a str, Exit> {
+pub fn wanted<'a>(call: &Call<'a>, wanted: OptionName) -> Result<&'a str, Exit>
+    ensures { IfOk result (λ text. HasText call.now.name
+        (map (option_map (λ t. t.now)) call.now.texts.items) wanted text.now) }
+{
     given(call, wanted).ok_or(Exit::Usage)
 }
 
@@ -70,7 +87,9 @@ fn number_up_to(text: Option<&str>, otherwise: u64, most: u64) -> Result<u64, Ex
 ///
 /// # Errors
 /// The text is something else.
-pub fn read_key(text: &str) -> Result<KeyId, Exit> {
+pub fn read_key(text: &str) -> Result<KeyId, Exit>
+    ensures { IfOk result (λ key. decode_sized text.now 32 ≡ Ok key.0) }
+{
     let is_lower = text
         .bytes()
         .all(|b| b.is_ascii_digit() || (b'a'..=b'f').contains(&b));

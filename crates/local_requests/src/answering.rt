@@ -1,19 +1,34 @@
 //! A request, read and carried out.
-use crate::changing_replies::{Observation, distrust, merge, observe, record_of};
+ghost use Rattle.std.specs.Prelude.{◌≡◌, [], true, IfOk, OnErr, map, option_map};
+ghost use Rattle.fedbundle.specs.CommandRun.{state_run};
+ghost use Rattle.fedbundle.specs.declared.command_name.CommandName.TheVariants as command;
+ghost use Rattle.local_requests.specs.Journalling.{Journals};
+ghost use Rattle.local_requests.specs.RequestRun.{Answers, AnswersMerge, HasStreams, IsDone};
+ghost use Rattle.local_requests.specs.RequestRun.{SaysRecord, SaysVerdict, Shows, call_run};
+ghost use Rattle.local_requests.specs.RequestRun.{change_run};
+
+use crate::changing_replies;
 use crate::reply::Reply;
 use crate::request_fault::RequestFault;
-use crate::shown_replies::{bundle, distrust_shown, explanation, polls, report};
-use byte_lines::FromWrite;
+use crate::shown_replies;
+use crate::shown_replies::domain_of;
+use bundle_view::Verdict;
 use closure_core::Closure;
-use fedbundle::{Call, CommandName, Exit, OptionName, WordsError, given, manner_of, read_request, wanted};
+use fedbundle::{
+    Call, CommandError, CommandName, Exit, OptionName, WordsError, given, manner_of, read_key,
+    read_moment, read_request, wanted,
+};
+use receipt_core::Distrust;
 use replica_requests::read_request_words;
+use spiffe_name::SpiffeId;
 use std::alloc::{AllocError, Global};
 
 /// Carries out what a request asks for: the words, as [`fedbundle::read_request`] reads them, with
 /// the input in place of standard input. The streams and the exit status are those of the same
 /// command over files. All memory is taken before what is held changes.
 ///
-/// `held_bytes` is how many bytes the state file has, of which `merge` asks for `--most-bytes`.
+/// `held_bytes` is how many bytes the state file has: of `--most-bytes` the rest is left for the
+/// input of `merge`.
 ///
 /// # Errors
 /// Nothing has changed, and [`RequestFault::reply`] is to be replied.
@@ -25,11 +40,16 @@ pub fn answer_request<C: Closure>(
     held_bytes: u64,
     words: &[u8],
     input: &[u8],
-) -> Result<Reply, RequestFault> {
+) -> Result<Reply, RequestFault>
+    ensures journals { IfOk result (λ reply. Journals reply.journal.items
+        (state_run (C.state closure.old) (C.state closure.new))) }
+    ensures unchanged { OnErr result
+        ((C.state closure.new).meaning ≡ (C.state closure.old).meaning) }
+{
     let words = read_request_words(alloc, words)?;
     let texts = texts_of_words(alloc, words.as_slice())?;
     match read_request(alloc, texts.as_slice()) {
-        Ok(call) => Ok(answer_call(alloc, closure, held_bytes, &call, input)?),
+        Ok(call) => answer_call(alloc, closure, held_bytes, &call, input),
         Err(error) => Ok(reply_by_words(alloc, &error)?),
     }
 }
@@ -39,7 +59,9 @@ fn texts_of_words(alloc: Global, words: &[String]) -> Result<Vec<&str>, AllocErr
 }
 
 // The words are none of a command, or ask for help or for the version.
-fn reply_by_words(alloc: Global, error: &WordsError) -> Result<Reply, AllocError> {
+fn reply_by_words(alloc: Global, error: &WordsError) -> Result<Reply, AllocError>
+    ensures { IfOk result (λ reply. reply.journal.items ≡ []) }
+{
     match error {
         WordsError::Words(shown) => reply_of_clap(alloc, shown),
         WordsError::Usage => Reply::ended(alloc, &Exit::Usage),
@@ -47,7 +69,9 @@ fn reply_by_words(alloc: Global, error: &WordsError) -> Result<Reply, AllocError
     }
 }
 
-fn reply_of_clap(alloc: Global, shown: &clap::Error) -> Result<Reply, AllocError> {
+fn reply_of_clap(alloc: Global, shown: &clap::Error) -> Result<Reply, AllocError>
+    ensures { IfOk result (λ reply. reply.journal.items ≡ []) }
+{
     let text = format!(in alloc; "{shown}")?.into_bytes();
     if shown.use_stderr() {
         Reply::of_streams(alloc, 2, Vec::new(alloc), text)
@@ -62,10 +86,15 @@ fn answer_call<C: Closure>(
     held_bytes: u64,
     call: &Call<'_>,
     input: &[u8],
-) -> Result<Reply, AllocError> {
+) -> Result<Reply, RequestFault>
+    ensures journals { IfOk result (λ reply. Journals reply.journal.items
+        (state_run (C.state closure.old) (C.state closure.new))) }
+    ensures unchanged { OnErr result
+        ((C.state closure.new).meaning ≡ (C.state closure.old).meaning) }
+{
     match carry_out(alloc, closure, held_bytes, call, input) {
         Ok(reply) => Ok(reply),
-        Err(exit) => Reply::ended(alloc, &exit),
+        Err(exit) => Ok(Reply::ended(alloc, &exit)?),
     }
 }
 
@@ -75,46 +104,94 @@ fn carry_out<C: Closure>(
     held_bytes: u64,
     call: &Call<'_>,
     input: &[u8],
-) -> Result<Reply, Exit> {
+) -> Result<Reply, Exit>
+    ensures answers { IfOk result (Answers call.now.name (call_run call.now.name
+        (map (option_map (λ t. t.now)) call.now.texts.items)
+        (change_run (state_run (C.state closure.old) (C.state closure.new)) input.now))) }
+    ensures journals { IfOk result (λ reply. Journals reply.journal.items
+        (state_run (C.state closure.old) (C.state closure.new))) }
+    ensures unchanged { OnErr result
+        ((C.state closure.new).meaning ≡ (C.state closure.old).meaning) }
+{
     let manner = manner_of(call)?;
     match call.name {
-        CommandName::Observe => observe(alloc, closure, observation_of(call)?, input),
+        CommandName::Observe => observe(alloc, closure, call, input),
         CommandName::Merge => {
-            if input.len() as u64 > manner.most_bytes.saturating_sub(held_bytes) {
-                return Err(Exit::TooManyBytes);
-            }
-            merge(alloc, closure, input)
+            let room = manner.most_bytes.saturating_sub(held_bytes);
+            merge(alloc, closure, room, input)
         }
         CommandName::Distrust if given(call, OptionName::DryRun) != Some("true") => {
-            make_record(alloc, closure, call, manner.is_verbose)
+            let record = record_of(alloc, call)?;
+            changing_replies::distrust(alloc, closure, &record, manner.is_verbose)
         }
         CommandName::Stop => end_replica(alloc),
         _ => Ok(Reply::done(alloc, shown(alloc, closure, call, input)?)?),
     }
 }
 
-fn observation_of<'a>(call: &Call<'a>) -> Result<Observation<'a>, Exit> {
-    Ok(Observation {
-        domain: wanted(call, OptionName::Domain)?,
-        endpoint: wanted(call, OptionName::Endpoint)?,
-        key: wanted(call, OptionName::Key)?,
-    })
-}
-
-fn make_record<C: Closure>(
+fn observe<C: Closure>(
     alloc: Global,
     closure: &mut C,
     call: &Call<'_>,
-    is_verbose: bool,
-) -> Result<Reply, Exit> {
-    let domain = wanted(call, OptionName::Domain)?;
-    let record = record_of(alloc, domain, wanted(call, OptionName::Key)?)?;
-    distrust(alloc, closure, &record, is_verbose)
+    input: &[u8],
+) -> Result<Reply, Exit>
+    ensures answers { IfOk result (Answers command.Observe (call_run call.now.name
+        (map (option_map (λ t. t.now)) call.now.texts.items)
+        (change_run (state_run (C.state closure.old) (C.state closure.new)) input.now))) }
+    ensures journals { IfOk result (λ reply. Journals reply.journal.items
+        (state_run (C.state closure.old) (C.state closure.new))) }
+    ensures unchanged { OnErr result
+        ((C.state closure.new).meaning ≡ (C.state closure.old).meaning) }
+{
+    let domain = domain_of(alloc, wanted(call, OptionName::Domain)?)?;
+    let verdict = verdict_of(alloc, call)?;
+    changing_replies::observe(alloc, closure, &domain, &verdict, input)
+}
+
+fn verdict_of(alloc: Global, call: &Call<'_>) -> Result<Verdict, Exit>
+    ensures { IfOk result (SaysVerdict call.now.name
+        (map (option_map (λ t. t.now)) call.now.texts.items)) }
+{
+    let endpoint = wanted(call, OptionName::Endpoint)?;
+    let endpoint = SpiffeId::read(alloc, endpoint).map_err(CommandError::Name)?;
+    let key = read_key(wanted(call, OptionName::Key)?)?;
+    Ok(Verdict { endpoint, key })
+}
+
+fn merge<C: Closure>(
+    alloc: Global,
+    closure: &mut C,
+    room: u64,
+    input: &[u8],
+) -> Result<Reply, Exit>
+    ensures answers { IfOk result (λ reply. HasStreams (AnswersMerge
+        (change_run (state_run (C.state closure.old) (C.state closure.new)) input.now)) reply) }
+    ensures journals { IfOk result (λ reply. Journals reply.journal.items
+        (state_run (C.state closure.old) (C.state closure.new))) }
+    ensures unchanged { OnErr result
+        ((C.state closure.new).meaning ≡ (C.state closure.old).meaning) }
+{
+    if input.len() as u64 > room {
+        return Err(Exit::TooManyBytes);
+    }
+    changing_replies::merge(alloc, closure, input)
+}
+
+fn record_of(alloc: Global, call: &Call<'_>) -> Result<Distrust, Exit>
+    ensures { IfOk result (SaysRecord call.now.name
+        (map (option_map (λ t. t.now)) call.now.texts.items)) }
+{
+    Ok(Distrust {
+        domain: domain_of(alloc, wanted(call, OptionName::Domain)?)?,
+        key: read_key(wanted(call, OptionName::Key)?)?,
+    })
 }
 
 // Nothing is to be done but to end.
-fn end_replica(alloc: Global) -> Result<Reply, Exit> {
-    let mut reply = Reply::silent(alloc)?;
+fn end_replica(alloc: Global) -> Result<Reply, Exit>
+    ensures { IfOk result (λ reply. IsDone reply [] [] × (reply.ends ≡ true)) }
+{
+    let mut reply = Reply::done(alloc, Vec::new(alloc))?;
     reply.ends = true;
     Ok(reply)
 }
@@ -124,18 +201,27 @@ fn shown<C: Closure>(
     closure: &C,
     call: &Call<'_>,
     input: &[u8],
-) -> Result<Vec<u8>, Exit> {
+) -> Result<Vec<u8>, Exit>
+    ensures { IfOk result (λ text. Shows call.now.name (call_run call.now.name
+        (map (option_map (λ t. t.now)) call.now.texts.items)
+        (change_run (state_run (C.state closure.now) (C.state closure.now)) input.now)) text.items) }
+{
     match call.name {
-        CommandName::Report => report(alloc, closure),
-        CommandName::Bundle => bundle(alloc, closure, wanted(call, OptionName::Domain)?),
-        CommandName::Explain => {
-            explanation(alloc, closure, wanted(call, OptionName::Domain)?, input)
+        CommandName::Report => shown_replies::report(alloc, closure),
+        CommandName::Bundle => {
+            shown_replies::bundle(alloc, closure, wanted(call, OptionName::Domain)?)
         }
-        CommandName::Polls => polls(alloc, closure, wanted(call, OptionName::Now)?, input),
-        CommandName::Distrust => {
+        CommandName::Explain => {
             let domain = wanted(call, OptionName::Domain)?;
-            let record = record_of(alloc, domain, wanted(call, OptionName::Key)?)?;
-            distrust_shown(alloc, closure, &record)
+            shown_replies::explanation(alloc, closure, domain, input)
+        }
+        CommandName::Polls => {
+            let now = read_moment(wanted(call, OptionName::Now)?)?;
+            shown_replies::polls(alloc, closure, now, input)
+        }
+        CommandName::Distrust => {
+            let record = record_of(alloc, call)?;
+            shown_replies::distrust_shown(alloc, closure, &record)
         }
         _ => Err(Exit::Usage),
     }

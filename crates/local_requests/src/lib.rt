@@ -4,10 +4,11 @@
 //! `request_parts` joins the pieces, and `request_fault` has what is replied where they are no
 //! request. `answering` carries out what the words ask for: `shown_replies` has the commands that
 //! show what is held, and `changing_replies` those that change it. A change is journalled by
-//! `new_lines`. `reply` is what is sent back.
+//! `new_lines`. `reply` is what is sent back. `call_words` is for clients.
 #![tactic(auto)]
 
 mod answering;
+mod call_words;
 mod changing_replies;
 mod new_lines;
 mod reply;
@@ -16,6 +17,7 @@ mod request_parts;
 mod shown_replies;
 
 pub use answering::answer_request;
+pub use call_words::request_words;
 pub use reply::Reply;
 pub use request_fault::RequestFault;
 pub use request_parts::{MOST_INPUT, RequestParts, WholeRequest};

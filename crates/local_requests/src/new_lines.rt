@@ -1,6 +1,15 @@
 //! The lines of what is not held yet, as a journal has them.
+ghost use Rattle.std.specs.Prelude.{◌≡◌, ◌++◌, IfOk, OnOk};
+ghost use Rattle.receipt_core.specs.Receipt.{distrust_line};
+ghost use Rattle.replica_core.specs.declared.entry.Entry.TheVariants.{Record, Receipt as AReceipt};
+ghost use Rattle.replica_sync.specs.Snapshots.{ended};
+ghost use Rattle.local_requests.specs.Journalling.{AreLinesOfOther, IsLineIfNew};
+ghost use Rattle.local_requests.specs.Inside.NewLineSteps.{AreReceiptLines, AreRecordLines};
+
 use closure_core::Closure;
+use jwk_set::KeyId;
 use receipt_core::{Distrust, Receipt};
+use spiffe_name::TrustDomain;
 use std::alloc::{AllocError, Global};
 
 /// The lines of what one replica holds and another does not.
@@ -11,14 +20,22 @@ pub(crate) struct NewLines {
     pub(crate) receipts: u64,
 }
 
-// The line of a receipt that was observed, where it is not held.
+// The line of a receipt, where it is not held.
 pub(crate) fn line_of_receipt<C: Closure>(
     alloc: Global,
     closure: &C,
     receipt: &Receipt,
-) -> Result<Vec<u8>, AllocError> {
+) -> Result<Vec<u8>, AllocError>
+    ensures { IfOk result (λ text.
+        IsLineIfNew (C.state closure.now).meaning (AReceipt receipt.now) text.items) }
+{
+    // What these lend tells the form of the receipt and of what is held.
+    let _domain = receipt.domain();
+    let _config = closure.config();
     let mut text = Vec::new(alloc);
-    push_receipt_line(alloc, &mut text, closure, receipt)?;
+    if !closure.holds(receipt) {
+        push_line(&mut text, receipt.write_line(alloc)?)?;
+    }
     Ok(text)
 }
 
@@ -27,9 +44,15 @@ pub(crate) fn line_of_record<C: Closure>(
     alloc: Global,
     closure: &C,
     record: &Distrust,
-) -> Result<Vec<u8>, AllocError> {
+) -> Result<Vec<u8>, AllocError>
+    ensures { IfOk result (λ text.
+        IsLineIfNew (C.state closure.now).meaning (Record record.now) text.items) }
+{
+    let _config = closure.config();
     let mut text = Vec::new(alloc);
-    push_record_line(alloc, &mut text, closure, record)?;
+    if !closure.is_distrusted(&record.domain, record.key) {
+        push_line(&mut text, record.write_line(alloc)?)?;
+    }
     Ok(text)
 }
 
@@ -38,67 +61,67 @@ pub(crate) fn lines_of_other<C: Closure>(
     alloc: Global,
     closure: &C,
     other: &C,
-) -> Result<NewLines, AllocError> {
+) -> Result<NewLines, AllocError>
+    ensures { IfOk result (λ new. AreLinesOfOther (C.state closure.now).meaning
+        (C.state other.now).meaning new.text.items new.receipts) }
+{
+    let mut lines = receipt_lines(alloc, closure, other)?;
+    let records = record_lines(alloc, closure, other)?;
+    lines.text.extend_from_slice(records.as_slice())?;
+    Ok(lines)
+}
+
+fn receipt_lines<C: Closure>(
+    alloc: Global,
+    closure: &C,
+    other: &C,
+) -> Result<NewLines, AllocError>
+    ensures { IfOk result (λ new. AreReceiptLines (C.state closure.now).meaning
+        (C.state other.now).meaning new.text.items new.receipts) }
+{
+    let _valid = closure.config();
+    let _other_valid = other.config();
     let mut text = Vec::new(alloc);
-    let receipts = push_receipts(alloc, &mut text, closure, other)?;
-    push_records(alloc, &mut text, closure, other)?;
+    let mut receipts = 0u64;
+    for receipt in other.receipts() {
+        if !closure.holds(receipt) {
+            push_line(&mut text, receipt.write_line(alloc)?)?;
+            receipts += 1;
+        }
+    }
     Ok(NewLines { text, receipts })
 }
 
-fn push_receipts<C: Closure>(
-    alloc: Global,
-    text: &mut Vec<u8>,
-    closure: &C,
-    other: &C,
-) -> Result<u64, AllocError> {
-    let mut count = 0u64;
-    'receipts: for receipt in other.receipts() {
-        if push_receipt_line(alloc, text, closure, receipt)? {
-            count += 1;
+fn record_lines<C: Closure>(alloc: Global, closure: &C, other: &C) -> Result<Vec<u8>, AllocError>
+    ensures { IfOk result (λ text. AreRecordLines (C.state closure.now).meaning
+        (C.state other.now).meaning text.items) }
+{
+    let _valid = closure.config();
+    let _other_valid = other.config();
+    let mut text = Vec::new(alloc);
+    for (domain, key) in other.distrusts() {
+        if !closure.is_distrusted(domain, *key) {
+            push_line(&mut text, record_line(alloc, domain, *key)?)?;
         }
     }
-    Ok(count)
+    Ok(text)
 }
 
-fn push_records<C: Closure>(
-    alloc: Global,
-    text: &mut Vec<u8>,
-    closure: &C,
-    other: &C,
-) -> Result<(), AllocError> {
-    'records: for record in other.distrusts() {
-        push_record_line(alloc, text, closure, record)?;
-    }
-    Ok(())
+fn record_line(alloc: Global, domain: &TrustDomain, key: KeyId) -> Result<Vec<u8>, AllocError>
+    ensures { IfOk result
+        (λ line. line.items ≡ distrust_line (record { domain = domain.now; key = key })) }
+{
+    let record = Distrust {
+        domain: domain.try_clone(alloc)?,
+        key,
+    };
+    record.write_line(alloc)
 }
 
-// Whether the receipt is not held, and its line was appended.
-fn push_receipt_line<C: Closure>(
-    alloc: Global,
-    text: &mut Vec<u8>,
-    closure: &C,
-    receipt: &Receipt,
-) -> Result<bool, AllocError> {
-    if closure.holds(receipt) {
-        return Ok(false);
-    }
-    push_line(text, receipt.write_line(alloc)?)?;
-    Ok(true)
-}
-
-fn push_record_line<C: Closure>(
-    alloc: Global,
-    text: &mut Vec<u8>,
-    closure: &C,
-    record: &Distrust,
-) -> Result<(), AllocError> {
-    if closure.is_distrusted(&record.domain, record.key) {
-        return Ok(());
-    }
-    push_line(text, record.write_line(alloc)?)
-}
-
-fn push_line(text: &mut Vec<u8>, line: Vec<u8>) -> Result<(), AllocError> {
+fn push_line(text: &mut Vec<u8>, line: Vec<u8>) -> Result<(), AllocError>
+    ensures { OnOk result (text.new.items ≡ text.old.items ++ ended line.items) }
+{
     text.extend_from_slice(line.as_slice())?;
-    text.push(b'\n')
+    text.push(b'\n')?;
+    Ok(())
 }

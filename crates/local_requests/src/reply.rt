@@ -1,6 +1,10 @@
 //! What is sent back, and what has to be done before.
-use fedbundle::{Exit, exit_status, write_exit};
+ghost use Rattle.std.specs.Prelude.{◌≡◌, [], IfOk};
+ghost use Rattle.replica_requests.specs.RequestLines.{reply_line};
+ghost use Rattle.replica_sync.specs.Snapshots.{ended};
+
 use byte_lines::FromWrite;
+use fedbundle::{Exit, exit_status, write_exit};
 use replica_requests::{ReplyHead, write_reply_head};
 use std::alloc::{AllocError, Global};
 
@@ -24,28 +28,24 @@ pub struct Reply {
 }
 
 impl Reply {
-    // A reply of a command that is done.
-    pub(crate) fn done(alloc: Global, output: Vec<u8>) -> Result<Reply, AllocError> {
+    ghost use Rattle.local_requests.specs.RequestRun.{IsDone, IsEnded, IsWith};
+
+    // A reply of a command that is done, and says nothing beside its output.
+    pub(crate) fn done(alloc: Global, output: Vec<u8>) -> Result<Reply, AllocError>
+        ensures { IfOk result (λ reply. IsDone reply output.items []) }
+    {
         Reply::of_streams(alloc, 0, output, Vec::new(alloc))
     }
 
-    // The same with nothing on standard output.
-    pub(crate) fn silent(alloc: Global) -> Result<Reply, AllocError> {
-        Reply::done(alloc, Vec::new(alloc))
-    }
-
     // A reply of a command that ended so.
-    pub(crate) fn ended(alloc: Global, exit: &Exit) -> Result<Reply, AllocError> {
+    pub(crate) fn ended(alloc: Global, exit: &Exit) -> Result<Reply, AllocError>
+        ensures { IfOk result (λ reply. IsEnded reply exit.now) }
+    {
         let mut line = FromWrite::new(Vec::new(alloc));
-        match write_exit(exit, &mut line) {
-            Ok(()) => Reply::of_streams(
-                alloc,
-                exit_status(exit),
-                Vec::new(alloc),
-                line.into_inner(),
-            ),
-            Err(_) => Err(AllocError),
+        if write_exit(exit, &mut line).is_err() {
+            return Err(AllocError);
         }
+        Reply::of_streams(alloc, exit_status(exit), Vec::new(alloc), line.into_inner())
     }
 
     pub(crate) fn of_streams(
@@ -53,7 +53,9 @@ impl Reply {
         status: u8,
         output: Vec<u8>,
         errors: Vec<u8>,
-    ) -> Result<Reply, AllocError> {
+    ) -> Result<Reply, AllocError>
+        ensures { IfOk result (λ reply. IsWith reply output.items errors.items status) }
+    {
         let head = ReplyHead {
             errors: errors.len() as u64,
             output: output.len() as u64,
@@ -71,7 +73,9 @@ impl Reply {
 }
 
 // The first line, with its line feed.
-fn head_line(alloc: Global, head: ReplyHead) -> Result<Vec<u8>, AllocError> {
+fn head_line(alloc: Global, head: ReplyHead) -> Result<Vec<u8>, AllocError>
+    ensures { IfOk result (λ line. line.items ≡ ended (reply_line head)) }
+{
     let mut line = write_reply_head(alloc, head)?.into_bytes();
     line.push(b'\n')?;
     Ok(line)

@@ -1,4 +1,7 @@
 //! Why there is no reply of a command, and what is replied then.
+ghost use Rattle.std.specs.Prelude.{◌≡◌};
+ghost use Rattle.local_requests.specs.Replies.{fault_reply};
+ghost use Rattle.local_requests.specs.declared.request_fault.RequestFault.TheVariants.{NoMemory};
 use replica_requests::RequestError;
 use std::alloc::AllocError;
 
@@ -21,7 +24,9 @@ pub enum RequestFault {
 
 impl RequestFault {
     /// The whole reply, with its first line. It takes no memory.
-    pub fn reply(self) -> &'static [u8] {
+    pub fn reply(self) -> &'static [u8]
+        ensures { result.now ≡ fault_reply self }
+    {
         match self {
             RequestFault::WordsTooLong => {
                 b"{\"errors\":26,\"output\":0,\"status\":1}\nfedbundle: words too long\n"
@@ -46,6 +51,8 @@ impl RequestFault {
 }
 
 impl From<AllocError> for RequestFault {
+    ghost from_gives = { λ _ e. e ≡ NoMemory };
+
     fn from(_error: AllocError) -> RequestFault {
         RequestFault::NoMemory
     }
