@@ -110,7 +110,8 @@ pub fn observed_receipt<C: Closure>(
 pub fn take_observed<C: Closure>(closure: &mut C, receipt: Receipt) -> Result<(), ObserveError>
     ensures { (fetched : FetchedBundle)
         → IsObservation (C.state closure.old).meaning fetched receipt → MatchResult result
-        (λ _. HasObserved (C.state closure.old).meaning fetched (C.state closure.new).meaning receipt)
+        (λ _. HasObserved (C.state closure.old).meaning fetched (C.state closure.new).meaning
+        receipt)
         (HasNotObserved (C.state closure.old) fetched (C.state closure.new)) }
 {
     keep(closure, receipt)

@@ -93,11 +93,7 @@ fn ask_under<C: Closure>(
 
 fn load<C: Closure>(running: Running<'_>) -> Result<C, CommandError> {
     match running.file {
-        Some(text) => Ok(read_snapshot(
-            running.alloc,
-            running.config,
-            &mut FromRead::new(text),
-        )?),
+        Some(text) => Ok(read_snapshot(running.alloc, running.config, &mut FromRead::new(text))?),
         None => Ok(C::new(running.alloc, running.config)?),
     }
 }
@@ -119,7 +115,11 @@ fn ask_replica<C: Closure>(
     let read_back: C = with_journal(running, &reply)?;
     write_snapshot(running.alloc, &read_back, &mut devices.state)?;
     let is_kept = reply.status == 0 && changes(call);
-    let known = if is_kept { running.file } else { Some(before.as_bytes()) };
+    let known = if is_kept {
+        running.file
+    } else {
+        Some(before.as_bytes())
+    };
     devices.is_state_new = known != Some(devices.state.as_bytes());
     let after = snapshot(running.alloc, closure)?;
     if after.as_bytes() != devices.state.as_bytes() {

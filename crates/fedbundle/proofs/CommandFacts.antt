@@ -1,5 +1,5 @@
 -- What a command answers where its source gave no bytes.
-use Rattle.std.proofs.Common.{◌≡◌, inl, Err, refl, List, ℕ}
+use Rattle.std.proofs.Common.{◌≡◌, inl, Err, refl, List, ℕ, arith}
 use Rattle.receipt_core.specs.Acceptance.{Meaning}
 use Rattle.byte_lines.specs.declared.error.DeviceError.{DeviceError}
 use Rattle.byte_lines.specs.declared.error.DeviceError.TheVariants.{Io as SourceFailed}

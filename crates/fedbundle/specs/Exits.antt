@@ -3,10 +3,10 @@ use Rattle.std.specs.Prelude.{◌≡◌, ℕ, List, Option, codes}
 use Rattle.std.specs.Io.KnownBytes.{Appends}
 use Rattle.fedbundle.specs.Fault.{fault_line}
 use Rattle.fedbundle.specs.Status.{status_of}
-use Rattle.fedbundle.specs.declared.exit.Exit.{Exit}
-use Rattle.fedbundle.specs.declared.exit.Exit.TheVariants.{Usage, BadKey, BadMoment, BadAddress}
-use Rattle.fedbundle.specs.declared.exit.Exit.TheVariants.{NoBundle, NotAccepted, Locked}
-use Rattle.fedbundle.specs.declared.exit.Exit.TheVariants.{TooManyBytes, Refused}
+use Rattle.fedbundle.specs.declared.exits.Exit.{Exit}
+use Rattle.fedbundle.specs.declared.exits.Exit.TheVariants.{Usage, BadKey, BadMoment, BadAddress}
+use Rattle.fedbundle.specs.declared.exits.Exit.TheVariants.{NoBundle, NotAccepted, Locked}
+use Rattle.fedbundle.specs.declared.exits.Exit.TheVariants.{TooManyBytes, Refused}
 
 -- 2 for usage, 3 for a lock, what the refusal has, and else 1
 abbrev pub exit_status_of : Exit → ℕ

@@ -184,7 +184,7 @@ pub record CallsFrom (place : WordsPlace) (words : List Text) (name : CommandNam
 -- ---- what a call says
 
 -- Among the texts of the subcommand's options this one is the option's.
-pub record HasText (name : CommandName) (texts : List (Option Text)) (option : OptionName)
+pub record SaysOption (name : CommandName) (texts : List (Option Text)) (option : OptionName)
     (text : Text) : Type 0 where
   pub place : ℕ
   pub option_is : slice_get (options_of name) place ≡ Some option

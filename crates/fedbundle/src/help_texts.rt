@@ -332,7 +332,9 @@ impl CommandName {
         match self {
             CommandName::Canon => "fedbundle canon --domain <DOMAIN>",
             CommandName::Config => "fedbundle config --config <FILE> [--with <FILE>]",
-            CommandName::Report => "fedbundle report --config <FILE> [--state <FILE>]\n       fedbundle report --at <PATH>",
+            CommandName::Report => {
+                "fedbundle report --config <FILE> [--state <FILE>]\n       fedbundle report --at <PATH>"
+            }
             CommandName::List => {
                 "fedbundle list --config <FILE> --state <FILE> [--domain <DOMAIN>] [--verbose]"
             }

@@ -1,10 +1,10 @@
 //! The texts of options, found and read.
 ghost use Rattle.std.specs.Prelude.{◌≡◌, IfOk, IfSome, Ok, map, option_map, slice_get, Some};
 ghost use Rattle.hex.specs.Hex.{decode_sized};
-ghost use Rattle.fedbundle.specs.Words.{HasText};
+ghost use Rattle.fedbundle.specs.Words.{SaysOption};
 
 use crate::command_name::OptionName;
-use crate::exit::Exit;
+use crate::exits::Exit;
 use crate::words::Call;
 use jiff::Timestamp;
 use jwk_set::KeyId;
@@ -31,7 +31,7 @@ pub struct Manner {
 
 /// The text that the words give the option, where they give it one.
 pub fn given<'a>(call: &Call<'a>, wanted: OptionName) -> Option<&'a str>
-    ensures { IfSome result (λ text. HasText call.now.name
+    ensures { IfSome result (λ text. SaysOption call.now.name
         (map (option_map (λ t. t.now)) call.now.texts.items) wanted text.now) }
 {
     let place = place_of(call.name.options(), wanted)?;
@@ -50,7 +50,7 @@ fn place_of(options: &[OptionName], wanted: OptionName) -> Option<usize>
 /// # Errors
 /// The words leave it out.
 pub fn wanted<'a>(call: &Call<'a>, wanted: OptionName) -> Result<&'a str, Exit>
-    ensures { IfOk result (λ text. HasText call.now.name
+    ensures { IfOk result (λ text. SaysOption call.now.name
         (map (option_map (λ t. t.now)) call.now.texts.items) wanted text.now) }
 {
     given(call, wanted).ok_or(Exit::Usage)

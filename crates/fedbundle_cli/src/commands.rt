@@ -5,7 +5,10 @@ use crate::exit::print_clap;
 use crate::streams::{complaints, input, output};
 use crate::{changing, command_line, exchange, options, printing, showing};
 use fed_config::Config;
-use fedbundle::{Call, CommandError, CommandName, Exit, OptionName, WordsError, given, manner_of, read_words, run_canon, run_report, wanted};
+use fedbundle::{
+    Call, CommandError, CommandName, Exit, OptionName, WordsError, given, manner_of, read_words,
+    run_canon, run_report, wanted,
+};
 
 /// What the words ask for, done: the exit status 0, or 1 where an input was refused and the rest is
 /// done.

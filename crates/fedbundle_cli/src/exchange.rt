@@ -9,7 +9,10 @@ use crate::options;
 use crate::streams::{error_lines, output_line};
 use byte_lines::{FromRead, FromWrite};
 use fed_config::Config;
-use fedbundle::{Call, CommandError, Exit, OptionName, SeenState, journal_path, run_pull, run_serve, see_state, wanted, write_served};
+use fedbundle::{
+    Call, CommandError, Exit, OptionName, SeenState, journal_path, run_pull, run_serve, see_state,
+    wanted, write_served,
+};
 use std::io::{Read, Write};
 use std::net::{SocketAddr, TcpListener};
 use std::{fs, io};
@@ -36,12 +39,7 @@ pub(crate) fn serve(
         sessions,
         is_verbose: state.manner.is_verbose,
     };
-    serve_at(
-        rt,
-        &closure,
-        wanted(call, OptionName::Listen)?,
-        service,
-    )
+    serve_at(rt, &closure, wanted(call, OptionName::Listen)?, service)
 }
 
 fn serve_at(

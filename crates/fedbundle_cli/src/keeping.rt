@@ -2,7 +2,10 @@
 // holds, and how much may come to that.
 use crate::streams::error_lines;
 use fed_config::Config;
-use fedbundle::{Call, CommandError, Exit, Manner, OptionName, StateLock, given, load_state, manner_of, save_state, state_bytes, try_lock_state, wanted};
+use fedbundle::{
+    Call, CommandError, Exit, Manner, OptionName, StateLock, given, load_state, manner_of,
+    save_state, state_bytes, try_lock_state, wanted,
+};
 use std::io::Write;
 use std::thread;
 use std::time::Duration;

@@ -4,7 +4,10 @@ use crate::keeping::{keeping_of, look};
 use crate::streams::{complaints, input, output};
 use crate::{anew, distrusting, options, printing, viewing};
 use fed_config::Config;
-use fedbundle::{Call, CommandName, Exit, OptionName, given, read_moment, run_bundle, run_explain, run_migrate, run_polls, wanted};
+use fedbundle::{
+    Call, CommandName, Exit, OptionName, given, read_moment, run_bundle, run_explain, run_migrate,
+    run_polls, wanted,
+};
 use migration::Choice;
 use trust_closure::IndexedClosure;
 

@@ -108,10 +108,18 @@ lines_more entry new x text line more e f g =
     ∙ sym (ap (flat_map entry_text) (map-append entry new (x ∷ [])))
 
 -- before the first receipt
-pub receipts_begin : (m : Meaning) (all : List Receipt) → IsStrictlySortedBy receipt_cmp all → AllByRecursion IsReceipt all → length all ≤ 65536
-    → SiftsReceipts m all all [] 0
-receipts_begin m all rising form few =
-    record { new = []; sifted = sift_begin IsReceipt receipt_cmp m.held all rising form; spelt = refl; counted = refl; few = few }
+pub receipts_begin : (m other : Meaning) (all : List Receipt) (text : List ℕ) → IsMeaning other → all ≡ other.held → text ≡ []
+    → SiftsReceipts m all all text 0
+receipts_begin m other all text is e none =
+    let few : 0 + length all ≤ 65536 = omega (arith, ap length e, is.few) in
+    record {
+      new = [];
+      sifted = sift_begin IsReceipt receipt_cmp m.held all (subst (IsStrictlySortedBy receipt_cmp) (sym e) is.rising)
+          (subst (AllByRecursion IsReceipt) (sym e) is.receipts);
+      spelt = none;
+      counted = refl;
+      few = few;
+    }
 
 -- a receipt that is held has no line
 pub receipt_held : (m : Meaning) (all rest later : List Receipt) (r : Receipt) (text : List ℕ) (count : ℕ) → IsStrictlySortedBy receipt_cmp m.held
@@ -159,12 +167,18 @@ receipts_end m other rest text count is so_far e =
       fresh = sifted.fresh;
       spelt = so_far.spelt;
       all = all;
-      count = sym (ap length all) ∙ size ∙ ap (λ n. length m.held + n) (sym so_far.counted);
+      counted = sym (ap length all) ∙ size ∙ ap (λ n. length m.held + n) (sym so_far.counted);
     }
 
 -- before the first record
-pub records_begin : (m : Meaning) (all : List Distrust) → IsStrictlySortedBy distrust_cmp all → AllByRecursion IsDistrust all → SiftsRecords m all all []
-records_begin m all rising form = record { new = []; sifted = sift_begin IsDistrust distrust_cmp m.records all rising form; spelt = refl }
+pub records_begin : (m other : Meaning) (all : List Distrust) (text : List ℕ) → IsMeaning other → all ≡ other.records → text ≡ []
+    → SiftsRecords m all all text
+records_begin m other all text is e none = record {
+  new = [];
+  sifted = sift_begin IsDistrust distrust_cmp m.records all (subst (IsStrictlySortedBy distrust_cmp) (sym e) is.records_rising)
+      (subst (AllByRecursion IsDistrust) (sym e) is.distrusts);
+  spelt = none;
+}
 
 -- a record that is held has no line
 pub record_held : (m : Meaning) (all rest later : List Distrust) (x : Distrust) (text : List ℕ) → IsStrictlySortedBy distrust_cmp m.records
@@ -236,13 +250,14 @@ other_lines m other front back text count rs xs e = record {
   union = entries_append (of_receipts rs.new) (of_records xs.new) m ∙ ap (with_entries (of_records xs.new)) (entries_receipts rs.new m)
       ∙ entries_records xs.new (record m { held = with_items receipt_cmp rs.new m.held })
       ∙ (λ i. record { config = m.config; held = rs.all i; records = xs.all i });
-  count = rs.count;
+  count = rs.counted;
 }
 
 -- ---- one entry
 
 -- the line of an entry that is not held
-pub line_new : (m : Meaning) (entry : Entry) (text : List ℕ) → IsWellFormed entry → (HoldsEntry m entry → ⊥) → text ≡ entry_text entry → IsLineIfNew m entry text
+pub line_new : (m : Meaning) (entry : Entry) (text : List ℕ) → IsWellFormed entry → (HoldsEntry m entry → ⊥) → text ≡ entry_text entry
+    → IsLineIfNew m entry text
 line_new m entry text form lacks is = record {
   entries = entry ∷ [];
   lines = record { each = (form, tt); fresh = (lacks, tt); spelt = is ∙ sym (append-nil (entry_text entry)) };
@@ -250,14 +265,14 @@ line_new m entry text form lacks is = record {
 }
 
 -- none, where it is held
-pub line_held : (m : Meaning) (entry : Entry) → IsMeaning m → HoldsEntry m entry → IsLineIfNew m entry []
-line_held m (AReceipt r) is has = record {
+pub line_held : (m : Meaning) (entry : Entry) (text : List ℕ) → IsMeaning m → HoldsEntry m entry → text ≡ [] → IsLineIfNew m entry text
+line_held m (AReceipt r) text is has none = record {
   entries = [];
-  lines = record { each = tt; fresh = tt; spelt = refl };
+  lines = record { each = tt; fresh = tt; spelt = none };
   meaning = sym (ap (λ l. record m { held = l }) (receipt_sets.present r m.held is.rising has));
 }
-line_held m (Record x) is has = record {
+line_held m (Record x) text is has none = record {
   entries = [];
-  lines = record { each = tt; fresh = tt; spelt = refl };
+  lines = record { each = tt; fresh = tt; spelt = none };
   meaning = sym (ap (λ l. record m { records = l }) (record_sets.present x m.records is.records_rising has));
 }

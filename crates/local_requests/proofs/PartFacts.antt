@@ -68,7 +68,8 @@ pub request_of : (bytes : List ℕ) (place : ℕ) → IsFeed bytes place → IsW
 request_of bytes place feed within = record {
   split = record { parts = feed.parts; plain = feed.plain };
   short = omega (arith, length-take place bytes, feed.inside, within.words);
-  small = omega (arith, ap length feed.parts, length-append (take place bytes) (10 ∷ drop (place + 1) bytes), length-take place bytes, feed.inside, within.input);
+  small = omega (arith, ap length feed.parts, length-append (take place bytes) (10 ∷ drop (place + 1) bytes),
+      length-take place bytes, feed.inside, within.input);
 }
 
 -- the same of what was kept and a piece, counted apart
@@ -105,7 +106,8 @@ right_of bytes (Some k) feed within = record {
 
 -- what is kept stays right, whether the piece was kept or not
 pub kept_right : {E : Type 0} (result : Result (Unit {0}) E) (old new piece : List ℕ) (old_end new_end end : Option ℕ) (count : ℕ)
-    → EndsRight old old_end → OnOk result ((new ≡ old ++ piece) × (new_end ≡ end)) → OnErr result ((new ≡ old) × (new_end ≡ old_end))
+    → EndsRight old old_end
+    → OnOk result ((new ≡ old ++ piece) × (new_end ≡ end)) → OnErr result ((new ≡ old) × (new_end ≡ old_end))
     → AtFeed (old ++ piece) end → IsWithin count end → length old + length piece ≡ count → EndsRight new new_end
 kept_right (Ok _) old new piece old_end new_end end count right kept left feed within size =
     subst (λ l. EndsRight l new_end) (sym kept.0) (subst (EndsRight (old ++ piece)) (sym kept.1)

@@ -15,7 +15,7 @@ use Rattle.fedbundle.specs.Explain.{RunsExplain}
 use Rattle.fedbundle.specs.Merge.{RunsMerge}
 use Rattle.fedbundle.specs.Observe.{Fetched, IsAsHeld, RunsObserve}
 use Rattle.fedbundle.specs.Polls.{RunsPolls}
-use Rattle.fedbundle.specs.Words.{HasText}
+use Rattle.fedbundle.specs.Words.{SaysOption}
 use Rattle.fedbundle.specs.declared.command_name.CommandName.{CommandName}
 use Rattle.fedbundle.specs.declared.command_name.CommandName.TheVariants as command
 use Rattle.fedbundle.specs.declared.command_name.OptionName.{OptionName}
@@ -24,8 +24,8 @@ use Rattle.fedbundle.specs.declared.error.CommandError.{CommandError}
 use Rattle.fedbundle.specs.Exits.{IsExitLine, exit_status_of}
 use Rattle.fedbundle.specs.declared.error.CommandError.TheVariants.{Document, Io, Name, NoMemory}
 use Rattle.fedbundle.specs.declared.error.CommandError.TheVariants.{Observe, Poll, Sync, Take}
-use Rattle.fedbundle.specs.declared.exit.Exit.{Exit}
-use Rattle.fedbundle.specs.declared.exit.Exit.TheVariants.{NoBundle, NotAccepted, Refused}
+use Rattle.fedbundle.specs.declared.exits.Exit.{Exit}
+use Rattle.fedbundle.specs.declared.exits.Exit.TheVariants.{NoBundle, NotAccepted, Refused}
 use Rattle.local_requests.specs.Replies.{first_line}
 use Rattle.local_requests.specs.declared.reply.Reply.{Reply}
 
@@ -160,8 +160,8 @@ pub record IsWith (reply : Reply) (output errors : List ℕ) (status : ℕ) : Ty
   pub unjournalled : reply.journal.items ≡ []
 
 -- The command is done: its output, and what it says beside it.
-abbrev pub IsDone : Reply → List ℕ → List ℕ → Type 0
-IsDone reply output errors = IsWith reply output errors 0
+abbrev pub IsReplied : Reply → List ℕ → List ℕ → Type 0
+IsReplied reply output errors = IsWith reply output errors 0
 
 -- The command is done with an output of which this is so, and nothing is said beside it.
 pub record HasStreams (Answers : List ℕ → Type 0) (reply : Reply) : Type 0 where
@@ -205,7 +205,7 @@ pub record CallRun : Type 0 where
 
 -- The words give the option this text.
 abbrev pub IsGiven : CallRun → OptionName → List ℕ → Type 0
-IsGiven run option text = HasText run.name run.texts option text
+IsGiven run option text = SaysOption run.name run.texts option text
 
 -- what is held, of a command that only shows it
 abbrev pub held_in : CallRun → Meaning
@@ -214,18 +214,18 @@ held_in run = run.change.state.old.meaning
 -- The words say this record of distrust.
 pub record SaysRecord (name : CommandName) (texts : List (Option (List ℕ)))
     (x : Distrust) : Type 0 where
-  pub domain : HasText name texts Domain x.domain
+  pub domain : SaysOption name texts Domain x.domain
   pub form : IsDomainText x.domain
   pub digits : List ℕ
-  pub key : HasText name texts Key digits
+  pub key : SaysOption name texts Key digits
   pub is_key : decode_sized digits 32 ≡ Ok x.key.0
 
 -- They say what TLS said.
 pub record SaysVerdict (name : CommandName) (texts : List (Option (List ℕ)))
     (verdict : Verdict) : Type 0 where
-  pub endpoint : HasText name texts Endpoint verdict.endpoint.text
+  pub endpoint : SaysOption name texts Endpoint verdict.endpoint.text
   pub digits : List ℕ
-  pub key : HasText name texts Key digits
+  pub key : SaysOption name texts Key digits
   pub is_key : decode_sized digits 32 ≡ Ok verdict.key.0
 
 -- They say whose bundle was fetched, and what TLS said.
@@ -257,5 +257,5 @@ Answers command.Merge run reply = HasStreams (AnswersMerge run.change) reply
 Answers command.Distrust run reply = HasStreams (Shows command.Distrust run) reply
     ⊎ ((x : Distrust) × (is_verbose : Bool) × SaysRecord run.name run.texts x
     × SaysDistrusted run.change.state x is_verbose reply)
-Answers command.Stop run reply = IsDone reply [] [] × (reply.ends ≡ true)
+Answers command.Stop run reply = IsReplied reply [] [] × (reply.ends ≡ true)
 Answers name run reply = HasStreams (Shows name run) reply

@@ -52,11 +52,7 @@ pub(crate) fn observe<C: Closure>(
     }
 }
 
-pub(crate) fn merge<C: Closure>(
-    alloc: Global,
-    closure: &mut C,
-    input: &[u8],
-) -> Result<Reply, Exit>
+pub(crate) fn merge<C: Closure>(alloc: Global, closure: &mut C, input: &[u8]) -> Result<Reply, Exit>
     ensures answers { IfOk result (λ reply. HasStreams (AnswersMerge
         (change_run (state_run (C.state closure.old) (C.state closure.new)) input.now)) reply) }
     ensures journals { IfOk result (λ reply. Journals reply.journal.items
@@ -103,6 +99,8 @@ pub(crate) fn distrust<C: Closure>(
     ensures ends { IfErr result
         (EndsDistrust (state_run (C.state closure.old) (C.state closure.new)) record.now) }
 {
+    // What is lent tells the form of what is held.
+    let _config = closure.config();
     let errors = said_of(alloc, closure, record, is_verbose);
     let journal = line_of_record(alloc, closure, record)?;
     let mut reply = Reply::of_streams(alloc, 0, Vec::new(alloc), errors)?;
@@ -112,12 +110,7 @@ pub(crate) fn distrust<C: Closure>(
 }
 
 // What the record changes, where that is asked for, as far as there is memory for it.
-fn said_of<C: Closure>(
-    alloc: Global,
-    closure: &C,
-    record: &Distrust,
-    is_verbose: bool,
-) -> Vec<u8>
+fn said_of<C: Closure>(alloc: Global, closure: &C, record: &Distrust, is_verbose: bool) -> Vec<u8>
     ensures { SaysEffect (C.state closure.now).meaning record.now is_verbose result.items }
 {
     let mut errors = FromWrite::new(Vec::new(alloc));

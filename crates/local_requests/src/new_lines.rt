@@ -32,11 +32,11 @@ pub(crate) fn line_of_receipt<C: Closure>(
     // What these lend tells the form of the receipt and of what is held.
     let _domain = receipt.domain();
     let _config = closure.config();
-    let mut text = Vec::new(alloc);
-    if !closure.holds(receipt) {
-        push_line(&mut text, receipt.write_line(alloc)?)?;
+    if closure.holds(receipt) {
+        return Ok(Vec::new(alloc));
     }
-    Ok(text)
+    let line = end_line(receipt.write_line(alloc)?)?;
+    Ok(line)
 }
 
 // The line of a record, where it is not held.
@@ -48,12 +48,15 @@ pub(crate) fn line_of_record<C: Closure>(
     ensures { IfOk result (λ text.
         IsLineIfNew (C.state closure.now).meaning (Record record.now) text.items) }
 {
+    // What these lend tells the form of the record and of what is held.
+    let key = record.key;
+    let _domain = record.domain.as_str();
     let _config = closure.config();
-    let mut text = Vec::new(alloc);
-    if !closure.is_distrusted(&record.domain, record.key) {
-        push_line(&mut text, record.write_line(alloc)?)?;
+    if closure.is_distrusted(&record.domain, key) {
+        return Ok(Vec::new(alloc));
     }
-    Ok(text)
+    let line = end_line(record.write_line(alloc)?)?;
+    Ok(line)
 }
 
 // The lines of all that the other holds and this one does not.
@@ -71,11 +74,7 @@ pub(crate) fn lines_of_other<C: Closure>(
     Ok(lines)
 }
 
-fn receipt_lines<C: Closure>(
-    alloc: Global,
-    closure: &C,
-    other: &C,
-) -> Result<NewLines, AllocError>
+fn receipt_lines<C: Closure>(alloc: Global, closure: &C, other: &C) -> Result<NewLines, AllocError>
     ensures { IfOk result (λ new. AreReceiptLines (C.state closure.now).meaning
         (C.state other.now).meaning new.text.items new.receipts) }
 {
@@ -84,10 +83,11 @@ fn receipt_lines<C: Closure>(
     let mut text = Vec::new(alloc);
     let mut receipts = 0u64;
     for receipt in other.receipts() {
-        if !closure.holds(receipt) {
-            push_line(&mut text, receipt.write_line(alloc)?)?;
-            receipts += 1;
+        if closure.holds(receipt) {
+            continue;
         }
+        push_line(&mut text, receipt.write_line(alloc)?)?;
+        receipts += 1;
     }
     Ok(NewLines { text, receipts })
 }
@@ -100,9 +100,10 @@ fn record_lines<C: Closure>(alloc: Global, closure: &C, other: &C) -> Result<Vec
     let _other_valid = other.config();
     let mut text = Vec::new(alloc);
     for (domain, key) in other.distrusts() {
-        if !closure.is_distrusted(domain, *key) {
-            push_line(&mut text, record_line(alloc, domain, *key)?)?;
+        if closure.is_distrusted(domain, *key) {
+            continue;
         }
+        push_line(&mut text, record_line(alloc, domain, *key)?)?;
     }
     Ok(text)
 }
@@ -116,6 +117,13 @@ fn record_line(alloc: Global, domain: &TrustDomain, key: KeyId) -> Result<Vec<u8
         key,
     };
     record.write_line(alloc)
+}
+
+fn end_line(mut line: Vec<u8>) -> Result<Vec<u8>, AllocError>
+    ensures { IfOk result (λ text. text.items ≡ ended line.items) }
+{
+    line.push(b'\n')?;
+    Ok(line)
 }
 
 fn push_line(text: &mut Vec<u8>, line: Vec<u8>) -> Result<(), AllocError>

@@ -28,11 +28,11 @@ pub struct Reply {
 }
 
 impl Reply {
-    ghost use Rattle.local_requests.specs.RequestRun.{IsDone, IsEnded, IsWith};
+    ghost use Rattle.local_requests.specs.RequestRun.{IsReplied, IsEnded, IsWith};
 
     // A reply of a command that is done, and says nothing beside its output.
     pub(crate) fn done(alloc: Global, output: Vec<u8>) -> Result<Reply, AllocError>
-        ensures { IfOk result (λ reply. IsDone reply output.items []) }
+        ensures { IfOk result (λ reply. IsReplied reply output.items []) }
     {
         Reply::of_streams(alloc, 0, output, Vec::new(alloc))
     }

@@ -2,6 +2,7 @@
 ghost use Rattle.std.specs.Prelude.{◌≡◌};
 ghost use Rattle.local_requests.specs.Replies.{fault_reply};
 ghost use Rattle.local_requests.specs.declared.request_fault.RequestFault.TheVariants.{NoMemory};
+
 use replica_requests::RequestError;
 use std::alloc::AllocError;
 

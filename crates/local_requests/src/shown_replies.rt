@@ -5,7 +5,7 @@ ghost use Rattle.spiffe_name.specs.TrustDomain.{IsDomainText, RefusesDomain};
 ghost use Rattle.spiffe_name.specs.declared.error.NameError.{NameError};
 ghost use Rattle.bundle_view.specs.Report.{IsReport};
 ghost use Rattle.fedbundle.specs.declared.error.CommandError.TheVariants.{Name, NoMemory};
-ghost use Rattle.fedbundle.specs.declared.exit.Exit.TheVariants.{Refused};
+ghost use Rattle.fedbundle.specs.declared.exits.Exit.TheVariants.{Refused};
 ghost use Rattle.local_requests.specs.RequestRun.{AnswersBundle, AnswersDryRun, AnswersExplain};
 ghost use Rattle.local_requests.specs.RequestRun.{AnswersPolls, EndsBundle, EndsDryRun};
 ghost use Rattle.local_requests.specs.RequestRun.{EndsExplain, EndsPolls, memory_exit};
@@ -30,11 +30,7 @@ pub(crate) fn report<C: Closure>(alloc: Global, closure: &C) -> Result<Vec<u8>, 
     Ok(output.into_inner())
 }
 
-pub(crate) fn bundle<C: Closure>(
-    alloc: Global,
-    closure: &C,
-    domain: &str,
-) -> Result<Vec<u8>, Exit>
+pub(crate) fn bundle<C: Closure>(alloc: Global, closure: &C, domain: &str) -> Result<Vec<u8>, Exit>
     ensures { MatchResult result
         (λ text. AnswersBundle (C.state closure.now).meaning domain.now text.items)
         (EndsBundle (C.state closure.now).meaning domain.now) }

@@ -41,7 +41,7 @@ pub record AreReceiptLines (m other : Meaning) (text : List ℕ) (count : ℕ) :
   pub fresh : AllByRecursion (λ r. Contains m.held r → ⊥) new
   pub spelt : text ≡ flat_map entry_text (of_receipts new)
   pub all : with_items receipt_cmp new m.held ≡ all_receipts m other
-  pub count : length (all_receipts m other) ≡ length m.held + count
+  pub counted : length (all_receipts m other) ≡ length m.held + count
 
 -- the same of records
 pub record AreRecordLines (m other : Meaning) (text : List ℕ) : Type 0 where

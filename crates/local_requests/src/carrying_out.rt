@@ -3,15 +3,14 @@ ghost use Rattle.std.specs.Prelude.{◌≡◌, [], true, IfOk, OnErr, map, optio
 ghost use Rattle.fedbundle.specs.CommandRun.{state_run};
 ghost use Rattle.fedbundle.specs.declared.command_name.CommandName.TheVariants as command;
 ghost use Rattle.local_requests.specs.Journalling.{Journals};
-ghost use Rattle.local_requests.specs.RequestRun.{Answers, AnswersMerge, HasStreams, IsDone};
+ghost use Rattle.local_requests.specs.RequestRun.{Answers, AnswersMerge, HasStreams, IsReplied};
 ghost use Rattle.local_requests.specs.RequestRun.{SaysRecord, SaysVerdict, Shows, call_run};
 ghost use Rattle.local_requests.specs.RequestRun.{change_run};
 
-use crate::changing_replies;
 use crate::reply::Reply;
 use crate::request_fault::RequestFault;
-use crate::shown_replies;
 use crate::shown_replies::domain_of;
+use crate::{changing_replies, shown_replies};
 use bundle_view::Verdict;
 use closure_core::Closure;
 use fedbundle::{
@@ -158,12 +157,7 @@ fn verdict_of(alloc: Global, call: &Call<'_>) -> Result<Verdict, Exit>
     Ok(Verdict { endpoint, key })
 }
 
-fn merge<C: Closure>(
-    alloc: Global,
-    closure: &mut C,
-    room: u64,
-    input: &[u8],
-) -> Result<Reply, Exit>
+fn merge<C: Closure>(alloc: Global, closure: &mut C, room: u64, input: &[u8]) -> Result<Reply, Exit>
     ensures answers { IfOk result (λ reply. HasStreams (AnswersMerge
         (change_run (state_run (C.state closure.old) (C.state closure.new)) input.now)) reply) }
     ensures journals { IfOk result (λ reply. Journals reply.journal.items
@@ -189,7 +183,7 @@ fn record_of(alloc: Global, call: &Call<'_>) -> Result<Distrust, Exit>
 
 // Nothing is to be done but to end.
 fn end_replica(alloc: Global) -> Result<Reply, Exit>
-    ensures { IfOk result (λ reply. IsDone reply [] [] × (reply.ends ≡ true)) }
+    ensures { IfOk result (λ reply. IsReplied reply [] [] × (reply.ends ≡ true)) }
 {
     let mut reply = Reply::done(alloc, Vec::new(alloc))?;
     reply.ends = true;
@@ -204,7 +198,8 @@ fn shown<C: Closure>(
 ) -> Result<Vec<u8>, Exit>
     ensures { IfOk result (λ text. Shows call.now.name (call_run call.now.name
         (map (option_map (λ t. t.now)) call.now.texts.items)
-        (change_run (state_run (C.state closure.now) (C.state closure.now)) input.now)) text.items) }
+        (change_run (state_run (C.state closure.now) (C.state closure.now)) input.now))
+        text.items) }
 {
     match call.name {
         CommandName::Report => shown_replies::report(alloc, closure),

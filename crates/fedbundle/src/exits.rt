@@ -5,7 +5,7 @@ ghost use Rattle.std.specs.Io.KnownBytes.{Appends};
 ghost use Rattle.byte_lines.specs.Device.{AppendsBeginning};
 ghost use Rattle.fedbundle.specs.Exits.{AppendsExit, exit_status_of};
 ghost use Rattle.fedbundle.specs.declared.error.CommandError.TheVariants.{NoMemory};
-ghost use Rattle.fedbundle.specs.declared.exit.Exit.TheVariants.{Refused};
+ghost use Rattle.fedbundle.specs.declared.exits.Exit.TheVariants.{Refused};
 
 use crate::error::{CommandError, status};
 use crate::fault::write_fault;
