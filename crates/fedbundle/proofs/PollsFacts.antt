@@ -9,7 +9,7 @@ use Rattle.std.proofs.lemmas.Slice.Eq.{bytes_eq-Decides}
 use Rattle.std.specs.Str.{bytes_eq}
 use Rattle.jiff.specs.Types.{Timestamp}
 use Rattle.fed_config.specs.declared.relationship.Relationship.{Relationship}
-use Rattle.poll_log.specs.Polling.{Standing, IsPollDue, IsNext, IsNextAfter, polled_domains, standing_in}
+use Rattle.poll_log.specs.Polling.{PollStatus, IsPollDue, IsNext, IsNextAfter, polled_domains, standing_in}
 use Rattle.poll_log.specs.declared.error.PollError.{PollError}
 use Rattle.poll_log.specs.declared.error.PollError.TheVariants.{PastRange}
 use Rattle.bundle_view.proofs.GroupFacts.{taken_more}
@@ -20,12 +20,12 @@ use Rattle.fedbundle.specs.Inside.PollSteps.{AddsNext, AddsPollLine}
 -- ---- what is refused for a domain of the log is past the range
 
 -- a search that finds something in the rest finds something in all
-by_test : (s : Standing) (others : Option Standing) (q : Bool) → (x : Standing) × (others ≡ Some x) → (x : Standing) × (cond q (Some s) others ≡ Some x)
+by_test : (s : PollStatus) (others : Option PollStatus) (q : Bool) → (x : PollStatus) × (others ≡ Some x) → (x : PollStatus) × (cond q (Some s) others ≡ Some x)
 by_test s others true rest = (s, refl)
 by_test s others false rest = rest
 
 -- a log keeps something for each of its domains
-standing_in-some : (log : List Standing) (domain : List ℕ) → Contains (polled_domains log) domain → (x : Standing) × (standing_in log domain ≡ Some x)
+standing_in-some : (log : List PollStatus) (domain : List ℕ) → Contains (polled_domains log) domain → (x : PollStatus) × (standing_in log domain ≡ Some x)
 standing_in-some [] domain has = absurd (contains_none domain has)
 standing_in-some (s ∷ log) domain has = elim (contains_cases s.domain (polled_domains log) domain has) [
   | inl same ↦ (s, ap (λ q. cond q (Some s) (standing_in log domain)) ((bytes_eq-Decides s.domain domain).1 same))
@@ -39,19 +39,19 @@ past_after hint failures None e h = cc
 past_after hint failures (Some last) e h = (refl, h.1)
 
 -- the same for the standing that the log keeps for a domain
-past_in : (hint : Option ℕ) (o : Option Standing) (s : Standing) (e : PollError) → o ≡ Some s → IsNext hint o (Err e) → IsNext hint o (Err PastRange)
+past_in : (hint : Option ℕ) (o : Option PollStatus) (s : PollStatus) (e : PollError) → o ≡ Some s → IsNext hint o (Err e) → IsNext hint o (Err PastRange)
 past_in hint None s e is h = cc
 past_in hint (Some x) s e is h = past_after hint x.failures x.last e h
 
 -- where there is no moment for the next poll, `past range` is what its line says
-pub told_refused : (hint : Option ℕ) (log : List Standing) (domain : List ℕ) (now : ℤ) (e : PollError) (old new : List ℕ) → Contains (polled_domains log) domain
+pub told_refused : (hint : Option ℕ) (log : List PollStatus) (domain : List ℕ) (now : ℤ) (e : PollError) (old new : List ℕ) → Contains (polled_domains log) domain
     → IsNext hint (standing_in log domain) (Err e) → new ≡ old ++ codes "past range" → AddsNext hint (standing_in log domain) now old new
 told_refused hint log domain now e old new has refused made =
     let known = standing_in-some log domain has in
     record { answer = codes "past range"; tells = inr (inl (past_in hint (standing_in log domain) known.0 e known.1 refused, refl)); now_is = made }
 
 -- where the next poll is not due and has a moment, its seconds are what its line says
-pub told_moment : (hint : Option ℕ) (s : Option Standing) (now : ℤ) (t : Timestamp) (old new : List ℕ) → (IsPollDue hint s now → ⊥)
+pub told_moment : (hint : Option ℕ) (s : Option PollStatus) (now : ℤ) (t : Timestamp) (old new : List ℕ) → (IsPollDue hint s now → ⊥)
     → IsNext hint s (Ok (Some t)) → new ≡ old ++ seconds_text t → AddsNext hint s now old new
 told_moment hint s now t old new early next made = record { answer = seconds_text t; tells = inr (inr (early, (t, next, refl))); now_is = made }
 

@@ -7,7 +7,7 @@ use Rattle.jiff.specs.Types.{Timestamp}
 use Rattle.bundle_doc.specs.Bundle.{Bundle}
 use Rattle.receipt_core.specs.Acceptance.{Meaning}
 use Rattle.bundle_view.specs.Current.{IsCurrent}
-use Rattle.poll_log.specs.Polling.{Standing, IsPollDue, IsNext, polled_domains, polled, standing_in}
+use Rattle.poll_log.specs.Polling.{PollStatus, IsPollDue, IsNext, polled_domains, polled, standing_in}
 use Rattle.poll_log.specs.PollLines.{IsLogOf, RefusesPolls}
 use Rattle.poll_log.specs.declared.error.PollError.{PollError}
 use Rattle.poll_log.specs.declared.error.PollError.TheVariants.{PastRange, Io as SourceFailed}
@@ -33,13 +33,13 @@ abbrev pub seconds_text : Timestamp → List ℕ
 seconds_text t = signed_decimal (int_div t.nanosecond (pos 1000000000))
 
 -- the next poll's moment
-abbrev pub TellsMoment : Option ℕ → Option Standing → List ℕ → Type 0
+abbrev pub TellsMoment : Option ℕ → Option PollStatus → List ℕ → Type 0
 TellsMoment hint s answer = (t : Timestamp) × IsNext hint s (Ok (Some t))
     × (answer ≡ seconds_text t)
 
 -- what is printed of a domain's next poll: that it is due, that it is past the range of moments, or
 -- else its moment
-abbrev pub TellsNext : Option ℕ → Option Standing → ℤ → List ℕ → Type 0
+abbrev pub TellsNext : Option ℕ → Option PollStatus → ℤ → List ℕ → Type 0
 TellsNext hint s now answer =
     (IsPollDue hint s now × (answer ≡ codes "due"))
     ⊎ (IsNext hint s (Err PastRange) × (answer ≡ codes "past range"))
@@ -48,7 +48,7 @@ TellsNext hint s now answer =
 -- what the next polls follow from: what is held, the log of the polls so far, and the moment
 pub record PollView : Type 0 where
   pub meaning : Meaning
-  pub log : List Standing
+  pub log : List PollStatus
   pub now : ℤ
 
 -- the domain's line
@@ -75,13 +75,13 @@ IsPollsText view text = ArePollLines view (polled view.meaning.config) text
 
 -- The log has each relationship's domain, and is that of the lines that the source had, where it
 -- tells them.
-pub record ReadsLog (source : DeviceRun) (m : Meaning) (log : List Standing) : Type 0 where
+pub record ReadsLog (source : DeviceRun) (m : Meaning) (log : List PollStatus) : Type 0 where
   pub domains : polled_domains log ≡ polled m.config
   pub lines : IfSome source.before (λ bytes. IsLogOf (polled m.config) bytes log)
 
 -- The lines have a log, from which this text follows.
 pub record HasPollsText (source : DeviceRun) (m : Meaning) (now : ℤ) (text : List ℕ) : Type 0 where
-  pub log : List Standing
+  pub log : List PollStatus
   pub reads : ReadsLog source m log
   pub is : IsPollsText (record { meaning = m; log = log; now = now }) text
 

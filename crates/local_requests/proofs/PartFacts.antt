@@ -68,8 +68,14 @@ pub request_of : (bytes : List ℕ) (place : ℕ) → IsFeed bytes place → IsW
 request_of bytes place feed within = record {
   split = record { parts = feed.parts; plain = feed.plain };
   short = omega (arith, length-take place bytes, feed.inside, within.words);
-  small = omega (arith, ap length feed.parts, length-append (take place bytes) (10 ∷ drop (place + 1) bytes),
-      length-take place bytes, feed.inside, within.input);
+  small = omega (
+    arith,
+    ap length feed.parts,
+    length-append (take place bytes) (10 ∷ drop (place + 1) bytes),
+    length-take place bytes,
+    feed.inside,
+    within.input,
+  );
 }
 
 -- the same of what was kept and a piece, counted apart

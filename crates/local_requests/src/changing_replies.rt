@@ -1,6 +1,6 @@
 //! The commands that change what is held. All memory for the reply and for the lines of the journal
 //! is taken before the change: where any is refused, nothing has changed.
-ghost use Rattle.std.specs.Prelude.{◌≡◌, IfErr, IfOk};
+ghost use Rattle.std.specs.Prelude.{◌≡◌, true, IfErr, IfOk};
 ghost use Rattle.fedbundle.specs.CommandRun.{state_run};
 ghost use Rattle.fedbundle.specs.Merge.{count_text};
 ghost use Rattle.local_requests.specs.Journalling.{Journals};
@@ -113,10 +113,18 @@ pub(crate) fn distrust<C: Closure>(
 fn said_of<C: Closure>(alloc: Global, closure: &C, record: &Distrust, is_verbose: bool) -> Vec<u8>
     ensures { SaysEffect (C.state closure.now).meaning record.now is_verbose result.items }
 {
-    let mut errors = FromWrite::new(Vec::new(alloc));
     if is_verbose {
-        // That it cannot be said keeps no key from being distrusted.
-        let _ = show_distrust(alloc, closure, record, &mut errors);
+        effect_of(alloc, closure, record)
+    } else {
+        Vec::new(alloc)
     }
+}
+
+fn effect_of<C: Closure>(alloc: Global, closure: &C, record: &Distrust) -> Vec<u8>
+    ensures { SaysEffect (C.state closure.now).meaning record.now true result.items }
+{
+    let mut errors = FromWrite::new(Vec::new(alloc));
+    // That it cannot be said keeps no key from being distrusted.
+    let _ = show_distrust(alloc, closure, record, &mut errors);
     errors.into_inner()
 }
