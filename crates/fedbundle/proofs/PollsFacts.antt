@@ -44,7 +44,8 @@ past_in hint None s e is h = cc
 past_in hint (Some x) s e is h = past_after hint x.failures x.last e h
 
 -- where there is no moment for the next poll, `past range` is what its line says
-pub told_refused : (hint : Option ℕ) (log : List PollStatus) (domain : List ℕ) (now : ℤ) (e : PollError) (old new : List ℕ) → Contains (polled_domains log) domain
+pub told_refused : (hint : Option ℕ) (log : List PollStatus) (domain : List ℕ) (now : ℤ) (e : PollError) (old new : List ℕ)
+    → Contains (polled_domains log) domain
     → IsNext hint (standing_in log domain) (Err e) → new ≡ old ++ codes "past range" → AddsNext hint (standing_in log domain) now old new
 told_refused hint log domain now e old new has refused made =
     let known = standing_in-some log domain has in

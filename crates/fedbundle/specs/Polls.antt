@@ -7,7 +7,8 @@ use Rattle.jiff.specs.Types.{Timestamp}
 use Rattle.bundle_doc.specs.Bundle.{Bundle}
 use Rattle.receipt_core.specs.Acceptance.{Meaning}
 use Rattle.bundle_view.specs.Current.{IsCurrent}
-use Rattle.poll_log.specs.Polling.{PollStatus, IsPollDue, IsNext, polled_domains, polled, standing_in}
+use Rattle.poll_log.specs.Polling.{PollStatus, IsPollDue, IsNext, polled_domains, polled}
+use Rattle.poll_log.specs.Polling.{standing_in}
 use Rattle.poll_log.specs.PollLines.{IsLogOf, RefusesPolls}
 use Rattle.poll_log.specs.declared.error.PollError.{PollError}
 use Rattle.poll_log.specs.declared.error.PollError.TheVariants.{PastRange, Io as SourceFailed}
