@@ -1,7 +1,6 @@
 //! The texts of options, found and read.
-ghost use Rattle.std.specs.Prelude.{◌≡◌, IfOk, IfSome, Ok, map, option_map, slice_get, Some};
+ghost use Rattle.std.specs.Prelude.{◌≡◌, IfOk, Ok};
 ghost use Rattle.hex.specs.Hex.{decode_sized};
-ghost use Rattle.fedbundle.specs.Words.{SaysOption};
 
 use crate::command_name::OptionName;
 use crate::exits::Exit;
@@ -30,29 +29,16 @@ pub struct Manner {
 }
 
 /// The text that the words give the option, where they give it one.
-pub fn given<'a>(call: &Call<'a>, wanted: OptionName) -> Option<&'a str>
-    ensures { IfSome result (λ text. SaysOption call.now.name
-        (map (option_map (λ t. t.now)) call.now.texts.items) wanted text.now) }
-{
-    let place = place_of(call.name.options(), wanted)?;
+pub fn given<'a>(call: &Call<'a>, wanted: OptionName) -> Option<&'a str> {
+    let place = call.name.options().iter().position(|it| *it == wanted)?;
     *call.texts.get(place)?
-}
-
-// Where the option stands among these.
-fn place_of(options: &[OptionName], wanted: OptionName) -> Option<usize>
-    ensures { IfSome result (λ place. slice_get options.now place ≡ Some wanted) }
-{
-    options.iter().position(|it| *it == wanted)
 }
 
 /// The text of an option that the command wants.
 ///
 /// # Errors
 /// The words leave it out.
-pub fn wanted<'a>(call: &Call<'a>, wanted: OptionName) -> Result<&'a str, Exit>
-    ensures { IfOk result (λ text. SaysOption call.now.name
-        (map (option_map (λ t. t.now)) call.now.texts.items) wanted text.now) }
-{
+pub fn wanted<'a>(call: &Call<'a>, wanted: OptionName) -> Result<&'a str, Exit> {
     given(call, wanted).ok_or(Exit::Usage)
 }
 

@@ -20,3 +20,23 @@ returns-in_err-write_all g c =
         rw (c.as_slice.ensures.value, c.in_ok-observed.ensures.line) at c.in_err-write_all.ensures.beginning,
       );
     }))
+
+pub returns-in_err-take_observed : goal.returns-in_err-take_observed
+returns-in_err-take_observed g c =
+    let exit = err_from_is_err_and c.from_residual-in_err-take_observed.result c.from_residual-in_err-take_observed.ensures.1 in
+    let made = c.in_ok-observed.ensures.receipt in
+    rw (exit.1, exit.2) (record {
+      bytes = made.bytes;
+      read = made.read;
+      refused = c.in_err-take_observed.ensures _ made.observation;
+      unwritten = refl;
+    })
+
+pub returns : goal.returns
+returns g c =
+    let made = c.in_ok-observed.ensures.receipt in
+    record {
+      receipt = c.in_ok-observed.observed.receipt;
+      observes = record { bytes = made.bytes; read = made.read; observed = c.in_ok-take_observed.ensures _ made.observation };
+      written = rw (c.as_slice.ensures.value, c.in_ok-observed.ensures.line) at c.in_ok-write_all.ensures.ok;
+    }

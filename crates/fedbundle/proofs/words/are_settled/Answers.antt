@@ -6,8 +6,8 @@ use Rattle.fedbundle.specs.Words.{given, is_settled_in, option_text}
 use Rattle.fedbundle.proofs.WordsFacts.{has_text, one_unsettled, settled_as, settled_more}
 use Rattle.fedbundle.proofs.words.are_settled.Goals as goal
 
-pub returns-then-not-is_settled : goal.returns-then-not-is_settled
-returns-then-not-is_settled c =
+pub returns-then-not-is_settled_at : goal.returns-then-not-is_settled_at
+returns-then-not-is_settled_at c =
     let found = found_of c.args.matches.now in
     let rows = rows_of found in
     let at = has_text (λ t. t.now) c.get_str.result (given rows At) (c.get_str.ensures ∙ ap (first_value found) c.text.ensures
