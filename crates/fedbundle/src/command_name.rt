@@ -29,6 +29,12 @@ pub enum OptionName {
     Allow,
     DryRun,
     Verbose,
+    Socket,
+    /// The address where the command does without one, too.
+    OptionalListen,
+    Peers,
+    Every,
+    New,
 }
 
 /// A subcommand.
@@ -64,12 +70,14 @@ pub enum CommandName {
     Serve,
     /// Asks another replica, and takes what it answers.
     Pull,
+    /// Holds what a replica holds in memory, and answers requests and other replicas.
+    Replica,
     /// Ends a running replica.
     Stop,
 }
 
 /// All subcommands, in the order in which help lists them.
-pub(crate) static COMMANDS: [CommandName; 16] = [
+pub(crate) static COMMANDS: [CommandName; 17] = [
     CommandName::Canon,
     CommandName::Config,
     CommandName::Report,
@@ -85,6 +93,7 @@ pub(crate) static COMMANDS: [CommandName; 16] = [
     CommandName::Distrust,
     CommandName::Serve,
     CommandName::Pull,
+    CommandName::Replica,
     CommandName::Stop,
 ];
 
@@ -114,6 +123,11 @@ impl OptionName {
             OptionName::Allow => "allow",
             OptionName::DryRun => "dry-run",
             OptionName::Verbose => "verbose",
+            OptionName::Socket => "socket",
+            OptionName::OptionalListen => "listen",
+            OptionName::Peers => "peers",
+            OptionName::Every => "every",
+            OptionName::New => "new",
         }
     }
 
@@ -123,7 +137,7 @@ impl OptionName {
     {
         matches!(
             self,
-            OptionName::RecordsOnly | OptionName::DryRun | OptionName::Verbose
+            OptionName::RecordsOnly | OptionName::DryRun | OptionName::Verbose | OptionName::New
         )
     }
 
@@ -140,6 +154,9 @@ impl OptionName {
                 | OptionName::Wait
                 | OptionName::MostBytes
                 | OptionName::Allow
+                | OptionName::OptionalListen
+                | OptionName::Peers
+                | OptionName::Every
         )
     }
 
@@ -256,6 +273,18 @@ static PULL: [OptionName; 6] = [
     OptionName::Verbose,
 ];
 
+static REPLICA: [OptionName; 9] = [
+    OptionName::Config,
+    OptionName::State,
+    OptionName::Socket,
+    OptionName::OptionalListen,
+    OptionName::Peers,
+    OptionName::Every,
+    OptionName::MostBytes,
+    OptionName::New,
+    OptionName::Verbose,
+];
+
 static STOP: [OptionName; 1] = [OptionName::At];
 
 impl CommandName {
@@ -279,6 +308,7 @@ impl CommandName {
             CommandName::Distrust => "distrust",
             CommandName::Serve => "serve",
             CommandName::Pull => "pull",
+            CommandName::Replica => "replica",
             CommandName::Stop => "stop",
         }
     }
@@ -303,6 +333,7 @@ impl CommandName {
             CommandName::Distrust => DISTRUST.as_slice(),
             CommandName::Serve => SERVE.as_slice(),
             CommandName::Pull => PULL.as_slice(),
+            CommandName::Replica => REPLICA.as_slice(),
             CommandName::Stop => STOP.as_slice(),
         }
     }
