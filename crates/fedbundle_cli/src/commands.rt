@@ -3,7 +3,7 @@
 // talks with another replica.
 use crate::exit::print_clap;
 use crate::streams::{complaints, input, output};
-use crate::{changing, command_line, exchange, options, printing, showing};
+use crate::{at_replica, changing, command_line, exchange, options, printing, showing, staying};
 use fed_config::Config;
 use fedbundle::{
     Call, CommandError, CommandName, Exit, OptionName, WordsError, given, manner_of, read_words,
@@ -16,7 +16,7 @@ pub(crate) fn run(rt: &HostRuntime) -> Result<u8, Exit> {
     let words = command_line::words_of_process(rt)?;
     let texts = command_line::texts(rt.alloc(), words.as_slice())?;
     match read_words(rt.alloc(), texts.as_slice()) {
-        Ok(call) => carry_out(rt, &call),
+        Ok(call) => carry_out(rt, &call, texts.as_slice()),
         Err(error) => end_by_words(rt, &error),
     }
 }
@@ -30,11 +30,14 @@ fn end_by_words(rt: &HostRuntime, error: &WordsError) -> Result<u8, Exit> {
     }
 }
 
-fn carry_out(rt: &HostRuntime, call: &Call<'_>) -> Result<u8, Exit> {
+fn carry_out(rt: &HostRuntime, call: &Call<'_>, words: &[&str]) -> Result<u8, Exit> {
     if has_empty_path(call) {
         return Err(Exit::Usage);
     }
     manner_of(call)?;
+    if let Some(path) = given(call, OptionName::At) {
+        return at_replica::ask(rt, call, path, words);
+    }
     match call.name {
         CommandName::Canon => canon(rt, wanted(call, OptionName::Domain)?),
         CommandName::Serve => serve(rt, call),
@@ -50,6 +53,7 @@ fn has_empty_path(call: &Call<'_>) -> bool {
         OptionName::To,
         OptionName::With,
         OptionName::At,
+        OptionName::Socket,
     ];
     paths.iter().any(|option| given(call, *option) == Some(""))
 }
@@ -75,6 +79,7 @@ fn carry_out_under(rt: &HostRuntime, config: &Config, call: &Call<'_>) -> Result
         CommandName::Observe => changing::observe(rt, config, call),
         CommandName::Merge => changing::merge(rt, config, call),
         CommandName::Pull => exchange::pull(rt, config, call),
+        CommandName::Replica => staying::stay(rt, config, call),
         CommandName::Report if given(call, OptionName::OptionalState).is_none() => {
             report_lines(rt, config)
         }

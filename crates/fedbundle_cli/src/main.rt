@@ -4,6 +4,7 @@
 #![tactic(auto)]
 
 mod anew;
+mod at_replica;
 mod changing;
 mod command_line;
 mod commands;
@@ -16,6 +17,7 @@ mod limited;
 mod options;
 mod printing;
 mod showing;
+mod staying;
 mod streams;
 mod viewing;
 
