@@ -1,5 +1,5 @@
 -- What is kept and asked of a receipt's parts.
-use Rattle.std.specs.Prelude.{◌≡◌, ℕ, List, ◌++◌, codes}
+use Rattle.std.specs.Prelude.{◌≡◌, ℕ, List, ◌++◌, codes, Option, IfSome}
 use Rattle.std.specs.declared.cmp.Ordering.{Ordering}
 use Rattle.std.specs.Ordering.{nat_cmp, ordering_then}
 use Rattle.std.specs.Cmp.Lexicographic.{slice_cmp}
@@ -10,11 +10,11 @@ use Rattle.receipt_core.specs.Receipt.{pair_of, key_cmp}
 use Rattle.receipt_core.specs.declared.receipt_id.ReceiptId.{ReceiptId}
 use Rattle.receipt_core.specs.declared.triple.Triple.{Triple}
 
--- a receipt in memory, beside what was computed of it
-pub record IsKeptReceipt (r : Receipt) (id : ReceiptId) (need : Triple)
+-- a receipt in memory, beside what was computed of it; its id may be left out
+pub record IsKeptReceipt (r : Receipt) (id : Option ReceiptId) (need : Triple)
     (offers : List Triple) : Type 0 where
   pub is : IsReceipt r
-  pub kept_id : id.0 ≡ receipt_id_of r
+  pub kept_id : IfSome id (λ i. i.0 ≡ receipt_id_of r)
   pub kept_need : need ≡ need_of r
   pub kept_offers : offers ≡ offers_of (pair_of r)
 

@@ -19,15 +19,7 @@ pub(crate) fn id_of(
     voucher: DocId,
     key: KeyId,
 ) -> ReceiptId
-    ensures id { result.0 ≡ receipt_id_of
-        (record {
-          domain = domain.now;
-          endpoint = endpoint.now;
-          document = document.now;
-          voucher = voucher;
-          key = key;
-        }) }
-    ensures form { IsReceipt
+    ensures { result.0 ≡ receipt_id_of
         (record {
           domain = domain.now;
           endpoint = endpoint.now;
@@ -49,6 +41,42 @@ pub(crate) fn id_of(
     hasher.update(digits(&voucher.0));
     hasher.update("\"}");
     ReceiptId(hasher.finalize())
+}
+
+// The parts of a receipt are well formed, by their types. It does nothing.
+pub(crate) fn form_of_parts(
+    domain: &TrustDomain,
+    endpoint: &SpiffeId,
+    document: &Document,
+    voucher: DocId,
+    key: KeyId,
+)
+    ensures { IsReceipt
+        (record {
+          domain = domain.now;
+          endpoint = endpoint.now;
+          document = document.now;
+          voucher = voucher;
+          key = key;
+        }) }
+{
+    let _domain = domain.as_str();
+    let _endpoint = endpoint.as_str();
+    let _document = document.canonical();
+    is_digest(&voucher.0);
+    is_digest(&key.0);
+}
+
+fn is_digest(digest: &[u8; 32])
+    ensures { IsDigest digest.now }
+{
+    let _copy = copy_of(*digest);
+}
+
+fn copy_of(digest: [u8; 32]) -> [u8; 32]
+    ensures { result ≡ digest }
+{
+    digest
 }
 
 // The bytes of a line beside the document, the domain and the endpoint: the two digests and what

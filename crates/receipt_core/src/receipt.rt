@@ -1,4 +1,4 @@
-//! Receipts. A clone copies what was computed, the id and the offers.
+//! Receipts. A clone copies what was computed: the offers, and the id where it is kept.
 ghost use Rattle.std.specs.Prelude.{◌≡◌, ◌↔◌, IsTrue, IfOk, IfSome, MatchResult, Some, refl};
 ghost use Rattle.std.specs.Cmp.{partial_equiv_from_equiv};
 ghost use Rattle.receipt_core.specs.Receipt.{IsReceipt, line, receipt_cmp, receipt_id_of, need_of};
@@ -7,7 +7,7 @@ ghost use Rattle.receipt_core.specs.Order.{same_receipt, receipt_total, receipt_
 ghost use Rattle.receipt_core.specs.Line.{IsLine, RefusesReceiptLine};
 ghost use Rattle.receipt_core.specs.Parts.{IsKeptReceipt, parts_cmp, rest_cmp};
 
-use crate::line::{id_of, write_receipt};
+use crate::line::{form_of_parts, id_of, write_receipt};
 use crate::line_error::LineError;
 use crate::line_reader::{read_directly, read_receipt};
 use crate::offers::{copies_of, offers_of};
@@ -25,8 +25,9 @@ use std::marker::Model;
 /// 5.2, profile `https_spiffe`).
 ///
 /// Receipts are equal exactly when their five parts are, which is when their lines are, and are
-/// ordered by their lines' bytes. A receipt keeps its document once, and beside it its id, what it
-/// needs and what it offers, which are computed when it is made.
+/// ordered by their lines' bytes. A receipt keeps its document once, and beside it what it needs
+/// and what it offers, which are computed when it is made. Its id, the digest of its whole line, is
+/// computed when it is asked for, and kept only where [`Receipt::keep_id`] was called.
 #[derive(Debug, Drop)]
 pub struct Receipt {
     domain: TrustDomain,
@@ -34,7 +35,7 @@ pub struct Receipt {
     document: Document,
     voucher: DocId,
     key: KeyId,
-    id: ReceiptId,
+    id: Option<ReceiptId>,
     need: Triple,
     offers: Vec<Triple>,
 }
@@ -87,7 +88,7 @@ impl Receipt {
               key = key;
             }) }
     {
-        let id = id_of(&domain, &endpoint, &document, voucher, key);
+        form_of_parts(&domain, &endpoint, &document, voucher, key);
         let need = Triple::new(alloc, endpoint.domain(), voucher, key)?;
         let offers = offers_of(alloc, &domain, &document)?;
         Ok(Receipt {
@@ -96,7 +97,7 @@ impl Receipt {
             document,
             voucher,
             key,
-            id,
+            id: None,
             need,
             offers,
         })
@@ -178,11 +179,35 @@ impl Receipt {
         self.key
     }
 
-    /// The id: the SHA-256 of the line, without a line feed.
+    /// The id: the SHA-256 of the line, without a line feed. Where it is not kept it is computed
+    /// anew, which takes time for each byte of the line, and no memory.
     pub fn id(&self) -> ReceiptId
         ensures { result.0 ≡ receipt_id_of self.now }
     {
-        self.id
+        match self.id {
+            Some(id) => id,
+            None => self.computed_id(),
+        }
+    }
+
+    fn computed_id(&self) -> ReceiptId
+        ensures { result.0 ≡ receipt_id_of self.now }
+    {
+        id_of(
+            &self.domain,
+            &self.endpoint,
+            &self.document,
+            self.voucher,
+            self.key,
+        )
+    }
+
+    /// The same receipt, which keeps its id from now on, for those who ask for it again and again.
+    pub fn keep_id(mut self) -> Receipt
+        ensures { result ≡ self }
+    {
+        self.id = Some(self.id());
+        self
     }
 
     /// What a document has to offer to vouch for this receipt: the key of the voucher, in the
