@@ -5,4 +5,5 @@ pub mod MemberFacts
 pub mod UnionFacts
 pub mod NodeFacts
 pub mod FlagFacts
+mod BucketFacts
 mod StandardFacts

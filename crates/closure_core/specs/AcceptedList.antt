@@ -1,5 +1,6 @@
 -- What is asked of a closure
-use Rattle.std.specs.Prelude.{ℕ, ◌==◌, Bool, List, Contains, slice_index_or}
+use Rattle.std.specs.Prelude.{ℕ, ◌==◌, Bool, true, List, Contains, Option, Some, None}
+use Rattle.std.specs.Prelude.{slice_index_or}
 use Rattle.std.specs.declared.cmp.Ordering.{Ordering}
 use Rattle.std.specs.Ordering.{nat_cmp, ordering_then}
 use Rattle.std.specs.Option.{option_cmp}
@@ -36,3 +37,13 @@ is_in_bucket bucket r = slice_index_or (receipt_id_of r) 0 0 == bucket
 
 abbrev pub receipts_in : ℕ → List Receipt → List Receipt
 receipts_in bucket held = filter (is_in_bucket bucket) held
+
+-- the receipt is one of the bucket, or no bucket is asked for
+abbrev pub is_within : Option ℕ → Receipt → Bool
+is_within None r = true
+is_within (Some bucket) r = is_in_bucket bucket r
+
+-- all receipts, or those of one bucket
+abbrev pub receipts_within : Option ℕ → List Receipt → List Receipt
+receipts_within None held = held
+receipts_within (Some bucket) held = receipts_in bucket held

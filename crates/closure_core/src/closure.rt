@@ -110,7 +110,8 @@ pub trait Closure: Drop {
     fn receipts(&self) -> Receipts<'_>
         ensures { result ≡ (state self.now).meaning.held };
 
-    /// The receipts whose id begins with the byte, in the order of their lines' bytes.
+    /// The receipts whose id begins with the byte, in the order of their lines' bytes. A closure
+    /// that does not keep them in an order by bucket looks at the ids of all receipts.
     fn receipts_of(&self, bucket: u8) -> Receipts<'_>
         ensures { result ≡ receipts_in bucket (state self.now).meaning.held };
 

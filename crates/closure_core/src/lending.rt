@@ -5,6 +5,7 @@ ghost use Rattle.std.specs.Prelude.{◌≡◌, length};
 ghost use Rattle.std.specs.Iterator.{YieldsFirstBy, YieldsFirstRef, item_count};
 ghost use Rattle.closure_core.specs.Inside.Nodes.{flags_of, pairs_of, raised_documents, AreNumbers};
 ghost use Rattle.closure_core.specs.Inside.Records.{distrusts_of, AreWithin};
+ghost use Rattle.closure_core.specs.AcceptedList.{is_within, receipts_in, receipts_within};
 
 use crate::nodes::document_at;
 use crate::record::Record;
@@ -16,10 +17,11 @@ use sorted_order::{Lent, Numbers};
 use spiffe_name::TrustDomain;
 use std::marker::Model;
 
-/// Receipts, in the order of their lines' bytes.
+/// Receipts, in the order of their lines' bytes: all that are lent, or those of one bucket.
 #[derive(Drop)]
 pub struct Receipts<'a> {
     lent: Lent<'a, Receipt>,
+    bucket: Option<u8>,
 }
 
 /// Accepted documents of one domain, each once, rising by rank, where an absent one comes first,
@@ -42,10 +44,11 @@ pub struct Distrusts<'a> {
 impl<'a> Model for Receipts<'a> {
     ghost use Rattle.std.specs.Prelude.{List};
     ghost use Rattle.receipt_core.specs.Receipt.{Receipt};
+    ghost use Rattle.closure_core.specs.AcceptedList.{receipts_within};
 
     ghost Value = { List Receipt };
 
-    ghost view = { λ a. a.lent };
+    ghost view = { λ a. receipts_within a.bucket a.lent };
 }
 
 impl<'a> Model for Accepted<'a> {
@@ -80,7 +83,19 @@ impl<'a> Receipts<'a> {
     pub fn new(lent: Lent<'a, Receipt>) -> Self
         ensures { result ≡ lent.entry }
     {
-        Receipts { lent }
+        Receipts { lent, bucket: None }
+    }
+
+    /// Those of the receipts that are lent whose id begins with the byte, for those who implement
+    /// [`crate::Closure`]. The id of each receipt is looked at, and computed where it does not keep
+    /// it.
+    pub fn of_bucket(lent: Lent<'a, Receipt>, bucket: u8) -> Self
+        ensures { result ≡ receipts_in bucket lent.entry }
+    {
+        Receipts {
+            lent,
+            bucket: Some(bucket),
+        }
     }
 }
 
@@ -128,7 +143,12 @@ impl<'a> Iterator for Receipts<'a> {
     ghost remaining = { item_count (λ rest. rest) };
 
     fn next(&mut self) -> Option<&'a Receipt> {
-        self.lent.next()
+        while let Some(receipt) = self.lent.next() {
+            if is_within(self.bucket, receipt) {
+                return Some(receipt);
+            }
+        }
+        None
     }
 }
 
@@ -161,5 +181,15 @@ impl<'a> Iterator for Distrusts<'a> {
         let (first, others) = self.rest.split_first()?;
         self.rest = others;
         Some((&self.domains[first.domain as usize], &first.key))
+    }
+}
+
+/// Whether the receipt is one of the bucket, or no bucket is asked for.
+fn is_within(bucket: Option<u8>, receipt: &Receipt) -> bool
+    ensures { result ≡ is_within bucket receipt.now }
+{
+    match bucket {
+        Some(bucket) => receipt.id().0[0] == bucket,
+        None => true,
     }
 }
