@@ -13,19 +13,20 @@ use Rattle.fed_config.specs.declared.seed.Seed.{Seed}
 use Rattle.receipt_core.specs.declared.distrust.Distrust.{Distrust}
 use Rattle.receipt_core.specs.Receipt.{Receipt, IsReceipt, IsDistrust, IsDigest}
 use Rattle.receipt_core.specs.Acceptance.{IsFitting, IsMeaning}
-use Rattle.sorted_order.specs.ArenaView.{ArenaView, Arranges, in_order}
+use Rattle.sorted_order.specs.ArenaView.{ArenaView, Arranges, in_order, picked}
+use Rattle.sorted_order.specs.Sequence.{Sequence}
 use Rattle.receipt_core.specs.Receipt.{receipt_cmp, with_distrust}
 use Rattle.receipt_core.specs.Rising.{with_item}
 use Rattle.receipt_core.specs.Acceptance.{Meaning}
 use Rattle.receipt_core.proofs.RisingFacts.{with_item-all}
 use Rattle.std.specs.Bool.{IsTrue}
-use Rattle.std.specs.Prelude.{◌↔◌, Bool}
+use Rattle.std.specs.Prelude.{◌↔◌, Bool, Option, None, IfSome}
 use Rattle.closure_core.specs.Inside.Records.{distrust_by, distrusts_of, AreWithin}
 use Rattle.trust_closure.specs.Inside.Records.{record_cmp, InsertsRecord}
 use Rattle.trust_closure.specs.declared.shared.records.Insertion.{Insertion}
 use Rattle.trust_closure.specs.declared.shared.records.Insertion.TheVariants.{Added, There, Full as NoPlace}
 use Rattle.closure_core.specs.declared.record.Record.{Record}
-use Rattle.trust_closure.specs.Inside.Held.{domains_of, bucket_cmp, IsWellHeld, AddsOrRefuses, addition_result}
+use Rattle.trust_closure.specs.Inside.Held.{domains_of, bucket_cmp, AreBucketed, IsWellHeld, AddsOrRefuses, addition_result}
 use Rattle.closure_core.proofs.ContainsFacts.{contains_none, IsMapped, mapped, contains_map}
 use Rattle.closure_core.proofs.RisingFacts.{rising_same, with_items_has, with_items_gets, with_items_rising, with_item_rising, with_item_longer, each_has}
 use Rattle.trust_closure.proofs.RecordFacts.{distrusts_rising, distrusts_with, record_of, record_total}
@@ -178,7 +179,7 @@ all_distrusts c is (r ∷ rs) within keys =
     (record { domain = domain_text c is (get_or (domains_of c) r.domain []) (own_domain c r within.0); key = keys.0 }, all_distrusts c is rs within.1 keys.1)
 
 -- What is held is a meaning: its receipts and records are in order, fit and are within limits.
-pub hoard_meaning : (c : Configuration) (stock : ArenaView Receipt) (buckets : List ℕ) (records : List Record)
+pub hoard_meaning : (c : Configuration) (stock : ArenaView Receipt) (buckets : Option Sequence) (records : List Record)
     → IsWellHeld c stock buckets records
     → IsMeaning (record { config = c; held = in_order stock; records = distrusts_of (domains_of c) records })
 hoard_meaning c stock buckets records is =
@@ -217,17 +218,25 @@ no_bucket_rises = tt
 arranges_none : Arranges [] 0
 arranges_none = record { counted = refl; within = λ k d h. absurd (omega arith); each = λ n h. absurd (omega arith) }
 
+-- No receipts are in the order of buckets, where that is kept and empty.
+none_bucketed : (buckets : Option Sequence) → IfSome buckets (λ order. order.items ≡ []) → IfSome buckets (AreBucketed [])
+none_bucketed None empty = tt
+none_bucketed (Some order) empty = record {
+  arranged = subst (λ ns. Arranges ns 0) (sym empty) arranges_none;
+  rising = subst (λ ns. IsStrictlySortedBy bucket_cmp (picked [] ns)) (sym empty) no_bucket_rises;
+}
+
 -- A closure without receipts and records holds what is to be held.
-pub hoard_none : (c : Configuration) → IsConfiguration c → IsWellHeld c (record { items = []; order = []; capacity = 0 }) [] []
-hoard_none c is = record {
+pub hoard_none : (c : Configuration) → IsConfiguration c → (buckets : Option Sequence) → IfSome buckets (λ order. order.items ≡ [])
+    → IsWellHeld c (record { items = []; order = []; capacity = 0 }) buckets []
+hoard_none c is buckets empty = record {
   configuration = is;
   receipts = tt;
   fitting = tt;
   rising = no_receipt_rises;
   few = omega arith;
   arranged = arranges_none;
-  buckets_arranged = arranges_none;
-  buckets_rising = no_bucket_rises;
+  bucketed = none_bucketed buckets empty;
   within = tt;
   keys = tt;
   records_rising = no_record_rises;
@@ -237,12 +246,12 @@ hoard_none c is = record {
 -- ---- one record more
 
 -- What is held with a list of records is held with an equal one.
-hoard_with : (c : Configuration) (stock : ArenaView Receipt) (buckets : List ℕ) (old new : List Record)
+hoard_with : (c : Configuration) (stock : ArenaView Receipt) (buckets : Option Sequence) (old new : List Record)
     → IsWellHeld c stock buckets old → new ≡ old → IsWellHeld c stock buckets new
 hoard_with c stock buckets old new hoard e = subst (IsWellHeld c stock buckets) (sym e) hoard
 
 -- What is held stays so after a record was added, was there, or had no place.
-pub hoard_add : (c : Configuration) (stock : ArenaView Receipt) (buckets : List ℕ) (old new : List Record) (x : Record)
+pub hoard_add : (c : Configuration) (stock : ArenaView Receipt) (buckets : Option Sequence) (old new : List Record) (x : Record)
     → IsWellHeld c stock buckets old → x.domain < length (domains_of c) → IsDigest x.key.0 → (a : Insertion)
     → InsertsRecord old x new a → IsWellHeld c stock buckets new
 hoard_add c stock buckets old new x hoard below key There h = hoard_with c stock buckets old new hoard h.1
@@ -258,8 +267,7 @@ hoard_add c stock buckets old new x hoard below key Added h =
       rising = hoard.rising;
       few = hoard.few;
       arranged = hoard.arranged;
-      buckets_arranged = hoard.buckets_arranged;
-      buckets_rising = hoard.buckets_rising;
+      bucketed = hoard.bucketed;
       within = subst (AreWithin (length (domains_of c))) (sym h.now)
           (with_item-all (λ (r : Record). r.domain < length (domains_of c)) record_cmp x old below hoard.within);
       keys = subst (AllByRecursion (λ (r : Record). IsDigest r.key.0)) (sym h.now)

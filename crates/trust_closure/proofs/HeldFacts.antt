@@ -23,13 +23,14 @@ use Rattle.receipt_core.specs.Rising.{with_item}
 use Rattle.receipt_core.specs.Acceptance.{IsFitting, Meaning}
 use Rattle.receipt_core.proofs.LineFacts.{one_receipt}
 use Rattle.receipt_core.proofs.OrderFacts.{both_equal, cmp_equal}
+use Rattle.sorted_order.specs.Sequence.{Sequence}
 use Rattle.sorted_order.specs.Sought.{IsMissing, IsGap, IsRising, is_equal}
 use Rattle.sorted_order.specs.ArenaView.{ArenaView, Arranges, in_order, picked, compared_at, IsNumber, FindsNumber}
 use Rattle.sorted_order.proofs.PickedFacts.{length-picked, picked-at, picked-insert, rising_numbers, gap_of_items, Arranges-insert, filter-picked}
 use Rattle.closure_core.proofs.RisingFacts.{with_item_at, with_item_rising, sought, sorted, rising_same, each_has, each_from}
 use Rattle.closure_core.proofs.MemberFacts.{all_more}
 use Rattle.closure_core.specs.Refusals.{RefusesFit}
-use Rattle.trust_closure.specs.Inside.Held.{IsWellHeld, bucket_of, bucket_cmp, RefusesNew}
+use Rattle.trust_closure.specs.Inside.Held.{IsWellHeld, AreBucketed, bucket_of, bucket_cmp, RefusesNew}
 use Rattle.closure_core.specs.AcceptedList.{is_in_bucket, receipts_in}
 use Rattle.closure_core.specs.declared.error.TakeError.{TakeError}
 use Rattle.closure_core.specs.declared.error.TakeError.TheVariants.{UnknownDomain, WrongEndpoint, Full, NoMemory, ConfigDiffers}
@@ -155,32 +156,48 @@ bucket_inserts items buckets r spot arranged other gap =
 
 -- ---- one receipt more
 
--- What is held stays in order, in both orders, after a receipt is taken.
-pub hoard_more : (c : Configuration) (stock new : ArenaView Receipt) (buckets newer : List ℕ) (records : List Record)
-    (r : Receipt) (place spot : ℕ) → IsWellHeld c stock buckets records → IsReceipt r → IsFitting c r
-    → length stock.items < 65536 → IsMissing (λ s. receipt_cmp s r) (in_order stock) place
-    → IsGap (λ n. compared_at (λ x. bucket_cmp x r) stock.items n) buckets spot → new.items ≡ stock.items ++ r ∷ []
-    → in_order new ≡ insert (in_order stock) place r → new.order ≡ insert stock.order place (length stock.items)
-    → newer ≡ insert buckets spot (length stock.items) → IsWellHeld c new newer records
-hoard_more c stock new buckets newer records r place spot hoard is fits few missing gap items ordered order bucketed =
-    let size : length new.items ≡ length stock.items + 1 = ap length items ∙ length-append stock.items (r ∷ []) in
-    let counted : length (in_order stock) ≡ length stock.items = length_in_order stock hoard.arranged in
-    let counts = hoard.arranged.counted in
-    let bucket_counts = hoard.buckets_arranged.counted in
-    let missing_within = missing.within in
+-- All receipts are in the order of buckets after one is put into its gap.
+pub bucketed_more : (c : Configuration) (stock : ArenaView Receipt) (buckets newer : Sequence) (items : List Receipt) (records : List Record)
+    (r : Receipt) (place spot : ℕ) → IsWellHeld c stock (Some buckets) records → IsReceipt r
+    → IsMissing (λ s. receipt_cmp s r) (in_order stock) place
+    → IsGap (λ n. compared_at (λ x. bucket_cmp x r) stock.items n) buckets.items spot → items ≡ stock.items ++ r ∷ []
+    → newer.items ≡ insert buckets.items spot (length stock.items) → AreBucketed items newer
+bucketed_more c stock buckets newer items records r place spot hoard is missing gap more bucketed =
+    let size : length items ≡ length stock.items + 1 = ap length more ∙ length-append stock.items (r ∷ []) in
+    let counts = hoard.bucketed.arranged.counted in
     let gap_within = gap.within in
     let unheld : Contains (in_order stock) r → ⊥ = missing_lacks (in_order stock) r place missing in
     let other : AllByRecursion (IsOther r) stock.items =
     all_items (IsOther r) stock.items stock.order hoard.arranged
     (others (in_order stock) r is (picked_all IsReceipt stock.items hoard.receipts stock.order) unheld) in
+    let arranged : Arranges (insert buckets.items spot (length stock.items)) (length stock.items + 1) =
+    Arranges-insert buckets.items (length stock.items) spot hoard.bucketed.arranged gap_within in
+    let in_buckets : picked items newer.items ≡ with_item bucket_cmp r (picked stock.items buckets.items) =
+    ap (λ xs. picked xs newer.items) more ∙ ap (picked (stock.items ++ r ∷ [])) bucketed
+    ∙ picked-insert stock.items buckets.items spot r hoard.bucketed.arranged.within
+    ∙ sym (bucket_inserts stock.items buckets.items r spot hoard.bucketed.arranged other gap) in
+    record {
+      arranged = subst (λ n. Arranges newer.items n) (sym size)
+          (subst (λ ns. Arranges ns (length stock.items + 1)) (sym bucketed) arranged);
+      rising = subst (IsStrictlySortedBy bucket_cmp) (sym in_buckets)
+          (with_item_rising bucket_total r (picked stock.items buckets.items) hoard.bucketed.rising);
+    }
+
+-- What is held stays in order after a receipt is taken.
+pub hoard_more : (c : Configuration) (stock new : ArenaView Receipt) (buckets newer : Option Sequence) (records : List Record)
+    (r : Receipt) (place : ℕ) → IsWellHeld c stock buckets records → IsReceipt r → IsFitting c r
+    → length stock.items < 65536 → IsMissing (λ s. receipt_cmp s r) (in_order stock) place
+    → new.items ≡ stock.items ++ r ∷ []
+    → in_order new ≡ insert (in_order stock) place r → new.order ≡ insert stock.order place (length stock.items)
+    → IfSome newer (AreBucketed new.items) → IsWellHeld c new newer records
+hoard_more c stock new buckets newer records r place hoard is fits few missing items ordered order bucketed =
+    let size : length new.items ≡ length stock.items + 1 = ap length items ∙ length-append stock.items (r ∷ []) in
+    let counted : length (in_order stock) ≡ length stock.items = length_in_order stock hoard.arranged in
+    let counts = hoard.arranged.counted in
+    let missing_within = missing.within in
     let place_within : place ≤ length stock.order = omega arith in
     let arranged : Arranges (insert stock.order place (length stock.items)) (length stock.items + 1) =
     Arranges-insert stock.order (length stock.items) place hoard.arranged place_within in
-    let bucket_arranged : Arranges (insert buckets spot (length stock.items)) (length stock.items + 1) =
-    Arranges-insert buckets (length stock.items) spot hoard.buckets_arranged gap_within in
-    let bucket_items : picked new.items newer ≡ with_item bucket_cmp r (picked stock.items buckets) =
-    ap (λ xs. picked xs newer) items ∙ ap (picked (stock.items ++ r ∷ [])) bucketed ∙ picked-insert stock.items buckets spot r hoard.buckets_arranged.within
-    ∙ sym (bucket_inserts stock.items buckets r spot hoard.buckets_arranged other gap) in
     record {
       configuration = hoard.configuration;
       within = hoard.within;
@@ -193,9 +210,7 @@ hoard_more c stock new buckets newer records r place spot hoard is fits few miss
           (with_item_rising receipt_total r (in_order stock) hoard.rising);
       few = omega arith;
       arranged = subst (λ n. Arranges new.order n) (sym size) (subst (λ ns. Arranges ns (length stock.items + 1)) (sym order) arranged);
-      buckets_arranged = subst (λ n. Arranges newer n) (sym size) (subst (λ ns. Arranges ns (length stock.items + 1)) (sym bucketed) bucket_arranged);
-      buckets_rising = subst (IsStrictlySortedBy bucket_cmp) (sym bucket_items)
-          (with_item_rising bucket_total r (picked stock.items buckets) hoard.buckets_rising);
+      bucketed = bucketed;
     }
 
 -- ---- why a receipt is refused

@@ -7,6 +7,7 @@
 //! start, a take, a distrust and a merge.
 mod changes;
 mod closure;
+mod exchange_closure;
 mod grow;
 pub(crate) mod labels;
 mod recount;
@@ -14,3 +15,4 @@ mod seeds;
 mod wire;
 
 pub use closure::IndexedClosure;
+pub use exchange_closure::ExchangeClosure;

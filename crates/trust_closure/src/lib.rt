@@ -11,5 +11,5 @@ mod shared;
 pub use closure_core::{
     Accepted, Closure, Distrusted, Distrusts, NoMemory, Receipts, Refused, TakeError, Taken,
 };
-pub use indexed::IndexedClosure;
+pub use indexed::{ExchangeClosure, IndexedClosure};
 pub use plain::PlainClosure;

@@ -1,6 +1,6 @@
 -- What is held: a configuration, receipts and records of distrust
 use Rattle.std.specs.Prelude.{◌≡◌, ℕ, ◌<◌, ◌≤◌, List, [], ◌++◌, map, length, Contains, Result, Ok}
-use Rattle.std.specs.Prelude.{Err, MatchResult}
+use Rattle.std.specs.Prelude.{Err, MatchResult, Option, Some, None, IfSome, min}
 use Rattle.std.specs.Prelude.{slice_index_or}
 use Rattle.std.specs.declared.cmp.Ordering.{Ordering}
 use Rattle.std.specs.Ordering.{nat_cmp, ordering_then}
@@ -13,6 +13,7 @@ use Rattle.receipt_core.specs.Receipt.{with_distrust}
 use Rattle.receipt_core.specs.Rising.{with_items}
 use Rattle.receipt_core.specs.Acceptance.{IsFitting, Meaning}
 use Rattle.sorted_order.specs.Sought.{IsMissing}
+use Rattle.sorted_order.specs.Sequence.{Sequence}
 use Rattle.sorted_order.specs.ArenaView.{ArenaView, Arranges, in_order, picked}
 use Rattle.trust_closure.specs.Inside.Records.{record_cmp}
 use Rattle.closure_core.specs.Inside.Records.{AreWithin}
@@ -54,8 +55,19 @@ bucket_of r = slice_index_or (receipt_id_of r) 0 0
 abbrev pub bucket_cmp : Receipt → Receipt → Ordering
 bucket_cmp r s = ordering_then (nat_cmp (bucket_of r) (bucket_of s)) (receipt_cmp r s)
 
--- The receipts fit and are in order, and so are the records.
-pub record IsWellHeld (c : Configuration) (stock : ArenaView Receipt) (buckets : List ℕ)
+-- The numbers of all receipts, in the order of buckets.
+pub record AreBucketed (receipts : List Receipt) (buckets : Sequence) : Type 0 where
+  pub arranged : Arranges buckets.items (length receipts)
+  pub rising : IsStrictlySortedBy bucket_cmp (picked receipts buckets.items)
+
+-- how many receipts there is room for, where the order of buckets may be kept
+abbrev pub capacity_with : ℕ → Option Sequence → ℕ
+capacity_with receipts None = receipts
+capacity_with receipts (Some buckets) = min receipts buckets.capacity
+
+-- The receipts fit and are in order, also in that of buckets where it is kept, and so are the
+-- records.
+pub record IsWellHeld (c : Configuration) (stock : ArenaView Receipt) (buckets : Option Sequence)
     (records : List Record) : Type 0 where
   pub configuration : IsConfiguration c
   pub receipts : AllByRecursion IsReceipt stock.items
@@ -63,8 +75,7 @@ pub record IsWellHeld (c : Configuration) (stock : ArenaView Receipt) (buckets :
   pub rising : IsStrictlySortedBy receipt_cmp (in_order stock)
   pub few : length stock.items ≤ receipt_limit
   pub arranged : Arranges stock.order (length stock.items)
-  pub buckets_arranged : Arranges buckets (length stock.items)
-  pub buckets_rising : IsStrictlySortedBy bucket_cmp (picked stock.items buckets)
+  pub bucketed : IfSome buckets (AreBucketed stock.items)
   pub within : AreWithin (length (domains_of c)) records
   pub keys : AllByRecursion (λ r. IsDigest r.key.0) records
   pub records_rising : IsStrictlySortedBy record_cmp records

@@ -1,5 +1,5 @@
 //! The closure that operators run.
-ghost use Rattle.std.specs.Prelude.{◌≡◌, IsOk, OnOk, IfOk};
+ghost use Rattle.std.specs.Prelude.{◌≡◌, [], IsOk, OnOk, IfOk, IfSome};
 ghost use Rattle.closure_core.specs.Changes.{empty_of, Takes, TakesDistrust, Merges};
 ghost use Rattle.closure_core.specs.Refusals.{IsRoomier};
 ghost use Rattle.trust_closure.specs.Work.{Works, MergesOnce};
@@ -18,6 +18,7 @@ use closure_core::{
 use fed_config::Config;
 use jwk_set::KeyId;
 use receipt_core::Receipt;
+use sorted_order::Order;
 use spiffe_name::TrustDomain;
 use std::alloc::Global;
 use std::marker::Model;
@@ -58,7 +59,28 @@ impl IndexedClosure {
         ensures empty { IfOk result (λ c. c.state.meaning ≡ empty_of config.now) }
         ensures work { IfOk result (λ c. c.work ≡ 0) }
     {
-        let held = Held::new(alloc, config)?;
+        IndexedClosure::begin(alloc, config, None)
+    }
+
+    /// The same, which keeps the ids of its receipts and their order by bucket besides, so that
+    /// [`crate::Closure::receipts_of`] looks at the receipts of the bucket alone.
+    pub(crate) fn for_exchange(alloc: Global, config: &Config) -> Result<Self, NoMemory>
+        ensures empty { IfOk result (λ c. c.state.meaning ≡ empty_of config.now) }
+        ensures work { IfOk result (λ c. c.work ≡ 0) }
+    {
+        IndexedClosure::begin(alloc, config, Some(Order::new(alloc)))
+    }
+
+    fn begin(
+        alloc: Global,
+        config: &Config,
+        buckets: Option<Order>,
+    ) -> Result<Self, NoMemory>
+        requires { IfSome buckets (λ order. order.items ≡ []) }
+        ensures empty { IfOk result (λ c. c.state.meaning ≡ empty_of config.now) }
+        ensures work { IfOk result (λ c. c.work ≡ 0) }
+    {
+        let held = Held::new(alloc, config, buckets)?;
         let mut pairs = Pairs::new(alloc);
         let mut label_index = LabelIndex::new(alloc);
         let _domains = held.config().domains();

@@ -44,7 +44,7 @@ impl Closure for PlainClosure {
     ghost state = { λ c. c };
 
     fn new(alloc: Global, config: &Config) -> Result<Self, NoMemory> {
-        let held = Held::new(alloc, config)?;
+        let held = Held::new(alloc, config, None)?;
         let mut pairs = Pairs::new(alloc);
         let mut seed_offers = Vec::new(alloc);
         let released = Vec::new(alloc);

@@ -1,7 +1,7 @@
 //! What a closure holds: its configuration; its receipts, in an arena by line, with their order by
-//! bucket beside it; and its records of distrust.
+//! bucket beside it where that is kept; and its records of distrust.
 ghost use Rattle.std.specs.Prelude.{◌≡◌, ℕ, ◌+◌, ◌<◌, ◌≤◌, ◌↔◌, [], ◌∷◌, ◌++◌, length, Contains};
-ghost use Rattle.std.specs.Prelude.{IsTrue, IsOk, OnOk, IfOk, MatchResult};
+ghost use Rattle.std.specs.Prelude.{IsTrue, IsOk, OnOk, IfOk, IfSome, MatchResult};
 ghost use Rattle.fed_config.specs.Configuration.{IsConfiguration};
 ghost use Rattle.receipt_core.specs.Receipt.{IsReceipt, with_receipt};
 ghost use Rattle.receipt_core.specs.Acceptance.{IsFitting, IsMeaning};
@@ -34,21 +34,22 @@ pub(crate) enum Lookup {
     Absent(usize),
 }
 
-/// The configuration, the receipts in order of arrival, beside their order by lines and that by the
-/// first byte of their ids, and the records of distrust in their order.
+/// The configuration, the receipts in order of arrival, beside their order by lines, and the
+/// records of distrust in their order. Where receipts are exchanged, also the order of the receipts
+/// by the first byte of their ids, which they keep then: no other closure computes an id.
 #[derive(Drop)]
 pub(crate) struct Held {
     config: Config,
     receipts: Arena<Receipt>,
-    buckets: Order,
+    buckets: Option<Order>,
     records: Records,
 }
 
 impl Model for Held {
-    ghost use Rattle.std.specs.Prelude.{min};
     ghost use Rattle.sorted_order.specs.ArenaView.{in_order};
     ghost use Rattle.closure_core.specs.Inside.Records.{distrusts_of};
     ghost use Rattle.trust_closure.specs.Inside.Held.{HeldReceipts, IsWellHeld, domains_of};
+    ghost use Rattle.trust_closure.specs.Inside.Held.{capacity_with};
 
     ghost Value = { HeldReceipts };
 
@@ -57,15 +58,20 @@ impl Model for Held {
       arrived = h.receipts.items;
       held = in_order h.receipts;
       records = distrusts_of (domains_of h.config) h.records;
-      capacity = min h.receipts.capacity h.buckets.capacity;
+      capacity = capacity_with h.receipts.capacity h.buckets;
     } };
 
-    ghost invariant = { λ h. IsWellHeld h.config h.receipts h.buckets.items h.records };
+    ghost invariant = { λ h. IsWellHeld h.config h.receipts h.buckets h.records };
 }
 
 impl Held {
-    /// Holds nothing, with room for all records.
-    pub(crate) fn new(alloc: Global, config: &Config) -> Result<Held, NoMemory>
+    /// Holds nothing, with room for all records. The order of buckets is this, if it is to be kept.
+    pub(crate) fn new(
+        alloc: Global,
+        config: &Config,
+        buckets: Option<Order>,
+    ) -> Result<Held, NoMemory>
+        requires { IfSome buckets (λ order. order.items ≡ []) }
         ensures { IfOk result (λ h.
             (meaning_of h ≡ record { config = config.now; held = []; records = [] })
             × (h.arrived ≡ [])) }
@@ -75,7 +81,7 @@ impl Held {
         Ok(Held {
             config: config.try_clone(alloc)?,
             receipts: Arena::new(alloc),
-            buckets: Order::new(alloc),
+            buckets,
             records: Records::new(alloc)?,
         })
     }
@@ -112,14 +118,20 @@ impl Held {
         ensures within { length self.old.arrived + receipts ≤ self.old.capacity → IsOk result }
     {
         self.receipts.try_reserve(receipts)?;
-        self.buckets.try_reserve(receipts)
+        match &mut self.buckets {
+            Some(buckets) => buckets.try_reserve(receipts),
+            None => Ok(()),
+        }
     }
 
     /// For how many receipts more there is room.
     pub(crate) fn room(&self) -> usize
         ensures { length self.now.arrived + result ≡ self.now.capacity }
     {
-        self.receipts.room().min(self.buckets.room())
+        match &self.buckets {
+            Some(buckets) => self.receipts.room().min(buckets.room()),
+            None => self.receipts.room(),
+        }
     }
 
     /// Holds a receipt that is absent, at its place.
@@ -131,11 +143,17 @@ impl Held {
           held = with_receipt receipt self.old.held;
         } }
     {
-        let spot = self
-            .buckets
-            .before(&PlaceInBuckets::new(self.receipts.items(), &receipt));
-        let number = self.receipts.insert(place, receipt);
-        self.buckets.insert(spot, number);
+        match &mut self.buckets {
+            Some(buckets) => {
+                let receipt = receipt.keep_id();
+                let spot = buckets.before(&PlaceInBuckets::new(self.receipts.items(), &receipt));
+                let number = self.receipts.insert(place, receipt);
+                buckets.insert(spot, number);
+            }
+            None => {
+                self.receipts.insert(place, receipt);
+            }
+        }
     }
 
     /// Holds a record of distrust.
@@ -176,12 +194,18 @@ impl Held {
         Receipts::new(self.receipts.from(0))
     }
 
+    /// The receipts of a bucket. Where the order of buckets is not kept, all are looked through.
     pub(crate) fn receipts_of(&self, bucket: u8) -> Receipts<'_>
         ensures { result ≡ receipts_in bucket self.now.held }
     {
         let items = self.receipts.items();
-        let numbers = self.buckets.matching(&InBucket::new(items, bucket));
-        Receipts::new(Lent::new(numbers, items))
+        match &self.buckets {
+            Some(buckets) => {
+                let numbers = buckets.matching(&InBucket::new(items, bucket));
+                Receipts::new(Lent::new(numbers, items))
+            }
+            None => Receipts::of_bucket(self.receipts.from(0), bucket),
+        }
     }
 
     pub(crate) fn distrusts(&self) -> Distrusts<'_>

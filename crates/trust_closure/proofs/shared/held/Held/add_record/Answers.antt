@@ -17,7 +17,7 @@ invariant_of-self c =
     let below : c.record_of.result.domain < length (domains_of c.self.inside.config) =
     subst (λ (n : ℕ). n < length (domains_of c.self.inside.config)) (sym c.record_of.ensures.domain)
     (place_below c.self.inside.config c.args.domain.now c.in-Some.number c.in-Some.ensures) in
-    hoard_add c.self.inside.config c.self.inside.receipts c.self.inside.buckets.items c.self.inside.records
+    hoard_add c.self.inside.config c.self.inside.receipts c.self.inside.buckets c.self.inside.records
     c.add.new.self c.record_of.result c.self.invariant below
     (subst IsDigest (sym c.record_of.ensures.key) c.record_of.ensures.form) c.add.result c.add.ensures
 

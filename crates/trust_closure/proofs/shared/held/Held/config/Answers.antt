@@ -8,7 +8,7 @@ use Rattle.trust_closure.proofs.shared.held.Held.config.Goals as goal
 
 pub returns-clause-valid : goal.returns-clause-valid
 returns-clause-valid c = subst (λ (h : HeldReceipts). IsMeaning (meaning_of h)) c.self.view_is
-    (hoard_meaning c.self.inside.config c.self.inside.receipts c.self.inside.buckets.items c.self.inside.records
+    (hoard_meaning c.self.inside.config c.self.inside.receipts c.self.inside.buckets c.self.inside.records
     c.self.invariant)
 
 pub returns-clause-size : goal.returns-clause-size

@@ -2,7 +2,6 @@ use Rattle.std.proofs.Common.{sym, subst, []}
 use Rattle.fed_config.specs.Configuration.{Configuration, IsConfiguration}
 use Rattle.receipt_core.specs.Receipt.{Receipt}
 use Rattle.sorted_order.specs.ArenaView.{ArenaView}
-use Rattle.sorted_order.specs.Sequence.{Sequence}
 use Rattle.trust_closure.specs.Inside.Held.{IsWellHeld}
 use Rattle.trust_closure.proofs.ConfigFacts.{hoard_none}
 use Rattle.trust_closure.proofs.shared.held.Held.new.Goals as goal
@@ -11,8 +10,6 @@ pub invariant_of-result : goal.invariant_of-result
 invariant_of-result c =
     let is : IsConfiguration c.in_ok-try_clone.field-0 =
     subst (λ (x : Configuration). IsConfiguration x) (sym c.in_ok-try_clone.ensures) c.domains.ensures.form in
-    subst (λ (s : ArenaView Receipt). IsWellHeld c.in_ok-try_clone.field-0 s c.new-2.result.items c.in_ok-new.field-0) (sym c.new.ensures)
-    (subst (λ (o : Sequence). IsWellHeld c.in_ok-try_clone.field-0 (record { items = []; order = []; capacity = 0 })
-    o.items c.in_ok-new.field-0) (sym c.new-2.ensures)
-    (subst (λ rs. IsWellHeld c.in_ok-try_clone.field-0 (record { items = []; order = []; capacity = 0 }) [] rs)
-    (sym c.in_ok-new.ensures) (hoard_none c.in_ok-try_clone.field-0 is)))
+    subst (λ (s : ArenaView Receipt). IsWellHeld c.in_ok-try_clone.field-0 s c.args.buckets c.in_ok-new.field-0) (sym c.new.ensures)
+    (subst (λ rs. IsWellHeld c.in_ok-try_clone.field-0 (record { items = []; order = []; capacity = 0 }) c.args.buckets rs)
+    (sym c.in_ok-new.ensures) (hoard_none c.in_ok-try_clone.field-0 is c.args.buckets c.requires))

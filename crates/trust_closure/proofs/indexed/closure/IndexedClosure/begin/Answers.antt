@@ -5,7 +5,7 @@ use Rattle.fed_config.specs.declared.seed.Seed.{Seed}
 use Rattle.fed_config.specs.Configuration.{Configuration, HasDomain, AreDomains}
 use Rattle.receipt_core.specs.Acceptance.{Meaning}
 use Rattle.trust_closure.proofs.IndexFacts.{seeds-domains, built-seeded, kept-seeded, marked-within, marked-few, heads-within}
-use Rattle.trust_closure.proofs.indexed.closure.IndexedClosure.new.Goals as goal
+use Rattle.trust_closure.proofs.indexed.closure.IndexedClosure.begin.Goals as goal
 
 pub add_seeds-requires-clause-domains : goal.add_seeds-requires-clause-domains
 add_seeds-requires-clause-domains c =
