@@ -4,14 +4,14 @@ use crate::row_call::{RowCall, bucket_of, number_of, text_of_lines, word_of};
 use crate::stop::Stop;
 use byte_lines::MemSink;
 use replica_sync::{Event, run_world, write_snapshot};
-use trust_closure::IndexedClosure;
+use trust_closure::ExchangeClosure;
 
 /// Tells what each replica holds after the events of the text's lines, where the second word tells
 /// how many there are.
 pub(crate) fn tell_world(row: RowCall<'_>, answer: &mut String) -> Result<(), Stop> {
     let config = row.config()?;
     let events = events_of(row)?;
-    let replicas: Vec<IndexedClosure> = run_world(
+    let replicas: Vec<ExchangeClosure> = run_world(
         row.alloc,
         &config,
         row.number(1)?,
@@ -22,7 +22,7 @@ pub(crate) fn tell_world(row: RowCall<'_>, answer: &mut String) -> Result<(), St
 
 fn tell_replicas(
     row: RowCall<'_>,
-    replicas: &[IndexedClosure],
+    replicas: &[ExchangeClosure],
     answer: &mut String,
 ) -> Result<(), Stop> {
     for (number, replica) in replicas.iter().enumerate() {
@@ -34,7 +34,7 @@ fn tell_replicas(
     Ok(())
 }
 
-fn show_held(row: RowCall<'_>, replica: &IndexedClosure, answer: &mut String) -> Result<(), Stop> {
+fn show_held(row: RowCall<'_>, replica: &ExchangeClosure, answer: &mut String) -> Result<(), Stop> {
     let mut sink = MemSink::new(row.alloc, 65_536)?;
     write_snapshot(row.alloc, replica, &mut sink)?;
     Ok(row.script.show_lines(sink.as_bytes(), answer)?)

@@ -16,7 +16,7 @@ use fedbundle::{
 use std::io::{Read, Write};
 use std::net::{SocketAddr, TcpListener};
 use std::{fs, io};
-use trust_closure::{Closure, IndexedClosure};
+use trust_closure::{Closure, ExchangeClosure};
 
 /// How many sessions are served, and whether each is spoken of.
 #[derive(Clone, Copy)]
@@ -49,7 +49,7 @@ pub(crate) fn serve(
 
 fn serve_at(
     rt: &HostRuntime,
-    closure: &IndexedClosure,
+    closure: &ExchangeClosure,
     address: &str,
     service: Service,
 ) -> Result<u8, Exit> {
@@ -63,7 +63,7 @@ fn serve_at(
 
 fn serve_all(
     rt: &HostRuntime,
-    closure: &IndexedClosure,
+    closure: &ExchangeClosure,
     listener: &TcpListener,
     service: Service,
 ) -> u8 {
@@ -78,7 +78,7 @@ fn serve_all(
 
 fn serve_next(
     rt: &HostRuntime,
-    closure: &IndexedClosure,
+    closure: &ExchangeClosure,
     listener: &TcpListener,
     is_verbose: bool,
 ) -> Result<(), Exit> {
@@ -95,7 +95,7 @@ fn serve_next(
 
 fn serve_on(
     rt: &HostRuntime,
-    closure: &IndexedClosure,
+    closure: &ExchangeClosure,
     connection: &Connection,
 ) -> Result<u64, CommandError> {
     let mut source = FromRead::new(connection.direction(rt));
@@ -129,7 +129,7 @@ fn say_given(rt: &HostRuntime, peer: SocketAddr, answers: u64) {
 /// What is held when a session begins, and the file that it is of.
 #[derive(Drop)]
 struct Begun {
-    closure: IndexedClosure,
+    closure: ExchangeClosure,
     file: SeenState,
 }
 
@@ -148,7 +148,7 @@ pub(crate) fn pull(rt: &HostRuntime, config: &Config, call: &Call<'_>) -> Result
 // How the session ended. Where there is no connection there was none.
 fn pull_from(
     rt: &HostRuntime,
-    closure: &mut IndexedClosure,
+    closure: &mut ExchangeClosure,
     peer: &str,
     most_bytes: u64,
 ) -> Result<Result<(), Exit>, Exit> {
@@ -167,7 +167,7 @@ fn begin(rt: &HostRuntime, config: &Config, state: Keeping<'_>) -> Result<Begun,
 
 fn end_session(
     rt: &HostRuntime,
-    closure: &mut IndexedClosure,
+    closure: &mut ExchangeClosure,
     connection: Connection,
     most_bytes: u64,
 ) -> Result<(), Exit> {
@@ -181,7 +181,7 @@ fn end_session(
 
 fn pull_on<R: Read>(
     rt: &HostRuntime,
-    closure: &mut IndexedClosure,
+    closure: &mut ExchangeClosure,
     answers: &mut R,
     connection: &Connection,
 ) -> Result<(), CommandError> {
@@ -246,9 +246,9 @@ fn join(
     rt: &HostRuntime,
     config: &Config,
     path: &str,
-    pulled: &IndexedClosure,
+    pulled: &ExchangeClosure,
 ) -> Result<(), Exit> {
-    let mut held = load(rt, config, path)?;
+    let mut held: ExchangeClosure = load(rt, config, path)?;
     match held.merge(pulled) {
         Ok(_) => save(rt, &held, path),
         Err(why) => Err(Exit::Refused(CommandError::Take(why))),

@@ -12,7 +12,7 @@ use fedbundle::{
 use std::io::Write;
 use std::thread;
 use std::time::Duration;
-use trust_closure::IndexedClosure;
+use trust_closure::Closure;
 
 /// How long a command waits before it tries again to take the lock, and how often it does so in a
 /// second.
@@ -80,20 +80,20 @@ fn try_lock(rt: &HostRuntime, path: &str) -> Result<Option<StateLock>, Exit> {
 }
 
 /// What the state file holds.
-pub(crate) fn load(
+pub(crate) fn load<C: Closure>(
     rt: &HostRuntime,
     config: &Config,
     path: &str,
-) -> Result<IndexedClosure, CommandError> {
+) -> Result<C, CommandError> {
     Ok(load_state(rt, rt.alloc(), config, path)?)
 }
 
 /// What the state file holds, for a command that reads it alone: it says where there is none.
-pub(crate) fn look(
+pub(crate) fn look<C: Closure>(
     rt: &HostRuntime,
     config: &Config,
     state: Keeping<'_>,
-) -> Result<IndexedClosure, CommandError> {
+) -> Result<C, CommandError> {
     if is_more_wanted(rt, state) && matches!(state_bytes(rt, state.path), Ok(None)) {
         // That it cannot be said changes nothing.
         let _ = writeln!(
@@ -105,7 +105,11 @@ pub(crate) fn look(
     load(rt, config, state.path)
 }
 
-pub(crate) fn save(rt: &HostRuntime, closure: &IndexedClosure, path: &str) -> Result<(), Exit> {
+pub(crate) fn save<C: Closure>(
+    rt: &HostRuntime,
+    closure: &C,
+    path: &str,
+) -> Result<(), Exit> {
     match save_state(rt, rt.alloc(), closure, path) {
         Ok(()) => Ok(()),
         Err(fault) => Err(Exit::of_file(Step::Save, fault)),
