@@ -105,11 +105,7 @@ pub(crate) fn look<C: Closure>(
     load(rt, config, state.path)
 }
 
-pub(crate) fn save<C: Closure>(
-    rt: &HostRuntime,
-    closure: &C,
-    path: &str,
-) -> Result<(), Exit> {
+pub(crate) fn save<C: Closure>(rt: &HostRuntime, closure: &C, path: &str) -> Result<(), Exit> {
     match save_state(rt, rt.alloc(), closure, path) {
         Ok(()) => Ok(()),
         Err(fault) => Err(Exit::of_file(Step::Save, fault)),

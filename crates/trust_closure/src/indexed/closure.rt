@@ -71,11 +71,7 @@ impl IndexedClosure {
         IndexedClosure::begin(alloc, config, Some(Order::new(alloc)))
     }
 
-    fn begin(
-        alloc: Global,
-        config: &Config,
-        buckets: Option<Order>,
-    ) -> Result<Self, NoMemory>
+    fn begin(alloc: Global, config: &Config, buckets: Option<Order>) -> Result<Self, NoMemory>
         requires { IfSome buckets (λ order. order.items ≡ []) }
         ensures empty { IfOk result (λ c. c.state.meaning ≡ empty_of config.now) }
         ensures work { IfOk result (λ c. c.work ≡ 0) }
