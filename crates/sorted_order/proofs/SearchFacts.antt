@@ -1,7 +1,7 @@
 -- From the edge in a block to the gap in the sequence
 use Rattle.std.proofs.Common.{◌≡◌, ◌≢◌, inl, inr, ℕ, zero, suc, ◌+◌, ◌-◌, ◌<◌, ◌≤◌, List, [], ◌∷◌, length, take, drop}
 use Rattle.std.proofs.Common.{slice_index, slice_index_or, slice_get, Some, None, refl, sym, ◌∙◌, ap, subst, arith}
-use Rattle.std.proofs.Common.{cond}
+use Rattle.std.proofs.Common.{cond, is_lt, true}
 use Rattle.std.proofs.lemmas.Bool.{cases_lt}
 use Rattle.std.proofs.lemmas.List.{get_or_default}
 use Rattle.std.proofs.lemmas.Option.{slice_get_within, get_or_from_slice_get, slice_get-get_or}
@@ -65,6 +65,24 @@ edge_of_block compared bs i w filled block edge = record {
   before = edge_before compared bs i w filled block edge;
   after = edge_after compared bs i w filled block edge;
 }
+
+-- What is tested to be `Less` is.
+pub less_of : (o : Ordering) → is_lt o ≡ true → o ≡ Less
+less_of Less e = refl
+less_of Equal e = absurd (cc)
+less_of Greater e = absurd (cc)
+
+-- Where the last number of the last block stands before what is sought, the end is the edge.
+pub edge_of_end : (compared : ℕ → Ordering) (bs : List (List ℕ)) (i w : ℕ) → i < length bs → length bs ≤ suc i
+    → w ≡ length (block_at bs i) → 0 < w → compared (slice_index (block_at bs i) (w - 1)) ≡ Less
+    → IsBoundary compared (concat bs) (length_before bs i + w)
+edge_of_end compared bs i w here end whole some less =
+    let last : length_before bs i + (w - 1) ≡ length_before bs i + w - 1 = omega (arith, some) in
+    record {
+      within = omega (arith, whole, before_next bs i here, before_within bs (suc i));
+      before = λ p. rw (concat-at bs i (w - 1) (length_before bs i + w - 1) here (omega (arith, whole, some)) last) less;
+      after = λ p. absurd (omega (arith, whole, before_next bs i here, before_all bs (suc i) end, p));
+    }
 
 -- An index of 0 means `Less`: with `index_zero`, comparisons turn into numbers and back.
 index_of_less : (o : Ordering) → ordering_index o ≤ 0 → o ≡ Less

@@ -1,6 +1,6 @@
 //! Searches over the blocks of a sequence: the block by the first numbers of the blocks, and then
 //! the place in it.
-ghost use Rattle.std.specs.Prelude.{◌≡◌, ℕ, ◌+◌, ◌-◌, ◌^◌, ◌<◌, ◌≤◌, length, slice_get};
+ghost use Rattle.std.specs.Prelude.{◌≡◌, ℕ, ◌+◌, ◌-◌, ◌^◌, ◌<◌, ◌≤◌, length, slice_get, IfSome};
 ghost use Rattle.std.specs.List.{All, concat};
 ghost use Rattle.sorted_order.specs.Inside.Blocks.{AreFilled, block_at, length_before, IsSpot};
 ghost use Rattle.sorted_order.specs.Inside.Blocks.{IsBoundary};
@@ -10,8 +10,43 @@ ghost use Rattle.sorted_order.specs.Inside.Seeking.{FindsAt};
 use crate::block::Block;
 use crate::probe::Probe;
 
-/// Where what is sought would stand: a block, and a place in it.
+/// Where what is sought would stand: a block, and a place in it. Items often come in their order, so
+/// it looks at the last number first.
 pub(crate) fn edge<P: Probe>(blocks: &[Block], probe: &P) -> (usize, usize)
+    requires some { 0 < length blocks.now }
+    requires filled { AreFilled blocks.now }
+    requires known { All (P.knows probe.now) (concat blocks.now) }
+    ensures spot { IsSpot blocks.now (length_before blocks.now result.0 + result.1) result.0
+        result.1 }
+    ensures edge { IsBoundary (P.compared probe.now) (concat blocks.now)
+        (length_before blocks.now result.0 + result.1) }
+{
+    if let Some(end) = edge_at_end(blocks, probe) {
+        return end;
+    }
+    edge_among(blocks, probe)
+}
+
+/// The end, if there are numbers and the last of them stands before what is sought.
+fn edge_at_end<P: Probe>(blocks: &[Block], probe: &P) -> Option<(usize, usize)>
+    requires some { 0 < length blocks.now }
+    requires known { All (P.knows probe.now) (concat blocks.now) }
+    ensures { IfSome result (λ end.
+        IsSpot blocks.now (length_before blocks.now end.0 + end.1) end.0 end.1
+        × IsBoundary (P.compared probe.now) (concat blocks.now)
+            (length_before blocks.now end.0 + end.1)) }
+{
+    let last = blocks.len() - 1;
+    let numbers = blocks[last].as_slice();
+    let len = numbers.len();
+    if len > 0 && probe.compare(numbers[len - 1]).is_lt() {
+        return Some((last, len));
+    }
+    None
+}
+
+/// The same as [`edge`], by the first numbers of the blocks.
+fn edge_among<P: Probe>(blocks: &[Block], probe: &P) -> (usize, usize)
     requires some { 0 < length blocks.now }
     requires filled { AreFilled blocks.now }
     requires known { All (P.knows probe.now) (concat blocks.now) }

@@ -2,7 +2,7 @@ use Rattle.std.proofs.Common.{◌≡◌, [], ◌∙◌}
 use Rattle.std.proofs.lemmas.List.{get_or_read}
 use Rattle.sorted_order.specs.Inside.Blocks.{block_at}
 use Rattle.sorted_order.proofs.SearchFacts.{All-block, edge_of_block}
-use Rattle.sorted_order.proofs.search.edge.Goals as goal
+use Rattle.sorted_order.proofs.search.edge_among.Goals as goal
 
 pub edge_in-place-requires : goal.edge_in-place-requires
 edge_in-place-requires g c =
