@@ -115,13 +115,13 @@ impl Ord for Receipt {
 
 impl Ord for InBucket {
     fn cmp(&self, other: &InBucket) -> Ordering {
-        self.0.id[0].cmp(&other.0.id[0]).then_with(|| self.0.cmp(&other.0))
+        self.0.id()[0].cmp(&other.0.id()[0]).then_with(|| self.0.cmp(&other.0))
     }
 }
 
 impl Spot for InBucket {
     fn spot(&self) -> (u8, Option<&Receipt>) {
-        (self.0.id[0], Some(&self.0))
+        (self.0.id()[0], Some(&self.0))
     }
 }
 
@@ -298,7 +298,7 @@ impl Closure {
     pub fn receipts_of(&self, bucket: u8) -> impl Iterator<Item = &Receipt> {
         let start: Bound<&dyn Spot> = Bound::Included(&Start(bucket));
         let behind = self.buckets.range::<dyn Spot, _>((start, Bound::Unbounded)).map(|receipt| &*receipt.0);
-        behind.take_while(move |receipt| receipt.id[0] == bucket)
+        behind.take_while(move |receipt| receipt.id()[0] == bucket)
     }
 
     pub fn accepted(&self, domain: &str) -> impl Iterator<Item = &Document> {

@@ -1,8 +1,7 @@
 //! Receipts' lines, read by pieces where they are spelt as such a line, and else through a tree; and written.
 use crate::document::{is_url_text, Authority, Document, Id, PublicKey, MAX_DOCUMENT_BYTES};
 use crate::names::{domain_of, is_domain};
-use crate::receipt::{self, offers_of, Receipt, Triple};
-use sha2::{Digest, Sha256};
+use crate::receipt::{self, Receipt};
 use std::io::{self, Write};
 
 pub fn read_line(bytes: &[u8]) -> Option<Receipt> {
@@ -10,6 +9,12 @@ pub fn read_line(bytes: &[u8]) -> Option<Receipt> {
 }
 
 pub fn write_line(out: &mut impl Write, receipt: &Receipt) -> io::Result<()> {
+    write_form(out, receipt)?;
+    out.write_all(b"\n")
+}
+
+/// The line without its end.
+pub fn write_form(out: &mut impl Write, receipt: &Receipt) -> io::Result<()> {
     out.write_all(b"{\"doc\":")?;
     out.write_all(receipt.document.text.as_bytes())?;
     out.write_all(b",\"domain\":\"")?;
@@ -20,7 +25,7 @@ pub fn write_line(out: &mut impl Write, receipt: &Receipt) -> io::Result<()> {
     write_hex(out, &receipt.key)?;
     out.write_all(b"\",\"voucher\":\"")?;
     write_hex(out, &receipt.voucher)?;
-    out.write_all(b"\"}\n")
+    out.write_all(b"\"}")
 }
 
 pub fn write_hex(out: &mut impl Write, id: &Id) -> io::Result<()> {
@@ -80,7 +85,6 @@ fn read_by_pieces(bytes: &[u8]) -> Option<Receipt> {
     let document = read_document(&mut rest)?;
     let domain = rest.string_of(",\"domain\":\"", is_domain)?;
     let endpoint = rest.string_of(",\"endpoint\":\"", |_| true)?;
-    let endpoint_domain = domain_of(&endpoint)?.to_owned();
     rest.after(",\"key\":\"")?;
     let key = rest.digest()?;
     rest.after("\",\"voucher\":\"")?;
@@ -89,10 +93,8 @@ fn read_by_pieces(bytes: &[u8]) -> Option<Receipt> {
     if !rest.0.is_empty() {
         return None;
     }
-    let id = Sha256::digest(bytes).into();
-    let need = Triple { domain: endpoint_domain, document: voucher, key };
-    let offers = offers_of(&domain, &document);
-    Some(Receipt { domain, endpoint, document, voucher, key, id, need, offers })
+    let endpoint_domain = domain_of(&endpoint)?.to_owned();
+    Some(Receipt::new(document, domain, endpoint, endpoint_domain, (key, voucher)))
 }
 
 fn read_document(rest: &mut Rest<'_>) -> Option<Document> {

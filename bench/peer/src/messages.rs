@@ -90,7 +90,7 @@ fn check(replica: &Replica, config: &Id, format: u64, buckets: u64) -> Result<()
 }
 
 pub fn write_answer(out: &mut impl Write, replica: &Replica, question: &Question) -> io::Result<()> {
-    let is_lacking = |receipt: &&Receipt| question.ids.binary_search(&receipt.id).is_err();
+    let is_lacking = |receipt: &&Receipt| question.ids.binary_search(receipt.id()).is_err();
     let lacking: Vec<&Receipt> = replica.closure.receipts_of(question.bucket).filter(is_lacking).collect();
     write!(out, "{{\"bucket\":{},\"config\":\"", question.bucket)?;
     write_hex(out, &replica.config)?;

@@ -1,8 +1,10 @@
 //! Receipts and their lines: a line is parsed, made anew of what it says, and compared.
 use crate::document::{read_document, take_text, Document, Id};
+use crate::line::write_form;
 use crate::names::{domain_of, is_domain};
 use serde_json::Value;
 use sha2::{Digest, Sha256};
+use std::cell::OnceCell;
 
 const MAX_LINE_BYTES: usize = 8_388_608;
 
@@ -21,7 +23,7 @@ pub struct Receipt {
     pub document: Document,
     pub voucher: Id,
     pub key: Id,
-    pub id: Id,
+    id: OnceCell<Id>,
     pub need: Triple,
     pub offers: Vec<Triple>,
 }
@@ -48,10 +50,31 @@ pub fn read_line(bytes: &[u8]) -> Option<Receipt> {
     if line.as_bytes() != bytes {
         return None;
     }
-    let id = Sha256::digest(bytes).into();
-    let need = Triple { domain: endpoint_domain, document: voucher, key };
-    let offers = offers_of(&domain, &document);
-    Some(Receipt { domain, endpoint, document, voucher, key, id, need, offers })
+    Some(Receipt::new(document, domain, endpoint, endpoint_domain, (key, voucher)))
+}
+
+impl Receipt {
+    pub fn new(
+        document: Document,
+        domain: String,
+        endpoint: String,
+        endpoint_domain: String,
+        (key, voucher): (Id, Id),
+    ) -> Receipt {
+        let need = Triple { domain: endpoint_domain, document: voucher, key };
+        let offers = offers_of(&domain, &document);
+        Receipt { domain, endpoint, document, voucher, key, id: OnceCell::new(), need, offers }
+    }
+
+    /// The digest of the line, computed where it is first asked for.
+    pub fn id(&self) -> &Id {
+        self.id.get_or_init(|| {
+            let mut hasher = Sha256::new();
+            // A hasher takes all.
+            let _ = write_form(&mut hasher, self);
+            hasher.finalize().into()
+        })
+    }
 }
 
 fn digest_of(text: &str) -> Option<Id> {

@@ -94,7 +94,7 @@ impl Replica {
 
     /// The ids of a bucket's receipts, rising.
     pub fn ids_of(&self, bucket: u8) -> Vec<Id> {
-        let mut ids: Vec<Id> = self.closure.receipts_of(bucket).map(|receipt| receipt.id).collect();
+        let mut ids: Vec<Id> = self.closure.receipts_of(bucket).map(|receipt| *receipt.id()).collect();
         ids.sort_unstable();
         ids
     }

@@ -102,7 +102,7 @@ fn take_all(closure: &mut Closure, receipts: Vec<Receipt>) -> usize {
 
 /// Of the receipts in order, and in the order of buckets, and of the accepted documents in order.
 fn sum_of(closure: &Closure) -> u64 {
-    let with_receipt = |sum, receipt: &Receipt| with_number(sum, u64::from(receipt.id[31]));
+    let with_receipt = |sum, receipt: &Receipt| with_number(sum, u64::from(receipt.id()[31]));
     let sum = closure.receipts().fold(0, with_receipt);
     let sum = (0..=255).flat_map(|bucket| closure.receipts_of(bucket)).fold(sum, with_receipt);
     closure.accepted("a.example").fold(sum, |sum, document| with_number(sum, document.rank.unwrap_or(0)))

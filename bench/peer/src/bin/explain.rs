@@ -33,7 +33,7 @@ fn main() -> Result<(), Box<dyn Error>> {
     match explain(&seed, &receipts, domain, canonical).as_deref() {
         Some(chain @ [first, ..]) => {
             assert!(chain.iter().map(written).sum::<usize>() > 0);
-            println!("{least} {} {}", chain.len(), hex::encode(first.id));
+            println!("{least} {} {}", chain.len(), hex::encode(first.id()));
         }
         Some([]) => println!("{least} 0 none"),
         None => println!("{least} none none"),

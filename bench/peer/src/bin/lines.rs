@@ -40,7 +40,7 @@ fn read_all(text: &[u8]) -> std::io::Result<Vec<Receipt>> {
 fn sum_of(receipts: &[Receipt]) -> u64 {
     let mut sum = 0;
     for receipt in receipts {
-        sum = with_triple(with_bytes(sum, &receipt.id), &receipt.need);
+        sum = with_triple(with_bytes(sum, receipt.id()), &receipt.need);
         sum = receipt.offers.iter().fold(sum, with_triple);
     }
     sum

@@ -29,7 +29,8 @@ struct Node {
 struct Store {
     nodes: Vec<Node>,
     seeds: usize,
-    held: HashSet<Id>,
+    /// The document's id, in which its domain is, the voucher and the key. The domain fixes the endpoint.
+    held: HashSet<(Id, Id, Id)>,
     waiting: HashMap<Triple, Vec<usize>>,
 }
 
@@ -151,13 +152,14 @@ fn take(config: &Config, store: &mut Store, line: &[u8]) -> Result<(), Box<dyn E
         Some(other) if other != endpoint => return Err("wrong endpoint".into()),
         Some(_) => {}
     }
-    if store.held.insert(Sha256::digest(line).into()) {
+    let node = Node::new(domain, document);
+    if store.held.insert((node.id, voucher, key)) {
         if store.held.len() > 65_536 {
             return Err("full".into());
         }
         let need = (domain_of(endpoint)?.to_owned(), voucher, key);
         store.waiting.entry(need).or_default().push(store.nodes.len());
-        store.nodes.push(Node::new(domain, document));
+        store.nodes.push(node);
     }
     Ok(())
 }
