@@ -1,6 +1,7 @@
 """What the benchmarks share: our programs proved and built in a repository of their own, the peers in plain Rust built over
 Debian's packages, the built `fedbundle`, and programs run with the most memory that they held."""
 import os
+import resource
 import shutil
 import subprocess
 import sys
@@ -111,22 +112,28 @@ def build_peer(name, soft=False, cpu=None):
 
 
 def run_timed(command, path, sink=subprocess.PIPE):
-    """Runs the command on a file, and returns what it printed, where that goes to no sink, the seconds that it took, and the
-    most memory that it held, in bytes: as `time` tells it, whose own process is small. A process that starts another
-    hands its own most on to it."""
+    """Runs the command on a file, and returns what it printed, where that goes to no sink, the seconds that it took by the
+    clock, those that it used of processors, and the most memory that it held, in bytes: as `time` tells it, whose own
+    process is small. A process that starts another hands its own most on to it."""
     if not os.access(TIME, os.X_OK):
         stop(f"{TIME} is not there: it is in the package time")
     with open(path, "rb") as source, tempfile.NamedTemporaryFile("r") as told:
         words = [TIME, "-f", "%M", "-o", told.name, *map(str, command)]
-        begun = time.perf_counter()
+        begun, before = time.perf_counter(), used_by_children()
         done = subprocess.run(words, stdin=source, stdout=sink)
-        took = time.perf_counter() - begun
+        took, used = time.perf_counter() - begun, used_by_children() - before
         if done.returncode != 0:
             stop(f"{' '.join(map(str, command))} ended with {done.returncode}")
-        return done.stdout, took, int(told.read()) * 1024
+        return done.stdout, took, used, int(told.read()) * 1024
+
+
+def used_by_children():
+    """The seconds that ended children used of processors, in the program and in the system."""
+    used = resource.getrusage(resource.RUSAGE_CHILDREN)
+    return used.ru_utime + used.ru_stime
 
 
 def run(program, words, path=os.devnull):
     """The numbers that the program prints, and the most memory that it held, in bytes."""
-    printed, _, held = run_timed([program, *words], path)
+    printed, _, _, held = run_timed([program, *words], path)
     return [int(word) for word in printed.split()], held

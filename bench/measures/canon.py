@@ -1,7 +1,7 @@
 """Measures `fedbundle canon` beside a plain Rust program that does the same.
 
 It makes bundles of several sizes, always the same ones, checks that both programs print the same bytes for each, and
-times whole processes: start, reading standard input, and writing the answer. The runs of the two programs take turns,
+measures whole processes: start, reading standard input, and writing the answer. The runs of the two programs take turns,
 so that what else the machine does falls on both.
 
 words: [RUNS]      RUNS is the number of timed runs of each program on each bundle, 31 if left out
@@ -12,10 +12,9 @@ import random
 import statistics
 import subprocess
 import tempfile
-import time
 from pathlib import Path
 
-from building import build_peer, built_program, stop
+from building import build_peer, built_program, stop, used_by_children
 from texts import url_text
 
 DOMAIN = "a.example"
@@ -112,9 +111,9 @@ def answer(command, path):
 
 def seconds(command, path):
     with path.open("rb") as source:
-        begun = time.perf_counter()
+        before = used_by_children()
         subprocess.run(command, stdin=source, stdout=subprocess.DEVNULL, check=True)
-        return time.perf_counter() - begun
+        return used_by_children() - before
 
 
 def measure(commands, path, runs):
@@ -149,7 +148,7 @@ def growth(points):
 def main(words):
     runs = int(words[0]) if words else 31
     commands = [[built_program(), "canon", "--domain", DOMAIN], [str(build_peer("canon")), DOMAIN]]
-    print(f"Wall times of whole processes in ms, the start of the process included, by {runs} runs of each, in turns.")
+    print(f"Processor times of whole processes in ms, the start of the process included, by {runs} runs of each, in turns.")
     print("MB/s is by the best time. The ratio is fedbundle's time over that of plain Rust.\n")
     print(ROW.format("", "", "", "", "fedbundle", "", "", "plain", "", "", "ratio", ""))
     print(ROW.format("bundle", "size", "bytes", "elements", *["best", "median", "MB/s"] * 2, "best", "median"))

@@ -127,10 +127,10 @@ def write_stream(folder, documents, receipts):
 
 
 def measure(command, path, answer):
-    """The time of a run, and the most bytes that its process held."""
+    """The processor time of a run, and the most bytes that its process held."""
     with answer.open("wb") as sink:
-        _, taken, held = run_timed(command, path, sink)
-    return taken, held
+        _, _, used, held = run_timed(command, path, sink)
+    return used, held
 
 
 ROW = "{:<11} {:<15} {:>8} {:>10} | {:>8} {:>6} {:>5} | {:>8} {:>6} {:>5} {:>5} | {:>8} {:>6} {:>5} {:>5}"
@@ -141,7 +141,7 @@ def main(words):
     sizes = [int(size) for size in words[1:]] or [4_096, 16_384, 65_536]
     program = built_program()
     plain = [build_peer("report"), build_peer("report", soft=True)]
-    print(f"Best wall times in ms of whole processes by {runs} runs of each, in turns. The ratio is fedbundle's over plain")
+    print(f"Best processor times in ms of whole processes by {runs} runs of each, in turns. The ratio is fedbundle's over plain")
     print("Rust's. Growth: the time for each receipt over that at the size before. Held: the most bytes resident beyond")
     print("those of a run on no receipts, for each byte of input.\n")
     print(ROW.format(*[""] * 4, "fedbundle", "", "", "plain", "", "", "", "soft", "", "", ""))
