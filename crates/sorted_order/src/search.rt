@@ -34,7 +34,7 @@ fn edge_at_end<P: Probe>(blocks: &[Block], probe: &P) -> Option<(usize, usize)>
     ensures { IfSome result (λ end.
         IsSpot blocks.now (length_before blocks.now end.0 + end.1) end.0 end.1
         × IsBoundary (P.compared probe.now) (concat blocks.now)
-            (length_before blocks.now end.0 + end.1)) }
+        (length_before blocks.now end.0 + end.1)) }
 {
     let last = blocks.len() - 1;
     let numbers = blocks[last].as_slice();
