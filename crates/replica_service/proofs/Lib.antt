@@ -1,5 +1,9 @@
 pub mod CutFacts
 mod JournalFacts
 mod ServingFacts
+mod NewEntryFacts
+mod PulledPieceFacts
+mod PullStepFacts
+mod PullLawFacts
 mod PrefixFacts
 mod StandardFacts
