@@ -610,7 +610,7 @@ wrote_have f lines start came rest written due later count is pulls =
     ∙ ap (λ (l : List ℕ). (written ++ take count due) ++ l) (sym is)) pulls
 
 -- Of nothing nothing is left.
-drop_none : (count : ℕ) → drop count [] ≡ []
+drop_none : (count : ℕ) → drop {A = ℕ} count [] ≡ []
 drop_none zero = refl
 drop_none (suc count) = refl
 
@@ -649,9 +649,9 @@ read_stopped (Some d) e start came old new piece rest due later written sound id
 
 -- A session that is not over waits for an answer.
 pub below_last : (over : Bool) (bucket : ℕ) → ((over ≡ true) ↔ (bucket ≡ 256)) → over ≡ false → bucket ≤ 256 → bucket < 256
-below_last over bucket is no few =
+below_last over bucket is differs few =
     elim (cases_eq bucket 256) [
-      | inl last ↦ absurd (let yes = is.1 last in cc)
+      | inl last ↦ absurd (let yes = is.2 last in cc)
       | inr more ↦ omega (arith, more, few)
     ]
 

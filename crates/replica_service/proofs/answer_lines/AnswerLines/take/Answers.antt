@@ -7,5 +7,5 @@ use Rattle.replica_service.proofs.answer_lines.AnswerLines.take.Goals as goal
 pub returns-in_err-number-clause-refused : goal.returns-in_err-number-clause-refused
 returns-in_err-number-clause-refused g c =
     let m = (g.C.Closure.state c.args.closure.now).meaning in
-    refused_with c.from_residual-in_err-number.result (RefusesAnswerLine m c.args.self.now c.args.text.now) NoMemory
-    c.from_residual-in_err-number.ensures.1 (no_number m c.args.self.now c.args.text.now c.args.self.now.some)
+    refused_with c.from_residual.result (RefusesAnswerLine m c.args.self.now c.args.text.now) NoMemory
+    c.from_residual.ensures.1 (no_number m c.args.self.now c.args.text.now c.args.self.now.some)
