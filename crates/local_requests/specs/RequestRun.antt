@@ -26,7 +26,8 @@ use Rattle.fedbundle.specs.declared.command_name.CommandName.{CommandName}
 use Rattle.fedbundle.specs.declared.command_name.CommandName.TheVariants as command
 use Rattle.fedbundle.specs.declared.command_name.OptionName.{OptionName}
 use Rattle.fedbundle.specs.declared.command_name.OptionName.TheVariants.{Domain, Endpoint, Key}
-use Rattle.fedbundle.specs.declared.command_name.OptionName.TheVariants.{Format, Short, Now, DryRun, Verbose}
+use Rattle.fedbundle.specs.declared.command_name.OptionName.TheVariants.{Format, Short, Now}
+use Rattle.fedbundle.specs.declared.command_name.OptionName.TheVariants.{DryRun, Verbose}
 use Rattle.fedbundle.specs.declared.error.CommandError.{CommandError}
 use Rattle.fedbundle.specs.Exits.{IsExitLine, exit_status_of}
 use Rattle.fedbundle.specs.declared.error.CommandError.TheVariants.{Document, Io, Name, NoMemory}
@@ -189,8 +190,8 @@ pub record IsWith (reply : Reply) (output errors : List ℕ) (status : ℕ) : Ty
   pub unjournalled : reply.journal.items ≡ []
 
 -- Its first line says what streams and status it has; nothing is journalled.
-abbrev pub IsWhole : Reply → Type 0
-IsWhole reply = IsWith reply reply.output.items reply.errors.items reply.status
+abbrev pub IsWholeReply : Reply → Type 0
+IsWholeReply reply = IsWith reply reply.output.items reply.errors.items reply.status
 
 -- The command is done: its output, and what it says beside it.
 abbrev pub IsReplied : Reply → List ℕ → List ℕ → Type 0
@@ -276,8 +277,8 @@ call_run name texts change = record { name = name; texts = texts; change = chang
 -- ---- what a call answers, of what the words say
 
 -- `report`
-abbrev pub AnswersReport : CallRun → Reply → Type 0
-AnswersReport run reply = HasStreams (IsReport (held_in run)) reply
+abbrev pub AnswersReportCall : CallRun → Reply → Type 0
+AnswersReportCall run reply = HasStreams (IsReport (held_in run)) reply
 
 -- `bundle`, in the format that the words say
 pub record AnswersBundleCall (run : CallRun) (reply : Reply) : Type 0 where
@@ -337,7 +338,7 @@ pub record AnswersDistrust (run : CallRun) (reply : Reply) : Type 0 where
 
 -- What is replied, by the command.
 abbrev pub Answers : CommandName → CallRun → Reply → Type 0
-Answers command.Report run reply = AnswersReport run reply
+Answers command.Report run reply = AnswersReportCall run reply
 Answers command.Bundle run reply = AnswersBundleCall run reply
 Answers command.Explain run reply = AnswersExplainCall run reply
 Answers command.Polls run reply = AnswersPollsCall run reply
@@ -438,7 +439,7 @@ pub record RepliesAsCommand (words : List (List ℕ)) (change : ChangeRun)
 
 -- The words are refused, or ask for help: then nothing has changed.
 pub record RepliesToWords (change : ChangeRun) (reply : Reply) : Type 0 where
-  pub replied : IsWhole reply
+  pub replied : IsWholeReply reply
   pub held : IsAsHeld change.state
 
 -- What is replied to a line of words.

@@ -3,7 +3,7 @@ ghost use Rattle.std.specs.Prelude.{◌≡◌, ℕ, List, IfErr, IfOk, OnErr, ma
 ghost use Rattle.std.specs.Str.{string_bytes};
 ghost use Rattle.fedbundle.specs.CommandRun.{state_run};
 ghost use Rattle.local_requests.specs.Journalling.{Journals};
-ghost use Rattle.local_requests.specs.RequestRun.{Answers, Ends, IsWhole, RepliesTo};
+ghost use Rattle.local_requests.specs.RequestRun.{Answers, Ends, IsWholeReply, RepliesTo};
 ghost use Rattle.local_requests.specs.RequestRun.{RepliesToCall, call_run, change_run};
 
 use crate::changing_calls::{distrust, merge, observe};
@@ -60,7 +60,7 @@ fn texts_of_words(alloc: Global, words: &[String]) -> Result<Vec<&str>, AllocErr
 
 // The words are none of a command, or ask for help or for the version.
 fn reply_by_words(alloc: Global, error: &WordsError) -> Result<Reply, AllocError>
-    ensures { IfOk result IsWhole }
+    ensures { IfOk result IsWholeReply }
 {
     match error {
         WordsError::Words(shown) => reply_of_clap(alloc, shown),
@@ -70,7 +70,7 @@ fn reply_by_words(alloc: Global, error: &WordsError) -> Result<Reply, AllocError
 }
 
 fn reply_of_clap(alloc: Global, shown: &clap::Error) -> Result<Reply, AllocError>
-    ensures { IfOk result IsWhole }
+    ensures { IfOk result IsWholeReply }
 {
     let text = format!(in alloc; "{shown}")?.into_bytes();
     if shown.use_stderr() {
