@@ -163,7 +163,7 @@ pub fn read_moment(text: &str) -> Result<Timestamp, Exit>
 /// # Errors
 /// The text is something else.
 pub fn read_bundle_format(text: Option<&str>) -> Result<BundleFormat, Exit>
-    ensures ok { IfOk result (SaysBundleFormat (option_map (λ t. t.now) text)) }
+    ensures ok { IfOk result (SaysBundleFormat (option_map (λ t. t.now) text.entry)) }
     ensures refused { IfErr result (λ exit. exit ≡ Usage) }
 {
     match text {
@@ -180,7 +180,7 @@ pub fn read_bundle_format(text: Option<&str>) -> Result<BundleFormat, Exit>
 /// # Errors
 /// The text is something else.
 pub fn read_status_format(text: Option<&str>) -> Result<StatusFormat, Exit>
-    ensures ok { IfOk result (SaysStatusFormat (option_map (λ t. t.now) text)) }
+    ensures ok { IfOk result (SaysStatusFormat (option_map (λ t. t.now) text.entry)) }
     ensures refused { IfErr result (λ exit. exit ≡ Usage) }
 {
     match text {
@@ -194,7 +194,7 @@ pub fn read_status_format(text: Option<&str>) -> Result<StatusFormat, Exit>
 
 /// Whether the words have the flag, by its text.
 pub fn is_flag_given(text: Option<&str>) -> bool
-    ensures { SaysFlag (option_map (λ t. t.now) text) result }
+    ensures { SaysFlag (option_map (λ t. t.now) text.entry) result }
 {
     match text {
         Some(text) => text == "true",
@@ -204,7 +204,7 @@ pub fn is_flag_given(text: Option<&str>) -> bool
 
 /// How `explain` writes a chain, by the text of its flag for short lines.
 pub fn explanation_form(short: Option<&str>) -> ExplanationForm
-    ensures { SaysExplanationForm (option_map (λ t. t.now) short) result }
+    ensures { SaysExplanationForm (option_map (λ t. t.now) short.entry) result }
 {
     if is_flag_given(short) {
         ExplanationForm::Steps
