@@ -36,7 +36,7 @@ pub use distrust::{run_distrust, show_distrust};
 pub use error::{CommandError, status};
 pub use explain::run_explain;
 pub use fault::write_fault;
-pub use journal_file::{journal_path, load_state, save_state};
+pub use journal_file::{journal_path, load_state, new_journal, save_state};
 pub use merge::{run_merge, take_other};
 pub use migrate::run_migrate;
 pub use observe::run_observe;
@@ -46,5 +46,7 @@ pub use report::{run_report, run_report_with};
 pub use run_error::RunError;
 pub use serve::{run_serve, write_served};
 pub use sessions::read_sessions;
-pub use state::{FileFault, SeenState, StateLock, see_state, state_bytes, try_lock_state};
+pub use state::{
+    FileFault, SeenState, StateLock, is_marked, see_state, state_bytes, try_lock_state,
+};
 pub use words::{Call, WordsError, command_of, read_words};

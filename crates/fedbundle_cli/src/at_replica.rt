@@ -1,0 +1,63 @@
+// The commands with `--at`: a running replica carries them out.
+use crate::streams::input;
+use byte_lines::read_up_to;
+use fedbundle::{Call, CommandError, CommandName, Exit};
+use local_requests::MOST_INPUT;
+use replica_loop::{AskFault, ask_replica};
+use std::alloc::{AllocError, Global};
+
+/// Hands the words and, where the command reads it, standard input to the replica that listens at
+/// the path, and writes what it replies.
+pub(crate) fn ask(
+    rt: &HostRuntime,
+    call: &Call<'_>,
+    path: &str,
+    words: &[&str],
+) -> Result<u8, Exit> {
+    let words = words_but_at(rt.alloc(), words)?;
+    let text = input_of(rt, call.name)?;
+    let asked = ask_replica(
+        rt,
+        rt.alloc(),
+        path,
+        words.as_slice(),
+        text.as_slice(),
+        &mut rt.stdout(),
+        &mut rt.stderr(),
+    );
+    match asked {
+        Ok(status) => Ok(status),
+        Err(AskFault::NoReplica) => Err(Exit::NoReplica),
+        Err(AskFault::Io) => Err(Exit::Refused(CommandError::Io)),
+        Err(AskFault::NoMemory) => Err(Exit::Refused(CommandError::NoMemory)),
+    }
+}
+
+// One byte more than a request may have, so that the replica can tell what is too long.
+fn input_of(rt: &HostRuntime, name: CommandName) -> Result<Vec<u8>, CommandError> {
+    let most = if reads_input(name) { MOST_INPUT + 1 } else { 0 };
+    Ok(read_up_to(rt.alloc(), &mut input(rt), most)?)
+}
+
+fn reads_input(name: CommandName) -> bool {
+    matches!(
+        name,
+        CommandName::Observe | CommandName::Merge | CommandName::Explain | CommandName::Polls
+    )
+}
+
+// The words without `--at` and its path.
+fn words_but_at<'a>(alloc: Global, words: &[&'a str]) -> Result<Vec<&'a str>, AllocError> {
+    let mut kept = Vec::with_capacity(alloc, words.len())?;
+    let mut is_path = false;
+    for word in words {
+        if is_path {
+            is_path = false;
+        } else if *word == "--at" {
+            is_path = true;
+        } else if !word.starts_with("--at=") {
+            kept.push(*word)?;
+        }
+    }
+    Ok(kept)
+}
