@@ -50,6 +50,12 @@ impl From<AllocError> for FileFault {
     }
 }
 
+impl From<io::Error> for FileFault {
+    fn from(error: io::Error) -> FileFault {
+        fault_of(&error)
+    }
+}
+
 impl From<FileFault> for CommandError {
     fn from(fault: FileFault) -> CommandError {
         CommandError::Sync(fault.why)

@@ -6,8 +6,8 @@ use crate::local_talk::Surroundings;
 use crate::socket::Socket;
 use crate::talk::Talk;
 use closure_core::Closure;
+use fedbundle::FileFault;
 use mio::Poll;
-use replica_sync::SyncError;
 use std::alloc::{AllocError, Global};
 use std::net::SocketAddr;
 use std::time::{Duration, Instant};
@@ -96,7 +96,7 @@ impl ConnectionTable {
     }
 
     /// Appends to the journal what requests have changed.
-    pub(crate) fn append_to(&self, journal: &mut Journal) -> Result<(), SyncError> {
+    pub(crate) fn append_to(&self, journal: &mut Journal) -> Result<(), FileFault> {
         for conn in &self.connections {
             if let Talk::Local(talk) = &conn.talk {
                 journal.append(talk.journal())?;

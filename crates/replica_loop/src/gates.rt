@@ -1,8 +1,9 @@
 //! Where connections come in: the socket of local requests, and the address where other replicas
 //! ask; and the poll, which says what is ready.
-use crate::replica_fault::ReplicaFault;
 use crate::settings::Settings;
 use crate::socket::Socket;
+use crate::step_fault::at_step;
+use fedbundle::{Exit, Step};
 use mio::net::{TcpListener, UnixListener, UnixStream};
 use mio::{Interest, Poll, Token};
 use std::fs::{Files, Permissions};
@@ -51,11 +52,14 @@ impl Gates {
     pub(crate) fn open<R: Files + Net>(
         rt: &R,
         settings: &Settings<'_>,
-    ) -> Result<Gates, ReplicaFault> {
-        let poll = Poll::new(rt)?;
-        let mut local = bind_local(rt, settings.socket)?;
-        register(&poll, &mut local, LOCAL_GATE)?;
-        let gossip = open_gossip(rt, &poll, settings.listen)?;
+    ) -> Result<Gates, Exit> {
+        let poll = at_step(Step::Socket, Poll::new(rt))?;
+        free_path(rt, settings.socket)?;
+        let local = at_step(Step::Socket, open_local(rt, &poll, settings.socket))?;
+        let gossip = match settings.listen {
+            Some(address) => Some(at_step(Step::Listen, open_gossip(rt, &poll, address))?),
+            None => None,
+        };
         Ok(Gates {
             poll,
             local,
@@ -155,46 +159,33 @@ fn arrival_of(error: &io::Error) -> Arrival {
     }
 }
 
-fn open_gossip<R: Net>(
-    rt: &R,
-    poll: &Poll,
-    address: Option<SocketAddr>,
-) -> Result<Option<TcpListener>, ReplicaFault> {
-    let Some(address) = address else {
-        return Ok(None);
-    };
+fn open_gossip<R: Net>(rt: &R, poll: &Poll, address: SocketAddr) -> io::Result<TcpListener> {
     let mut listener = TcpListener::bind(rt, address)?;
     poll.registry()
         .register(&mut listener, Token(GOSSIP_GATE), Interest::READABLE)?;
-    Ok(Some(listener))
+    Ok(listener)
 }
 
-fn register(poll: &Poll, listener: &mut UnixListener, gate: usize) -> Result<(), ReplicaFault> {
-    poll.registry()
-        .register(listener, Token(gate), Interest::READABLE)?;
-    Ok(())
-}
-
-fn bind_local<R: Files + Net>(rt: &R, path: &str) -> Result<UnixListener, ReplicaFault> {
-    free_path(rt, path)?;
-    let listener = UnixListener::bind(rt, path)?;
+fn open_local<R: Files + Net>(rt: &R, poll: &Poll, path: &str) -> io::Result<UnixListener> {
+    let mut listener = UnixListener::bind(rt, path)?;
     fs::set_permissions(rt, path, Permissions::from_mode(OWNER_ONLY))?;
+    poll.registry()
+        .register(&mut listener, Token(LOCAL_GATE), Interest::READABLE)?;
     Ok(listener)
 }
 
 // Removes the socket of a replica that has ended.
-fn free_path<R: Files + Net>(rt: &R, path: &str) -> Result<(), ReplicaFault> {
+fn free_path<R: Files + Net>(rt: &R, path: &str) -> Result<(), Exit> {
     match fs::symlink_metadata(rt, path) {
         Ok(there) if there.file_type().is_socket() => {}
-        Ok(_) => return Err(ReplicaFault::SocketTaken),
+        Ok(_) => return Err(Exit::SocketTaken),
         Err(error) if error.kind() == ErrorKind::NotFound => return Ok(()),
-        Err(error) => return Err(ReplicaFault::from(error)),
+        Err(error) => return at_step(Step::Socket, Err(error)),
     }
     match UnixStream::connect(rt, path) {
         Err(error) if error.kind() == ErrorKind::ConnectionRefused => {
-            fs::remove_file(rt, path)?;
-            Ok(())
+            at_step(Step::Socket, fs::remove_file(rt, path))
         }
-        _ => Err(ReplicaFault::SocketTaken),
+        _ => Err(Exit::SocketTaken),
     }
 }

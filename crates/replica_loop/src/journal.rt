@@ -1,11 +1,8 @@
 //! The journal of a running replica: what came since the snapshot was written.
-use crate::replica_fault::sync_fault;
 use fed_config::Config;
-use fedbundle::{new_journal, state_bytes};
-use replica_sync::SyncError;
+use fedbundle::{FileFault, new_journal, state_bytes};
 use std::alloc::Global;
 use std::fs::{File, Files};
-use std::io;
 use std::io::Write;
 
 /// A journal is folded into the snapshot when it has more bytes than this, and more than half of
@@ -30,7 +27,7 @@ impl Journal {
         alloc: Global,
         config: &Config,
         path: &str,
-    ) -> Result<Journal, SyncError> {
+    ) -> Result<Journal, FileFault> {
         let file = new_journal(files, alloc, config, path)?;
         let snapshot_bytes = state_bytes(files, path)?.unwrap_or(0);
         Ok(Journal {
@@ -43,11 +40,11 @@ impl Journal {
     }
 
     /// Appends the lines. After a fault what the disk holds is not known.
-    pub(crate) fn append(&mut self, lines: &[u8]) -> Result<(), SyncError> {
+    pub(crate) fn append(&mut self, lines: &[u8]) -> Result<(), FileFault> {
         if lines.is_empty() {
             return Ok(());
         }
-        to_sync(self.file.write_all(lines))?;
+        self.file.write_all(lines)?;
         self.bytes = self.bytes.saturating_add(lines.len() as u64);
         self.is_synced = false;
         Ok(())
@@ -55,11 +52,11 @@ impl Journal {
 
     /// Has the system write to the disk what was appended. After a fault what the disk holds is not
     /// known.
-    pub(crate) fn sync(&mut self) -> Result<(), SyncError> {
+    pub(crate) fn sync(&mut self) -> Result<(), FileFault> {
         if self.is_synced {
             return Ok(());
         }
-        to_sync(self.file.sync_data())?;
+        self.file.sync_data()?;
         self.is_synced = true;
         Ok(())
     }
@@ -78,12 +75,5 @@ impl Journal {
     /// How many bytes the snapshot has, and the journal's lines without its first.
     pub(crate) fn state_bytes(&self) -> u64 {
         self.snapshot_bytes.saturating_add(self.bytes)
-    }
-}
-
-fn to_sync(answer: io::Result<()>) -> Result<(), SyncError> {
-    match answer {
-        Ok(()) => Ok(()),
-        Err(error) => Err(sync_fault(&error)),
     }
 }

@@ -22,16 +22,15 @@ mod local_talk;
 mod peers;
 mod pull_talk;
 mod replica;
-mod replica_fault;
 mod rest;
 mod saying;
 mod served_talk;
 mod settings;
 mod socket;
+mod step_fault;
 mod talk;
 mod turn;
 
 pub use client::{AskFault, ask_replica};
 pub use replica::run_replica;
-pub use replica_fault::ReplicaFault;
 pub use settings::Settings;

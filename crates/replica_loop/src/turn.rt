@@ -9,15 +9,15 @@ use crate::live_connection::Connection;
 use crate::local_talk::{LocalTalk, Surroundings};
 use crate::peers::Peers;
 use crate::pull_talk::PullTalk;
-use crate::replica_fault::ReplicaFault;
 use crate::saying::{Event, say};
 use crate::served_talk::ServedTalk;
 use crate::settings::Settings;
 use crate::socket::Socket;
+use crate::step_fault::{at_step, file_at_step};
 use crate::talk::Talk;
 use closure_core::Closure;
 use fed_config::Config;
-use fedbundle::save_state;
+use fedbundle::{Exit, FileFault, Step, save_state};
 use mio::Events;
 use mio::net::TcpStream;
 use replica_sync::SyncError;
@@ -62,13 +62,15 @@ impl Works {
         alloc: Global,
         config: &Config,
         settings: &Settings<'_>,
-    ) -> Result<Works, ReplicaFault> {
-        let now = Instant::now(rt)?;
+    ) -> Result<Works, Exit> {
+        let now = at_step(Step::Socket, Instant::now(rt))?;
+        let gates = Gates::open(rt, settings)?;
+        let journal = Journal::begin(rt, alloc, config, settings.state);
         Ok(Works {
-            gates: Gates::open(rt, settings)?,
+            gates,
             table: ConnectionTable::new(alloc)?,
             peers: Peers::new(alloc, settings.peers, settings.every, now)?,
-            journal: Journal::begin(rt, alloc, config, settings.state)?,
+            journal: file_at_step(Step::Journal, journal)?,
             now,
             ends_at: None,
             has_reported: false,
@@ -246,22 +248,22 @@ impl Works {
     }
 
     /// Puts on the disk what came in this turn. Where that fails, the replies say so.
-    pub(crate) fn commit<C: Closure>(&mut self, held: &mut Held<C>) -> Result<(), SyncError> {
+    pub(crate) fn commit<C: Closure>(&mut self, held: &mut Held<C>) -> Result<(), FileFault> {
         match self.put_on_disk(held.fresh.as_slice()) {
             Ok(()) => {
                 held.fresh.clear();
                 self.table.settle();
                 Ok(())
             }
-            Err(why) => {
+            Err(fault) => {
                 self.table.fail();
                 self.table.write(self.now);
-                Err(why)
+                Err(fault)
             }
         }
     }
 
-    fn put_on_disk(&mut self, pulled: &[u8]) -> Result<(), SyncError> {
+    fn put_on_disk(&mut self, pulled: &[u8]) -> Result<(), FileFault> {
         self.journal.append(pulled)?;
         self.table.append_to(&mut self.journal)?;
         self.journal.sync()
@@ -298,7 +300,7 @@ impl Works {
         alloc: Global,
         closure: &C,
         path: &str,
-    ) -> Result<(), SyncError> {
+    ) -> Result<(), FileFault> {
         if !self.journal.is_long() {
             return Ok(());
         }
@@ -307,9 +309,9 @@ impl Works {
                 self.journal = Journal::begin(rt, alloc, closure.config(), path)?;
                 say(rt, alloc, Event::Fold(self.journal.state_bytes()));
             }
-            Err(why) => {
+            Err(fault) => {
                 self.journal.put_off();
-                say(rt, alloc, Event::FoldFault(why));
+                say(rt, alloc, Event::FoldFault(fault.why));
             }
         }
         Ok(())
@@ -357,14 +359,14 @@ pub(crate) fn turn<C: Closure, R: Files<File = File> + Net + Clock + Eprint>(
     works: &mut Works,
     events: &mut Events,
     settings: &Settings<'_>,
-) -> Result<bool, SyncError> {
+) -> Result<bool, FileFault> {
     works.wait(rt, alloc, events);
     works.accept(rt, alloc);
     works.begin_pull(rt, alloc, &held.closure, settings.most_bytes);
     works.read(alloc, held);
-    if let Err(why) = works.commit(held) {
-        say(rt, alloc, Event::Journal(why));
-        return Err(why);
+    if let Err(fault) = works.commit(held) {
+        say(rt, alloc, Event::Journal(fault.why));
+        return Err(fault);
     }
     works.write();
     works.end_connections(rt, alloc, settings.is_verbose);
