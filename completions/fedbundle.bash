@@ -17,7 +17,7 @@ _fedbundle() {
     case ${COMP_WORDS[1]} in
         canon) words='--domain --help' ;;
         config) words='--config --with --help' ;;
-        report) words='--config --state --help' ;;
+        report) words='--config --state --at --help' ;;
         list) words='--config --state --domain --verbose --help' ;;
         diff) words='--config --state --with --verbose --help' ;;
         status) words='--config --state --format --verbose --help' ;;
@@ -27,8 +27,8 @@ _fedbundle() {
         merge) words='--config --state --wait --most-bytes --verbose --help' ;;
         migrate) words='--config --state --to --records-only --help' ;;
         reseed) words='--config --state --allow --verbose --help' ;;
-        polls) words='--config --state --now --verbose --help' ;;
-        distrust) words='--config --state --domain --key --dry-run --wait --verbose --help' ;;
+        polls) words='--config --state --now --verbose --at --help' ;;
+        distrust) words='--config --state --domain --key --dry-run --wait --verbose --at --help' ;;
         serve) words='--config --state --listen --sessions --verbose --help' ;;
         pull) words='--config --state --peer --wait --most-bytes --verbose --help' ;;
         help) words='canon config report list diff status bundle explain observe merge migrate reseed polls distrust serve pull help' ;;

@@ -140,7 +140,7 @@ fn do_under_config<C: Closure>(
     match (asked.name, asked.given) {
         (CommandName::Config, [None]) => print_config(case.alloc, config, devices),
         (CommandName::Config, [Some(with)]) => compare_configs(case, config, with, devices),
-        (CommandName::Report, [None]) => report::<C>(case, config, devices),
+        (CommandName::Report, [None, _]) => report::<C>(case, config, devices),
         (name, [Some(state), given @ ..]) => {
             let file = case.script.text(state);
             do_over_file::<C>(case, Asked { name, given }, config, file, devices)
@@ -271,13 +271,13 @@ fn do_asked<C: Closure>(
 ) -> Result<(), CommandError> {
     let (input, output) = (&mut devices.input, &mut devices.output);
     match (asked.name, asked.given) {
-        (CommandName::Report, []) => report_held(case.alloc, closure, devices),
+        (CommandName::Report, [_]) => report_held(case.alloc, closure, devices),
         (CommandName::List, [domain, _]) => list_held(case, closure, *domain, devices),
         (CommandName::Diff, [Some(with), _]) => compare_held(case, closure, with, devices),
-        (CommandName::Bundle, [Some(domain), format, _]) => {
+        (CommandName::Bundle, [Some(domain), format, ..]) => {
             bundle(case, closure, domain, *format, devices)
         }
-        (CommandName::Explain, [Some(domain), Some(short), _]) => {
+        (CommandName::Explain, [Some(domain), Some(short), ..]) => {
             explain(case, closure, domain, short, devices)
         }
         (CommandName::Observe, [Some(domain), Some(endpoint), Some(key), ..]) => {
@@ -287,7 +287,7 @@ fn do_asked<C: Closure>(
         (CommandName::Migrate, [Some(to), Some(records_only)]) => {
             migrate(case, closure, to, records_only, devices)
         }
-        (CommandName::Polls, [Some(now), _]) => polls(case, closure, now, devices),
+        (CommandName::Polls, [Some(now), ..]) => polls(case, closure, now, devices),
         (CommandName::Distrust, [Some(domain), Some(key), flags @ ..]) => {
             let record = record_of(case.alloc, domain, key)?;
             distrust(case, closure, &record, flags, devices)
@@ -447,7 +447,7 @@ fn distrust<C: Closure>(
     if is_dry(flags) {
         return show_distrust(case.alloc, closure, record, &mut devices.output);
     }
-    if flags.last() == Some(&Some("true")) {
+    if flags.get(2) == Some(&Some("true")) {
         let _ = show_distrust(case.alloc, closure, record, &mut devices.errors);
     }
     run_distrust(closure, &record.domain, record.key)

@@ -249,6 +249,14 @@ seconds are over: so it takes 630 seconds at most.
 Ends with 0; with 1 where anything read or answered is refused; with 3 where there is no
 connection or it failed.";
 
+const STOP_NOTES: &str = "\
+Asks the running replica whose socket is at the path to end, and reads nothing from
+standard input. What the replica acknowledged before is on the disk.
+
+It prints nothing, and writes no file.
+
+Ends with 0; with 3 where no replica answers there.";
+
 impl OptionName {
     /// What help calls the option's text.
     pub(crate) fn value_name<'a>(self) -> &'a str {
@@ -343,6 +351,7 @@ impl CommandName {
             CommandName::Distrust => "Distrusts a key in a domain, for good",
             CommandName::Serve => "Answers other replicas that pull from this one",
             CommandName::Pull => "Asks another replica, and takes what this one lacks",
+            CommandName::Stop => "Ends a running replica",
         }
     }
 
@@ -351,7 +360,9 @@ impl CommandName {
         match self {
             CommandName::Canon => "fedbundle canon --domain <DOMAIN>",
             CommandName::Config => "fedbundle config --config <FILE> [--with <FILE>]",
-            CommandName::Report => "fedbundle report --config <FILE> [--state <FILE>]",
+            CommandName::Report => {
+                "fedbundle report --config <FILE> [--state <FILE>]\n       fedbundle report --at <PATH>"
+            }
             CommandName::List => {
                 "fedbundle list --config <FILE> --state <FILE> [--domain <DOMAIN>] [--verbose]"
             }
@@ -359,19 +370,19 @@ impl CommandName {
                 "fedbundle diff --config <FILE> --state <FILE> --with <FILE> [--verbose]"
             }
             CommandName::Status => {
-                "fedbundle status --config <FILE> --state <FILE> [--format <FORMAT>] [--verbose]"
+                "fedbundle status --config <FILE> --state <FILE> [--format <FORMAT>] [--verbose]\n       fedbundle status --at <PATH> [--format <FORMAT>] [--verbose]"
             }
             CommandName::Bundle => {
-                "fedbundle bundle --config <FILE> --state <FILE> --domain <DOMAIN> [--format <FORMAT>] [--verbose]"
+                "fedbundle bundle --config <FILE> --state <FILE> --domain <DOMAIN> [--format <FORMAT>] [--verbose]\n       fedbundle bundle --at <PATH> --domain <DOMAIN> [--format <FORMAT>] [--verbose]"
             }
             CommandName::Explain => {
-                "fedbundle explain --config <FILE> --state <FILE> --domain <DOMAIN> [--short] [--verbose]"
+                "fedbundle explain --config <FILE> --state <FILE> --domain <DOMAIN> [--short] [--verbose]\n       fedbundle explain --at <PATH> --domain <DOMAIN> [--short] [--verbose]"
             }
             CommandName::Observe => {
-                "fedbundle observe --config <FILE> --state <FILE> --domain <DOMAIN> --endpoint <SPIFFE_ID> --key <KEY_ID> [--wait <SECONDS>] [--verbose]"
+                "fedbundle observe --config <FILE> --state <FILE> --domain <DOMAIN> --endpoint <SPIFFE_ID> --key <KEY_ID> [--wait <SECONDS>] [--verbose]\n       fedbundle observe --at <PATH> --domain <DOMAIN> --endpoint <SPIFFE_ID> --key <KEY_ID> [--verbose]"
             }
             CommandName::Merge => {
-                "fedbundle merge --config <FILE> --state <FILE> [--wait <SECONDS>] [--most-bytes <BYTES>] [--verbose]"
+                "fedbundle merge --config <FILE> --state <FILE> [--wait <SECONDS>] [--most-bytes <BYTES>] [--verbose]\n       fedbundle merge --at <PATH> [--most-bytes <BYTES>] [--verbose]"
             }
             CommandName::Migrate => {
                 "fedbundle migrate --config <FILE> --state <FILE> --to <FILE> [--records-only]"
@@ -380,10 +391,10 @@ impl CommandName {
                 "fedbundle reseed --config <FILE> --state <FILE> [--allow <DOMAIN>] [--verbose]"
             }
             CommandName::Polls => {
-                "fedbundle polls --config <FILE> --state <FILE> --now <SECONDS> [--verbose]"
+                "fedbundle polls --config <FILE> --state <FILE> --now <SECONDS> [--verbose]\n       fedbundle polls --at <PATH> --now <SECONDS> [--verbose]"
             }
             CommandName::Distrust => {
-                "fedbundle distrust --config <FILE> --state <FILE> --domain <DOMAIN> --key <KEY_ID> [--dry-run] [--wait <SECONDS>] [--verbose]"
+                "fedbundle distrust --config <FILE> --state <FILE> --domain <DOMAIN> --key <KEY_ID> [--dry-run] [--wait <SECONDS>] [--verbose]\n       fedbundle distrust --at <PATH> --domain <DOMAIN> --key <KEY_ID> [--dry-run] [--verbose]"
             }
             CommandName::Serve => {
                 "fedbundle serve --config <FILE> --state <FILE> --listen <ADDRESS> --sessions <COUNT> [--verbose]"
@@ -391,6 +402,7 @@ impl CommandName {
             CommandName::Pull => {
                 "fedbundle pull --config <FILE> --state <FILE> --peer <ADDRESS> [--wait <SECONDS>] [--most-bytes <BYTES>] [--verbose]"
             }
+            CommandName::Stop => "fedbundle stop --at <PATH>",
         }
     }
 
@@ -413,6 +425,7 @@ impl CommandName {
             CommandName::Distrust => DISTRUST_NOTES,
             CommandName::Serve => SERVE_NOTES,
             CommandName::Pull => PULL_NOTES,
+            CommandName::Stop => STOP_NOTES,
         }
     }
 }

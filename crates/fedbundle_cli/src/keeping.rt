@@ -1,13 +1,11 @@
 // The state file as the commands use it: its lock, which is waited for within a limit, what it
 // holds, and how much may come to that.
-use crate::exit::{Exit, Step};
-use crate::options;
-use crate::options::Manner;
 use crate::speaking::speaks_unasked;
 use crate::streams::error_lines;
 use fed_config::Config;
 use fedbundle::{
-    Call, CommandError, OptionName, StateLock, load_state, save_state, state_bytes, try_lock_state,
+    Call, CommandError, Exit, Manner, OptionName, StateLock, Step, load_state, manner_of,
+    save_state, state_bytes, try_lock_state, wanted,
 };
 use std::io::Write;
 use std::thread;
@@ -29,16 +27,9 @@ pub(crate) struct Keeping<'a> {
 
 pub(crate) fn keeping_of<'a>(call: &Call<'a>) -> Result<Keeping<'a>, Exit> {
     Ok(Keeping {
-        path: path_of(call)?,
-        manner: options::manner_of(call)?,
+        path: wanted(call, OptionName::State)?,
+        manner: manner_of(call)?,
     })
-}
-
-fn path_of<'a>(call: &Call<'a>) -> Result<&'a str, Exit> {
-    match options::given(call, OptionName::State) {
-        Some(path) => Ok(path),
-        None => options::wanted(call, OptionName::OptionalState),
-    }
 }
 
 /// Takes the lock of the state file, where another command has it as soon as that is done.

@@ -23,8 +23,8 @@ mod speaking;
 mod streams;
 mod viewing;
 
-use exit::{Exit, print_exit};
-use fedbundle::CommandError;
+use exit::print_exit;
+use fedbundle::{CommandError, Exit};
 use std::process::ExitCode;
 use streams::ClosedStreams;
 

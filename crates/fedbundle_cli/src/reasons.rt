@@ -1,12 +1,13 @@
 // Why the program ends, as further lines after the one that reports it: the file, the option or
 // the part of it that is at fault. A fault keeps no more than numbers, so this looks a second time
 // at what the command was given, and only where these lines are wanted.
-use crate::exit::{Exit, Step, SystemFault, print_exit};
-use crate::options::given;
+use crate::exit::print_exit;
 use crate::second_look::{say_bundle, say_config, say_state, say_stream};
 use crate::speaking::{quoted, say, shown, speaks, words_of};
 use fed_config::Config;
-use fedbundle::{Call, CommandError, CommandName, OptionName, status};
+use fedbundle::{
+    Call, CommandError, CommandName, Exit, OptionName, Step, SystemFault, given, status,
+};
 use spiffe_name::{NameError, SpiffeId, TrustDomain};
 use std::alloc::AllocError;
 use std::io;
@@ -99,10 +100,7 @@ fn say_lock(rt: &HostRuntime, call: &Call<'_>) -> Result<(), AllocError> {
 
 /// The path of the state file.
 pub(crate) fn state_path<'a>(call: &Call<'a>) -> &'a str {
-    match given(call, OptionName::State) {
-        Some(path) => path,
-        None => given(call, OptionName::OptionalState).unwrap_or(""),
-    }
+    given(call, OptionName::State).unwrap_or("")
 }
 
 fn say_system(rt: &HostRuntime, call: &Call<'_>, fault: &SystemFault) -> Result<(), AllocError> {
@@ -167,11 +165,7 @@ fn say_configs(rt: &HostRuntime, call: &Call<'_>) -> Result<bool, AllocError> {
 
 // The option whose text is refused with this cause.
 fn say_name(rt: &HostRuntime, call: &Call<'_>, why: NameError) -> Result<(), AllocError> {
-    let domains = [
-        OptionName::Domain,
-        OptionName::OptionalDomain,
-        OptionName::Allow,
-    ];
+    let domains = [OptionName::Domain, OptionName::Allow];
     'options: for option in domains {
         if let Some(text) = given(call, option)
             && TrustDomain::read(rt.alloc(), text).err() == Some(why)
