@@ -18,7 +18,8 @@ use Rattle.fedbundle.specs.declared.command_name.OptionName.TheVariants.{Optiona
 use Rattle.fedbundle.specs.declared.command_name.OptionName.TheVariants.{At, Wait, MostBytes}
 use Rattle.fedbundle.specs.declared.command_name.OptionName.TheVariants.{Allow, DryRun, Verbose}
 use Rattle.fedbundle.specs.declared.command_name.OptionName.TheVariants.{OptionalDomain, Format}
-use Rattle.fedbundle.specs.declared.command_name.OptionName.TheVariants.{Short}
+use Rattle.fedbundle.specs.declared.command_name.OptionName.TheVariants.{Short, Socket, Every, New}
+use Rattle.fedbundle.specs.declared.command_name.OptionName.TheVariants.{OptionalListen, Peers}
 
 abbrev pub option_text : OptionName → List ℕ
 option_text Config = codes "config"
@@ -43,6 +44,11 @@ option_text DryRun = codes "dry-run"
 option_text Verbose = codes "verbose"
 option_text Format = codes "format"
 option_text Short = codes "short"
+option_text Socket = codes "socket"
+option_text OptionalListen = codes "listen"
+option_text Peers = codes "peers"
+option_text Every = codes "every"
+option_text New = codes "new"
 
 -- it has no text after it
 abbrev pub is_flag : OptionName → Bool
@@ -50,6 +56,7 @@ is_flag RecordsOnly = true
 is_flag DryRun = true
 is_flag Verbose = true
 is_flag Short = true
+is_flag New = true
 is_flag option = false
 
 -- the words may leave it out
@@ -62,6 +69,9 @@ may_be_left_out Wait = true
 may_be_left_out MostBytes = true
 may_be_left_out Allow = true
 may_be_left_out Format = true
+may_be_left_out OptionalListen = true
+may_be_left_out Peers = true
+may_be_left_out Every = true
 may_be_left_out option = false
 
 -- it names a file that a running replica has itself, so words with `--at` leave it out
@@ -88,6 +98,7 @@ name_text command.Polls = codes "polls"
 name_text command.Distrust = codes "distrust"
 name_text command.Serve = codes "serve"
 name_text command.Pull = codes "pull"
+name_text command.Replica = codes "replica"
 name_text command.Stop = codes "stop"
 
 abbrev pub options_of : CommandName → List OptionName
@@ -109,13 +120,15 @@ options_of command.Distrust = Config ∷ State ∷ Domain ∷ Key ∷ DryRun ∷
     ∷ At ∷ []
 options_of command.Serve = Config ∷ State ∷ Listen ∷ Sessions ∷ Verbose ∷ []
 options_of command.Pull = Config ∷ State ∷ Peer ∷ Wait ∷ MostBytes ∷ Verbose ∷ []
+options_of command.Replica = Config ∷ State ∷ Socket ∷ OptionalListen ∷ Peers ∷ Every
+    ∷ MostBytes ∷ New ∷ Verbose ∷ []
 options_of command.Stop = At ∷ []
 
 abbrev pub all_names : List CommandName
 all_names = command.Canon ∷ command.Config ∷ command.Report ∷ command.List ∷ command.Diff
     ∷ command.Status ∷ command.Bundle ∷ command.Explain ∷ command.Observe ∷ command.Merge
     ∷ command.Migrate ∷ command.Reseed ∷ command.Polls ∷ command.Distrust ∷ command.Serve
-    ∷ command.Pull ∷ command.Stop ∷ []
+    ∷ command.Pull ∷ command.Replica ∷ command.Stop ∷ []
 
 -- ---- the command, as clap knows it
 

@@ -31,6 +31,12 @@ pub enum OptionName {
     Verbose,
     Format,
     Short,
+    Socket,
+    /// The address where the command does without one, too.
+    OptionalListen,
+    Peers,
+    Every,
+    New,
 }
 
 /// A subcommand.
@@ -68,12 +74,14 @@ pub enum CommandName {
     Serve,
     /// Asks another replica, and takes what it answers.
     Pull,
+    /// Holds what a replica holds in memory, and answers requests and other replicas.
+    Replica,
     /// Ends a running replica.
     Stop,
 }
 
 /// All subcommands, in the order in which help lists them.
-pub(crate) static COMMANDS: [CommandName; 17] = [
+pub(crate) static COMMANDS: [CommandName; 18] = [
     CommandName::Canon,
     CommandName::Config,
     CommandName::Report,
@@ -90,6 +98,7 @@ pub(crate) static COMMANDS: [CommandName; 17] = [
     CommandName::Distrust,
     CommandName::Serve,
     CommandName::Pull,
+    CommandName::Replica,
     CommandName::Stop,
 ];
 
@@ -121,6 +130,11 @@ impl OptionName {
             OptionName::Verbose => "verbose",
             OptionName::Format => "format",
             OptionName::Short => "short",
+            OptionName::Socket => "socket",
+            OptionName::OptionalListen => "listen",
+            OptionName::Peers => "peers",
+            OptionName::Every => "every",
+            OptionName::New => "new",
         }
     }
 
@@ -130,7 +144,11 @@ impl OptionName {
     {
         matches!(
             self,
-            OptionName::RecordsOnly | OptionName::DryRun | OptionName::Verbose | OptionName::Short
+            OptionName::RecordsOnly
+                | OptionName::DryRun
+                | OptionName::Verbose
+                | OptionName::Short
+                | OptionName::New
         )
     }
 
@@ -148,6 +166,9 @@ impl OptionName {
                 | OptionName::MostBytes
                 | OptionName::Allow
                 | OptionName::Format
+                | OptionName::OptionalListen
+                | OptionName::Peers
+                | OptionName::Every
         )
     }
 
@@ -282,6 +303,18 @@ static PULL: [OptionName; 6] = [
     OptionName::Verbose,
 ];
 
+static REPLICA: [OptionName; 9] = [
+    OptionName::Config,
+    OptionName::State,
+    OptionName::Socket,
+    OptionName::OptionalListen,
+    OptionName::Peers,
+    OptionName::Every,
+    OptionName::MostBytes,
+    OptionName::New,
+    OptionName::Verbose,
+];
+
 static STOP: [OptionName; 1] = [OptionName::At];
 
 impl CommandName {
@@ -306,6 +339,7 @@ impl CommandName {
             CommandName::Distrust => "distrust",
             CommandName::Serve => "serve",
             CommandName::Pull => "pull",
+            CommandName::Replica => "replica",
             CommandName::Stop => "stop",
         }
     }
@@ -331,6 +365,7 @@ impl CommandName {
             CommandName::Distrust => DISTRUST.as_slice(),
             CommandName::Serve => SERVE.as_slice(),
             CommandName::Pull => PULL.as_slice(),
+            CommandName::Replica => REPLICA.as_slice(),
             CommandName::Stop => STOP.as_slice(),
         }
     }

@@ -36,6 +36,14 @@ pub enum Exit {
     NotAccepted,
     /// Another command had the lock of the state for the whole time.
     Locked,
+    /// A running replica has the lock of the state.
+    ReplicaRuns,
+    /// Another process listens on the socket, or its path names something else.
+    SocketTaken,
+    /// There is no state file, and the words do not say that it may begin without one.
+    NoState,
+    /// No replica answered at the socket.
+    NoReplica,
     /// More bytes would be held than the limit says.
     TooManyBytes,
     /// The system refused a call at this step.
@@ -53,6 +61,10 @@ pub enum Step {
     See,
     /// It wrote the state.
     Save,
+    /// It wrote the journal.
+    Journal,
+    /// It was to listen on the socket of local requests.
+    Socket,
     /// It was to listen at an address.
     Listen,
     /// It waited for a client.
@@ -83,8 +95,8 @@ impl Exit {
     }
 }
 
-/// The exit status: 2 for usage, 3 for a lock or a failed device, 4 for memory that ran out, and
-/// else 1.
+/// The exit status: 2 for usage, 3 for a lock, a socket, a replica that does not answer or a failed
+/// device, 4 for memory that ran out, and else 1.
 pub fn exit_status(exit: &Exit) -> u8
     ensures { result ≡ exit_status_of exit.now }
 {
@@ -92,7 +104,8 @@ pub fn exit_status(exit: &Exit) -> u8
         Exit::Usage | Exit::EmptyPath(_) | Exit::BadNumber(_) => 2,
         Exit::BadKey | Exit::BadMoment | Exit::BadAddress => 1,
         Exit::NoBundle | Exit::NotAccepted | Exit::TooManyBytes => 1,
-        Exit::Locked => 3,
+        Exit::Locked | Exit::ReplicaRuns | Exit::SocketTaken | Exit::NoReplica => 3,
+        Exit::NoState => 1,
         Exit::System(fault) => status(&fault.error),
         Exit::Refused(error) => status(error),
     }
@@ -113,6 +126,10 @@ pub fn write_exit<W: Sink>(exit: &Exit, sink: &mut W) -> Result<(), CommandError
         Exit::NoBundle => b"fedbundle: no current bundle\n",
         Exit::NotAccepted => b"fedbundle: not accepted\n",
         Exit::Locked => b"fedbundle: locked\n",
+        Exit::ReplicaRuns => b"fedbundle: a replica is running\n",
+        Exit::SocketTaken => b"fedbundle: socket taken\n",
+        Exit::NoState => b"fedbundle: no state\n",
+        Exit::NoReplica => b"fedbundle: no replica\n",
         Exit::TooManyBytes => b"fedbundle: too many bytes\n",
         Exit::System(fault) => return write_fault(&fault.error, sink),
         Exit::Refused(error) => return write_fault(error, sink),

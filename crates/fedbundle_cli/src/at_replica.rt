@@ -2,25 +2,23 @@
 use crate::streams::input;
 use byte_lines::read_up_to;
 use fedbundle::{Call, CommandError, CommandName, Exit};
-use local_requests::MOST_INPUT;
+use local_requests::{MOST_INPUT, request_words};
 use replica_loop::{AskFault, ask_replica};
-use std::alloc::{AllocError, Global};
 
 /// Hands the words and, where the command reads it, standard input to the replica that listens at
 /// the path, and writes what it replies.
-pub(crate) fn ask(
-    rt: &HostRuntime,
-    call: &Call<'_>,
-    path: &str,
-    words: &[&str],
-) -> Result<u8, Exit> {
-    let words = words_but_at(rt.alloc(), words)?;
+pub(crate) fn ask(rt: &HostRuntime, call: &Call<'_>, path: &str) -> Result<u8, Exit> {
+    let words = request_words(rt.alloc(), call)?;
+    let texts: Vec<&str> = words
+        .iter()
+        .map(|word| word.as_str())
+        .collect(rt.alloc())?;
     let text = input_of(rt, call.name)?;
     let asked = ask_replica(
         rt,
         rt.alloc(),
         path,
-        words.as_slice(),
+        texts.as_slice(),
         text.as_slice(),
         &mut rt.stdout(),
         &mut rt.stderr(),
@@ -44,20 +42,4 @@ fn reads_input(name: CommandName) -> bool {
         name,
         CommandName::Observe | CommandName::Merge | CommandName::Explain | CommandName::Polls
     )
-}
-
-// The words without `--at` and its path.
-fn words_but_at<'a>(alloc: Global, words: &[&'a str]) -> Result<Vec<&'a str>, AllocError> {
-    let mut kept = Vec::with_capacity(alloc, words.len())?;
-    let mut is_path = false;
-    for word in words {
-        if is_path {
-            is_path = false;
-        } else if *word == "--at" {
-            is_path = true;
-        } else if !word.starts_with("--at=") {
-            kept.push(*word)?;
-        }
-    }
-    Ok(kept)
 }

@@ -3,7 +3,8 @@
 // talks with another replica.
 use crate::exit::print_clap;
 use crate::streams::{complaints, input, output};
-use crate::{changing, command_line, exchange, lacking, options, printing, reasons, showing};
+use crate::{at_replica, changing, command_line, exchange, lacking, options, printing, reasons};
+use crate::{showing, staying};
 use byte_lines::FromRead;
 use fed_config::Config;
 use fedbundle::{
@@ -37,6 +38,9 @@ fn carry_out(rt: &HostRuntime, call: &Call<'_>) -> Result<u8, Exit> {
         return Err(Exit::EmptyPath(option));
     }
     manner_of(call)?;
+    if let Some(path) = given(call, OptionName::At) {
+        return at_replica::ask(rt, call, path);
+    }
     match call.name {
         CommandName::Canon => canon(rt, call),
         CommandName::Serve => serve(rt, call),
@@ -51,6 +55,7 @@ fn empty_path(call: &Call<'_>) -> Option<OptionName> {
         OptionName::To,
         OptionName::With,
         OptionName::At,
+        OptionName::Socket,
     ];
     paths
         .iter()
@@ -79,6 +84,7 @@ fn carry_out_under(rt: &HostRuntime, config: &Config, call: &Call<'_>) -> Result
         CommandName::Observe => changing::observe(rt, config, call),
         CommandName::Merge => changing::merge(rt, config, call),
         CommandName::Pull => exchange::pull(rt, config, call),
+        CommandName::Replica => staying::stay(rt, config, call),
         CommandName::Report if given(call, OptionName::OptionalState).is_none() => {
             report_lines(rt, config)
         }

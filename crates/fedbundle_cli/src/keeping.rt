@@ -4,8 +4,8 @@ use crate::speaking::speaks_unasked;
 use crate::streams::error_lines;
 use fed_config::Config;
 use fedbundle::{
-    Call, CommandError, Exit, Manner, OptionName, StateLock, Step, load_state, manner_of,
-    save_state, state_bytes, try_lock_state, wanted,
+    Call, CommandError, Exit, Manner, OptionName, StateLock, Step, is_marked, load_state,
+    manner_of, save_state, state_bytes, try_lock_state, wanted,
 };
 use std::io::Write;
 use std::thread;
@@ -59,8 +59,23 @@ fn wait_for_lock(rt: &HostRuntime, state: Keeping<'_>) -> Result<StateLock, Exit
         if let Some(lock) = try_lock(rt, state.path)? {
             return Ok(lock);
         }
+        if is_of_replica(rt, state.path)? {
+            break;
+        }
     }
-    Err(Exit::Locked)
+    if is_of_replica(rt, state.path)? {
+        Err(Exit::ReplicaRuns)
+    } else {
+        Err(Exit::Locked)
+    }
+}
+
+// A replica does not give the lock back, so nobody waits for that.
+fn is_of_replica(rt: &HostRuntime, path: &str) -> Result<bool, Exit> {
+    match is_marked(rt, rt.alloc(), path) {
+        Ok(is_marked) => Ok(is_marked),
+        Err(fault) => Err(Exit::of_file(Step::Lock, fault)),
+    }
 }
 
 fn try_lock(rt: &HostRuntime, path: &str) -> Result<Option<StateLock>, Exit> {

@@ -4,6 +4,7 @@
 #![tactic(auto)]
 
 mod anew;
+mod at_replica;
 mod changing;
 mod command_line;
 mod commands;
@@ -20,6 +21,7 @@ mod reasons;
 mod second_look;
 mod showing;
 mod speaking;
+mod staying;
 mod streams;
 mod viewing;
 

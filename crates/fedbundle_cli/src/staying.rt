@@ -2,7 +2,7 @@
 use crate::options;
 use fed_config::Config;
 use fedbundle::{Call, CommandError, Exit, OptionName, given, manner_of, wanted};
-use replica_loop::{ReplicaFault, Settings, run_replica};
+use replica_loop::{Settings, run_replica};
 use std::alloc::Global;
 use std::net::SocketAddr;
 use std::time::Duration;
@@ -20,14 +20,8 @@ const MOST_PEERS: usize = 16;
 pub(crate) fn stay(rt: &HostRuntime, config: &Config, call: &Call<'_>) -> Result<u8, Exit> {
     let peers = peers_of(rt.alloc(), given(call, OptionName::Peers))?;
     let settings = settings_of(call, peers.as_slice())?;
-    match run_replica(rt, config, &settings) {
-        Ok(()) => Ok(0),
-        Err(ReplicaFault::Locked) => Err(Exit::Locked),
-        Err(ReplicaFault::ReplicaRuns) => Err(Exit::ReplicaRuns),
-        Err(ReplicaFault::SocketTaken) => Err(Exit::SocketTaken),
-        Err(ReplicaFault::NoState) => Err(Exit::NoState),
-        Err(ReplicaFault::Refused(error)) => Err(Exit::Refused(error)),
-    }
+    run_replica(rt, config, &settings)?;
+    Ok(0)
 }
 
 fn settings_of<'a>(call: &Call<'a>, peers: &'a [SocketAddr]) -> Result<Settings<'a>, Exit> {
@@ -55,9 +49,10 @@ fn every_of(text: Option<&str>) -> Result<u64, Exit> {
     let Some(text) = text else {
         return Ok(EVERY_SECONDS);
     };
+    let has_digits = text.bytes().all(|byte| byte.is_ascii_digit());
     match text.parse::<u64>() {
-        Ok(seconds) if (1..=MAX_EVERY_SECONDS).contains(&seconds) => Ok(seconds),
-        _ => Err(Exit::Usage),
+        Ok(seconds) if has_digits && (1..=MAX_EVERY_SECONDS).contains(&seconds) => Ok(seconds),
+        _ => Err(Exit::BadNumber(OptionName::Every)),
     }
 }
 
@@ -68,7 +63,7 @@ fn peers_of(alloc: Global, text: Option<&str>) -> Result<Vec<SocketAddr>, Exit> 
     };
     for address in text.split(',') {
         if peers.len() == MOST_PEERS {
-            return Err(Exit::Usage);
+            return Err(Exit::BadNumber(OptionName::Peers));
         }
         let address = options::address(address)?;
         if peers.push(address).is_err() {
