@@ -11,9 +11,9 @@ use config_view::{write_config, write_config_difference};
 use fed_config::Config;
 use fedbundle::{
     Call, CommandError, CommandName, ExplanationForm, RunError, WordsError, read_sessions,
-    read_words, run_bundle, run_bundle_pem, run_canon, run_distrust, run_explain, run_merge,
-    run_migrate, run_observe, run_polls, run_pull, run_report, run_report_with, run_serve,
-    show_distrust, status, write_fault, write_served,
+    read_status_format, read_words, run_bundle, run_bundle_pem, run_canon, run_distrust,
+    run_explain, run_merge, run_migrate, run_observe, run_polls, run_pull, run_report,
+    run_report_with, run_serve, show_distrust, status, write_fault, write_served,
 };
 use jiff::Timestamp;
 use jwk_set::KeyId;
@@ -24,6 +24,7 @@ use replica_sync::{read_snapshot, write_snapshot};
 use replica_view::{write_held, write_held_difference};
 use row_script::Script;
 use spiffe_name::{SpiffeId, TrustDomain};
+use status_view::write_status;
 use std::alloc::Global;
 
 /// What is run.
@@ -274,6 +275,7 @@ fn do_asked<C: Closure>(
         (CommandName::Report, [_]) => report_held(case.alloc, closure, devices),
         (CommandName::List, [domain, _]) => list_held(case, closure, *domain, devices),
         (CommandName::Diff, [Some(with), _]) => compare_held(case, closure, with, devices),
+        (CommandName::Status, [format, ..]) => status_of(case, closure, *format, devices),
         (CommandName::Bundle, [Some(domain), format, ..]) => {
             bundle(case, closure, domain, *format, devices)
         }
@@ -307,6 +309,22 @@ fn report_held<C: Closure>(
     devices: &mut Devices,
 ) -> Result<(), CommandError> {
     write_report(alloc, closure, &mut devices.output).map_err(RunError::from)?;
+    Ok(())
+}
+
+// A warning makes the exit status 1.
+fn status_of<C: Closure>(
+    case: &Case<'_>,
+    closure: &C,
+    format: Option<&str>,
+    devices: &mut Devices,
+) -> Result<(), CommandError> {
+    let Ok(format) = read_status_format(format) else {
+        tell(b"fedbundle: usage\n", 2, devices);
+        return Ok(());
+    };
+    let is_warned = write_status(case.alloc, closure, format, &mut devices.output)?;
+    devices.status = u8::from(is_warned);
     Ok(())
 }
 

@@ -52,6 +52,7 @@ fn is_for_replicas(name: CommandName) -> bool {
     matches!(
         name,
         CommandName::Report
+            | CommandName::Status
             | CommandName::Bundle
             | CommandName::Explain
             | CommandName::Observe

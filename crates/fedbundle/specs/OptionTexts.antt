@@ -1,7 +1,9 @@
 -- What the texts of options say.
 use Rattle.std.specs.Prelude.{◌≡◌, ◌⊎◌, ℕ, List, [], ◌∷◌, Option, Some, None, codes}
-use Rattle.std.specs.Prelude.{if◌then◌else◌}
+use Rattle.std.specs.Prelude.{Bool, true, false, ℤ, if◌then◌else◌}
 use Rattle.std.specs.Str.{bytes_eq}
+use Rattle.jiff.specs.Words.{nanos_of_seconds}
+use Rattle.poll_log.specs.PollLines.{ReadsSeconds}
 use Rattle.status_view.specs.declared.status_writer.StatusFormat.{StatusFormat}
 use Rattle.status_view.specs.declared.status_writer.StatusFormat.TheVariants as status
 use Rattle.fedbundle.specs.Words.{options_of, option_text}
@@ -33,6 +35,16 @@ SaysStatusFormat text status.Json = text ≡ Some (codes "json")
 SaysStatusFormat text status.Prometheus = text ≡ Some (codes "prometheus")
 
 -- a flag that is given has the text `true`
+abbrev pub SaysFlag : Option (List ℕ) → Bool → Type 0
+SaysFlag text true = text ≡ Some (codes "true")
+SaysFlag text false = text ≡ Some (codes "true") → ⊥
+
 abbrev pub SaysExplanationForm : Option (List ℕ) → ExplanationForm → Type 0
-SaysExplanationForm text Steps = text ≡ Some (codes "true")
-SaysExplanationForm text Receipts = text ≡ Some (codes "true") → ⊥
+SaysExplanationForm text Steps = SaysFlag text true
+SaysExplanationForm text Receipts = SaysFlag text false
+
+-- Unix seconds as a moment, in nanoseconds
+pub record SaysMoment (text : List ℕ) (moment : ℤ) : Type 0 where
+  pub seconds : ℤ
+  pub reads : ReadsSeconds text (Some seconds)
+  pub is : moment ≡ nanos_of_seconds seconds

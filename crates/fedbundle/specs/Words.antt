@@ -199,3 +199,7 @@ pub record CallsFrom (place : WordsPlace) (words : List Text) (name : CommandNam
   pub entered : subcommand_of the_command words ≡ Some (name_text name, rows)
   pub given : map (given rows) (options_of name) ≡ texts
   pub settled : list_all (is_settled_in place rows) (options_of name) ≡ true
+
+-- the same of the words of a request to a running replica
+abbrev pub CallsInRequest : List Text → CommandName → List (Option Text) → Type 0
+CallsInRequest words name texts = CallsFrom Request words name texts

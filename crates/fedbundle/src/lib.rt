@@ -45,8 +45,8 @@ pub use merge::{run_merge, take_other};
 pub use migrate::run_migrate;
 pub use observe::{Observed, prepare_observe, run_observe};
 pub use option_texts::{
-    BundleFormat, Manner, explanation_form, given, manner_of, read_bundle_format, read_key,
-    read_moment, read_status_format, wanted,
+    BundleFormat, Manner, explanation_form, given, is_flag_given, manner_of, read_bundle_format,
+    read_key, read_moment, read_status_format, wanted,
 };
 pub use polls::run_polls;
 pub use pull::run_pull;

@@ -1,9 +1,11 @@
 //! The texts of options, found and read.
 ghost use Rattle.std.specs.Prelude.{◌≡◌, ℕ, IfOk, IfErr, Ok, Some, None, map, option_map};
 ghost use Rattle.hex.specs.Hex.{decode_sized};
-ghost use Rattle.fedbundle.specs.OptionTexts.{SaysBundleFormat, SaysExplanationForm};
-ghost use Rattle.fedbundle.specs.OptionTexts.{SaysStatusFormat, option_said, said_beside};
-ghost use Rattle.fedbundle.specs.declared.exits.Exit.TheVariants.{Usage};
+ghost use Rattle.fedbundle.specs.OptionTexts.{SaysBundleFormat, SaysExplanationForm, SaysFlag};
+ghost use Rattle.fedbundle.specs.OptionTexts.{SaysMoment, SaysStatusFormat, option_said};
+ghost use Rattle.fedbundle.specs.OptionTexts.{said_beside};
+ghost use Rattle.fedbundle.specs.declared.exits.Exit.TheVariants.{BadKey, BadMoment};
+ghost use Rattle.fedbundle.specs.declared.exits.Exit.TheVariants.{BadNumber, Usage};
 
 use crate::chain_text::ExplanationForm;
 use crate::command_name::OptionName;
@@ -92,10 +94,11 @@ pub fn wanted<'a>(call: &Call<'a>, wanted: OptionName) -> Result<&'a str, Exit>
 ///
 /// # Errors
 /// A text is no number, or one out of its range.
-pub fn manner_of(call: &Call<'_>) -> Result<Manner, Exit> {
+pub fn manner_of(call: &Call<'_>) -> Result<Manner, Exit>
+    ensures refused { IfErr result (λ exit. (option : OptionName) × (exit ≡ BadNumber option)) }
+{
     let wait = given(call, OptionName::Wait);
     let most = given(call, OptionName::MostBytes);
-    let verbose = given(call, OptionName::Verbose);
     Ok(Manner {
         wait_seconds: number_up_to(wait, WAIT_SECONDS, MAX_WAIT_SECONDS).ok_or(Exit::BadNumber(
             OptionName::Wait,
@@ -103,7 +106,7 @@ pub fn manner_of(call: &Call<'_>) -> Result<Manner, Exit> {
         most_bytes: number_up_to(most, MOST_BYTES, u64::MAX).ok_or(Exit::BadNumber(
             OptionName::MostBytes,
         ))?,
-        is_verbose: verbose == Some("true"),
+        is_verbose: is_flag_given(given(call, OptionName::Verbose)),
     })
 }
 
@@ -124,7 +127,8 @@ fn number_up_to(text: Option<&str>, otherwise: u64, most: u64) -> Option<u64> {
 /// # Errors
 /// The text is something else.
 pub fn read_key(text: &str) -> Result<KeyId, Exit>
-    ensures { IfOk result (λ key. decode_sized text.now 32 ≡ Ok key.0) }
+    ensures ok { IfOk result (λ key. decode_sized text.now 32 ≡ Ok key.0) }
+    ensures refused { IfErr result (λ exit. exit ≡ BadKey) }
 {
     let is_lower = text
         .bytes()
@@ -141,11 +145,17 @@ pub fn read_key(text: &str) -> Result<KeyId, Exit>
 ///
 /// # Errors
 /// The text is no number, or no moment has it.
-pub fn read_moment(text: &str) -> Result<Timestamp, Exit> {
+pub fn read_moment(text: &str) -> Result<Timestamp, Exit>
+    ensures ok { IfOk result (λ moment. SaysMoment text.now moment.nanosecond) }
+    ensures refused { IfErr result (λ exit. exit ≡ BadMoment) }
+{
     let Some(seconds) = read_seconds(text.as_bytes()) else {
         return Err(Exit::BadMoment);
     };
-    Timestamp::from_second(seconds).map_err(|_| Exit::BadMoment)
+    match Timestamp::from_second(seconds) {
+        Ok(moment) => Ok(moment),
+        Err(_) => Err(Exit::BadMoment),
+    }
 }
 
 /// The format of `bundle`: `json`, which is also meant where nothing is said, or `pem`.
@@ -153,7 +163,8 @@ pub fn read_moment(text: &str) -> Result<Timestamp, Exit> {
 /// # Errors
 /// The text is something else.
 pub fn read_bundle_format(text: Option<&str>) -> Result<BundleFormat, Exit>
-    ensures { IfOk result (SaysBundleFormat (option_map (λ t. t.now) text)) }
+    ensures ok { IfOk result (SaysBundleFormat (option_map (λ t. t.now) text.entry)) }
+    ensures refused { IfErr result (λ exit. exit ≡ Usage) }
 {
     match text {
         None => Ok(BundleFormat::Json),
@@ -169,7 +180,8 @@ pub fn read_bundle_format(text: Option<&str>) -> Result<BundleFormat, Exit>
 /// # Errors
 /// The text is something else.
 pub fn read_status_format(text: Option<&str>) -> Result<StatusFormat, Exit>
-    ensures { IfOk result (SaysStatusFormat (option_map (λ t. t.now) text)) }
+    ensures ok { IfOk result (SaysStatusFormat (option_map (λ t. t.now) text.entry)) }
+    ensures refused { IfErr result (λ exit. exit ≡ Usage) }
 {
     match text {
         None => Ok(StatusFormat::Text),
@@ -180,12 +192,23 @@ pub fn read_status_format(text: Option<&str>) -> Result<StatusFormat, Exit>
     }
 }
 
-/// How `explain` writes a chain, by the text of its flag: in short lines where that is `true`.
-pub fn explanation_form(short: Option<&str>) -> ExplanationForm
-    ensures { SaysExplanationForm (option_map (λ t. t.now) short) result }
+/// Whether the words have the flag, by its text.
+pub fn is_flag_given(text: Option<&str>) -> bool
+    ensures { SaysFlag (option_map (λ t. t.now) text.entry) result }
 {
-    match short {
-        Some(text) if text == "true" => ExplanationForm::Steps,
-        _ => ExplanationForm::Receipts,
+    match text {
+        Some(text) => text == "true",
+        None => false,
+    }
+}
+
+/// How `explain` writes a chain, by the text of its flag for short lines.
+pub fn explanation_form(short: Option<&str>) -> ExplanationForm
+    ensures { SaysExplanationForm (option_map (λ t. t.now) short.entry) result }
+{
+    if is_flag_given(short) {
+        ExplanationForm::Steps
+    } else {
+        ExplanationForm::Receipts
     }
 }

@@ -2,10 +2,10 @@
 ghost use Rattle.std.specs.Prelude.{◌≡◌, ℕ, false, IfOk, IfSome, map, option_map};
 ghost use Rattle.std.specs.List.{list_all};
 ghost use Rattle.clap.specs.Words.{app_of, found_of, rule_of, rows_of};
-ghost use Rattle.fedbundle.specs.Words.{CallsFrom, given, is_settled, is_settled_in, leaf};
-ghost use Rattle.fedbundle.specs.Words.{name_text, settled_at};
-ghost use Rattle.fedbundle.specs.Words.{rule_of_option, the_command};
-ghost use Rattle.fedbundle.specs.declared.words.WordsPlace.TheVariants.{CommandLine, Request};
+ghost use Rattle.fedbundle.specs.Words.{CallsFrom, CallsInRequest, given, is_settled};
+ghost use Rattle.fedbundle.specs.Words.{is_settled_in, leaf, name_text, rule_of_option};
+ghost use Rattle.fedbundle.specs.Words.{settled_at, the_command};
+ghost use Rattle.fedbundle.specs.declared.words.WordsPlace.TheVariants.{CommandLine};
 
 use crate::command_name::{COMMANDS, CommandName, OptionName};
 use crate::help_texts;
@@ -66,7 +66,7 @@ pub fn read_words<'a>(alloc: Global, words: &'a [&'a str]) -> Result<Call<'a>, W
 /// # Errors
 /// Those of [`read_words`]; [`WordsError::Usage`] where one of these three is given.
 pub fn read_request<'a>(alloc: Global, words: &'a [&'a str]) -> Result<Call<'a>, WordsError>
-    ensures { IfOk result (λ call. CallsFrom Request (map (λ w. w.now) words.now) call.name
+    ensures { IfOk result (λ call. CallsInRequest (map (λ w. w.now) words.now) call.name
         (map (option_map (λ t. t.now)) call.texts.items)) }
 {
     read_call(alloc, words, WordsPlace::Request)

@@ -5,7 +5,7 @@ use crate::streams::{complaints, input, output};
 use crate::{anew, distrusting, options, printing, viewing};
 use fed_config::Config;
 use fedbundle::{
-    BundleFormat, Call, CommandName, ExplanationForm, Exit, OptionName, explanation_form, given,
+    BundleFormat, Call, CommandName, Exit, ExplanationForm, OptionName, explanation_form, given,
     read_bundle_format, read_moment, run_bundle, run_bundle_pem, run_explain, run_migrate,
     run_polls, wanted,
 };

@@ -16,7 +16,7 @@ use Rattle.fedbundle.specs.Merge.{RunsMerge}
 use Rattle.fedbundle.specs.Observe.{Fetched, IsAsHeld, RunsObserve}
 use Rattle.fedbundle.specs.Polls.{RunsPolls}
 use Rattle.fedbundle.specs.OptionTexts.{SaysBundleFormat, SaysExplanationForm}
-use Rattle.fedbundle.specs.OptionTexts.{SaysStatusFormat, option_said}
+use Rattle.fedbundle.specs.OptionTexts.{SaysFlag, SaysMoment, SaysStatusFormat, option_said}
 use Rattle.fedbundle.specs.declared.chain_text.ExplanationForm.{ExplanationForm}
 use Rattle.fedbundle.specs.declared.option_texts.BundleFormat.{BundleFormat}
 use Rattle.fedbundle.specs.declared.option_texts.BundleFormat.TheVariants.{Json, Pem}
@@ -26,13 +26,18 @@ use Rattle.fedbundle.specs.declared.command_name.CommandName.{CommandName}
 use Rattle.fedbundle.specs.declared.command_name.CommandName.TheVariants as command
 use Rattle.fedbundle.specs.declared.command_name.OptionName.{OptionName}
 use Rattle.fedbundle.specs.declared.command_name.OptionName.TheVariants.{Domain, Endpoint, Key}
-use Rattle.fedbundle.specs.declared.command_name.OptionName.TheVariants.{Format, Short}
+use Rattle.fedbundle.specs.declared.command_name.OptionName.TheVariants.{Format, Short, Now}
+use Rattle.fedbundle.specs.declared.command_name.OptionName.TheVariants.{DryRun, Verbose}
 use Rattle.fedbundle.specs.declared.error.CommandError.{CommandError}
 use Rattle.fedbundle.specs.Exits.{IsExitLine, exit_status_of}
 use Rattle.fedbundle.specs.declared.error.CommandError.TheVariants.{Document, Io, Name, NoMemory}
 use Rattle.fedbundle.specs.declared.error.CommandError.TheVariants.{Observe, Poll, Sync, Take}
 use Rattle.fedbundle.specs.declared.exits.Exit.{Exit}
 use Rattle.fedbundle.specs.declared.exits.Exit.TheVariants.{NoBundle, NotAccepted, Refused}
+use Rattle.fedbundle.specs.declared.exits.Exit.TheVariants.{Usage, BadNumber, BadKey, BadMoment}
+use Rattle.fedbundle.specs.declared.exits.Exit.TheVariants.{TooManyBytes}
+use Rattle.fedbundle.specs.Words.{CallsInRequest}
+use Rattle.replica_requests.specs.RequestLines.{SaysWords}
 use Rattle.local_requests.specs.Replies.{first_line}
 use Rattle.local_requests.specs.declared.reply.Reply.{Reply}
 
@@ -184,6 +189,10 @@ pub record IsWith (reply : Reply) (output errors : List ℕ) (status : ℕ) : Ty
   pub status : reply.status ≡ status
   pub unjournalled : reply.journal.items ≡ []
 
+-- Its first line says what streams and status it has; nothing is journalled.
+abbrev pub IsWholeReply : Reply → Type 0
+IsWholeReply reply = IsWith reply reply.output.items reply.errors.items reply.status
+
 -- The command is done: its output, and what it says beside it.
 abbrev pub IsReplied : Reply → List ℕ → List ℕ → Type 0
 IsReplied reply output errors = IsWith reply output errors 0
@@ -228,9 +237,12 @@ pub record CallRun : Type 0 where
   pub texts : List (Option (List ℕ))
   pub change : ChangeRun
 
--- The words give the option this text.
+-- the text that the words give the option
+abbrev pub said : CallRun → OptionName → Option (List ℕ)
+said run option = option_said run.name run.texts option
+
 abbrev pub IsGiven : CallRun → OptionName → List ℕ → Type 0
-IsGiven run option text = option_said run.name run.texts option ≡ Some text
+IsGiven run option text = said run option ≡ Some text
 
 -- what is held, of a command that only shows it
 abbrev pub held_in : CallRun → Meaning
@@ -262,54 +274,176 @@ pub record SaysFetched (run : CallRun) (fetched : Fetched) : Type 0 where
 abbrev pub call_run : CommandName → List (Option (List ℕ)) → ChangeRun → CallRun
 call_run name texts change = record { name = name; texts = texts; change = change }
 
--- the output of `bundle`, in the format that the words say
-pub record ShowsBundle (m : Meaning) (name : CommandName) (texts : List (Option (List ℕ)))
-    (output : List ℕ) : Type 0 where
+-- ---- what a call answers, of what the words say
+
+-- `report`
+abbrev pub AnswersReportCall : CallRun → Reply → Type 0
+AnswersReportCall run reply = HasStreams (IsReport (held_in run)) reply
+
+-- `bundle`, in the format that the words say
+pub record AnswersBundleCall (run : CallRun) (reply : Reply) : Type 0 where
   pub domain : List ℕ
-  pub is_domain : option_said name texts Domain ≡ Some domain
+  pub is_domain : IsGiven run Domain domain
   pub format : BundleFormat
-  pub is_format : SaysBundleFormat (option_said name texts Format) format
-  pub answers : AnswersBundleIn format m domain output
+  pub is_format : SaysBundleFormat (said run Format) format
+  pub answers : HasStreams (AnswersBundleIn format (held_in run) domain) reply
 
--- the output of `explain`, in the form that the words say
-pub record ShowsExplanation (m : Meaning) (name : CommandName) (texts : List (Option (List ℕ)))
-    (input output : List ℕ) : Type 0 where
+-- `explain`, in the form that the words say
+pub record AnswersExplainCall (run : CallRun) (reply : Reply) : Type 0 where
   pub domain : List ℕ
-  pub is_domain : option_said name texts Domain ≡ Some domain
+  pub is_domain : IsGiven run Domain domain
   pub form : ExplanationForm
-  pub is_form : SaysExplanationForm (option_said name texts Short) form
-  pub answers : AnswersExplain m (explain_asked (explanation_call domain form) input) output
+  pub is_form : SaysExplanationForm (said run Short) form
+  pub answers : HasStreams (AnswersExplain (held_in run)
+      (explain_asked (explanation_call domain form) run.change.input)) reply
 
--- How the replica stands, in the format that the words say; a warning makes the exit status 1.
-pub record AnswersStatus (m : Meaning) (name : CommandName) (texts : List (Option (List ℕ)))
-    (reply : Reply) : Type 0 where
+-- `polls`, at the moment that the words say
+pub record AnswersPollsCall (run : CallRun) (reply : Reply) : Type 0 where
+  pub seconds : List ℕ
+  pub is_given : IsGiven run Now seconds
+  pub now : ℤ
+  pub is_now : SaysMoment seconds now
+  pub answers : HasStreams (AnswersPolls (held_in run) now run.change.input) reply
+
+-- `status`, in the format that the words say: a warning makes the exit status 1
+pub record AnswersStatus (run : CallRun) (reply : Reply) : Type 0 where
   pub format : StatusFormat
-  pub is_format : SaysStatusFormat (option_said name texts Format) format
+  pub is_format : SaysStatusFormat (said run Format) format
   pub text : List ℕ
-  pub is_text : IsStatusIn m format text
+  pub is_text : IsStatusIn (held_in run) format text
   pub warned : Bool
-  pub is_warned : IsWarned m warned
+  pub is_warned : IsWarned (held_in run) warned
   pub replied : IsWith reply text [] (if warned then 1 else 0)
 
--- the output of a command that shows what is held, by its function's promise, of what the words say
-abbrev pub Shows : CommandName → CallRun → List ℕ → Type 0
-Shows command.Report run output = IsReport (held_in run) output
-Shows command.Bundle run output = ShowsBundle (held_in run) run.name run.texts output
-Shows command.Explain run output =
-    ShowsExplanation (held_in run) run.name run.texts run.change.input output
-Shows command.Polls run output = (now : ℤ) × AnswersPolls (held_in run) now run.change.input output
-Shows command.Distrust run output = (x : Distrust) × SaysRecord run.name run.texts x
-    × AnswersDryRun (held_in run) x output
-Shows name run output = ⊥
+-- `observe`
+pub record AnswersObserveCall (run : CallRun) (reply : Reply) : Type 0 where
+  pub fetched : Fetched
+  pub says : SaysFetched run fetched
+  pub answers : HasStreams (AnswersObserve run.change fetched) reply
+
+-- What a record would change where the words have `--dry-run`; and else it is held.
+abbrev pub AnswersRecord : (is_dry is_verbose : Bool) → StateRun → Distrust → Reply → Type 0
+AnswersRecord true is_verbose state x reply = HasStreams (AnswersDryRun state.old.meaning x) reply
+AnswersRecord false is_verbose state x reply = SaysDistrusted state x is_verbose reply
+
+-- `distrust`
+pub record AnswersDistrust (run : CallRun) (reply : Reply) : Type 0 where
+  pub x : Distrust
+  pub says : SaysRecord run.name run.texts x
+  pub dry : Bool
+  pub is_dry : SaysFlag (said run DryRun) dry
+  pub verbose : Bool
+  pub is_verbose : SaysFlag (said run Verbose) verbose
+  pub answers : AnswersRecord dry verbose run.change.state x reply
 
 -- What is replied, by the command.
 abbrev pub Answers : CommandName → CallRun → Reply → Type 0
-Answers command.Observe run reply = (fetched : Fetched) × SaysFetched run fetched
-    × HasStreams (AnswersObserve run.change fetched) reply
+Answers command.Report run reply = AnswersReportCall run reply
+Answers command.Bundle run reply = AnswersBundleCall run reply
+Answers command.Explain run reply = AnswersExplainCall run reply
+Answers command.Polls run reply = AnswersPollsCall run reply
+Answers command.Status run reply = AnswersStatus run reply
+Answers command.Observe run reply = AnswersObserveCall run reply
 Answers command.Merge run reply = HasStreams (AnswersMerge run.change) reply
-Answers command.Distrust run reply = HasStreams (Shows command.Distrust run) reply
-    ⊎ ((x : Distrust) × (is_verbose : Bool) × SaysRecord run.name run.texts x
-    × SaysDistrusted run.change.state x is_verbose reply)
-Answers command.Status run reply = AnswersStatus (held_in run) run.name run.texts reply
+Answers command.Distrust run reply = AnswersDistrust run reply
 Answers command.Stop run reply = IsReplied reply [] [] × (reply.ends ≡ true)
-Answers name run reply = HasStreams (Shows name run) reply
+Answers name run reply = ⊥
+
+-- ---- how a call ends
+
+-- A text of the words is refused, or memory ran out.
+abbrev pub EndsEarly : Exit → Type 0
+EndsEarly Usage = Unit {0}
+EndsEarly (BadNumber option) = Unit {0}
+EndsEarly BadKey = Unit {0}
+EndsEarly BadMoment = Unit {0}
+EndsEarly (Refused (Name e)) = Unit {0}
+EndsEarly (Refused NoMemory) = Unit {0}
+EndsEarly exit = ⊥
+
+abbrev pub EndsBundleIn : BundleFormat → Meaning → List ℕ → Exit → Type 0
+EndsBundleIn Json m domain exit = EndsBundle m domain exit
+EndsBundleIn Pem m domain exit = EndsBundlePem m domain exit
+
+-- `bundle` ends for what is held
+pub record EndsBundleCall (run : CallRun) (exit : Exit) : Type 0 where
+  pub domain : List ℕ
+  pub is_domain : IsGiven run Domain domain
+  pub format : BundleFormat
+  pub is_format : SaysBundleFormat (said run Format) format
+  pub ends : EndsBundleIn format (held_in run) domain exit
+
+-- `explain` ends for what is held or what is read
+pub record EndsExplainCall (run : CallRun) (exit : Exit) : Type 0 where
+  pub domain : List ℕ
+  pub is_domain : IsGiven run Domain domain
+  pub form : ExplanationForm
+  pub is_form : SaysExplanationForm (said run Short) form
+  pub ends : EndsExplain (held_in run)
+      (explain_asked (explanation_call domain form) run.change.input) exit
+
+-- `polls` ends for what is read
+pub record EndsPollsCall (run : CallRun) (exit : Exit) : Type 0 where
+  pub seconds : List ℕ
+  pub is_given : IsGiven run Now seconds
+  pub now : ℤ
+  pub is_now : SaysMoment seconds now
+  pub ends : EndsPolls (held_in run) now run.change.input exit
+
+-- `observe` ends, and nothing is observed
+pub record EndsObserveCall (run : CallRun) (exit : Exit) : Type 0 where
+  pub fetched : Fetched
+  pub says : SaysFetched run fetched
+  pub ends : EndsObserve run.change fetched exit
+
+abbrev pub EndsRecord : (is_dry : Bool) → StateRun → Distrust → Exit → Type 0
+EndsRecord true state x exit = EndsDryRun state.old.meaning x exit
+EndsRecord false state x exit = EndsDistrust state x exit
+
+-- `distrust` ends, and nothing has changed
+pub record EndsDistrustCall (run : CallRun) (exit : Exit) : Type 0 where
+  pub x : Distrust
+  pub says : SaysRecord run.name run.texts x
+  pub dry : Bool
+  pub is_dry : SaysFlag (said run DryRun) dry
+  pub ends : EndsRecord dry run.change.state x exit
+
+-- how a command ends for what is held or what is read, by the command
+abbrev pub EndsFor : CommandName → CallRun → Exit → Type 0
+EndsFor command.Bundle run exit = EndsBundleCall run exit
+EndsFor command.Explain run exit = EndsExplainCall run exit
+EndsFor command.Polls run exit = EndsPollsCall run exit
+EndsFor command.Observe run exit = EndsObserveCall run exit
+EndsFor command.Merge run exit = (exit ≡ TooManyBytes) ⊎ EndsMerge run.change exit
+EndsFor command.Distrust run exit = EndsDistrustCall run exit
+EndsFor name run exit = ⊥
+
+-- How a command ends that is not done.
+abbrev pub Ends : CommandName → CallRun → Exit → Type 0
+Ends name run exit = EndsEarly exit ⊎ EndsFor name run exit
+
+-- ---- a request
+
+-- What is replied to a call: what its command answers, or how it ends.
+abbrev pub RepliesToCall : CallRun → Reply → Type 0
+RepliesToCall run reply = Answers run.name run reply
+    ⊎ ((exit : Exit) × Ends run.name run exit × IsEnded reply exit)
+
+-- The words are a call in a request, and that is replied.
+pub record RepliesAsCommand (words : List (List ℕ)) (change : ChangeRun)
+    (reply : Reply) : Type 0 where
+  pub name : CommandName
+  pub texts : List (Option (List ℕ))
+  pub call : CallsInRequest words name texts
+  pub replied : RepliesToCall (call_run name texts change) reply
+
+-- The words are refused, or ask for help: then nothing has changed.
+pub record RepliesToWords (change : ChangeRun) (reply : Reply) : Type 0 where
+  pub replied : IsWholeReply reply
+  pub held : IsAsHeld change.state
+
+-- What is replied to a line of words.
+pub record RepliesTo (line : List ℕ) (change : ChangeRun) (reply : Reply) : Type 0 where
+  pub words : List (List ℕ)
+  pub says : SaysWords line words
+  pub replied : RepliesAsCommand words change reply ⊎ RepliesToWords change reply

@@ -8,7 +8,8 @@ ghost use Rattle.fedbundle.specs.declared.error.CommandError.TheVariants.{Name, 
 ghost use Rattle.fedbundle.specs.declared.exits.Exit.TheVariants.{Refused};
 ghost use Rattle.fedbundle.specs.Explain.{explanation_call};
 ghost use Rattle.status_view.specs.StatusRuns.{IsStatusIn, IsWarned};
-ghost use Rattle.local_requests.specs.RequestRun.{AnswersBundle, AnswersBundlePem};
+ghost use Rattle.local_requests.specs.RequestRun.{AnswersBundle, AnswersBundleIn};
+ghost use Rattle.local_requests.specs.RequestRun.{AnswersBundlePem, EndsBundleIn};
 ghost use Rattle.local_requests.specs.RequestRun.{AnswersDryRun, AnswersExplain, AnswersPolls};
 ghost use Rattle.local_requests.specs.RequestRun.{EndsBundle, EndsBundlePem, EndsDryRun};
 ghost use Rattle.local_requests.specs.RequestRun.{EndsExplain, EndsPolls, explain_asked};
@@ -18,8 +19,8 @@ use bundle_view::write_report;
 use byte_lines::{FromRead, FromWrite};
 use closure_core::Closure;
 use fedbundle::{
-    CommandError, ExplanationForm, Exit, run_bundle, run_bundle_pem, run_explain, run_polls,
-    show_distrust,
+    BundleFormat, CommandError, Exit, ExplanationForm, run_bundle, run_bundle_pem, run_explain,
+    run_polls, show_distrust,
 };
 use jiff::Timestamp;
 use receipt_core::Distrust;
@@ -38,7 +39,23 @@ pub(crate) fn report<C: Closure>(alloc: Global, closure: &C) -> Result<Vec<u8>, 
     Ok(output.into_inner())
 }
 
-pub(crate) fn bundle<C: Closure>(alloc: Global, closure: &C, domain: &str) -> Result<Vec<u8>, Exit>
+pub(crate) fn bundle_in<C: Closure>(
+    alloc: Global,
+    closure: &C,
+    domain: &str,
+    format: BundleFormat,
+) -> Result<Vec<u8>, Exit>
+    ensures { MatchResult result
+        (λ text. AnswersBundleIn format (C.state closure.now).meaning domain.now text.items)
+        (EndsBundleIn format (C.state closure.now).meaning domain.now) }
+{
+    match format {
+        BundleFormat::Json => bundle(alloc, closure, domain),
+        BundleFormat::Pem => bundle_pem(alloc, closure, domain),
+    }
+}
+
+fn bundle<C: Closure>(alloc: Global, closure: &C, domain: &str) -> Result<Vec<u8>, Exit>
     ensures { MatchResult result
         (λ text. AnswersBundle (C.state closure.now).meaning domain.now text.items)
         (EndsBundle (C.state closure.now).meaning domain.now) }
@@ -52,11 +69,7 @@ pub(crate) fn bundle<C: Closure>(alloc: Global, closure: &C, domain: &str) -> Re
     }
 }
 
-pub(crate) fn bundle_pem<C: Closure>(
-    alloc: Global,
-    closure: &C,
-    domain: &str,
-) -> Result<Vec<u8>, Exit>
+fn bundle_pem<C: Closure>(alloc: Global, closure: &C, domain: &str) -> Result<Vec<u8>, Exit>
     ensures { MatchResult result
         (λ text. AnswersBundlePem (C.state closure.now).meaning domain.now text.items)
         (EndsBundlePem (C.state closure.now).meaning domain.now) }
