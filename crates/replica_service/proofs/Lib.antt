@@ -1,6 +1,7 @@
 pub mod CutFacts
 mod JournalFacts
 mod ServingFacts
+mod ServeLawFacts
 mod NewEntryFacts
 mod PulledPieceFacts
 mod PullStepFacts

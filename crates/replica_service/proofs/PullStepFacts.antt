@@ -651,7 +651,7 @@ read_stopped (Some d) e start came old new piece rest due later written sound id
 pub below_last : (over : Bool) (bucket : ℕ) → ((over ≡ true) ↔ (bucket ≡ 256)) → over ≡ false → bucket ≤ 256 → bucket < 256
 below_last over bucket is differs few =
     elim (cases_eq bucket 256) [
-      | inl last ↦ absurd (let yes = is.2 last in cc)
+      | inl last ↦ absurd (let yes = is.1 last in cc)
       | inr more ↦ omega (arith, more, few)
     ]
 
