@@ -3,16 +3,16 @@ _fedbundle() {
     local word=${COMP_WORDS[COMP_CWORD]} before=${COMP_WORDS[COMP_CWORD - 1]} words
     COMPREPLY=()
     if [ "$COMP_CWORD" -eq 1 ]; then
-        COMPREPLY=($(compgen -W 'canon config report list diff status bundle explain observe merge migrate reseed polls distrust serve pull stop help --help --version' -- "$word"))
+        COMPREPLY=($(compgen -W 'canon config report list diff status bundle explain observe merge migrate reseed polls distrust serve pull replica stop help --help --version' -- "$word"))
         return
     fi
     case $before in
-        --at|--config|--state|--to|--with)
+        --at|--config|--socket|--state|--to|--with)
             compopt -o filenames 2>/dev/null
             COMPREPLY=($(compgen -f -- "$word"))
             return
             ;;
-        --allow|--domain|--endpoint|--format|--key|--listen|--most-bytes|--now|--peer|--sessions|--wait) return ;;
+        --allow|--domain|--endpoint|--every|--format|--key|--listen|--most-bytes|--now|--peer|--peers|--sessions|--wait) return ;;
     esac
     case ${COMP_WORDS[1]} in
         canon) words='--domain --help' ;;
@@ -31,8 +31,9 @@ _fedbundle() {
         distrust) words='--config --state --domain --key --dry-run --wait --verbose --at --help' ;;
         serve) words='--config --state --listen --sessions --verbose --help' ;;
         pull) words='--config --state --peer --wait --most-bytes --verbose --help' ;;
+        replica) words='--config --state --socket --listen --peers --every --most-bytes --new --verbose --help' ;;
         stop) words='--at --help' ;;
-        help) words='canon config report list diff status bundle explain observe merge migrate reseed polls distrust serve pull stop help' ;;
+        help) words='canon config report list diff status bundle explain observe merge migrate reseed polls distrust serve pull replica stop help' ;;
         *) return ;;
     esac
     COMPREPLY=($(compgen -W "$words" -- "$word"))

@@ -31,8 +31,8 @@ const MOST_EVENTS: usize = 256;
 /// # Errors
 /// - [`Exit::Locked`]: another command has the lock of the state,
 /// - [`Exit::ReplicaRuns`]: another replica has it,
-/// - [`Exit::NoState`]: there is neither a state file nor a journal, and [`Settings::is_new`] is not
-///   set,
+/// - [`Exit::NoState`]: there is neither a state file nor a journal, and [`Settings::is_new`] is
+///   not set,
 /// - [`Exit::SocketTaken`]: another process listens on the socket, or its path names something else
 ///   than a socket,
 /// - [`Exit::System`]: the system refused a step of the beginning, or a change could not be put on
