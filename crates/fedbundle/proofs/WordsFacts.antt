@@ -72,6 +72,7 @@ plain_leaf command.Polls = refl
 plain_leaf command.Distrust = refl
 plain_leaf command.Serve = refl
 plain_leaf command.Pull = refl
+plain_leaf command.Replica = refl
 plain_leaf command.Stop = refl
 
 -- the command is a simple one, and of such alone clap's contract says what is read of words
