@@ -40,19 +40,19 @@ own_text text = text
 abbrev pub array_text : List (List ℕ) → List ℕ
 array_text items = codes "[" ++ (parted_texts own_text false items ++ codes "]")
 
--- ---- members, each after its label
+-- ---- members, each after its label. A proof that cites one need not look into it.
 
-abbrev pub string_member : (label text : List ℕ) → List ℕ
+unfoldable pub string_member : (label text : List ℕ) → List ℕ
 string_member label text = label ++ quoted text
 
-abbrev pub digest_member : (label digest : List ℕ) → List ℕ
+unfoldable pub digest_member : (label digest : List ℕ) → List ℕ
 digest_member label digest = label ++ quoted_digest digest
 
-abbrev pub number_member : List ℕ → Option ℕ → List ℕ
+unfoldable pub number_member : List ℕ → Option ℕ → List ℕ
 number_member label number = label ++ number_or_null number
 
-abbrev pub truth_member : List ℕ → Bool → List ℕ
+unfoldable pub truth_member : List ℕ → Bool → List ℕ
 truth_member label truth = label ++ true_or_false truth
 
-abbrev pub array_member : List ℕ → List (List ℕ) → List ℕ
+unfoldable pub array_member : List ℕ → List (List ℕ) → List ℕ
 array_member label items = label ++ array_text items

@@ -10,6 +10,7 @@ use text_lines::TextLine;
 ///
 /// # Errors
 /// Memory ran out. Nothing is said then of what is there.
+#[tactic(auto, unfolding(crate::specs::JsonText::array_member))]
 pub fn push_array(out: &mut Vec<u8>, label: &[u8], items: &[TextLine]) -> Result<(), AllocError>
     ensures { OnOk result (out.new.items ≡ out.old.items ++ array_member label.now items.now) }
 {

@@ -13,6 +13,7 @@ use std::alloc::{AllocError, Global};
 ///
 /// # Errors
 /// Memory ran out. Nothing is said then of what is there.
+#[tactic(auto, unfolding(crate::specs::JsonText::string_member))]
 pub fn push_string(
     alloc: Global,
     out: &mut Vec<u8>,
@@ -36,6 +37,7 @@ fn push_quoted(alloc: Global, out: &mut Vec<u8>, text: &str) -> Result<(), Alloc
 ///
 /// # Errors
 /// Memory ran out. Nothing is said then of what is there.
+#[tactic(auto, unfolding(crate::specs::JsonText::digest_member))]
 pub fn push_digest(out: &mut Vec<u8>, label: &[u8], digest: &[u8; 32]) -> Result<(), AllocError>
     ensures { OnOk result (out.new.items ≡ out.old.items ++ digest_member label.now digest.now) }
 {
@@ -55,6 +57,7 @@ fn push_quoted_digest(out: &mut Vec<u8>, digest: &[u8; 32]) -> Result<(), AllocE
 ///
 /// # Errors
 /// Memory ran out. Nothing is said then of what is there.
+#[tactic(auto, unfolding(crate::specs::JsonText::number_member))]
 pub fn push_optional(
     out: &mut Vec<u8>,
     label: &[u8],
@@ -83,6 +86,7 @@ pub fn push_number_or_null(out: &mut Vec<u8>, number: Option<u64>) -> Result<(),
 ///
 /// # Errors
 /// Memory ran out. Nothing is said then of what is there.
+#[tactic(auto, unfolding(crate::specs::JsonText::truth_member))]
 pub fn push_truth(out: &mut Vec<u8>, label: &[u8], value: bool) -> Result<(), AllocError>
     ensures { OnOk result (out.new.items ≡ out.old.items ++ truth_member label.now value) }
 {
