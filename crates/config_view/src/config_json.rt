@@ -1,13 +1,13 @@
 //! A configuration as compact JSON.
-ghost use Rattle.std.specs.Prelude.{◌≡◌, ◌||◌, map, true, Err, IfOk, OnOk};
+ghost use Rattle.std.specs.Prelude.{◌≡◌, ◌++◌, ◌||◌, map, true, Err, IfOk, OnOk};
 ghost use Rattle.byte_lines.specs.Device.{is_source_fault};
 ghost use Rattle.byte_lines.specs.declared.error.DeviceError.TheVariants.{Io, NoMemory};
 ghost use Rattle.config_view.specs.ConfigJson.{IsConfigJson, name_json, relationship_json};
-ghost use Rattle.config_view.specs.ConfigJson.{seed_json};
+ghost use Rattle.config_view.specs.ConfigJson.{relationships_part, seed_json, seeds_part};
 ghost use Rattle.text_lines.specs.TextLines.{BeginsSome, WritesSome};
 
 use byte_lines::{DeviceError, Sink, write_all};
-use fed_config::{Config, Relationship, Seed};
+use fed_config::{Config, ConfigId, Relationship, Seed};
 use json_text::{push_array, push_digest, push_optional, push_string};
 use spiffe_name::TrustDomain;
 use std::alloc::{AllocError, Global};
@@ -54,12 +54,36 @@ fn config_json(alloc: Global, config: &Config) -> Result<Vec<u8>, AllocError>
     let domains = name_texts(alloc, config.domains())?;
     let seeds = seed_texts(alloc, config.seeds())?;
     let mut out = Vec::new(alloc);
-    push_digest(&mut out, b"{\"config\":", &config.digest().0)?;
-    push_array(&mut out, b",\"relationships\":", relationships.as_slice())?;
-    push_array(&mut out, b",\"domains\":", domains.as_slice())?;
-    push_array(&mut out, b",\"seeds\":", seeds.as_slice())?;
-    out.extend_from_slice(b"}\n")?;
+    push_relationships_part(&mut out, &config.digest(), relationships.as_slice())?;
+    push_seeds_part(&mut out, domains.as_slice(), seeds.as_slice())?;
     Ok(out)
+}
+
+#[tactic(auto, unfolding(crate::specs::ConfigJson::relationships_part))]
+fn push_relationships_part(
+    out: &mut Vec<u8>,
+    digest: &ConfigId,
+    relationships: &[TextLine],
+) -> Result<(), AllocError>
+    ensures { OnOk result (out.new.items
+        ≡ out.old.items ++ relationships_part digest.now.0 relationships.now) }
+{
+    push_digest(out, b"{\"config\":", &digest.0)?;
+    push_array(out, b",\"relationships\":", relationships)
+}
+
+#[tactic(auto, unfolding(crate::specs::ConfigJson::seeds_part))]
+fn push_seeds_part(
+    out: &mut Vec<u8>,
+    domains: &[TextLine],
+    seeds: &[TextLine],
+) -> Result<(), AllocError>
+    ensures { OnOk result (out.new.items ≡ out.old.items ++ seeds_part domains.now seeds.now) }
+{
+    push_array(out, b",\"domains\":", domains)?;
+    push_array(out, b",\"seeds\":", seeds)?;
+    out.extend_from_slice(b"}\n")?;
+    Ok(())
 }
 
 fn relationship_texts(
