@@ -1,3 +1,6 @@
 pub mod RequestLimits
 pub mod RequestBytes
 pub mod Replies
+pub mod Journalling
+pub mod RequestRun
+pub mod Inside
