@@ -17,7 +17,7 @@ use Rattle.replica_core.specs.declared.error.SyncError.{SyncError}
 use Rattle.replica_core.specs.declared.error.SyncError.TheVariants.{Io as StreamFailed}
 use Rattle.replica_sync.specs.Snapshots.{IsSnapshot, RefusesSnapshot}
 use Rattle.fedbundle.specs.CommandRun.{CommandRun, DeviceRun, HasFailed, run_of, state_run}
-use Rattle.fedbundle.specs.CurrentBundle.{RunsBundle}
+use Rattle.fedbundle.specs.CurrentBundle.{RunsBundle, RunsBundlePem}
 use Rattle.fedbundle.specs.Distrust.{HoldsRecord, ShowsDistrust}
 use Rattle.fedbundle.specs.Explain.{RunsExplain, receipt_line}
 use Rattle.fedbundle.specs.Merge.{count_text}
@@ -27,7 +27,7 @@ use Rattle.fedbundle.specs.declared.error.CommandError.{CommandError}
 use Rattle.fedbundle.specs.declared.error.CommandError.TheVariants.{Document, Io, NoMemory, Observe, Poll, Sync, Take}
 use Rattle.fedbundle.specs.declared.exits.Exit.TheVariants.{Refused}
 use Rattle.local_requests.specs.Journalling.{AreLinesOfOther, IsLineIfNew, Journals}
-use Rattle.local_requests.specs.RequestRun.{AnswersMerge, AnswersObserve, EndsBundle, EndsDryRun, EndsExplain, EndsMerge, EndsObserve, EndsPolls}
+use Rattle.local_requests.specs.RequestRun.{AnswersMerge, AnswersObserve, EndsBundle, EndsBundlePem, EndsDryRun, EndsExplain, EndsMerge, EndsObserve, EndsPolls}
 use Rattle.local_requests.specs.RequestRun.{ExplainAsked, Gives, GivesInto, change_run, memory_exit}
 
 -- ---- commands that show what is held
@@ -41,6 +41,18 @@ bundle_ends m domain sink e runs = absurd runs
 pub bundle_none : (m : Meaning) (domain : List ℕ) (sink : DeviceRun) → sink.before ≡ Some [] → RunsBundle sink m domain (Ok false)
     → GivesInto (λ s. RunsBundle s m domain (Ok false)) []
 bundle_none m domain sink empty runs = record { sink = sink; empty = empty; filled = runs.1 ∙ empty; runs = runs }
+
+-- a failed `bundle --format pem` lacked memory
+pub bundle_pem_ends : (m : Meaning) (domain : List ℕ) (sink : DeviceRun) (e : CommandError) → RunsBundlePem sink m domain (Err e)
+    → EndsBundlePem m domain (memory_exit e)
+bundle_pem_ends m domain sink Io runs = tt
+bundle_pem_ends m domain sink NoMemory runs = tt
+bundle_pem_ends m domain sink e runs = absurd runs
+
+-- the same where there is no current document
+pub bundle_pem_none : (m : Meaning) (domain : List ℕ) (sink : DeviceRun) → sink.before ≡ Some [] → RunsBundlePem sink m domain (Ok false)
+    → GivesInto (λ s. RunsBundlePem s m domain (Ok false)) []
+bundle_pem_none m domain sink empty runs = record { sink = sink; empty = empty; filled = runs.1 ∙ empty; runs = runs }
 
 -- a failed `explain` lacked memory, or refused the document
 pub explain_ends : (m : Meaning) (asked : ExplainAsked) (devices : CommandRun) (e : CommandError) → devices.source.before ≡ Some asked.input
