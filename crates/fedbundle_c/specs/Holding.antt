@@ -1,0 +1,15 @@
+use base.Fml.{Fml, ftrue, fex}
+use denote.RawPtr.{Ptr, block_ptr, null_ptr}
+use Rattle.std.specs.declared.option.Option.{Option}
+use Rattle.std.specs.declared.option.Option.TheVariants.{None, Some}
+use Rattle.std.specs.declared.alloc.Global.{Global}
+use Rattle.std.specs.contracts.impls.GlobalAllocator.TheImpl.{ghosts}
+use Rattle.std_alloc.specs.Box.Ownership.{box_owns}
+use Rattle.fedbundle_c.specs.contracts.replica.Replica.{the_row}
+use Rattle.fedbundle_c.specs.declared.replica.Replica.{Replica}
+
+abbrev pub holds : Global → Ptr → Option Replica → Fml
+holds a null_ptr None = ftrue
+holds a (block_ptr b o) (Some x) = box_owns (ghosts.dealloc_token a) the_row (block_ptr b o) x
+holds a null_ptr (Some x) = fex ⊥ (λ _. ftrue)
+holds a (block_ptr b o) None = fex ⊥ (λ _. ftrue)

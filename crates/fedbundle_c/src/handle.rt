@@ -1,0 +1,82 @@
+//! What C holds of a replica.
+ghost use Rattle.std.specs.Prelude.{◌≡◌, MatchOption};
+ghost use Rattle.std.specs.declared.option.Option.{Option};
+ghost use Rattle.std.specs.declared.option.Option.TheVariants.{None, Some};
+ghost use denote.RawPtr.{null_ptr};
+ghost use Rattle.fedbundle_c.specs.Holding.{holds};
+ghost use Rattle.fedbundle_c.specs.declared.replica.Replica.{Replica};
+
+use crate::loose::Loose;
+use crate::replica::Replica;
+use std::alloc::Global;
+use std::marker::Model;
+use std::mem;
+use std::ptr::null_mut;
+
+#[repr(C)]
+pub struct Handle {
+    at: *mut u8,
+    alloc: Global,
+    ghost value: { Option Replica },
+}
+
+impl Model for Handle {
+    ghost also_owns = { λ h. holds h.alloc h.at h.value };
+}
+
+unsafe impl Send for Handle {}
+
+impl Handle {
+    fn empty(at: *mut u8, alloc: Global) -> Handle
+        requires { at ≡ null_ptr }
+        ensures { result.value ≡ None }
+    {
+        Handle { at, alloc }
+    }
+
+    fn of_loose(loose: Loose<Replica, Global>) -> Handle
+        ensures { result.value ≡ Some loose.value }
+    {
+        let Loose { at, alloc } = loose;
+        Handle {
+            at: at as *mut u8,
+            alloc,
+        }
+    }
+
+    fn into_loose(self) -> Option<Loose<Replica, Global>>
+        ensures { MatchOption result (self.value ≡ None) (λ l. self.value ≡ Some l.value) }
+    {
+        let Handle { at, alloc } = self;
+        if at.is_null() {
+            None
+        } else {
+            Some(Loose {
+                at: at as *mut Replica,
+                alloc,
+            })
+        }
+    }
+
+    pub(crate) fn take_out(&mut self, alloc: Global) -> Option<Box<Replica>>
+        ensures taken { MatchOption result (self.old.value ≡ None)
+            (λ b. self.old.value ≡ Some b.value) }
+        ensures closed { self.new.value ≡ None }
+    {
+        let at = null_mut();
+        let closed = Handle::empty(at, alloc);
+        match mem::replace(self, closed).into_loose() {
+            Some(loose) => Some(loose.into_box()),
+            None => None,
+        }
+    }
+
+    pub(crate) fn put(&mut self, rep: Box<Replica>)
+        ensures { self.new.value ≡ Some rep.value }
+    {
+        let before = mem::replace(self, Handle::of_loose(Loose::of(rep)));
+        if let Some(loose) = before.into_loose() {
+            drop(loose.into_box());
+        }
+    }
+}
