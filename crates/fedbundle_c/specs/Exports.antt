@@ -20,7 +20,7 @@ use Rattle.replica_bytes.specs.Changes.{HasRefusedKeyBytes, MergesBytes, HasRefu
 use Rattle.replica_bytes.specs.Changes.{AbsorbsBytes, HasRefusedGiveBytes, ObservesFetched}
 use Rattle.replica_bytes.specs.Changes.{HasRefusedFetched}
 use Rattle.replica_bytes.specs.Opening.{OpensBytes, RefusesOpening}
-use Rattle.replica_bytes.specs.Outcomes.{Refuses, IsDone, IsNone, IsAlready, AsksForRoom, FitsOut}
+use Rattle.replica_bytes.specs.Outcomes.{Refuses, ReturnsDone, ReturnsNone, ReturnsAlready, ReturnsNeedsRoom, FitsOut}
 use Rattle.replica_bytes.specs.Outcomes.{WritesOut}
 use Rattle.replica_bytes.specs.Texts.{HasNoCurrentBundle, IsCurrentBundle, IsNotAccepted}
 use Rattle.replica_bytes.specs.Texts.{HasChainText, RefusesDocumentBytes, AnswersBytes}
@@ -34,7 +34,7 @@ use Rattle.fedbundle_c.specs.declared.replica.Replica.{Replica}
 
 -- ---- handles
 
--- what the replica of a handle holds
+-- what the replica of a handle handle_owns
 abbrev pub state_in : Replica → HeldAndRoom
 state_in replica = replica.closure.state
 
@@ -46,13 +46,13 @@ pub record IsUsedClosed (new : Option Replica) (returned : ℤ) : Type 0 where
   pub closed : new ≡ None
   pub refused : Refuses Usage returned
 
--- It holds a replica of the configuration, with what the snapshot has.
+-- It handle_owns a replica of the configuration, with what the snapshot has.
 pub record HasOpened (config snapshot : List ℕ) (new : Option Replica)
     (returned : ℤ) : Type 0 where
   pub replica : Replica
   pub is : new ≡ Some replica
   pub opens : OpensBytes config snapshot (meaning_in replica)
-  pub done : IsDone returned
+  pub done : ReturnsDone returned
 
 -- The bytes are refused, for this cause, and it stays closed.
 pub record HasNotOpened (config snapshot : List ℕ) (new : Option Replica)
@@ -62,7 +62,7 @@ pub record HasNotOpened (config snapshot : List ℕ) (new : Option Replica)
   pub closed : new ≡ None
   pub refused : Refuses error returned
 
--- It is open already: the call is refused, and it keeps what it holds.
+-- It is open already: the call is refused, and it keeps what it handle_owns.
 pub record WasOpen (held : Replica) (new : Option Replica) (returned : ℤ) : Type 0 where
   pub same : new ≡ Some held
   pub refused : Refuses Usage returned
@@ -84,19 +84,19 @@ pub record HandleRun : Type 0 where
 
 -- what is said of a receipt
 abbrev pub SaysTaken : Result Taken CallError → ℕ → ℤ → Type 0
-SaysTaken (Ok (TakenNew n)) said returned = (said ≡ n) × IsDone returned
-SaysTaken (Ok TakenAlready) said returned = IsAlready returned
+SaysTaken (Ok (TakenNew n)) said returned = (said ≡ n) × ReturnsDone returned
+SaysTaken (Ok TakenAlready) said returned = ReturnsAlready returned
 SaysTaken (Err e) said returned = Refuses e returned
 
 -- what is said of a record
 abbrev pub SaysDistrusted : Result Distrusted CallError → ℕ → ℤ → Type 0
-SaysDistrusted (Ok (DistrustedNew n)) said returned = (said ≡ n) × IsDone returned
-SaysDistrusted (Ok DistrustedAlready) said returned = IsAlready returned
+SaysDistrusted (Ok (DistrustedNew n)) said returned = (said ≡ n) × ReturnsDone returned
+SaysDistrusted (Ok DistrustedAlready) said returned = ReturnsAlready returned
 SaysDistrusted (Err e) said returned = Refuses e returned
 
 -- what is said of a number of receipts
 abbrev pub SaysCount : Result ℕ CallError → ℕ → ℤ → Type 0
-SaysCount (Ok n) said returned = (said ≡ n) × IsDone returned
+SaysCount (Ok n) said returned = (said ≡ n) × ReturnsDone returned
 SaysCount (Err e) said returned = Refuses e returned
 
 -- The line was taken or refused, and that is said.
@@ -163,7 +163,7 @@ pub record BufferRun : Type 0 where
   pub before : List ℕ
   pub after : List ℕ
 
--- A text of which this holds is written, or there is no room for it.
+-- A text of which this handle_owns is written, or there is no room for it.
 pub record ShowsText (P : List ℕ → Type 0) (buffer : BufferRun) (run : HandleRun) : Type 0 where
   pub text : List ℕ
   pub is : P text
@@ -176,7 +176,7 @@ pub record ShowsFault (Q : CallError → Type 0) (buffer : BufferRun) (run : Han
   pub same : buffer.after ≡ buffer.before
   pub refused : Refuses error run.returned
 
--- The handle keeps what it holds, and one of the two is so.
+-- The handle keeps what it handle_owns, and one of the two is so.
 pub record ShowsHeld (held : Replica) (P : List ℕ → Type 0) (Q : CallError → Type 0)
     (buffer : BufferRun) (run : HandleRun) : Type 0 where
   pub same : run.new ≡ Some held
@@ -207,7 +207,7 @@ abbrev pub SaysObserved : Result ObservedBytes CallError → BufferRun → Handl
 SaysObserved (Ok (Held text)) buffer run =
     FitsOut text.items buffer.before buffer.after run.said run.returned
 SaysObserved (Ok (NeedsRoom needed)) buffer run = (buffer.after ≡ buffer.before)
-    × (run.said ≡ needed) × AsksForRoom run.returned
+    × (run.said ≡ needed) × ReturnsNeedsRoom run.returned
 SaysObserved (Err e) buffer run = (buffer.after ≡ buffer.before) × Refuses e run.returned
 
 -- It was observed or refused, and that is said.
@@ -231,7 +231,7 @@ ObservesByHandle fetched buffer run = MatchOption run.old (IsUsedClosed run.new 
 pub record ShowsNone (N : Type 0) (buffer : BufferRun) (run : HandleRun) : Type 0 where
   pub absent : N
   pub same : buffer.after ≡ buffer.before
-  pub none : IsNone run.returned
+  pub none : ReturnsNone run.returned
 
 pub record FindsHeld (held : Replica) (N : Type 0) (P : List ℕ → Type 0) (Q : CallError → Type 0)
     (buffer : BufferRun) (run : HandleRun) : Type 0 where

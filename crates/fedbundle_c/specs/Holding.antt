@@ -1,3 +1,4 @@
+-- What a handle owns.
 use base.Fml.{Fml, ftrue, fex}
 use denote.RawPtr.{Ptr, block_ptr, null_ptr}
 use Rattle.std.specs.declared.option.Option.{Option}
@@ -8,8 +9,9 @@ use Rattle.std_alloc.specs.Box.Ownership.{box_owns}
 use Rattle.fedbundle_c.specs.contracts.replica.Replica.{the_row}
 use Rattle.fedbundle_c.specs.declared.replica.Replica.{Replica}
 
-abbrev pub holds : Global → Ptr → Option Replica → Fml
-holds a null_ptr None = ftrue
-holds a (block_ptr b o) (Some x) = box_owns (ghosts.dealloc_token a) the_row (block_ptr b o) x
-holds a null_ptr (Some x) = fex ⊥ (λ _. ftrue)
-holds a (block_ptr b o) None = fex ⊥ (λ _. ftrue)
+-- nothing at null, and else the box of a replica
+abbrev pub handle_owns : Global → Ptr → Option Replica → Fml
+handle_owns a null_ptr None = ftrue
+handle_owns a (block_ptr b o) (Some x) = box_owns (ghosts.dealloc_token a) the_row (block_ptr b o) x
+handle_owns a null_ptr (Some x) = fex ⊥ (λ _. ftrue)
+handle_owns a (block_ptr b o) None = fex ⊥ (λ _. ftrue)

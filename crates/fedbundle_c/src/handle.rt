@@ -1,9 +1,9 @@
-//! What C holds of a replica.
+//! What C handle_owns of a replica.
 ghost use Rattle.std.specs.Prelude.{◌≡◌, MatchOption};
 ghost use Rattle.std.specs.declared.option.Option.{Option};
 ghost use Rattle.std.specs.declared.option.Option.TheVariants.{None, Some};
 ghost use denote.RawPtr.{null_ptr};
-ghost use Rattle.fedbundle_c.specs.Holding.{holds};
+ghost use Rattle.fedbundle_c.specs.Holding.{handle_owns};
 ghost use Rattle.fedbundle_c.specs.declared.replica.Replica.{Replica};
 
 use crate::loose::Loose;
@@ -13,6 +13,7 @@ use std::marker::Model;
 use std::mem;
 use std::ptr::null_mut;
 
+/// A place for a replica. C sees a struct of one pointer.
 #[repr(C)]
 pub struct Handle {
     at: *mut u8,
@@ -21,12 +22,13 @@ pub struct Handle {
 }
 
 impl Model for Handle {
-    ghost also_owns = { λ h. holds h.alloc h.at h.value };
+    ghost also_owns = { λ h. handle_owns h.alloc h.at h.value };
 }
 
 unsafe impl Send for Handle {}
 
 impl Handle {
+    // The handle of a null pointer.
     fn empty(at: *mut u8, alloc: Global) -> Handle
         requires { at ≡ null_ptr }
         ensures { result.value ≡ None }
@@ -34,6 +36,7 @@ impl Handle {
         Handle { at, alloc }
     }
 
+    // The handle of a box.
     fn of_loose(loose: Loose<Replica, Global>) -> Handle
         ensures { result.value ≡ Some loose.value }
     {
@@ -44,6 +47,7 @@ impl Handle {
         }
     }
 
+    // What the handle holds, if it is open.
     fn into_loose(self) -> Option<Loose<Replica, Global>>
         ensures { MatchOption result (self.value ≡ None) (λ l. self.value ≡ Some l.value) }
     {
@@ -58,6 +62,7 @@ impl Handle {
         }
     }
 
+    /// Takes out what the handle holds, and closes it.
     pub(crate) fn take_out(&mut self, alloc: Global) -> Option<Box<Replica>>
         ensures taken { MatchOption result (self.old.value ≡ None)
             (λ b. self.old.value ≡ Some b.value) }
@@ -71,10 +76,11 @@ impl Handle {
         }
     }
 
-    pub(crate) fn put(&mut self, rep: Box<Replica>)
-        ensures { self.new.value ≡ Some rep.value }
+    /// Puts a replica in. What was there is freed.
+    pub(crate) fn put(&mut self, replica: Box<Replica>)
+        ensures { self.new.value ≡ Some replica.value }
     {
-        let before = mem::replace(self, Handle::of_loose(Loose::of(rep)));
+        let before = mem::replace(self, Handle::of_loose(Loose::of(replica)));
         if let Some(loose) = before.into_loose() {
             drop(loose.into_box());
         }

@@ -1,4 +1,4 @@
-//! What a handle holds.
+//! What a handle handle_owns.
 use trust_closure::IndexedClosure;
 
 /// A replica, over the index.

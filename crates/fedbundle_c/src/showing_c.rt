@@ -1,4 +1,4 @@
-//! Exports: what a replica holds and accepts, as texts. They change nothing.
+//! Exports: what a replica handle_owns and accepts, as texts. They change nothing.
 ghost use Rattle.fedbundle_c.specs.Exports.{CurrentByHandle, ExplainsByHandle, ReportsByHandle};
 ghost use Rattle.fedbundle_c.specs.Exports.{SnapshotsByHandle};
 
@@ -96,7 +96,8 @@ pub extern "C" fn fedbundle_raw_explain(
     out: &mut [u8],
     outcome: &mut CallOutcome,
 ) -> i64
-    ensures { ExplainsByHandle domain.now document.now (record { before = out.old; after = out.new })
+    ensures { ExplainsByHandle domain.now document.now
+        (record { before = out.old; after = out.new })
         (record {
           old = handle.old.value;
           new = handle.new.value;

@@ -1,5 +1,6 @@
--- The numbers by which a program in another language tells refusals apart. The hundreds stand for the
--- letter of the code, and the rest is its number; a code in another one is added to 1,000 of these.
+-- The numbers by which a program in another language tells refusals apart. The hundreds stand for
+-- the letter of the code, and the rest is its number; a code in another one is added to 1,000 of
+-- these.
 use Rattle.std.specs.Prelude.{ℕ, ◌+◌}
 use Rattle.spiffe_name.specs.declared.error.NameError.{NameError}
 use Rattle.spiffe_name.specs.declared.error.NameError.TheVariants.{Empty as N1}

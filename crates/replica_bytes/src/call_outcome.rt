@@ -1,11 +1,11 @@
 //! What a caller in C reads of a call.
 ghost use Rattle.std.specs.Prelude.{◌≡◌, MatchResult, MatchOption};
-ghost use Rattle.replica_bytes.specs.Outcomes.{AsksForRoom, Counts, IsNone, Refuses};
+ghost use Rattle.replica_bytes.specs.Outcomes.{ReturnsNeedsRoom, Counts, ReturnsNone, Refuses};
 ghost use Rattle.replica_bytes.specs.Outcomes.{WritesOut};
 
 use crate::call_error::CallError;
 use crate::fault_bytes::{FaultBytes, MAX_TEXT_BYTES};
-use crate::fault_number::fault_number;
+use crate::fault_numbering::fault_number;
 
 /// What a call returns that was made.
 pub const DONE: i64 = 0;
@@ -74,7 +74,7 @@ impl CallOutcome {
     /// Says that there is no room for a text of this many bytes.
     pub fn need(&mut self, length: usize) -> i64
         ensures length { self.new.length ≡ length }
-        ensures asks { AsksForRoom result }
+        ensures asks { ReturnsNeedsRoom result }
     {
         self.clear();
         self.length = length as u64;
@@ -112,7 +112,7 @@ impl CallOutcome {
     /// The same of a text that there may be none of.
     pub fn put_option(&mut self, made: Result<Option<Vec<u8>>, CallError>, out: &mut [u8]) -> i64
         ensures { MatchResult made
-            (λ found. MatchOption found (IsNone result × (out.new ≡ out.old))
+            (λ found. MatchOption found (ReturnsNone result × (out.new ≡ out.old))
             (λ text. WritesOut text.items out.old out.new self.new.length result))
             (λ e. Refuses e result × (out.new ≡ out.old)) }
     {

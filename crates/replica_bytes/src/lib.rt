@@ -6,7 +6,7 @@
 //! `bundle_observing` change one, `replica_texts` writes what it holds and accepts, and
 //! `message_bytes` has the messages between replicas. `named_bytes` reads names and keys,
 //! `growing_sink` takes a text of any length. `call_error` is the one error of all calls,
-//! `fault_number` and `fault_bytes` are its number and its text, and `call_outcome` is what a
+//! `fault_numbering` and `fault_bytes` have its number and its text, and `call_outcome` is what a
 //! caller in C reads of a call.
 #![tactic(auto)]
 
@@ -14,7 +14,7 @@ mod bundle_observing;
 mod call_error;
 mod call_outcome;
 mod fault_bytes;
-mod fault_number;
+mod fault_numbering;
 mod growing_sink;
 mod key_distrusting;
 mod line_taking;
@@ -27,7 +27,7 @@ mod snapshot_merging;
 pub use bundle_observing::{FetchedBytes, ObservedBytes, observe_bytes};
 pub use call_error::CallError;
 pub use call_outcome::{ALREADY, CallOutcome, DONE, NEEDS_ROOM, NONE};
-pub use fault_number::fault_number;
+pub use fault_numbering::fault_number;
 pub use key_distrusting::distrust_bytes;
 pub use line_taking::take_line_bytes;
 pub use message_bytes::{absorb_bytes, answer_bytes, have_bytes};

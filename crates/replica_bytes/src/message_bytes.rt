@@ -1,5 +1,7 @@
 //! The messages between replicas, each as the bytes that cross. The caller brings the transport.
-ghost use Rattle.std.specs.Prelude.{◌≡◌, IfErr, IfOk, MatchResult};
+ghost use Rattle.std.specs.Prelude.{◌≡◌, ◌↔◌, IfErr, IfOk, IsTrue, MatchResult};
+ghost use Rattle.std.specs.Io.KnownBytes.{IsAtEnd};
+ghost use Rattle.byte_lines.specs.Streams.{stream_of};
 ghost use Rattle.replica_core.specs.Session.{give_of, have_of};
 ghost use Rattle.replica_sync.specs.Messages.{give_text, have_text};
 ghost use Rattle.replica_bytes.specs.CallErrors.{IsWantOfMemory};
@@ -9,7 +11,7 @@ ghost use Rattle.replica_bytes.specs.Texts.{AnswersBytes, RefusesHaveBytes};
 
 use crate::call_error::CallError;
 use crate::growing_sink::{GrowingSink, source_of};
-use byte_lines::{Line, LineBuf};
+use byte_lines::{Line, LineBuf, Source};
 use closure_core::Closure;
 use replica_sync::{
     Give, Have, SyncError, absorb, answer, have, read_give, read_have_line, write_answer,
@@ -103,10 +105,24 @@ fn give_of_bytes(alloc: Global, bytes: &[u8]) -> Result<Give, CallError>
     let mut source = source_of(alloc, bytes)?;
     let mut lines = LineBuf::new(alloc);
     let give = read_give(alloc, &mut lines, &mut source)?;
-    match lines.next_line(&mut source) {
-        Ok(Line::End) => Ok(give),
-        Ok(_) => Err(CallError::Sync(SyncError::NotCanonical(line_after(&give)))),
-        Err(_) => Err(CallError::NoMemory),
+    if ends(&mut lines, &mut source)? {
+        Ok(give)
+    } else {
+        Err(CallError::Sync(SyncError::NotCanonical(line_after(&give))))
+    }
+}
+
+// Whether the stream has no more bytes.
+fn ends<R: Source>(lines: &mut LineBuf, source: &mut R) -> Result<bool, AllocError>
+    ensures { IfOk result (λ at_end. IsTrue at_end
+        ↔ IsAtEnd (stream_of R.remaining lines.old source.old)) }
+{
+    match lines.next_line(source) {
+        Ok(Line::End) => Ok(true),
+        Ok(Line::Text(_)) => Ok(false),
+        Ok(Line::TooLong) => Ok(false),
+        Ok(Line::Cut) => Ok(false),
+        Err(_) => Err(AllocError),
     }
 }
 
