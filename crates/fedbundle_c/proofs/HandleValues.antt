@@ -58,7 +58,7 @@ module _ {M : Type 1} {𝓤 : Ura M} (𝓛 : Logic 𝓤) where
       (bare (lone Held.mir)) p))) (dealloc_token-Testable 𝓛 a (bare (lone Held.mir)) p)) (guard_i 𝓤 (Testable p) B)
 
 module _ {M : Type 1} {𝓤 : Ura M} {𝓛 : Logic 𝓤} {K : Type 0} {Γ : List (Item 𝓤)} {G : Goal 𝓤 𝓛.H} where
-  -- a handle is a pointer and the allocator, and owns what it handle_owns
+  -- a handle is a pointer and the allocator, and owns what it holds
   pub handle_out : K → (d : handle.the_row.Denot) (vs : List Val)
       → ((h : Val) → vs ≡ both (ptr_val d.at) h ∷ [] → Good (layout Alloc) h → Seq K 𝓛
       (‵ (handle_owns d.alloc d.at d.value) ∷ ‵ (Alloc.own_val d.alloc (h ∷ [])) ∷ Γ) G)

@@ -20,8 +20,8 @@ use Rattle.replica_bytes.specs.Changes.{HasRefusedKeyBytes, MergesBytes, HasRefu
 use Rattle.replica_bytes.specs.Changes.{AbsorbsBytes, HasRefusedGiveBytes, ObservesFetched}
 use Rattle.replica_bytes.specs.Changes.{HasRefusedFetched}
 use Rattle.replica_bytes.specs.Opening.{OpensBytes, RefusesOpening}
-use Rattle.replica_bytes.specs.Outcomes.{Refuses, ReturnsDone, ReturnsNone, ReturnsAlready, ReturnsNeedsRoom, FitsOut}
-use Rattle.replica_bytes.specs.Outcomes.{WritesOut}
+use Rattle.replica_bytes.specs.Outcomes.{Refuses, ReturnsDone, ReturnsNone, ReturnsAlready}
+use Rattle.replica_bytes.specs.Outcomes.{ReturnsNeedsRoom, FitsOut, WritesOut}
 use Rattle.replica_bytes.specs.Texts.{HasNoCurrentBundle, IsCurrentBundle, IsNotAccepted}
 use Rattle.replica_bytes.specs.Texts.{HasChainText, RefusesDocumentBytes, AnswersBytes}
 use Rattle.replica_bytes.specs.Texts.{RefusesHaveBytes}
@@ -34,7 +34,7 @@ use Rattle.fedbundle_c.specs.declared.replica.Replica.{Replica}
 
 -- ---- handles
 
--- what the replica of a handle handle_owns
+-- what the replica of a handle holds
 abbrev pub state_in : Replica → HeldAndRoom
 state_in replica = replica.closure.state
 
@@ -46,7 +46,7 @@ pub record IsUsedClosed (new : Option Replica) (returned : ℤ) : Type 0 where
   pub closed : new ≡ None
   pub refused : Refuses Usage returned
 
--- It handle_owns a replica of the configuration, with what the snapshot has.
+-- It holds a replica of the configuration, with what the snapshot has.
 pub record HasOpened (config snapshot : List ℕ) (new : Option Replica)
     (returned : ℤ) : Type 0 where
   pub replica : Replica
@@ -62,7 +62,7 @@ pub record HasNotOpened (config snapshot : List ℕ) (new : Option Replica)
   pub closed : new ≡ None
   pub refused : Refuses error returned
 
--- It is open already: the call is refused, and it keeps what it handle_owns.
+-- It is open already: the call is refused, and it keeps what it holds.
 pub record WasOpen (held : Replica) (new : Option Replica) (returned : ℤ) : Type 0 where
   pub same : new ≡ Some held
   pub refused : Refuses Usage returned
@@ -163,7 +163,7 @@ pub record BufferRun : Type 0 where
   pub before : List ℕ
   pub after : List ℕ
 
--- A text of which this handle_owns is written, or there is no room for it.
+-- A text of which this holds is written, or there is no room for it.
 pub record ShowsText (P : List ℕ → Type 0) (buffer : BufferRun) (run : HandleRun) : Type 0 where
   pub text : List ℕ
   pub is : P text
@@ -176,7 +176,7 @@ pub record ShowsFault (Q : CallError → Type 0) (buffer : BufferRun) (run : Han
   pub same : buffer.after ≡ buffer.before
   pub refused : Refuses error run.returned
 
--- The handle keeps what it handle_owns, and one of the two is so.
+-- The handle keeps what it holds, and one of the two is so.
 pub record ShowsHeld (held : Replica) (P : List ℕ → Type 0) (Q : CallError → Type 0)
     (buffer : BufferRun) (run : HandleRun) : Type 0 where
   pub same : run.new ≡ Some held

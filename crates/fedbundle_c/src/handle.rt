@@ -1,4 +1,6 @@
-//! What C handle_owns of a replica.
+//! What a caller in C holds of a replica: a pointer, which is null or that of a box. Its proofs are
+//! by hand: `HandleValues` has what a handle owns, `into_loose`, `of_loose` and `empty` follow the
+//! code, and `TheSendSync` shows that a handle may go to another thread.
 ghost use Rattle.std.specs.Prelude.{◌≡◌, MatchOption};
 ghost use Rattle.std.specs.declared.option.Option.{Option};
 ghost use Rattle.std.specs.declared.option.Option.TheVariants.{None, Some};

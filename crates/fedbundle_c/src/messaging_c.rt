@@ -5,7 +5,7 @@ use crate::handle::Handle;
 use replica_bytes::{CallError, CallOutcome, absorb_bytes, answer_bytes, have_bytes};
 use std::alloc::Global;
 
-/// Writes the have of a bucket: what the replica handle_owns of it.
+/// Writes the have of a bucket: what the replica holds of it.
 #[unsafe(no_mangle)]
 pub extern "C" fn fedbundle_raw_have(
     alloc: Global,

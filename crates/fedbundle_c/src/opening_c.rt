@@ -19,8 +19,8 @@ pub extern "C" fn fedbundle_raw_version(out: &mut [u8], outcome: &mut CallOutcom
     outcome.put(b"0.1.0", out)
 }
 
-/// Opens a closed handle: it handle_owns a replica of the configuration then, with what the snapshot
-/// handle_owns, or with nothing where there are no bytes of a snapshot. Where it is refused the handle
+/// Opens a closed handle: it holds a replica of the configuration then, with what the snapshot
+/// holds, or with nothing where there are no bytes of a snapshot. Where it is refused the handle
 /// stays as it is.
 #[unsafe(no_mangle)]
 pub extern "C" fn fedbundle_raw_open(

@@ -1,4 +1,4 @@
-//! What a handle handle_owns.
+//! What a handle holds.
 use trust_closure::IndexedClosure;
 
 /// A replica, over the index.

@@ -1,4 +1,4 @@
-//! Exports: what a replica handle_owns and accepts, as texts. They change nothing.
+//! Exports: what a replica holds and accepts, as texts. They change nothing.
 ghost use Rattle.fedbundle_c.specs.Exports.{CurrentByHandle, ExplainsByHandle, ReportsByHandle};
 ghost use Rattle.fedbundle_c.specs.Exports.{SnapshotsByHandle};
 
