@@ -12,8 +12,7 @@ use Rattle.receipt_core.specs.Acceptance.{Meaning}
 use Rattle.closure_core.specs.Changes.{HeldAndRoom}
 use Rattle.replica_core.specs.Session.{have_of}
 use Rattle.replica_sync.specs.Messages.{have_text}
-use Rattle.replica_sync.specs.Snapshots.{snapshot_text}
-use Rattle.replica_sync.specs.declared.format.Format.TheVariants.{Second}
+use Rattle.replica_sync.specs.WrittenSnapshot.{written_snapshot}
 use Rattle.replica_bytes.specs.CallErrors.{IsWantOfMemory, RefusesDomainText}
 use Rattle.replica_bytes.specs.Changes.{TakesLineBytes, HasRefusedLineBytes, DistrustsBytes}
 use Rattle.replica_bytes.specs.Changes.{HasRefusedKeyBytes, MergesBytes, HasRefusedSnapshotBytes}
@@ -191,7 +190,7 @@ abbrev pub ReportsByHandle : BufferRun → HandleRun → Type 0
 ReportsByHandle = ShowsByHandle IsReport (λ m. IsWantOfMemory)
 
 abbrev pub SnapshotsByHandle : BufferRun → HandleRun → Type 0
-SnapshotsByHandle = ShowsByHandle (λ m text. text ≡ snapshot_text Second m) (λ m. IsWantOfMemory)
+SnapshotsByHandle = ShowsByHandle (λ m text. text ≡ written_snapshot m) (λ m. IsWantOfMemory)
 
 abbrev pub HavesByHandle : ℕ → BufferRun → HandleRun → Type 0
 HavesByHandle bucket = ShowsByHandle (λ m text. text ≡ have_text (have_of m bucket))

@@ -1,8 +1,7 @@
 //! What a replica holds and accepts, as texts.
 ghost use Rattle.std.specs.Prelude.{◌≡◌, ◌++◌, flat_map, IfErr, IfOk, MatchOption, OnOk};
 ghost use Rattle.std.specs.Prelude.{MatchResult};
-ghost use Rattle.replica_sync.specs.Snapshots.{snapshot_text};
-ghost use Rattle.replica_sync.specs.declared.format.Format.TheVariants.{Second};
+ghost use Rattle.replica_sync.specs.WrittenSnapshot.{written_snapshot};
 ghost use Rattle.bundle_view.specs.Report.{IsReport};
 ghost use Rattle.replica_sync.specs.Messages.{receipt_text};
 ghost use Rattle.replica_bytes.specs.Texts.{HasNoCurrentBundle, IsCurrentBundle, bundle_line};
@@ -40,7 +39,7 @@ pub fn report_bytes<C: Closure>(alloc: Global, closure: &C) -> Result<Vec<u8>, C
 /// Memory ran out.
 pub fn snapshot_bytes<C: Closure>(alloc: Global, closure: &C) -> Result<Vec<u8>, CallError>
     ensures ok { IfOk result
-        (λ text. text.items ≡ snapshot_text Second (C.state closure.now).meaning) }
+        (λ text. text.items ≡ written_snapshot (C.state closure.now).meaning) }
     ensures refused { IfErr result IsWantOfMemory }
 {
     let mut sink = GrowingSink::new(alloc);
