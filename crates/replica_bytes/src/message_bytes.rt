@@ -1,6 +1,7 @@
 //! The messages between replicas, each as the bytes that cross. The caller brings the transport.
-ghost use Rattle.std.specs.Prelude.{◌≡◌, ◌↔◌, IfErr, IfOk, IsTrue, MatchResult};
+ghost use Rattle.std.specs.Prelude.{◌≡◌, true, false, IfErr, IfOk, MatchResult};
 ghost use Rattle.std.specs.Io.KnownBytes.{IsAtEnd};
+ghost use Rattle.byte_lines.specs.Lines.{HasMore};
 ghost use Rattle.byte_lines.specs.Streams.{stream_of};
 ghost use Rattle.replica_core.specs.Session.{give_of, have_of};
 ghost use Rattle.replica_sync.specs.Messages.{give_text, have_text};
@@ -113,9 +114,12 @@ fn give_of_bytes(alloc: Global, bytes: &[u8]) -> Result<Give, CallError>
 }
 
 // Whether the stream has no more bytes.
+#[tactic(auto, using(crate::proofs::LineEndFacts::more-of-line))]
 fn ends<R: Source>(lines: &mut LineBuf, source: &mut R) -> Result<bool, AllocError>
-    ensures { IfOk result (λ at_end. IsTrue at_end
-        ↔ IsAtEnd (stream_of R.remaining lines.old source.old)) }
+    ensures ended { IfOk result
+        (λ at_end. at_end ≡ true → IsAtEnd (stream_of R.remaining lines.old source.old)) }
+    ensures more { IfOk result
+        (λ at_end. at_end ≡ false → HasMore (stream_of R.remaining lines.old source.old)) }
 {
     match lines.next_line(source) {
         Ok(Line::End) => Ok(true),

@@ -39,7 +39,10 @@ pub(crate) fn endpoint_of(alloc: Global, bytes: &[u8]) -> Result<SpiffeId, CallE
     let Ok(text) = str::from_utf8(bytes) else {
         return Err(CallError::Usage);
     };
-    Ok(SpiffeId::read(alloc, text)?)
+    match SpiffeId::read(alloc, text) {
+        Ok(id) => Ok(id),
+        Err(why) => Err(CallError::Name(why)),
+    }
 }
 
 /// The key id of 64 lower-case hexadecimal digits.
