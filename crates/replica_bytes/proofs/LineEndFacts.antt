@@ -9,5 +9,5 @@ ended_some : (text : List ℕ) → 0 < length (text ++ (10 ∷ []))
 ended_some [] = omega arith
 ended_some (b ∷ text) = omega arith
 
-pub more-of-line : (a b : Option (List ℕ)) (text : List ℕ) → HasLine a b text → HasMore a
-more-of-line a b text line = HasMore-text a b (text ++ (10 ∷ [])) (ended_some text) line.1
+pub more_of_line : (a b : Option (List ℕ)) (text : List ℕ) → HasLine a b text → HasMore a
+more_of_line a b text line = HasMore-text a b (text ++ (10 ∷ [])) (ended_some text) line.1

@@ -114,7 +114,7 @@ fn give_of_bytes(alloc: Global, bytes: &[u8]) -> Result<Give, CallError>
 }
 
 // Whether the stream has no more bytes.
-#[tactic(auto, using(crate::proofs::LineEndFacts::more-of-line))]
+#[tactic(auto, using(crate::proofs::LineEndFacts::more_of_line))]
 fn ends<R: Source>(lines: &mut LineBuf, source: &mut R) -> Result<bool, AllocError>
     ensures ended { IfOk result
         (λ at_end. at_end ≡ true → IsAtEnd (stream_of R.remaining lines.old source.old)) }
