@@ -35,7 +35,7 @@ use Rattle.fedbundle_c.specs.declared.replica.Replica.{Replica}
 
 -- what the replica of a handle holds
 abbrev pub state_in : Replica → HeldAndRoom
-state_in replica = replica.closure.state
+state_in replica = replica.closure
 
 abbrev pub meaning_in : Replica → Meaning
 meaning_in replica = (state_in replica).meaning

@@ -9,7 +9,7 @@ use crate::handle::Handle;
 use crate::replica::Replica;
 use replica_bytes::{CallError, CallOutcome, DONE, open_bytes};
 use std::alloc::Global;
-use trust_closure::IndexedClosure;
+use trust_closure::ExchangeClosure;
 
 /// Writes the version of the library, without a line feed.
 #[unsafe(no_mangle)]
@@ -51,7 +51,7 @@ fn opened(alloc: Global, config: &[u8], snapshot: &[u8]) -> Result<Box<Replica>,
         (λ b. OpensBytes config.now snapshot.now (meaning_in b.value))
         (RefusesOpening config.now snapshot.now) }
 {
-    let closure: IndexedClosure = open_bytes(alloc, config, snapshot)?;
+    let closure: ExchangeClosure = open_bytes(alloc, config, snapshot)?;
     match Box::new(alloc, Replica { closure }) {
         Ok(replica) => Ok(replica),
         Err(_) => Err(CallError::NoMemory),

@@ -1,8 +1,8 @@
 //! What a handle holds.
-use trust_closure::IndexedClosure;
+use trust_closure::ExchangeClosure;
 
-/// A replica, over the index.
+/// A replica that exchanges receipts, over the index.
 #[derive(Drop)]
 pub struct Replica {
-    pub(crate) closure: IndexedClosure,
+    pub(crate) closure: ExchangeClosure,
 }
