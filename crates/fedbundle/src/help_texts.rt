@@ -322,7 +322,8 @@ impl CommandName {
             }
             CommandName::Config => "Prints what a configuration says, or where two differ",
             CommandName::Report => {
-                "Prints what receipts make a replica accept: those of the state file, or of standard input"
+                "Prints what receipts make a replica accept: those of the state file, or of \
+                standard input"
             }
             CommandName::List => "Prints each receipt and each record of distrust that is held",
             CommandName::Diff => "Prints what only one of two states holds",
@@ -332,13 +333,15 @@ impl CommandName {
                 "Prints the receipts by which the document on standard input is accepted"
             }
             CommandName::Observe => {
-                "Takes the bundle document on standard input, as it was fetched, and prints its receipt"
+                "Takes the bundle document on standard input, as it was fetched, and prints its \
+                receipt"
             }
             CommandName::Merge => "Takes what the snapshot on standard input holds",
             CommandName::Migrate => "Prints the state file for another configuration",
             CommandName::Reseed => "Prints a configuration whose seeds are the current bundles",
             CommandName::Polls => {
-                "Reads poll lines on standard input and prints when each bundle is to be fetched next"
+                "Reads poll lines on standard input and prints when each bundle is to be fetched \
+                next"
             }
             CommandName::Distrust => "Distrusts a key in a domain, for good",
             CommandName::Serve => "Answers other replicas that pull from this one",
@@ -362,16 +365,20 @@ impl CommandName {
                 "fedbundle status --config <FILE> --state <FILE> [--format <FORMAT>] [--verbose]"
             }
             CommandName::Bundle => {
-                "fedbundle bundle --config <FILE> --state <FILE> --domain <DOMAIN> [--format <FORMAT>] [--verbose]"
+                "fedbundle bundle --config <FILE> --state <FILE> --domain <DOMAIN> \
+                [--format <FORMAT>] [--verbose]"
             }
             CommandName::Explain => {
-                "fedbundle explain --config <FILE> --state <FILE> --domain <DOMAIN> [--short] [--verbose]"
+                "fedbundle explain --config <FILE> --state <FILE> --domain <DOMAIN> [--short] \
+                [--verbose]"
             }
             CommandName::Observe => {
-                "fedbundle observe --config <FILE> --state <FILE> --domain <DOMAIN> --endpoint <SPIFFE_ID> --key <KEY_ID> [--wait <SECONDS>] [--verbose]"
+                "fedbundle observe --config <FILE> --state <FILE> --domain <DOMAIN> \
+                --endpoint <SPIFFE_ID> --key <KEY_ID> [--wait <SECONDS>] [--verbose]"
             }
             CommandName::Merge => {
-                "fedbundle merge --config <FILE> --state <FILE> [--wait <SECONDS>] [--most-bytes <BYTES>] [--verbose]"
+                "fedbundle merge --config <FILE> --state <FILE> [--wait <SECONDS>] \
+                [--most-bytes <BYTES>] [--verbose]"
             }
             CommandName::Migrate => {
                 "fedbundle migrate --config <FILE> --state <FILE> --to <FILE> [--records-only]"
@@ -383,13 +390,16 @@ impl CommandName {
                 "fedbundle polls --config <FILE> --state <FILE> --now <SECONDS> [--verbose]"
             }
             CommandName::Distrust => {
-                "fedbundle distrust --config <FILE> --state <FILE> --domain <DOMAIN> --key <KEY_ID> [--dry-run] [--wait <SECONDS>] [--verbose]"
+                "fedbundle distrust --config <FILE> --state <FILE> --domain <DOMAIN> \
+                --key <KEY_ID> [--dry-run] [--wait <SECONDS>] [--verbose]"
             }
             CommandName::Serve => {
-                "fedbundle serve --config <FILE> --state <FILE> --listen <ADDRESS> --sessions <COUNT> [--verbose]"
+                "fedbundle serve --config <FILE> --state <FILE> --listen <ADDRESS> \
+                --sessions <COUNT> [--verbose]"
             }
             CommandName::Pull => {
-                "fedbundle pull --config <FILE> --state <FILE> --peer <ADDRESS> [--wait <SECONDS>] [--most-bytes <BYTES>] [--verbose]"
+                "fedbundle pull --config <FILE> --state <FILE> --peer <ADDRESS> \
+                [--wait <SECONDS>] [--most-bytes <BYTES>] [--verbose]"
             }
         }
     }
