@@ -365,7 +365,8 @@ impl CommandName {
             }
             CommandName::Config => "Prints what a configuration says, or where two differ",
             CommandName::Report => {
-                "Prints what receipts make a replica accept: those of the state file, or of standard input"
+                "Prints what receipts make a replica accept: those of the state file, or of \
+                standard input"
             }
             CommandName::List => "Prints each receipt and each record of distrust that is held",
             CommandName::Diff => "Prints what only one of two states holds",
@@ -375,13 +376,15 @@ impl CommandName {
                 "Prints the receipts by which the document on standard input is accepted"
             }
             CommandName::Observe => {
-                "Takes the bundle document on standard input, as it was fetched, and prints its receipt"
+                "Takes the bundle document on standard input, as it was fetched, and prints its \
+                receipt"
             }
             CommandName::Merge => "Takes what the snapshot on standard input holds",
             CommandName::Migrate => "Prints the state file for another configuration",
             CommandName::Reseed => "Prints a configuration whose seeds are the current bundles",
             CommandName::Polls => {
-                "Reads poll lines on standard input and prints when each bundle is to be fetched next"
+                "Reads poll lines on standard input and prints when each bundle is to be fetched \
+                next"
             }
             CommandName::Distrust => "Distrusts a key in a domain, for good",
             CommandName::Serve => "Answers other replicas that pull from this one",
@@ -399,7 +402,8 @@ impl CommandName {
             CommandName::Canon => "fedbundle canon --domain <DOMAIN>",
             CommandName::Config => "fedbundle config --config <FILE> [--with <FILE>]",
             CommandName::Report => {
-                "fedbundle report --config <FILE> [--state <FILE>]\n       fedbundle report --at <PATH>"
+                "fedbundle report --config <FILE> [--state <FILE>]\n       \
+                fedbundle report --at <PATH>"
             }
             CommandName::List => {
                 "fedbundle list --config <FILE> --state <FILE> [--domain <DOMAIN>] [--verbose]"
@@ -408,19 +412,30 @@ impl CommandName {
                 "fedbundle diff --config <FILE> --state <FILE> --with <FILE> [--verbose]"
             }
             CommandName::Status => {
-                "fedbundle status --config <FILE> --state <FILE> [--format <FORMAT>] [--verbose]\n       fedbundle status --at <PATH> [--format <FORMAT>] [--verbose]"
+                "fedbundle status --config <FILE> --state <FILE> [--format <FORMAT>] \
+                [--verbose]\n       \
+                fedbundle status --at <PATH> [--format <FORMAT>] [--verbose]"
             }
             CommandName::Bundle => {
-                "fedbundle bundle --config <FILE> --state <FILE> --domain <DOMAIN> [--format <FORMAT>] [--verbose]\n       fedbundle bundle --at <PATH> --domain <DOMAIN> [--format <FORMAT>] [--verbose]"
+                "fedbundle bundle --config <FILE> --state <FILE> --domain <DOMAIN> \
+                [--format <FORMAT>] [--verbose]\n       \
+                fedbundle bundle --at <PATH> --domain <DOMAIN> [--format <FORMAT>] [--verbose]"
             }
             CommandName::Explain => {
-                "fedbundle explain --config <FILE> --state <FILE> --domain <DOMAIN> [--short] [--verbose]\n       fedbundle explain --at <PATH> --domain <DOMAIN> [--short] [--verbose]"
+                "fedbundle explain --config <FILE> --state <FILE> --domain <DOMAIN> [--short] \
+                [--verbose]\n       \
+                fedbundle explain --at <PATH> --domain <DOMAIN> [--short] [--verbose]"
             }
             CommandName::Observe => {
-                "fedbundle observe --config <FILE> --state <FILE> --domain <DOMAIN> --endpoint <SPIFFE_ID> --key <KEY_ID> [--wait <SECONDS>] [--verbose]\n       fedbundle observe --at <PATH> --domain <DOMAIN> --endpoint <SPIFFE_ID> --key <KEY_ID> [--verbose]"
+                "fedbundle observe --config <FILE> --state <FILE> --domain <DOMAIN> \
+                --endpoint <SPIFFE_ID> --key <KEY_ID> [--wait <SECONDS>] [--verbose]\n       \
+                fedbundle observe --at <PATH> --domain <DOMAIN> --endpoint <SPIFFE_ID> \
+                --key <KEY_ID> [--verbose]"
             }
             CommandName::Merge => {
-                "fedbundle merge --config <FILE> --state <FILE> [--wait <SECONDS>] [--most-bytes <BYTES>] [--verbose]\n       fedbundle merge --at <PATH> [--most-bytes <BYTES>] [--verbose]"
+                "fedbundle merge --config <FILE> --state <FILE> [--wait <SECONDS>] \
+                [--most-bytes <BYTES>] [--verbose]\n       \
+                fedbundle merge --at <PATH> [--most-bytes <BYTES>] [--verbose]"
             }
             CommandName::Migrate => {
                 "fedbundle migrate --config <FILE> --state <FILE> --to <FILE> [--records-only]"
@@ -429,19 +444,28 @@ impl CommandName {
                 "fedbundle reseed --config <FILE> --state <FILE> [--allow <DOMAIN>] [--verbose]"
             }
             CommandName::Polls => {
-                "fedbundle polls --config <FILE> --state <FILE> --now <SECONDS> [--verbose]\n       fedbundle polls --at <PATH> --now <SECONDS> [--verbose]"
+                "fedbundle polls --config <FILE> --state <FILE> --now <SECONDS> \
+                [--verbose]\n       \
+                fedbundle polls --at <PATH> --now <SECONDS> [--verbose]"
             }
             CommandName::Distrust => {
-                "fedbundle distrust --config <FILE> --state <FILE> --domain <DOMAIN> --key <KEY_ID> [--dry-run] [--wait <SECONDS>] [--verbose]\n       fedbundle distrust --at <PATH> --domain <DOMAIN> --key <KEY_ID> [--dry-run] [--verbose]"
+                "fedbundle distrust --config <FILE> --state <FILE> --domain <DOMAIN> \
+                --key <KEY_ID> [--dry-run] [--wait <SECONDS>] [--verbose]\n       \
+                fedbundle distrust --at <PATH> --domain <DOMAIN> --key <KEY_ID> [--dry-run] \
+                [--verbose]"
             }
             CommandName::Serve => {
-                "fedbundle serve --config <FILE> --state <FILE> --listen <ADDRESS> --sessions <COUNT> [--verbose]"
+                "fedbundle serve --config <FILE> --state <FILE> --listen <ADDRESS> \
+                --sessions <COUNT> [--verbose]"
             }
             CommandName::Pull => {
-                "fedbundle pull --config <FILE> --state <FILE> --peer <ADDRESS> [--wait <SECONDS>] [--most-bytes <BYTES>] [--verbose]"
+                "fedbundle pull --config <FILE> --state <FILE> --peer <ADDRESS> \
+                [--wait <SECONDS>] [--most-bytes <BYTES>] [--verbose]"
             }
             CommandName::Replica => {
-                "fedbundle replica --config <FILE> --state <FILE> --socket <PATH> [--listen <ADDRESS>] [--peers <ADDRESS,..>] [--every <SECONDS>] [--most-bytes <BYTES>] [--new] [--verbose]"
+                "fedbundle replica --config <FILE> --state <FILE> --socket <PATH> \
+                [--listen <ADDRESS>] [--peers <ADDRESS,..>] [--every <SECONDS>] \
+                [--most-bytes <BYTES>] [--new] [--verbose]"
             }
             CommandName::Stop => "fedbundle stop --at <PATH>",
         }

@@ -1,5 +1,5 @@
 -- Receipts and records that are held already, and those that are new.
-use Rattle.std.proofs.Common.{◌≡◌, ◌≢◌, ℕ, ◌⊎◌, inl, inr, List, [], ◌∷◌, ◌++◌, length, take, refl, sym, ap, ◌∙◌, subst, arith}
+use Rattle.std.proofs.Common.{◌≡◌, ◌≢◌, ℕ, inl, List, [], ◌∷◌, ◌++◌, length, take, refl, sym, ap, ◌∙◌, subst, arith}
 use Rattle.std.specs.Prelude.{Contains, IfErr, IsErrAnd, Result, Ok, Err}
 use Rattle.std.specs.List.{AllByRecursion}
 use Rattle.std.proofs.lemmas.List.{take-append-le, take_all}
@@ -14,7 +14,7 @@ use Rattle.replica_core.specs.declared.entry.Entry.TheVariants.{Record, Receipt 
 use Rattle.replica_core.specs.declared.error.SyncError.{SyncError}
 use Rattle.replica_core.specs.declared.error.SyncError.TheVariants.{BadHeader, ConfigDiffers, VersionDiffers, NotCanonical, NotRising, BadCount, Truncated}
 use Rattle.replica_core.specs.declared.error.SyncError.TheVariants.{Refused, Io, NoMemory}
-use Rattle.replica_sync.specs.Entries.{IsNextEntry, IsWanted}
+use Rattle.replica_sync.specs.Entries.{IsNextEntry}
 use Rattle.replica_sync.specs.SoleLines.{IsWellFormed}
 use Rattle.replica_sync.specs.declared.entry_line.Wanted.{Wanted}
 use Rattle.replica_sync.specs.declared.entry_line.Wanted.TheVariants.{Records, Receipts, Either}

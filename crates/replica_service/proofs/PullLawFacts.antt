@@ -1,7 +1,7 @@
 -- A session whose answers come in pieces, where nothing else changes what is held: it is one of a
 -- pull that reads the joined bytes.
-use Rattle.std.proofs.Common.{◌≡◌, ◌≢◌, ℕ, zero, suc, ◌+◌, ◌-◌, ◌<◌, ◌≤◌, ◌⊎◌, inl, inr, List, [], ◌∷◌, ◌++◌, length, map, take, drop}
-use Rattle.std.proofs.Common.{Option, None, Some, Result, Ok, Err, refl, sym, ap, ◌∙◌, subst, append_assoc, append-nil, length-append, true, arith}
+use Rattle.std.proofs.Common.{◌≡◌, ◌≢◌, ℕ, ◌+◌, ◌-◌, ◌<◌, ◌≤◌, inl, inr, List, [], ◌∷◌, ◌++◌, length, map, take}
+use Rattle.std.proofs.Common.{Option, None, Some, Ok, Err, refl, sym, ap, ◌∙◌, subst, append_assoc, append-nil, length-append, true, arith}
 use Rattle.std.specs.List.{flat_map, fold}
 use Rattle.std.proofs.lemmas.Grind.{flat_map-append}
 use Rattle.std.proofs.lemmas.List.{length-map, take_all, take-append-le}
@@ -18,19 +18,17 @@ use Rattle.replica_core.specs.State.{State, joined, meaning_of_state, no_state}
 use Rattle.replica_core.specs.declared.entry.Entry.{Entry}
 use Rattle.replica_core.specs.declared.entry.Entry.TheVariants.{Record, Receipt as AReceipt}
 use Rattle.replica_core.specs.declared.error.SyncError.{SyncError}
-use Rattle.replica_core.specs.declared.error.SyncError.TheVariants.{NoMemory, Truncated}
-use Rattle.replica_sync.specs.Gives.{GiveBegins, RefusesNextEntry}
+use Rattle.replica_core.specs.declared.error.SyncError.TheVariants.{Truncated}
 use Rattle.replica_sync.specs.Haves.{IsWritten}
 use Rattle.replica_sync.specs.Messages.{give_text, have_text}
 use Rattle.replica_sync.specs.Pulling.{AreGives, HasGained, IsGiveAbout, Pulls, PullsAll, PullsUpTo, RefusesGiveAbout}
 use Rattle.replica_sync.specs.Pulling.{after_gives, have_in, haves_of, line_count}
 use Rattle.replica_sync.specs.SessionRun.{known_run}
-use Rattle.replica_sync.specs.declared.pulling.PullFault.{PullFault}
 use Rattle.replica_sync.proofs.PullingFacts.{gives_more, haves_more, longer_with_items, written_all}
 use Rattle.replica_sync.proofs.TakingFacts.{wants}
-use Rattle.replica_service.specs.PulledPieces.{AreAlone, ArePulledGives, IsPulledGive, PulledGive, PulledGives, PulledPiece, TakesInTurn}
+use Rattle.replica_service.specs.PulledPieces.{AreAlone, ArePulledGives, PulledGive, PulledGives, PulledPiece, TakesInTurn}
 use Rattle.replica_service.specs.PulledPieces.{bytes_pulled, gives_of, haves_asked, haves_pulled, held_at_end, lines_pulled, pieces_of, receipts_pulled}
-use Rattle.replica_service.specs.PullSessions.{GoesOnPulling, HasLinesOf, HasPulledAll, PullsPieces, StopsAnswer, StopsAsking, StopsInGive, refused_where}
+use Rattle.replica_service.specs.PullSessions.{GoesOnPulling, HasLinesOf, HasPulledAll, PullsPieces, StopsAnswer, StopsAsking, StopsInGive}
 use Rattle.replica_service.specs.declared.answer_lines.AnswerLines.{AnswerLines}
 use Rattle.replica_service.proofs.PullStepFacts.{next_line}
 
@@ -279,27 +277,33 @@ cut_pulled lines start came held rest written due plain on alone =
     let at : lines.bucket ≡ length (gives_of on.gives) = on.bucket ∙ sym size in
     let asked = on.asked ∙ ap (flat_map have_text) (next_have start on.gives there.then there.whole) in
     elim on.part [
-      | inl none ↦ (record {
-        gives = gives_of on.gives;
-        left = Some (bytes_pulled on.later);
-        session = record { each = there.whole.each; text = there.text };
-        few = omega (arith, size, few);
-        content = no_state;
-        cause = inl (record { after = None; cause = subst HasNoFeed (sym none.bytes) plain; none = refl });
-        meaning = held_there start on.gives there.then held on.later no_state there.whole there.alone none.takes;
-        asked = asked;
-      }, gained_there start came on.gives on.later [] held on.whole none.takes alone)
-      | inr some ↦ (record {
-        gives = gives_of on.gives;
-        left = Some (bytes_pulled on.later);
-        session = record { each = there.whole.each; text = there.text };
-        few = omega (arith, size, few);
-        content = some.content;
-        cause = subst (λ (b : ℕ). RefusesGiveAbout start.config state b (lines_pulled on.gives + 1) some.content (Some (bytes_pulled on.later)) Truncated)
-            at (cut_cause lines start.config state (lines_pulled on.gives) on.later rest due plain some);
-        meaning = held_there start on.gives there.then held on.later some.content there.whole there.alone some.takes;
-        asked = asked;
-      }, gained_there start came on.gives on.later (entries_of some.content) held on.whole some.takes alone)
+      | inl none ↦ (
+        record {
+          gives = gives_of on.gives;
+          left = Some (bytes_pulled on.later);
+          session = record { each = there.whole.each; text = there.text };
+          few = omega (arith, size, few);
+          content = no_state;
+          cause = inl (record { after = None; cause = subst HasNoFeed (sym none.bytes) plain; none = refl });
+          meaning = held_there start on.gives there.then held on.later no_state there.whole there.alone none.takes;
+          asked = asked;
+        },
+        gained_there start came on.gives on.later [] held on.whole none.takes alone,
+      )
+      | inr some ↦ (
+        record {
+          gives = gives_of on.gives;
+          left = Some (bytes_pulled on.later);
+          session = record { each = there.whole.each; text = there.text };
+          few = omega (arith, size, few);
+          content = some.content;
+          cause = subst (λ (b : ℕ). RefusesGiveAbout start.config state b (lines_pulled on.gives + 1) some.content (Some (bytes_pulled on.later)) Truncated)
+              at (cut_cause lines start.config state (lines_pulled on.gives) on.later rest due plain some);
+          meaning = held_there start on.gives there.then held on.later some.content there.whole there.alone some.takes;
+          asked = asked;
+        },
+        gained_there start came on.gives on.later (entries_of some.content) held on.whole some.takes alone,
+      )
     ]
 
 -- The fault of an answer, where the meaning is what was held before it with what was taken of it.
@@ -346,20 +350,22 @@ stopped_pulled start came held written e more after stops alone =
     ∙ append_assoc (flat_map give_text gives) (bytes ++ bytes_pulled stops.later) (more ++ (10 ∷ after))
     ∙ ap (λ (l : List ℕ). flat_map give_text gives ++ l)
     (append_assoc bytes (bytes_pulled stops.later) (more ++ (10 ∷ after))
-    ∙ ap (λ (l : List ℕ). bytes ++ l) (sym (append_assoc (bytes_pulled stops.later) more (10 ∷ after)))) in
-    (record {
-      gives = gives;
-      left = Some (bytes ++ rest);
-      session = record { each = there.whole.each; text = split };
-      few = omega (arith, size, few);
-      content = stops.content;
-      cause = subst (λ (b : ℕ). RefusesGiveAbout start.config state b (lines_pulled stops.gives + 1) stops.content (Some (bytes ++ rest)) e) (sym size)
-          (cause_there stops.last.old start.config state (length stops.gives) (lines_pulled stops.gives + 1) stops.content (Some (bytes ++ rest)) e old_is
-          (stops.cause (tail_of stops.later more) after));
-      meaning = alone_takes parts.then (stops.last ∷ stops.later) held [] parts.after_it stops.quiet ∙ then_is;
-      asked = written_all e (Some []) (Some written) _ (stops.asked ∙ ap (flat_map have_text) (next_have start stops.gives there.then there.whole));
-    }, gained_there start came stops.gives (stops.part ++ stops.last ∷ stops.later) (entries_of stops.content ++ []) held stops.whole
-    (takes_both stops.part (stops.last ∷ stops.later) (entries_of stops.content) [] stops.takes stops.quiet) alone)
+    ∙ ap (λ (l : List ℕ). bytes ++ l) (sym (append_assoc (bytes_pulled stops.later) more (10 ∷ after)))) in (
+      record {
+        gives = gives;
+        left = Some (bytes ++ rest);
+        session = record { each = there.whole.each; text = split };
+        few = omega (arith, size, few);
+        content = stops.content;
+        cause = subst (λ (b : ℕ). RefusesGiveAbout start.config state b (lines_pulled stops.gives + 1) stops.content (Some (bytes ++ rest)) e) (sym size)
+            (cause_there stops.last.old start.config state (length stops.gives) (lines_pulled stops.gives + 1) stops.content (Some (bytes ++ rest)) e old_is
+            (stops.cause (tail_of stops.later more) after));
+        meaning = alone_takes parts.then (stops.last ∷ stops.later) held [] parts.after_it stops.quiet ∙ then_is;
+        asked = written_all e (Some []) (Some written) _ (stops.asked ∙ ap (flat_map have_text) (next_have start stops.gives there.then there.whole));
+      },
+      gained_there start came stops.gives (stops.part ++ stops.last ∷ stops.later) (entries_of stops.content ++ []) held stops.whole
+          (takes_both stops.part (stops.last ∷ stops.later) (entries_of stops.content) [] stops.takes stops.quiet) alone,
+    )
 
 -- The texts of two lists of haves begin with those of the first.
 texts_begin : (first second : List HaveMessage) → take (length (flat_map have_text first)) (flat_map have_text (first ++ second)) ≡ flat_map have_text first
@@ -408,27 +414,30 @@ unasked_pulled start came held written e more after stops alone =
     ∙ sym (append_assoc (flat_map give_text gives) (give_text give) rest)
     ∙ ap (λ (l : List ℕ). (flat_map give_text gives ++ l) ++ rest) (sym (append-nil (give_text give)))
     ∙ ap (λ (l : List ℕ). l ++ rest) (sym (flat_map-append give_text gives (give ∷ []))) in
-    let about : IsGiveAbout start.config (length gives) give = subst (λ (b : ℕ). IsGiveAbout start.config b give) (sym size) stops.about in
-    (record {
-      gives = gives ++ give ∷ [];
-      left = Some rest;
-      session = record {
-        each = gives_more start.config 0 (length gives) gives give (omega arith) there.whole.each about;
-        text = split;
-      };
-      few = omega (arith, size, few, longer);
-      content = no_state;
-      cause = subst (λ (d : SyncError). RefusesGiveAbout start.config (after_gives (state_of start) (gives ++ give ∷ [])) (length (gives ++ give ∷ []))
-          (line_count (gives ++ give ∷ []) + 1) no_state (Some rest) d) (sym stops.cause) (inl (record { after = None; cause = tt; none = refl }));
-      meaning = alone_takes one.then stops.later held [] one.after_it stops.quiet ∙ then_is
-          ∙ ap (meaning_of_state start.config) (sym all_states);
-      asked = subst (λ (d : SyncError). IsWritten d (Some []) (Some written)
-          (flat_map have_text (haves_of start.config 0 (state_of start) (gives ++ give ∷ []) ++ next))) (sym stops.cause)
-          (length (flat_map have_text (haves_of start.config 0 (state_of start) (gives ++ give ∷ []))),
-          asked ∙ sym (texts_begin (haves_of start.config 0 (state_of start) (gives ++ give ∷ [])) next));
-    }, gained_there start came stops.gives (stops.part ++ stops.last ∷ stops.later) (entries_of give.content ++ []) held stops.whole
-    (subst (λ (l : List PulledPiece). TakesInTurn l (entries_of give.content ++ [])) order
-    (takes_both (stops.part ++ stops.last ∷ []) stops.later (entries_of give.content) [] stops.takes stops.quiet)) alone)
+    let about : IsGiveAbout start.config (length gives) give = subst (λ (b : ℕ). IsGiveAbout start.config b give) (sym size) stops.about in (
+      record {
+        gives = gives ++ give ∷ [];
+        left = Some rest;
+        session = record {
+          each = gives_more start.config 0 (length gives) gives give (omega arith) there.whole.each about;
+          text = split;
+        };
+        few = omega (arith, size, few, longer);
+        content = no_state;
+        cause = subst (λ (d : SyncError). RefusesGiveAbout start.config (after_gives (state_of start) (gives ++ give ∷ [])) (length (gives ++ give ∷ []))
+            (line_count (gives ++ give ∷ []) + 1) no_state (Some rest) d) (sym stops.cause) (inl (record { after = None; cause = tt; none = refl }));
+        meaning = alone_takes one.then stops.later held [] one.after_it stops.quiet ∙ then_is
+            ∙ ap (meaning_of_state start.config) (sym all_states);
+        asked = subst (λ (d : SyncError). IsWritten d (Some []) (Some written)
+            (flat_map have_text (haves_of start.config 0 (state_of start) (gives ++ give ∷ []) ++ next))) (sym stops.cause) (
+              length (flat_map have_text (haves_of start.config 0 (state_of start) (gives ++ give ∷ []))),
+              asked ∙ sym (texts_begin (haves_of start.config 0 (state_of start) (gives ++ give ∷ [])) next),
+            );
+      },
+      gained_there start came stops.gives (stops.part ++ stops.last ∷ stops.later) (entries_of give.content ++ []) held stops.whole
+          (subst (λ (l : List PulledPiece). TakesInTurn l (entries_of give.content ++ [])) order
+          (takes_both (stops.part ++ stops.last ∷ []) stops.later (entries_of give.content) [] stops.takes stops.quiet)) alone,
+    )
 
 -- ---- the machine
 

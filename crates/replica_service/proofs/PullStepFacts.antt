@@ -1,5 +1,5 @@
 -- What one call does to a session that pulls.
-use Rattle.std.proofs.Common.{◌≡◌, ◌≢◌, ℕ, zero, suc, ◌+◌, ◌-◌, ◌<◌, ◌≤◌, ◌⊎◌, inl, inr, Bool, true, false, List, [], ◌∷◌, ◌++◌, length, map, take, drop}
+use Rattle.std.proofs.Common.{◌≡◌, ℕ, zero, suc, ◌+◌, ◌-◌, ◌<◌, ◌≤◌, ◌⊎◌, inl, inr, Bool, true, false, List, [], ◌∷◌, ◌++◌, length, take, drop}
 use Rattle.std.proofs.Common.{Option, None, Some, refl, sym, ap, ◌∙◌, subst, append_assoc, append-nil, length-append, take-append-drop, length-take, arith}
 use Rattle.std.specs.List.{flat_map}
 use Rattle.std.specs.Prelude.{◌↔◌}
@@ -8,8 +8,7 @@ use Rattle.std.proofs.lemmas.List.{take_all}
 use Rattle.fed_config.specs.Configuration.{Configuration}
 use Rattle.receipt_core.specs.Acceptance.{Meaning}
 use Rattle.byte_lines.specs.Limits.{line_limit}
-use Rattle.byte_lines.specs.Lines.{HasLine, HasNoFeed}
-use Rattle.replica_core.specs.Absorbing.{entries_of}
+use Rattle.byte_lines.specs.Lines.{HasLine}
 use Rattle.replica_core.specs.Session.{have_of}
 use Rattle.replica_core.specs.State.{State, no_state}
 use Rattle.replica_core.specs.declared.error.SyncError.{SyncError}
@@ -25,17 +24,17 @@ use Rattle.replica_sync.specs.Snapshots.{ended, last_of, text_of_lines}
 use Rattle.replica_sync.specs.declared.entry_line.Wanted.{Wanted}
 use Rattle.replica_sync.specs.declared.entry_line.Wanted.TheVariants.{Records, Receipts}
 use Rattle.replica_sync.proofs.TakingFacts.{wants}
-use Rattle.replica_service.specs.Pieces.{EndsLine, IsOverlong, piece_run}
-use Rattle.replica_service.specs.PulledPieces.{IsPulledGive, PulledGive, PulledGives, PulledPiece, TakesInTurn}
-use Rattle.replica_service.specs.PulledPieces.{bytes_pulled, haves_asked, haves_pulled, lines_pulled, pieces_of, receipts_pulled}
-use Rattle.replica_service.specs.PullSessions.{FailsAmong, GoesOnPulling, HasLinesOf, HasNoLineOf, HasPartOf, HasPulledAll, PullsPieces, StopsAnswer}
+use Rattle.replica_service.specs.Pieces.{EndsLine, piece_run}
+use Rattle.replica_service.specs.PulledPieces.{IsPulledGive, PulledGive, PulledGives, PulledPiece}
+use Rattle.replica_service.specs.PulledPieces.{bytes_pulled, lines_pulled, receipts_pulled}
+use Rattle.replica_service.specs.PullSessions.{GoesOnPulling, HasLinesOf, HasNoLineOf, HasPartOf, PullsPieces, StopsAnswer}
 use Rattle.replica_service.specs.PullSessions.{StopsAsking, StopsInGive, refused_where}
-use Rattle.replica_service.specs.Inside.AnswerSteps.{Asks, EndsAnswer, EndsAnswerLine, FailsPulled, IsLongFault, LineLeft, MovesOn, PullState}
-use Rattle.replica_service.specs.Inside.AnswerSteps.{RefusesAnswerLine, RefusesAsking, RefusesEnded, RefusesGiveStart, RefusesLater, RefusesLong, RefusesPulled}
-use Rattle.replica_service.specs.Inside.AnswerSteps.{StaysWithin, StepsLine, TakesAnswerLine, TakesPulled, WaitsOn}
+use Rattle.replica_service.specs.Inside.AnswerSteps.{Asks, EndsAnswer, FailsPulled, LineLeft, PullState}
+use Rattle.replica_service.specs.Inside.AnswerSteps.{RefusesAnswerLine, RefusesAsking, RefusesEnded, RefusesLong, RefusesPulled}
+use Rattle.replica_service.specs.Inside.AnswerSteps.{StaysWithin, TakesAnswerLine, TakesPulled, WaitsOn}
 use Rattle.replica_service.specs.declared.answer_lines.AnswerLines.{AnswerLines}
 use Rattle.replica_service.proofs.CutFacts.{ended_split}
-use Rattle.replica_service.proofs.ServingFacts.{Overlong, overlong_line}
+use Rattle.replica_service.proofs.ServingFacts.{overlong_line}
 use Rattle.replica_service.proofs.PulledPieceFacts.{LinesCame, answer_whole, asked_more, bytes_more, give_with, haves_whole, line_came, lines_then}
 use Rattle.replica_service.proofs.PulledPieceFacts.{part_within, pulled_more, receipts_more, takes_quiet, whole_more}
 

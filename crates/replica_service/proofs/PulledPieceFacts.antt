@@ -1,6 +1,6 @@
 -- Pieces of a session that pulls.
-use Rattle.std.proofs.Common.{◌≡◌, ◌≢◌, ℕ, ◌+◌, ◌-◌, ◌<◌, ◌≤◌, ◌⊎◌, inl, inr, Bool, true, false, List, [], ◌∷◌, ◌++◌, length, map, take, drop}
-use Rattle.std.proofs.Common.{Option, None, Some, refl, sym, ap, ◌∙◌, subst, append_assoc, append-nil, length-append, take-append-drop, arith}
+use Rattle.std.proofs.Common.{◌≡◌, ℕ, ◌+◌, ◌-◌, inl, inr, List, [], ◌∷◌, ◌++◌, length, map}
+use Rattle.std.proofs.Common.{Some, refl, sym, ap, ◌∙◌, subst, append_assoc, append-nil, length-append, arith}
 use Rattle.std.specs.List.{flat_map}
 use Rattle.std.proofs.lemmas.Grind.{flat_map-append}
 use Rattle.std.proofs.lemmas.List.{map-append}
@@ -11,17 +11,17 @@ use Rattle.replica_core.specs.Session.{GiveMessage, HaveMessage, have_of}
 use Rattle.replica_core.specs.State.{State, no_state}
 use Rattle.replica_core.specs.declared.entry.Entry.{Entry}
 use Rattle.replica_core.specs.declared.entry.Entry.TheVariants.{Record, Receipt as AReceipt}
-use Rattle.replica_sync.specs.Messages.{GiveHeader, give_header_of, give_header_text, give_text, have_text}
+use Rattle.replica_sync.specs.Messages.{give_header_of, give_header_text, give_text, have_text}
 use Rattle.replica_sync.specs.FirstLines.{IsGiveHeader}
 use Rattle.replica_sync.specs.Entries.{IsNextEntry}
-use Rattle.replica_sync.specs.Gives.{GiveBegins, Heads, IsGive, content_lines}
+use Rattle.replica_sync.specs.Gives.{GiveBegins, Heads, content_lines}
 use Rattle.replica_sync.specs.Inside.Gathering.{pushed}
-use Rattle.replica_sync.specs.Pulling.{IsGiveAbout, line_count}
+use Rattle.replica_sync.specs.Pulling.{IsGiveAbout}
 use Rattle.replica_sync.specs.Snapshots.{ended, last_of, text_of_lines}
 use Rattle.replica_sync.proofs.ContentFacts.{HasPlace, text_of_content}
 use Rattle.replica_sync.proofs.TakingFacts.{begun_more, begun_none}
 use Rattle.replica_service.specs.PulledPieces.{ArePulledGives, IsPulledGive, PulledGive, PulledGives, PulledPiece, TakesInTurn}
-use Rattle.replica_service.specs.PulledPieces.{bytes_pulled, gives_of, haves_asked, haves_pulled, held_at_end, lines_pulled, pieces_of, receipts_pulled}
+use Rattle.replica_service.specs.PulledPieces.{bytes_pulled, haves_asked, haves_pulled, held_at_end, lines_pulled, pieces_of, receipts_pulled}
 use Rattle.replica_service.specs.PullSessions.{HasLinesOf, HasNoLineOf, HasPartOf}
 use Rattle.replica_service.specs.Inside.AnswerSteps.{LineLeft, StepsEntry, StepsFirst, StepsLine}
 use Rattle.replica_service.specs.declared.answer_lines.AnswerLines.{AnswerLines}

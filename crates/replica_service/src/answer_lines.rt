@@ -167,12 +167,7 @@ impl AnswerLines {
     }
 
     // Takes the first line of an answer.
-    fn begin(
-        &mut self,
-        alloc: Global,
-        config: &Config,
-        text: &[u8],
-    ) -> Result<LineStep, SyncError>
+    fn begin(&mut self, alloc: Global, config: &Config, text: &[u8]) -> Result<LineStep, SyncError>
         requires { self.old.bucket < 256 }
         ensures ok { IfOk result
             (λ s. Heads (Some (record { config = config.now; bucket = self.old.bucket })) text.now

@@ -2,7 +2,7 @@
 //! nothing, and cites what it ensures.
 ghost use Rattle.std.specs.Prelude.{◌≡◌, ◌++◌, ◌∷◌, [], List, ℕ, drop, take, None, Some, Ok, Err};
 ghost use Rattle.std.specs.Prelude.{length};
-ghost use Rattle.byte_lines.specs.Lines.{HasNoFeed, lines_of, with_line};
+ghost use Rattle.byte_lines.specs.Lines.{lines_of, with_line};
 ghost use Rattle.receipt_core.specs.Acceptance.{Meaning};
 ghost use Rattle.replica_core.specs.Absorbing.{with_entries};
 ghost use Rattle.replica_core.specs.declared.entry.Entry.{Entry};

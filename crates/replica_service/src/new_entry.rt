@@ -1,5 +1,5 @@
 //! Receipts and records that come one by one, and the journal of those that are new.
-ghost use Rattle.std.specs.Prelude.{◌≡◌, ◌≤◌, ◌↔◌, IsTrue, IfOk, MatchResult};
+ghost use Rattle.std.specs.Prelude.{◌≤◌, ◌↔◌, IsTrue, IfOk, MatchResult};
 ghost use Rattle.replica_sync.specs.SoleLines.{IsWellFormed};
 ghost use Rattle.replica_sync.specs.Inside.EntrySteps.{HasRefusedEntry, TakesEntry};
 ghost use Rattle.replica_service.specs.PulledPieces.{Journals};

@@ -1,5 +1,4 @@
 use Rattle.std.proofs.Common.{◌∙◌, inr, sym}
-use Rattle.replica_service.specs.Inside.AnswerSteps.{IsHeldEntry}
 use Rattle.replica_service.proofs.NewEntryFacts.{new_entry}
 use Rattle.replica_service.proofs.new_entry.take_new.Goals as goal
 

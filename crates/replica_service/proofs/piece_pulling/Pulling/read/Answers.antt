@@ -1,4 +1,4 @@
-use Rattle.std.proofs.Common.{◌≡◌, ◌<◌, ◌++◌, ◌∙◌, List, ℕ, [], sym, ap, length, refl, take, arith}
+use Rattle.std.proofs.Common.{◌≡◌, ◌++◌, ◌∙◌, List, ℕ, [], sym, ap, length, refl, take}
 use Rattle.std.specs.Prelude.{◌==◌}
 use Rattle.receipt_core.specs.Acceptance.{Meaning}
 use Rattle.replica_service.specs.PulledPieces.{PulledPiece}
