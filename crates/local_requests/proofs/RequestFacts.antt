@@ -26,7 +26,7 @@ use Rattle.fedbundle.specs.Polls.{RunsPolls}
 use Rattle.fedbundle.specs.declared.error.CommandError.{CommandError}
 use Rattle.fedbundle.specs.declared.error.CommandError.TheVariants.{Document, Io, NoMemory, Observe, Poll, Sync, Take}
 use Rattle.fedbundle.specs.declared.exits.Exit.TheVariants.{Refused}
-use Rattle.local_requests.specs.Journalling.{AreLinesOfOther, IsLineIfNew, Journals}
+use Rattle.local_requests.specs.Journalling.{AreLinesOfOther, IsLineIfNew, JournalsChange}
 use Rattle.local_requests.specs.RequestRun.{AnswersMerge, AnswersObserve, EndsBundle, EndsBundlePem, EndsDryRun, EndsExplain, EndsMerge, EndsObserve, EndsPolls}
 use Rattle.local_requests.specs.RequestRun.{ExplainAsked, Gives, GivesInto, change_run, memory_exit}
 
@@ -100,21 +100,21 @@ dry_run_ends m x sink e empty runs = absurd runs
 
 -- the line of an entry that is held now
 pub entry_journals : (old new : HeldAndRoom) (entry : Entry) (text : List ℕ) → IsLineIfNew old.meaning entry text
-    → new.meaning ≡ with_entries (entry ∷ []) old.meaning → Journals text (state_run old new)
+    → new.meaning ≡ with_entries (entry ∷ []) old.meaning → JournalsChange text (state_run old new)
 entry_journals old new entry text line is = record { entries = line.entries; lines = line.lines; meaning = is ∙ sym line.meaning }
 
 -- the lines of what another replica held
 pub merge_journals : (old new : HeldAndRoom) (other : Meaning) (text : List ℕ) (receipts count : ℕ) → AreLinesOfOther old.meaning other text receipts
-    → HasMergedInRoom old other new count → Journals text (state_run old new)
+    → HasMergedInRoom old other new count → JournalsChange text (state_run old new)
 merge_journals old new other text receipts count lines merged =
     record { entries = lines.entries; lines = lines.lines; meaning = merged.merged.meaning ∙ sym lines.union }
 
 -- none, where nothing has changed
-pub nothing_journalled : (state : HeldAndRoom) → Journals [] (state_run state state)
+pub nothing_journalled : (state : HeldAndRoom) → JournalsChange [] (state_run state state)
 nothing_journalled state = record { entries = []; lines = record { each = tt; fresh = tt; spelt = refl }; meaning = refl }
 
 -- the same, where what is held is the same
-pub same_journalled : (old new : HeldAndRoom) (text : List ℕ) → text ≡ [] → new.meaning ≡ old.meaning → Journals text (state_run old new)
+pub same_journalled : (old new : HeldAndRoom) (text : List ℕ) → text ≡ [] → new.meaning ≡ old.meaning → JournalsChange text (state_run old new)
 same_journalled old new text none same = record { entries = []; lines = record { each = tt; fresh = tt; spelt = none }; meaning = same }
 
 -- a record that is held, as an entry, changes nothing
@@ -123,7 +123,7 @@ present_record m x is has = ap (λ l. record m { records = l }) (record_sets.pre
 
 -- the line of a record that is held now
 pub distrust_journals : (old new : HeldAndRoom) (x : Distrust) (text : List ℕ) → IsMeaning old.meaning → IsLineIfNew old.meaning (Record x) text
-    → HoldsRecord old.meaning x new.meaning → Journals text (state_run old new)
+    → HoldsRecord old.meaning x new.meaning → JournalsChange text (state_run old new)
 distrust_journals old new x text is line (inl made) = entry_journals old new (Record x) text line made.1.meaning
 distrust_journals old new x text is line (inr already) =
     entry_journals old new (Record x) text line (already.meaning ∙ sym (present_record old.meaning x is already.held))

@@ -24,7 +24,7 @@ pub record AreNewLines (m : Meaning) (entries : List Entry) (text : List ℕ) : 
 -- The text is the lines of what is held now and was not before. Where nothing has changed it is
 -- empty. A journal that has it at its end is read as what is held now
 -- (`replica_service::laws::journals`).
-pub record Journals (text : List ℕ) (state : StateRun) : Type 0 where
+pub record JournalsChange (text : List ℕ) (state : StateRun) : Type 0 where
   pub entries : List Entry
   pub lines : AreNewLines state.old.meaning entries text
   pub meaning : state.new.meaning ≡ with_entries entries state.old.meaning

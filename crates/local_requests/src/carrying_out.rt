@@ -2,7 +2,7 @@
 ghost use Rattle.std.specs.Prelude.{◌≡◌, ℕ, List, IfErr, IfOk, OnErr, map, option_map};
 ghost use Rattle.std.specs.Str.{string_bytes};
 ghost use Rattle.fedbundle.specs.CommandRun.{state_run};
-ghost use Rattle.local_requests.specs.Journalling.{Journals};
+ghost use Rattle.local_requests.specs.Journalling.{JournalsChange};
 ghost use Rattle.local_requests.specs.RequestRun.{Answers, Ends, IsWholeReply, RepliesTo};
 ghost use Rattle.local_requests.specs.RequestRun.{RepliesToCall, call_run, change_run};
 
@@ -35,7 +35,7 @@ pub fn answer_request<C: Closure>(
 ) -> Result<Reply, RequestFault>
     ensures answers { IfOk result (RepliesTo words.now
         (change_run (state_run (C.state closure.old) (C.state closure.new)) input.now)) }
-    ensures journals { IfOk result (λ reply. Journals reply.journal.items
+    ensures journals { IfOk result (λ reply. JournalsChange reply.journal.items
         (state_run (C.state closure.old) (C.state closure.new))) }
     ensures unchanged { OnErr result
         ((C.state closure.new).meaning ≡ (C.state closure.old).meaning) }
@@ -90,7 +90,7 @@ fn answer_call<C: Closure>(
     ensures answers { IfOk result (RepliesToCall (call_run call.now.name
         (map (option_map (λ t. t.now)) call.now.texts.items)
         (change_run (state_run (C.state closure.old) (C.state closure.new)) input.now))) }
-    ensures journals { IfOk result (λ reply. Journals reply.journal.items
+    ensures journals { IfOk result (λ reply. JournalsChange reply.journal.items
         (state_run (C.state closure.old) (C.state closure.new))) }
     ensures unchanged { OnErr result
         ((C.state closure.new).meaning ≡ (C.state closure.old).meaning) }
@@ -114,7 +114,7 @@ fn carry_out<C: Closure>(
     ensures ends { IfErr result (Ends call.now.name (call_run call.now.name
         (map (option_map (λ t. t.now)) call.now.texts.items)
         (change_run (state_run (C.state closure.old) (C.state closure.new)) input.now))) }
-    ensures journals { IfOk result (λ reply. Journals reply.journal.items
+    ensures journals { IfOk result (λ reply. JournalsChange reply.journal.items
         (state_run (C.state closure.old) (C.state closure.new))) }
     ensures unchanged { OnErr result
         ((C.state closure.new).meaning ≡ (C.state closure.old).meaning) }

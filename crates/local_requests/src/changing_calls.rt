@@ -2,7 +2,7 @@
 ghost use Rattle.std.specs.Prelude.{◌≡◌, IfErr, IfOk, OnErr, map, option_map};
 ghost use Rattle.fedbundle.specs.CommandRun.{state_run};
 ghost use Rattle.fedbundle.specs.declared.command_name.CommandName.TheVariants as command;
-ghost use Rattle.local_requests.specs.Journalling.{Journals};
+ghost use Rattle.local_requests.specs.Journalling.{JournalsChange};
 ghost use Rattle.local_requests.specs.RequestRun.{Answers, Ends, EndsEarly, SaysRecord};
 ghost use Rattle.local_requests.specs.RequestRun.{SaysVerdict, call_run, change_run};
 
@@ -28,7 +28,7 @@ pub(crate) fn observe<C: Closure>(
     ensures ends { IfErr result (Ends command.Observe (call_run call.now.name
         (map (option_map (λ t. t.now)) call.now.texts.items)
         (change_run (state_run (C.state closure.old) (C.state closure.new)) input.now))) }
-    ensures journals { IfOk result (λ reply. Journals reply.journal.items
+    ensures journals { IfOk result (λ reply. JournalsChange reply.journal.items
         (state_run (C.state closure.old) (C.state closure.new))) }
     ensures unchanged { OnErr result
         ((C.state closure.new).meaning ≡ (C.state closure.old).meaning) }
@@ -72,7 +72,7 @@ pub(crate) fn merge<C: Closure>(
     ensures ends { IfErr result (Ends command.Merge (call_run call.now.name
         (map (option_map (λ t. t.now)) call.now.texts.items)
         (change_run (state_run (C.state closure.old) (C.state closure.new)) input.now))) }
-    ensures journals { IfOk result (λ reply. Journals reply.journal.items
+    ensures journals { IfOk result (λ reply. JournalsChange reply.journal.items
         (state_run (C.state closure.old) (C.state closure.new))) }
     ensures unchanged { OnErr result
         ((C.state closure.new).meaning ≡ (C.state closure.old).meaning) }
@@ -96,7 +96,7 @@ pub(crate) fn distrust<C: Closure>(
     ensures ends { IfErr result (Ends command.Distrust (call_run call.now.name
         (map (option_map (λ t. t.now)) call.now.texts.items)
         (change_run (state_run (C.state closure.old) (C.state closure.new)) input.now))) }
-    ensures journals { IfOk result (λ reply. Journals reply.journal.items
+    ensures journals { IfOk result (λ reply. JournalsChange reply.journal.items
         (state_run (C.state closure.old) (C.state closure.new))) }
     ensures unchanged { OnErr result
         ((C.state closure.new).meaning ≡ (C.state closure.old).meaning) }

@@ -3,7 +3,7 @@
 ghost use Rattle.std.specs.Prelude.{◌≡◌, true, IfErr, IfOk};
 ghost use Rattle.fedbundle.specs.CommandRun.{state_run};
 ghost use Rattle.fedbundle.specs.Merge.{count_text};
-ghost use Rattle.local_requests.specs.Journalling.{Journals};
+ghost use Rattle.local_requests.specs.Journalling.{JournalsChange};
 ghost use Rattle.local_requests.specs.RequestRun.{AnswersMerge, AnswersObserve, EndsDistrust};
 ghost use Rattle.local_requests.specs.RequestRun.{EndsMerge, EndsObserve, HasStreams};
 ghost use Rattle.local_requests.specs.RequestRun.{SaysDistrusted, SaysEffect, change_run};
@@ -30,7 +30,7 @@ pub(crate) fn observe<C: Closure>(
     ensures answers { IfOk result (λ reply. HasStreams (AnswersObserve
         (change_run (state_run (C.state closure.old) (C.state closure.new)) input.now)
         (record { domain = domain.now; verdict = verdict.now })) reply) }
-    ensures journals { IfOk result (λ reply. Journals reply.journal.items
+    ensures journals { IfOk result (λ reply. JournalsChange reply.journal.items
         (state_run (C.state closure.old) (C.state closure.new))) }
     ensures ends { IfErr result (EndsObserve
         (change_run (state_run (C.state closure.old) (C.state closure.new)) input.now)
@@ -55,7 +55,7 @@ pub(crate) fn observe<C: Closure>(
 pub(crate) fn merge<C: Closure>(alloc: Global, closure: &mut C, input: &[u8]) -> Result<Reply, Exit>
     ensures answers { IfOk result (λ reply. HasStreams (AnswersMerge
         (change_run (state_run (C.state closure.old) (C.state closure.new)) input.now)) reply) }
-    ensures journals { IfOk result (λ reply. Journals reply.journal.items
+    ensures journals { IfOk result (λ reply. JournalsChange reply.journal.items
         (state_run (C.state closure.old) (C.state closure.new))) }
     ensures ends { IfErr result (EndsMerge
         (change_run (state_run (C.state closure.old) (C.state closure.new)) input.now)) }
@@ -94,7 +94,7 @@ pub(crate) fn distrust<C: Closure>(
 ) -> Result<Reply, Exit>
     ensures answers { IfOk result (λ reply. SaysDistrusted
         (state_run (C.state closure.old) (C.state closure.new)) record.now is_verbose reply) }
-    ensures journals { IfOk result (λ reply. Journals reply.journal.items
+    ensures journals { IfOk result (λ reply. JournalsChange reply.journal.items
         (state_run (C.state closure.old) (C.state closure.new))) }
     ensures ends { IfErr result
         (EndsDistrust (state_run (C.state closure.old) (C.state closure.new)) record.now) }
