@@ -181,15 +181,18 @@ EndsDistrust state x exit = ⊥
 
 -- ---- the reply
 
--- These streams and this status, which the first line says; nothing is journalled.
+-- These streams and this status, which the first line says; nothing is journalled, and the replica
+-- goes on.
 pub record IsWith (reply : Reply) (output errors : List ℕ) (status : ℕ) : Type 0 where
   pub head : reply.head.items ≡ first_line output errors status
   pub output : reply.output.items ≡ output
   pub errors : reply.errors.items ≡ errors
   pub status : reply.status ≡ status
   pub unjournalled : reply.journal.items ≡ []
+  pub goes_on : reply.ends ≡ false
 
--- Its first line says what streams and status it has; nothing is journalled.
+-- Its first line says what streams and status it has; nothing is journalled, and the replica goes
+-- on.
 abbrev pub IsWholeReply : Reply → Type 0
 IsWholeReply reply = IsWith reply reply.output.items reply.errors.items reply.status
 
@@ -205,6 +208,7 @@ pub record HasStreams (Answers : List ℕ → Type 0) (reply : Reply) : Type 0 w
   pub is_output : reply.output.items ≡ output
   pub errors : reply.errors.items ≡ []
   pub status : reply.status ≡ 0
+  pub goes_on : reply.ends ≡ false
 
 -- What a record of distrust changes, where that is asked for: all of it, or a beginning where
 -- memory ran out.
@@ -223,6 +227,7 @@ pub record SaysDistrusted (state : StateRun) (x : Distrust) (is_verbose : Bool)
   pub output : reply.output.items ≡ []
   pub is_errors : reply.errors.items ≡ errors
   pub status : reply.status ≡ 0
+  pub goes_on : reply.ends ≡ false
 
 -- The command ended so: nothing but the line that says why.
 abbrev pub IsEnded : Reply → Exit → Type 0
@@ -336,6 +341,15 @@ pub record AnswersDistrust (run : CallRun) (reply : Reply) : Type 0 where
   pub is_verbose : SaysFlag (said run Verbose) verbose
   pub answers : AnswersRecord dry verbose run.change.state x reply
 
+-- `stop`: nothing is said, and the replica ends
+pub record AnswersStop (reply : Reply) : Type 0 where
+  pub head : reply.head.items ≡ first_line [] [] 0
+  pub output : reply.output.items ≡ []
+  pub errors : reply.errors.items ≡ []
+  pub status : reply.status ≡ 0
+  pub unjournalled : reply.journal.items ≡ []
+  pub ends : reply.ends ≡ true
+
 -- What is replied, by the command.
 abbrev pub Answers : CommandName → CallRun → Reply → Type 0
 Answers command.Report run reply = AnswersReportCall run reply
@@ -346,7 +360,7 @@ Answers command.Status run reply = AnswersStatus run reply
 Answers command.Observe run reply = AnswersObserveCall run reply
 Answers command.Merge run reply = HasStreams (AnswersMerge run.change) reply
 Answers command.Distrust run reply = AnswersDistrust run reply
-Answers command.Stop run reply = IsReplied reply [] [] × (reply.ends ≡ true)
+Answers command.Stop run reply = AnswersStop reply
 Answers name run reply = ⊥
 
 -- ---- how a call ends
