@@ -3,7 +3,9 @@
 use Rattle.std.specs.Prelude.{◌≡◌, ◌⊎◌, ℕ, ℤ, List, [], Bool, true, false, Option, Some}
 use Rattle.std.specs.Prelude.{Result, Ok, Err, if◌then◌else◌}
 use Rattle.hex.specs.Hex.{decode_sized}
+use Rattle.spiffe_name.specs.SpiffeId.{IsId, RefusesId}
 use Rattle.spiffe_name.specs.TrustDomain.{IsDomainText, RefusesDomain}
+use Rattle.spiffe_name.specs.declared.error.NameError.{NameError}
 use Rattle.receipt_core.specs.Acceptance.{Meaning}
 use Rattle.receipt_core.specs.declared.distrust.Distrust.{Distrust}
 use Rattle.bundle_view.specs.Report.{IsReport}
@@ -266,6 +268,7 @@ pub record SaysRecord (name : CommandName) (texts : List (Option (List ℕ)))
 pub record SaysVerdict (name : CommandName) (texts : List (Option (List ℕ)))
     (verdict : Verdict) : Type 0 where
   pub endpoint : option_said name texts Endpoint ≡ Some verdict.endpoint.text
+  pub form : IsId verdict.endpoint
   pub digits : List ℕ
   pub key : option_said name texts Key ≡ Some digits
   pub is_key : decode_sized digits 32 ≡ Ok verdict.key.0
@@ -365,15 +368,37 @@ Answers name run reply = ⊥
 
 -- ---- how a call ends
 
--- A text of the words is refused, or memory ran out.
+-- A text of the words is refused that is no name, or memory ran out.
 abbrev pub EndsEarly : Exit → Type 0
 EndsEarly Usage = Unit {0}
 EndsEarly (BadNumber option) = Unit {0}
 EndsEarly BadKey = Unit {0}
 EndsEarly BadMoment = Unit {0}
-EndsEarly (Refused (Name e)) = Unit {0}
 EndsEarly (Refused NoMemory) = Unit {0}
 EndsEarly exit = ⊥
+
+-- The name that the words give this option is refused, for a cause.
+pub record EndsAtName (Refuses : List ℕ → NameError → Type 0) (option : OptionName)
+    (name : CommandName) (texts : List (Option (List ℕ))) (exit : Exit) : Type 0 where
+  pub text : List ℕ
+  pub is_said : option_said name texts option ≡ Some text
+  pub why : NameError
+  pub refused : Refuses text why
+  pub is : exit ≡ Refused (Name why)
+
+abbrev pub EndsAtDomain : CommandName → List (Option (List ℕ)) → Exit → Type 0
+EndsAtDomain name texts exit = EndsAtName RefusesDomain Domain name texts exit
+
+abbrev pub EndsAtEndpoint : CommandName → List (Option (List ℕ)) → Exit → Type 0
+EndsAtEndpoint name texts exit = EndsAtName RefusesId Endpoint name texts exit
+
+-- Words that say no record of distrust.
+abbrev pub SaysNoRecord : CommandName → List (Option (List ℕ)) → Exit → Type 0
+SaysNoRecord name texts exit = EndsEarly exit ⊎ EndsAtDomain name texts exit
+
+-- Words that do not say what TLS said.
+abbrev pub SaysNoVerdict : CommandName → List (Option (List ℕ)) → Exit → Type 0
+SaysNoVerdict name texts exit = EndsEarly exit ⊎ EndsAtEndpoint name texts exit
 
 abbrev pub EndsBundleIn : BundleFormat → Meaning → List ℕ → Exit → Type 0
 EndsBundleIn Json m domain exit = EndsBundle m domain exit
@@ -427,9 +452,11 @@ abbrev pub EndsFor : CommandName → CallRun → Exit → Type 0
 EndsFor command.Bundle run exit = EndsBundleCall run exit
 EndsFor command.Explain run exit = EndsExplainCall run exit
 EndsFor command.Polls run exit = EndsPollsCall run exit
-EndsFor command.Observe run exit = EndsObserveCall run exit
+EndsFor command.Observe run exit = EndsAtDomain run.name run.texts exit
+    ⊎ (EndsAtEndpoint run.name run.texts exit ⊎ EndsObserveCall run exit)
 EndsFor command.Merge run exit = (exit ≡ TooManyBytes) ⊎ EndsMerge run.change exit
-EndsFor command.Distrust run exit = EndsDistrustCall run exit
+EndsFor command.Distrust run exit = EndsAtDomain run.name run.texts exit
+    ⊎ EndsDistrustCall run exit
 EndsFor name run exit = ⊥
 
 -- How a command ends that is not done.
@@ -438,10 +465,16 @@ Ends name run exit = EndsEarly exit ⊎ EndsFor name run exit
 
 -- ---- a request
 
+-- The command ended, nothing has changed, and how it ended is replied.
+pub record RepliesWithEnd (run : CallRun) (reply : Reply) : Type 0 where
+  pub exit : Exit
+  pub ends : Ends run.name run exit
+  pub held : IsAsHeld run.change.state
+  pub replied : IsEnded reply exit
+
 -- What is replied to a call: what its command answers, or how it ends.
 abbrev pub RepliesToCall : CallRun → Reply → Type 0
-RepliesToCall run reply = Answers run.name run reply
-    ⊎ ((exit : Exit) × Ends run.name run exit × IsEnded reply exit)
+RepliesToCall run reply = Answers run.name run reply ⊎ RepliesWithEnd run reply
 
 -- The words are a call in a request, and that is replied.
 pub record RepliesAsCommand (words : List (List ℕ)) (change : ChangeRun)

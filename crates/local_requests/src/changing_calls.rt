@@ -1,10 +1,14 @@
 //! The commands that change what is held, by what the words say.
 ghost use Rattle.std.specs.Prelude.{◌≡◌, IfErr, IfOk, OnErr, map, option_map};
+ghost use Rattle.spiffe_name.specs.SpiffeId.{IsId, RefusesId};
+ghost use Rattle.spiffe_name.specs.declared.error.NameError.{NameError};
 ghost use Rattle.fedbundle.specs.CommandRun.{state_run};
 ghost use Rattle.fedbundle.specs.declared.command_name.CommandName.TheVariants as command;
+ghost use Rattle.fedbundle.specs.declared.error.CommandError.TheVariants.{Name};
+ghost use Rattle.fedbundle.specs.declared.exits.Exit.TheVariants.{Refused};
 ghost use Rattle.local_requests.specs.Journalling.{JournalsChange};
-ghost use Rattle.local_requests.specs.RequestRun.{Answers, Ends, EndsEarly, SaysRecord};
-ghost use Rattle.local_requests.specs.RequestRun.{SaysVerdict, call_run, change_run};
+ghost use Rattle.local_requests.specs.RequestRun.{Answers, Ends, SaysNoRecord, SaysNoVerdict};
+ghost use Rattle.local_requests.specs.RequestRun.{SaysRecord, SaysVerdict, call_run, change_run};
 
 use crate::changing_replies;
 use crate::reply::Reply;
@@ -41,7 +45,8 @@ pub(crate) fn observe<C: Closure>(
 fn verdict_of(alloc: Global, call: &Call<'_>) -> Result<Verdict, Exit>
     ensures says { IfOk result (SaysVerdict call.now.name
         (map (option_map (λ t. t.now)) call.now.texts.items)) }
-    ensures early { IfErr result EndsEarly }
+    ensures ends { IfErr result (SaysNoVerdict call.now.name
+        (map (option_map (λ t. t.now)) call.now.texts.items)) }
 {
     let endpoint = endpoint_of(alloc, wanted(call, OptionName::Endpoint)?)?;
     let key = read_key(wanted(call, OptionName::Key)?)?;
@@ -49,8 +54,9 @@ fn verdict_of(alloc: Global, call: &Call<'_>) -> Result<Verdict, Exit>
 }
 
 fn endpoint_of(alloc: Global, text: &str) -> Result<SpiffeId, Exit>
-    ensures ok { IfOk result (λ endpoint. endpoint.text ≡ text.now) }
-    ensures early { IfErr result EndsEarly }
+    ensures ok { IfOk result (λ endpoint. (endpoint.text ≡ text.now) × IsId endpoint) }
+    ensures refused { IfErr result
+        (λ exit. ((e : NameError) × (exit ≡ Refused (Name e)) × RefusesId text.now e)) }
 {
     match SpiffeId::read(alloc, text) {
         Ok(endpoint) => Ok(endpoint),
@@ -115,7 +121,8 @@ pub(crate) fn distrust<C: Closure>(
 fn record_of(alloc: Global, call: &Call<'_>) -> Result<Distrust, Exit>
     ensures says { IfOk result (SaysRecord call.now.name
         (map (option_map (λ t. t.now)) call.now.texts.items)) }
-    ensures early { IfErr result EndsEarly }
+    ensures ends { IfErr result (SaysNoRecord call.now.name
+        (map (option_map (λ t. t.now)) call.now.texts.items)) }
 {
     let domain = domain_of(alloc, wanted(call, OptionName::Domain)?)?;
     let key = read_key(wanted(call, OptionName::Key)?)?;
