@@ -1,6 +1,6 @@
 -- What comes of a request, in the words of the command's function over files: its source has the
 -- input, and its sink, which held nothing, holds the output.
-use Rattle.std.specs.Prelude.{◌≡◌, ◌⊎◌, ℕ, ℤ, List, [], Bool, true, false, Option, Some}
+use Rattle.std.specs.Prelude.{◌≡◌, ◌⊎◌, ℕ, ℤ, List, [], Bool, true, false, Option, Some, None}
 use Rattle.std.specs.Prelude.{Result, Ok, Err, if◌then◌else◌}
 use Rattle.hex.specs.Hex.{decode_sized}
 use Rattle.spiffe_name.specs.SpiffeId.{IsId, RefusesId}
@@ -368,14 +368,23 @@ Answers name run reply = ⊥
 
 -- ---- how a call ends
 
--- A text of the words is refused that is no name, or memory ran out.
+-- How any command may end: a number of the words is none, or memory ran out.
+abbrev pub EndsAnyhow : Exit → Type 0
+EndsAnyhow (BadNumber option) = Unit {0}
+EndsAnyhow (Refused NoMemory) = Unit {0}
+EndsAnyhow exit = ⊥
+
+-- The words leave out an option that the command wants, have a bad key, or memory ran out.
 abbrev pub EndsEarly : Exit → Type 0
 EndsEarly Usage = Unit {0}
-EndsEarly (BadNumber option) = Unit {0}
 EndsEarly BadKey = Unit {0}
-EndsEarly BadMoment = Unit {0}
 EndsEarly (Refused NoMemory) = Unit {0}
 EndsEarly exit = ⊥
+
+-- The words leave out this option, which the command wants.
+pub record EndsWithout (option : OptionName) (run : CallRun) (exit : Exit) : Type 0 where
+  pub lacks : said run option ≡ None
+  pub is : exit ≡ Usage
 
 -- The name that the words give this option is refused, for a cause.
 pub record EndsAtName (Refuses : List ℕ → NameError → Type 0) (option : OptionName)
@@ -447,21 +456,26 @@ pub record EndsDistrustCall (run : CallRun) (exit : Exit) : Type 0 where
   pub is_dry : SaysFlag (said run DryRun) dry
   pub ends : EndsRecord dry run.change.state x exit
 
--- how a command ends for what is held or what is read, by the command
+-- How a command ends for what the words say, for what is held or for what is read, by the command.
+-- `report` and `stop` never do; of the last row are those that are none of a request.
 abbrev pub EndsFor : CommandName → CallRun → Exit → Type 0
-EndsFor command.Bundle run exit = EndsBundleCall run exit
-EndsFor command.Explain run exit = EndsExplainCall run exit
-EndsFor command.Polls run exit = EndsPollsCall run exit
-EndsFor command.Observe run exit = EndsAtDomain run.name run.texts exit
-    ⊎ (EndsAtEndpoint run.name run.texts exit ⊎ EndsObserveCall run exit)
+EndsFor command.Report run exit = ⊥
+EndsFor command.Stop run exit = ⊥
+EndsFor command.Status run exit = exit ≡ Usage
+EndsFor command.Bundle run exit = (exit ≡ Usage) ⊎ EndsBundleCall run exit
+EndsFor command.Explain run exit = EndsWithout Domain run exit ⊎ EndsExplainCall run exit
+EndsFor command.Polls run exit = EndsWithout Now run exit
+    ⊎ ((exit ≡ BadMoment) ⊎ EndsPollsCall run exit)
+EndsFor command.Observe run exit = EndsEarly exit ⊎ (EndsAtDomain run.name run.texts exit
+    ⊎ (EndsAtEndpoint run.name run.texts exit ⊎ EndsObserveCall run exit))
 EndsFor command.Merge run exit = (exit ≡ TooManyBytes) ⊎ EndsMerge run.change exit
-EndsFor command.Distrust run exit = EndsAtDomain run.name run.texts exit
-    ⊎ EndsDistrustCall run exit
-EndsFor name run exit = ⊥
+EndsFor command.Distrust run exit = EndsEarly exit ⊎ (EndsAtDomain run.name run.texts exit
+    ⊎ EndsDistrustCall run exit)
+EndsFor name run exit = exit ≡ Usage
 
 -- How a command ends that is not done.
 abbrev pub Ends : CommandName → CallRun → Exit → Type 0
-Ends name run exit = EndsEarly exit ⊎ EndsFor name run exit
+Ends name run exit = EndsAnyhow exit ⊎ EndsFor name run exit
 
 -- ---- a request
 
