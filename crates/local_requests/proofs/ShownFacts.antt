@@ -1,5 +1,5 @@
 -- What the commands that show what is held answer over memory, and what is replied to their calls.
-use Rattle.std.proofs.Common.{◌≡◌, inl, ℕ, ℤ, List, [], ◌++◌, Some, Ok, Err, Result, IfErr, IfOk, true, false, refl, sym, ap, ◌∙◌, subst}
+use Rattle.std.proofs.Common.{◌≡◌, inl, ℕ, ℤ, Bool, if◌then◌else◌, List, [], ◌++◌, Some, Ok, Err, Result, IfErr, IfOk, true, false, refl, sym, ap, ◌∙◌, subst}
 use Rattle.spiffe_name.specs.TrustDomain.{IsDomainText, RefusesDomain}
 use Rattle.spiffe_name.specs.declared.error.NameError.{NameError}
 use Rattle.receipt_core.specs.Acceptance.{Meaning}
@@ -19,7 +19,7 @@ use Rattle.fedbundle.specs.declared.error.CommandError.TheVariants.{Io, Name}
 use Rattle.fedbundle.specs.declared.exits.Exit.{Exit}
 use Rattle.fedbundle.specs.declared.exits.Exit.TheVariants.{NoBundle, NotAccepted, Refused}
 use Rattle.local_requests.specs.RequestRun.{Answers, AnswersBundle, AnswersBundlePem, AnswersDryRun, AnswersExplain, AnswersPolls}
-use Rattle.local_requests.specs.RequestRun.{CallRun, Ends, EndsBundle, EndsBundlePem, EndsDryRun, EndsEarly, EndsExplain, EndsPolls}
+use Rattle.local_requests.specs.RequestRun.{CallRun, Ends, EndsAnyhow, EndsBundle, EndsBundlePem, EndsDryRun, EndsExplain, EndsPolls}
 use Rattle.local_requests.specs.RequestRun.{HasStreams, IsEnded, IsReplied, IsWith, explain_asked, memory_exit}
 use Rattle.local_requests.specs.declared.reply.Reply.{Reply}
 use Rattle.local_requests.proofs.RequestFacts.{bundle_ends, bundle_none, bundle_pem_ends, bundle_pem_none, dry_run_ends, explain_ends, explain_none, polls_ends}
@@ -207,13 +207,20 @@ replied Is reply output is with = record {
   is_output = with.output;
   errors = with.errors;
   status = with.status;
+  goes_on = with.goes_on;
 }
+
+-- the status of a replica is replied, and a warning is its exit status
+pub warned_status : (reply : Reply) (text errors : List ℕ) (status : ℕ) (warned : Bool) → errors ≡ [] → status ≡ (if warned then 1 else 0)
+    → IsWith reply text errors status → IsWith reply text [] (if warned then 1 else 0)
+warned_status reply text errors status warned nothing is with =
+    subst (λ s. IsWith reply text [] s) is (subst (λ l. IsWith reply text l status) nothing with)
 
 -- ---- calls
 
--- a text of the words is refused, or memory ran out
-pub early : (name : CommandName) (run : CallRun) (exit why : Exit) → exit ≡ why → EndsEarly why → Ends name run exit
-early name run exit why is so = inl (subst EndsEarly (sym is) so)
+-- a number of the words is none, or memory ran out
+pub anyhow : (name : CommandName) (run : CallRun) (exit why : Exit) → exit ≡ why → EndsAnyhow why → Ends name run exit
+anyhow name run exit why is so = inl (subst EndsAnyhow (sym is) so)
 
 -- what the command of this name answers is what the call answers
 pub answers_as : (name other : CommandName) (run : CallRun) (result : Result Reply Exit) → name ≡ other → IfOk result (Answers other run)
