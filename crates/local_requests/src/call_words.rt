@@ -48,7 +48,10 @@ fn push_word(words: &mut Vec<String>, word: Option<String>) -> Result<(), AllocE
         ++ option_to_list (option_map string_bytes word)) }
 {
     match word {
-        Some(word) => Ok(words.push(word)?),
+        Some(word) => {
+            words.push(word)?;
+            Ok(())
+        }
         None => Ok(()),
     }
 }
