@@ -374,16 +374,10 @@ EndsAnyhow (BadNumber option) = Unit {0}
 EndsAnyhow (Refused NoMemory) = Unit {0}
 EndsAnyhow exit = ⊥
 
--- The words leave out an option that the command wants, have a bad key, or memory ran out.
-abbrev pub EndsEarly : Exit → Type 0
-EndsEarly Usage = Unit {0}
-EndsEarly BadKey = Unit {0}
-EndsEarly (Refused NoMemory) = Unit {0}
-EndsEarly exit = ⊥
-
 -- The words leave out this option, which the command wants.
-pub record EndsWithout (option : OptionName) (run : CallRun) (exit : Exit) : Type 0 where
-  pub lacks : said run option ≡ None
+pub record EndsWithout (option : OptionName) (name : CommandName)
+    (texts : List (Option (List ℕ))) (exit : Exit) : Type 0 where
+  pub lacks : option_said name texts option ≡ None
   pub is : exit ≡ Usage
 
 -- The name that the words give this option is refused, for a cause.
@@ -395,19 +389,34 @@ pub record EndsAtName (Refuses : List ℕ → NameError → Type 0) (option : Op
   pub refused : Refuses text why
   pub is : exit ≡ Refused (Name why)
 
+-- The words give a key that is not read.
+pub record EndsAtDigits (name : CommandName) (texts : List (Option (List ℕ)))
+    (exit : Exit) : Type 0 where
+  pub digits : List ℕ
+  pub is_said : option_said name texts Key ≡ Some digits
+  pub is : exit ≡ BadKey
+
+-- They say no domain,
 abbrev pub EndsAtDomain : CommandName → List (Option (List ℕ)) → Exit → Type 0
-EndsAtDomain name texts exit = EndsAtName RefusesDomain Domain name texts exit
+EndsAtDomain name texts exit = EndsWithout Domain name texts exit
+    ⊎ EndsAtName RefusesDomain Domain name texts exit
 
+-- no endpoint,
 abbrev pub EndsAtEndpoint : CommandName → List (Option (List ℕ)) → Exit → Type 0
-EndsAtEndpoint name texts exit = EndsAtName RefusesId Endpoint name texts exit
+EndsAtEndpoint name texts exit = EndsWithout Endpoint name texts exit
+    ⊎ EndsAtName RefusesId Endpoint name texts exit
 
--- Words that say no record of distrust.
+-- or no key.
+abbrev pub EndsAtKey : CommandName → List (Option (List ℕ)) → Exit → Type 0
+EndsAtKey name texts exit = EndsWithout Key name texts exit ⊎ EndsAtDigits name texts exit
+
+-- They say no record of distrust.
 abbrev pub SaysNoRecord : CommandName → List (Option (List ℕ)) → Exit → Type 0
-SaysNoRecord name texts exit = EndsEarly exit ⊎ EndsAtDomain name texts exit
+SaysNoRecord name texts exit = EndsAtDomain name texts exit ⊎ EndsAtKey name texts exit
 
--- Words that do not say what TLS said.
+-- They do not say what TLS said.
 abbrev pub SaysNoVerdict : CommandName → List (Option (List ℕ)) → Exit → Type 0
-SaysNoVerdict name texts exit = EndsEarly exit ⊎ EndsAtEndpoint name texts exit
+SaysNoVerdict name texts exit = EndsAtEndpoint name texts exit ⊎ EndsAtKey name texts exit
 
 abbrev pub EndsBundleIn : BundleFormat → Meaning → List ℕ → Exit → Type 0
 EndsBundleIn Json m domain exit = EndsBundle m domain exit
@@ -463,14 +472,15 @@ EndsFor command.Report run exit = ⊥
 EndsFor command.Stop run exit = ⊥
 EndsFor command.Status run exit = exit ≡ Usage
 EndsFor command.Bundle run exit = (exit ≡ Usage) ⊎ EndsBundleCall run exit
-EndsFor command.Explain run exit = EndsWithout Domain run exit ⊎ EndsExplainCall run exit
-EndsFor command.Polls run exit = EndsWithout Now run exit
+EndsFor command.Explain run exit = EndsWithout Domain run.name run.texts exit
+    ⊎ EndsExplainCall run exit
+EndsFor command.Polls run exit = EndsWithout Now run.name run.texts exit
     ⊎ ((exit ≡ BadMoment) ⊎ EndsPollsCall run exit)
-EndsFor command.Observe run exit = EndsEarly exit ⊎ (EndsAtDomain run.name run.texts exit
-    ⊎ (EndsAtEndpoint run.name run.texts exit ⊎ EndsObserveCall run exit))
+EndsFor command.Observe run exit = EndsAtDomain run.name run.texts exit
+    ⊎ (SaysNoVerdict run.name run.texts exit ⊎ EndsObserveCall run exit)
 EndsFor command.Merge run exit = (exit ≡ TooManyBytes) ⊎ EndsMerge run.change exit
-EndsFor command.Distrust run exit = EndsEarly exit ⊎ (EndsAtDomain run.name run.texts exit
-    ⊎ EndsDistrustCall run exit)
+EndsFor command.Distrust run exit = SaysNoRecord run.name run.texts exit
+    ⊎ EndsDistrustCall run exit
 EndsFor name run exit = exit ≡ Usage
 
 -- How a command ends that is not done.

@@ -3,8 +3,10 @@ ghost use Rattle.std.specs.Prelude.{◌≡◌, ℕ, List, IfErr, IfOk, OnErr, ma
 ghost use Rattle.std.specs.Str.{string_bytes};
 ghost use Rattle.fedbundle.specs.CommandRun.{state_run};
 ghost use Rattle.local_requests.specs.Journalling.{JournalsChange};
+ghost use Rattle.local_requests.specs.Replies.{RefusesWordsLine};
 ghost use Rattle.local_requests.specs.RequestRun.{Answers, Ends, IsWholeReply, RepliesTo};
 ghost use Rattle.local_requests.specs.RequestRun.{RepliesToCall, call_run, change_run};
+ghost use Rattle.local_requests.specs.declared.request_fault.RequestFault.TheVariants.{NoMemory};
 
 use crate::changing_calls::{distrust, merge, observe};
 use crate::reply::Reply;
@@ -24,8 +26,9 @@ use std::alloc::{AllocError, Global};
 ///
 /// # Errors
 /// Nothing has changed, and [`RequestFault::reply`] is to be replied.
-/// - [`RequestFault::WordsTooLong`], [`RequestFault::BadWords`]: the line of words is refused,
-/// - [`RequestFault::NoMemory`]: memory ran out for the reply.
+/// - [`RequestFault::WordsTooLong`]: the line of words has more than 65,536 bytes,
+/// - [`RequestFault::BadWords`]: it is no JSON array of texts,
+/// - [`RequestFault::NoMemory`]: memory ran out.
 pub fn answer_request<C: Closure>(
     alloc: Global,
     closure: &mut C,
@@ -37,6 +40,7 @@ pub fn answer_request<C: Closure>(
         (change_run (state_run (C.state closure.old) (C.state closure.new)) input.now)) }
     ensures journals { IfOk result (λ reply. JournalsChange reply.journal.items
         (state_run (C.state closure.old) (C.state closure.new))) }
+    ensures fault { IfErr result (RefusesWordsLine words.now) }
     ensures unchanged { OnErr result
         ((C.state closure.new).meaning ≡ (C.state closure.old).meaning) }
 {
@@ -92,6 +96,7 @@ fn answer_call<C: Closure>(
         (change_run (state_run (C.state closure.old) (C.state closure.new)) input.now))) }
     ensures journals { IfOk result (λ reply. JournalsChange reply.journal.items
         (state_run (C.state closure.old) (C.state closure.new))) }
+    ensures memory { IfErr result (λ fault. fault ≡ NoMemory) }
     ensures unchanged { OnErr result
         ((C.state closure.new).meaning ≡ (C.state closure.old).meaning) }
 {
