@@ -19,7 +19,12 @@ pub fn request_words(alloc: Global, call: &Call<'_>) -> Result<Vec<String>, Allo
 {
     let mut words = Vec::new(alloc);
     words.push(String::from_str(alloc, call.name.text())?)?;
-    push_words(alloc, &mut words, call.name.options(), call.texts.as_slice())?;
+    push_words(
+        alloc,
+        &mut words,
+        call.name.options(),
+        call.texts.as_slice(),
+    )?;
     Ok(words)
 }
 
