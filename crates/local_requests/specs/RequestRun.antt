@@ -329,10 +329,16 @@ pub record AnswersObserveCall (run : CallRun) (reply : Reply) : Type 0 where
   pub says : SaysFetched run fetched
   pub answers : HasStreams (AnswersObserve run.change fetched) reply
 
+-- The record is held, and beside it stands what it changes where the words have `--verbose`.
+pub record HoldsAsSaid (run : CallRun) (x : Distrust) (reply : Reply) : Type 0 where
+  pub verbose : Bool
+  pub is_verbose : SaysFlag (said run Verbose) verbose
+  pub held : SaysDistrusted run.change.state x verbose reply
+
 -- What a record would change where the words have `--dry-run`; and else it is held.
-abbrev pub AnswersRecord : (is_dry is_verbose : Bool) → StateRun → Distrust → Reply → Type 0
-AnswersRecord true is_verbose state x reply = HasStreams (AnswersDryRun state.old.meaning x) reply
-AnswersRecord false is_verbose state x reply = SaysDistrusted state x is_verbose reply
+abbrev pub AnswersRecord : (is_dry : Bool) → CallRun → Distrust → Reply → Type 0
+AnswersRecord true run x reply = HasStreams (AnswersDryRun (held_in run) x) reply
+AnswersRecord false run x reply = HoldsAsSaid run x reply
 
 -- `distrust`
 pub record AnswersDistrust (run : CallRun) (reply : Reply) : Type 0 where
@@ -340,9 +346,7 @@ pub record AnswersDistrust (run : CallRun) (reply : Reply) : Type 0 where
   pub says : SaysRecord run.name run.texts x
   pub dry : Bool
   pub is_dry : SaysFlag (said run DryRun) dry
-  pub verbose : Bool
-  pub is_verbose : SaysFlag (said run Verbose) verbose
-  pub answers : AnswersRecord dry verbose run.change.state x reply
+  pub answers : AnswersRecord dry run x reply
 
 -- `stop`: nothing is said, and the replica ends
 pub record AnswersStop (reply : Reply) : Type 0 where
