@@ -1,5 +1,5 @@
 -- What the commands that show what is held answer over memory, and what is replied to their calls.
-use Rattle.std.proofs.Common.{◌≡◌, inl, ℕ, ℤ, Bool, if◌then◌else◌, List, [], ◌++◌, Some, Ok, Err, Result, IfErr, IfOk, true, false, refl, sym, ap, ◌∙◌, subst}
+use Rattle.std.proofs.Common.{◌≡◌, inl, inr, ℕ, ℤ, Bool, if◌then◌else◌, List, [], ◌++◌, Some, Ok, Err, Result, IfErr, IfOk, true, false, refl, sym, ap, ◌∙◌, subst}
 use Rattle.spiffe_name.specs.TrustDomain.{IsDomainText, RefusesDomain}
 use Rattle.spiffe_name.specs.declared.error.NameError.{NameError}
 use Rattle.receipt_core.specs.Acceptance.{Meaning}
@@ -14,10 +14,11 @@ use Rattle.fedbundle.specs.Explain.{RunsExplain, explanation_call}
 use Rattle.fedbundle.specs.Polls.{RunsPolls}
 use Rattle.fedbundle.specs.declared.chain_text.ExplanationForm.{ExplanationForm}
 use Rattle.fedbundle.specs.declared.command_name.CommandName.{CommandName}
+use Rattle.fedbundle.specs.declared.command_name.CommandName.TheVariants as command
 use Rattle.fedbundle.specs.declared.error.CommandError.{CommandError}
 use Rattle.fedbundle.specs.declared.error.CommandError.TheVariants.{Io, Name}
 use Rattle.fedbundle.specs.declared.exits.Exit.{Exit}
-use Rattle.fedbundle.specs.declared.exits.Exit.TheVariants.{NoBundle, NotAccepted, Refused}
+use Rattle.fedbundle.specs.declared.exits.Exit.TheVariants.{NoBundle, NotAccepted, Refused, Usage}
 use Rattle.local_requests.specs.RequestRun.{Answers, AnswersBundle, AnswersBundlePem, AnswersDryRun, AnswersExplain, AnswersPolls}
 use Rattle.local_requests.specs.RequestRun.{CallRun, Ends, EndsAnyhow, EndsBundle, EndsBundlePem, EndsDryRun, EndsExplain, EndsPolls}
 use Rattle.local_requests.specs.RequestRun.{HasStreams, IsEnded, IsReplied, IsWith, explain_asked, memory_exit}
@@ -231,3 +232,16 @@ answers_as name other run result is answers = subst (λ n. IfOk result (Answers 
 pub ends_as : (name other : CommandName) (run : CallRun) (result : Result Reply Exit) → name ≡ other → IfErr result (Ends other run)
     → IfErr result (Ends name run)
 ends_as name other run result is ends = subst (λ n. IfErr result (Ends n run)) (sym is) ends
+
+-- a name that is none of these is none that a request may have
+pub none_asked : (name : CommandName) (run : CallRun) → (name ≡ command.Report → ⊥) → (name ≡ command.Explain → ⊥) → (name ≡ command.Polls → ⊥)
+    → (name ≡ command.Observe → ⊥) → (name ≡ command.Merge → ⊥) → (name ≡ command.Distrust → ⊥) → (name ≡ command.Stop → ⊥) → Ends name run Usage
+none_asked command.Report run report explain polls observe merge distrust stop = absurd (report refl)
+none_asked command.Explain run report explain polls observe merge distrust stop = absurd (explain refl)
+none_asked command.Polls run report explain polls observe merge distrust stop = absurd (polls refl)
+none_asked command.Observe run report explain polls observe merge distrust stop = absurd (observe refl)
+none_asked command.Merge run report explain polls observe merge distrust stop = absurd (merge refl)
+none_asked command.Distrust run report explain polls observe merge distrust stop = absurd (distrust refl)
+none_asked command.Stop run report explain polls observe merge distrust stop = absurd (stop refl)
+none_asked command.Bundle run report explain polls observe merge distrust stop = inr (inl refl)
+none_asked name run report explain polls observe merge distrust stop = inr refl

@@ -31,13 +31,13 @@ fault_reply NoMemory =
     codes "{\"errors\":23,\"output\":0,\"status\":4}\nfedbundle: E2 NoMemory\n"
 
 -- the fault of a request whose line of words is not read
-abbrev pub fault_of : RequestError → RequestFault
-fault_of TooLong = WordsTooLong
-fault_of BadLine = BadWords
-fault_of line_error.NoMemory = NoMemory
+abbrev pub words_fault : RequestError → RequestFault
+words_fault TooLong = WordsTooLong
+words_fault BadLine = BadWords
+words_fault line_error.NoMemory = NoMemory
 
 -- The line of words is refused, or memory ran out, and that is the fault.
 pub record RefusesWordsLine (line : List ℕ) (fault : RequestFault) : Type 0 where
   pub why : RequestError
   pub refused : RefusesLine IsOfWords line why
-  pub is : fault ≡ fault_of why
+  pub is : fault ≡ words_fault why

@@ -11,7 +11,7 @@ ghost use Rattle.local_requests.specs.declared.request_fault.RequestFault.TheVar
 use crate::changing_calls::{distrust, merge, observe};
 use crate::reply::Reply;
 use crate::request_fault::RequestFault;
-use crate::shown_calls::show;
+use crate::shown_calls::{bundle, explain, polls, report, status, stop};
 use closure_core::Closure;
 use fedbundle::{Call, CommandName, Exit, WordsError, manner_of, read_request};
 use replica_requests::read_request_words;
@@ -126,12 +126,18 @@ fn carry_out<C: Closure>(
 {
     let most_bytes = manner_of(call)?.most_bytes;
     match call.name {
+        CommandName::Report => report(alloc, closure, call, input),
+        CommandName::Bundle => bundle(alloc, closure, call, input),
+        CommandName::Explain => explain(alloc, closure, call, input),
+        CommandName::Polls => polls(alloc, closure, call, input),
+        CommandName::Status => status(alloc, closure, call, input),
         CommandName::Observe => observe(alloc, closure, call, input),
         CommandName::Merge => {
             let room = most_bytes.saturating_sub(held_bytes);
             merge(alloc, closure, room, call, input)
         }
         CommandName::Distrust => distrust(alloc, closure, call, input),
-        _ => show(alloc, closure, call, input),
+        CommandName::Stop => stop(alloc, closure, call, input),
+        _ => Err(Exit::Usage),
     }
 }

@@ -8,39 +8,12 @@ use crate::reply::Reply;
 use crate::shown_replies;
 use closure_core::Closure;
 use fedbundle::{
-    Call, CommandName, Exit, OptionName, explanation_form, given, read_bundle_format, read_moment,
+    Call, Exit, OptionName, explanation_form, given, read_bundle_format, read_moment,
     read_status_format, wanted,
 };
 use std::alloc::Global;
 
-// The words may ask for nothing else here: what a request asks for shows what is held, changes it,
-// or ends the replica.
-pub(crate) fn show<C: Closure>(
-    alloc: Global,
-    closure: &C,
-    call: &Call<'_>,
-    input: &[u8],
-) -> Result<Reply, Exit>
-    ensures answers { IfOk result (Answers call.now.name (call_run call.now.name
-        (map (option_map (λ t. t.now)) call.now.texts.items)
-        (change_run (state_run (C.state closure.now) (C.state closure.now)) input.now))) }
-    ensures ends { IfErr result (Ends call.now.name (call_run call.now.name
-        (map (option_map (λ t. t.now)) call.now.texts.items)
-        (change_run (state_run (C.state closure.now) (C.state closure.now)) input.now))) }
-    ensures unjournalled { IfOk result (λ reply. reply.journal.items ≡ []) }
-{
-    match call.name {
-        CommandName::Report => report(alloc, closure, call, input),
-        CommandName::Bundle => bundle(alloc, closure, call, input),
-        CommandName::Explain => explain(alloc, closure, call, input),
-        CommandName::Polls => polls(alloc, closure, call, input),
-        CommandName::Status => status(alloc, closure, call, input),
-        CommandName::Stop => stop(alloc, closure, call, input),
-        _ => Err(Exit::Usage),
-    }
-}
-
-fn report<C: Closure>(
+pub(crate) fn report<C: Closure>(
     alloc: Global,
     closure: &C,
     call: &Call<'_>,
@@ -59,7 +32,7 @@ fn report<C: Closure>(
     Ok(Reply::done(alloc, text)?)
 }
 
-fn bundle<C: Closure>(
+pub(crate) fn bundle<C: Closure>(
     alloc: Global,
     closure: &C,
     call: &Call<'_>,
@@ -80,7 +53,7 @@ fn bundle<C: Closure>(
     Ok(Reply::done(alloc, text)?)
 }
 
-fn explain<C: Closure>(
+pub(crate) fn explain<C: Closure>(
     alloc: Global,
     closure: &C,
     call: &Call<'_>,
@@ -100,7 +73,7 @@ fn explain<C: Closure>(
     Ok(Reply::done(alloc, text)?)
 }
 
-fn polls<C: Closure>(
+pub(crate) fn polls<C: Closure>(
     alloc: Global,
     closure: &C,
     call: &Call<'_>,
@@ -120,7 +93,7 @@ fn polls<C: Closure>(
 }
 
 // A warning makes the exit status 1.
-fn status<C: Closure>(
+pub(crate) fn status<C: Closure>(
     alloc: Global,
     closure: &C,
     call: &Call<'_>,
@@ -142,7 +115,7 @@ fn status<C: Closure>(
 }
 
 // Nothing is to be done but to end.
-fn stop<C: Closure>(
+pub(crate) fn stop<C: Closure>(
     alloc: Global,
     closure: &C,
     call: &Call<'_>,
