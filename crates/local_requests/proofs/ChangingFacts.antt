@@ -14,20 +14,19 @@ use Rattle.fedbundle.specs.CommandRun.{DeviceRun, StateRun, state_run}
 use Rattle.fedbundle.specs.Distrust.{RunsDistrust}
 use Rattle.fedbundle.specs.Observe.{Fetched, IsAsHeld, RefusesToMake}
 use Rattle.fedbundle.specs.OptionTexts.{SaysFlag}
-use Rattle.fedbundle.specs.Exits.{exit_status_of}
 use Rattle.fedbundle.specs.Words.{CallsInRequest}
 use Rattle.fedbundle.specs.declared.command_name.CommandName.TheVariants as command
 use Rattle.fedbundle.specs.declared.command_name.OptionName.TheVariants.{Domain, DryRun, Verbose}
 use Rattle.fedbundle.specs.declared.error.CommandError.{CommandError}
 use Rattle.fedbundle.specs.declared.error.CommandError.TheVariants.{NoMemory, Observe, Sync, Take}
 use Rattle.fedbundle.specs.declared.exits.Exit.{Exit}
-use Rattle.fedbundle.specs.declared.exits.Exit.TheVariants.{Refused}
+use Rattle.fedbundle.specs.declared.exits.Exit.TheVariants.{Refused, TooManyBytes, Usage}
 use Rattle.replica_requests.specs.RequestLines.{SaysWords}
 use Rattle.replica_requests.specs.declared.request_error.RequestError.TheVariants as line_error
 use Rattle.local_requests.specs.Journalling.{JournalsChange}
-use Rattle.local_requests.specs.Replies.{RefusesWordsLine, first_line}
+use Rattle.local_requests.specs.Replies.{RefusesWordsLine}
 use Rattle.local_requests.specs.RequestRun.{Answers, AnswersObserve, CallRun, ChangeRun, Ends, EndsDistrust, EndsMerge, EndsObserve}
-use Rattle.local_requests.specs.RequestRun.{HasStreams, IsEnded, IsWholeReply, IsWith, RepliesTo, RepliesToCall}
+use Rattle.local_requests.specs.RequestRun.{HasStreams, IsEnded, IsWith, RepliesTo, RepliesToCall, SaysOfWords, ShowsText}
 use Rattle.local_requests.specs.RequestRun.{SaysDistrusted, SaysFetched, SaysRecord, SaysVerdict, change_run, memory_exit, said}
 use Rattle.local_requests.specs.declared.reply.Reply.{Reply}
 use Rattle.local_requests.specs.declared.request_fault.RequestFault.{RequestFault}
@@ -40,16 +39,27 @@ use Rattle.local_requests.proofs.RequestFacts.{observe_unmade, same_journalled}
 pub silent : (reply : Reply) (output errors : List ℕ) (status : ℕ) → output ≡ [] → IsWith reply output errors status → IsWith reply [] errors status
 silent reply output errors status nothing with = subst (λ l. IsWith reply l errors status) nothing with
 
--- a reply with some streams and some status is a whole one
-pub whole_reply : (reply : Reply) (output errors : List ℕ) (status : ℕ) → IsWith reply output errors status → IsWholeReply reply
-whole_reply reply output errors status with = record {
-  head = with.head ∙ (λ i. first_line (sym with.output i) (sym with.errors i) (sym with.status i));
-  output = refl;
-  errors = refl;
-  status = refl;
-  unjournalled = with.unjournalled;
-  goes_on = with.goes_on;
-}
+-- a complaint beside it
+pub complained : (output errors : List ℕ) (result : Result Reply AllocError) → output ≡ [] → IfOk result (λ reply. IsWith reply output errors 2)
+    → IfOk result ShowsText
+complained output errors (Ok reply) nothing with =
+    inl (subst (λ l. IsWith reply [] l 2) (sym with.errors) (silent reply output errors 2 nothing with))
+complained output errors (Err e) nothing with = tt
+
+-- an output, and nothing beside it
+pub printed : (output : List ℕ) (result : Result Reply AllocError) → IfOk result (λ reply. IsWith reply output [] 0) → IfOk result ShowsText
+printed output (Ok reply) with = inr (subst (λ l. IsWith reply l [] 0) (sym with.output) with)
+printed output (Err e) with = tt
+
+-- the words are none of a command
+pub ended_by_usage : (result : Result Reply AllocError) → IfOk result (λ reply. IsEnded reply Usage) → IfOk result SaysOfWords
+ended_by_usage (Ok reply) ended = inl ended
+ended_by_usage (Err e) ended = tt
+
+-- they are shown
+pub shown_by_clap : (result : Result Reply AllocError) → IfOk result ShowsText → IfOk result SaysOfWords
+shown_by_clap (Ok reply) shown = inr shown
+shown_by_clap (Err e) shown = tt
 
 -- ---- `observe`
 
@@ -85,6 +95,16 @@ merge_unchanged run (Refused (Sync e)) ends = ap (λ (s : HeldAndRoom). s.meanin
 merge_unchanged run (Refused (Take e)) ends = ends.runs.refused.unchanged.meaning
 merge_unchanged run (Refused NoMemory) ends = ends
 merge_unchanged run exit ends = absurd ends
+
+-- that there are too many bytes was said before
+pub merge_within : (run : ChangeRun) (exit : Exit) → EndsMerge run exit → exit ≡ TooManyBytes → ⊥
+merge_within run exit ends is = subst (EndsMerge run) is ends
+
+-- the same of a result
+pub no_excess : (run : ChangeRun) (room count : ℕ) (result : Result Reply Exit) → IfErr result (EndsMerge run)
+    → IfErr result (λ exit. exit ≡ TooManyBytes → room < count)
+no_excess run room count (Ok reply) ends = tt
+no_excess run room count (Err exit) ends = λ is. absurd (merge_within run exit ends is)
 
 -- ---- `distrust`
 
@@ -174,17 +194,6 @@ pub result_lacks_memory : (line : List ℕ) (result : Result Reply RequestFault)
     → IfErr result (RefusesWordsLine line)
 result_lacks_memory line (Ok reply) is = tt
 result_lacks_memory line (Err fault) is = lacks_memory line fault is
-
--- how an exit of the command is a whole reply
-pub whole_end : (exit : Exit) (result : Result Reply AllocError) → IfOk result (λ reply. IsEnded reply exit) → IfOk result IsWholeReply
-whole_end exit (Ok reply) ended = whole_reply reply [] ended.0 (exit_status_of exit) ended.2
-whole_end exit (Err e) ended = tt
-
--- and any streams
-pub whole_streams : (output errors : List ℕ) (status : ℕ) (result : Result Reply AllocError)
-    → IfOk result (λ reply. IsWith reply output errors status) → IfOk result IsWholeReply
-whole_streams output errors status (Ok reply) with = whole_reply reply output errors status with
-whole_streams output errors status (Err e) with = tt
 
 -- one more word was taken: the step of the loop in `texts_of_words`
 pub word_more : {X : Type 0} (f : X → List ℕ) (xs : List X) (k : ℕ) (x : X) → k < length xs → x ≡ get_or xs k x
