@@ -3,3 +3,4 @@ mod NewLineFacts
 mod RequestFacts
 mod ShownFacts
 mod CallWordFacts
+mod ChangingFacts

@@ -193,11 +193,6 @@ pub record IsWith (reply : Reply) (output errors : List ℕ) (status : ℕ) : Ty
   pub unjournalled : reply.journal.items ≡ []
   pub goes_on : reply.ends ≡ false
 
--- Its first line says what streams and status it has; nothing is journalled, and the replica goes
--- on.
-abbrev pub IsWholeReply : Reply → Type 0
-IsWholeReply reply = IsWith reply reply.output.items reply.errors.items reply.status
-
 -- The command is done: its output, and what it says beside it.
 abbrev pub IsReplied : Reply → List ℕ → List ℕ → Type 0
 IsReplied reply output errors = IsWith reply output errors 0
@@ -329,10 +324,16 @@ pub record AnswersObserveCall (run : CallRun) (reply : Reply) : Type 0 where
   pub says : SaysFetched run fetched
   pub answers : HasStreams (AnswersObserve run.change fetched) reply
 
+-- The record is held, and beside it stands what it changes where the words have `--verbose`.
+pub record HoldsAsSaid (run : CallRun) (x : Distrust) (reply : Reply) : Type 0 where
+  pub verbose : Bool
+  pub is_verbose : SaysFlag (said run Verbose) verbose
+  pub held : SaysDistrusted run.change.state x verbose reply
+
 -- What a record would change where the words have `--dry-run`; and else it is held.
-abbrev pub AnswersRecord : (is_dry is_verbose : Bool) → StateRun → Distrust → Reply → Type 0
-AnswersRecord true is_verbose state x reply = HasStreams (AnswersDryRun state.old.meaning x) reply
-AnswersRecord false is_verbose state x reply = SaysDistrusted state x is_verbose reply
+abbrev pub AnswersRecord : (is_dry : Bool) → CallRun → Distrust → Reply → Type 0
+AnswersRecord true run x reply = HasStreams (AnswersDryRun (held_in run) x) reply
+AnswersRecord false run x reply = HoldsAsSaid run x reply
 
 -- `distrust`
 pub record AnswersDistrust (run : CallRun) (reply : Reply) : Type 0 where
@@ -340,9 +341,7 @@ pub record AnswersDistrust (run : CallRun) (reply : Reply) : Type 0 where
   pub says : SaysRecord run.name run.texts x
   pub dry : Bool
   pub is_dry : SaysFlag (said run DryRun) dry
-  pub verbose : Bool
-  pub is_verbose : SaysFlag (said run Verbose) verbose
-  pub answers : AnswersRecord dry verbose run.change.state x reply
+  pub answers : AnswersRecord dry run x reply
 
 -- `stop`: nothing is said, and the replica ends
 pub record AnswersStop (reply : Reply) : Type 0 where
@@ -508,9 +507,17 @@ pub record RepliesAsCommand (words : List (List ℕ)) (change : ChangeRun)
   pub call : CallsInRequest words name texts
   pub replied : RepliesToCall (call_run name texts change) reply
 
--- The words are refused, or ask for help: then nothing has changed.
+-- `clap` says why it refuses the words, or shows what they ask for of its help and its version.
+abbrev pub ShowsText : Reply → Type 0
+ShowsText reply = IsWith reply [] reply.errors.items 2 ⊎ IsWith reply reply.output.items [] 0
+
+-- That is replied, or that a subcommand or an option is missing.
+abbrev pub SaysOfWords : Reply → Type 0
+SaysOfWords reply = IsEnded reply Usage ⊎ ShowsText reply
+
+-- The words are no call, and nothing has changed.
 pub record RepliesToWords (change : ChangeRun) (reply : Reply) : Type 0 where
-  pub replied : IsWholeReply reply
+  pub replied : SaysOfWords reply
   pub held : IsAsHeld change.state
 
 -- What is replied to a line of words.

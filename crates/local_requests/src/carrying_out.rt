@@ -4,8 +4,8 @@ ghost use Rattle.std.specs.Str.{string_bytes};
 ghost use Rattle.fedbundle.specs.CommandRun.{state_run};
 ghost use Rattle.local_requests.specs.Journalling.{JournalsChange};
 ghost use Rattle.local_requests.specs.Replies.{RefusesWordsLine};
-ghost use Rattle.local_requests.specs.RequestRun.{Answers, Ends, IsWholeReply, RepliesTo};
-ghost use Rattle.local_requests.specs.RequestRun.{RepliesToCall, call_run, change_run};
+ghost use Rattle.local_requests.specs.RequestRun.{Answers, Ends, RepliesTo, RepliesToCall};
+ghost use Rattle.local_requests.specs.RequestRun.{SaysOfWords, ShowsText, call_run, change_run};
 ghost use Rattle.local_requests.specs.declared.request_fault.RequestFault.TheVariants.{NoMemory};
 
 use crate::changing_calls::{distrust, merge, observe};
@@ -64,7 +64,7 @@ fn texts_of_words(alloc: Global, words: &[String]) -> Result<Vec<&str>, AllocErr
 
 // The words are none of a command, or ask for help or for the version.
 fn reply_by_words(alloc: Global, error: &WordsError) -> Result<Reply, AllocError>
-    ensures { IfOk result IsWholeReply }
+    ensures { IfOk result SaysOfWords }
 {
     match error {
         WordsError::Words(shown) => reply_of_clap(alloc, shown),
@@ -74,7 +74,7 @@ fn reply_by_words(alloc: Global, error: &WordsError) -> Result<Reply, AllocError
 }
 
 fn reply_of_clap(alloc: Global, shown: &clap::Error) -> Result<Reply, AllocError>
-    ensures { IfOk result IsWholeReply }
+    ensures { IfOk result ShowsText }
 {
     let text = format!(in alloc; "{shown}")?.into_bytes();
     if shown.use_stderr() {

@@ -1,11 +1,12 @@
 //! The commands that change what is held, by what the words say.
-ghost use Rattle.std.specs.Prelude.{◌≡◌, IfErr, IfOk, OnErr, map, option_map};
+ghost use Rattle.std.specs.Prelude.{◌≡◌, ◌<◌, ◌≤◌, IfErr, IfOk, OnErr, OnOk, length, map};
+ghost use Rattle.std.specs.Prelude.{option_map};
 ghost use Rattle.spiffe_name.specs.SpiffeId.{IsId, RefusesId};
 ghost use Rattle.spiffe_name.specs.declared.error.NameError.{NameError};
 ghost use Rattle.fedbundle.specs.CommandRun.{state_run};
 ghost use Rattle.fedbundle.specs.declared.command_name.CommandName.TheVariants as command;
 ghost use Rattle.fedbundle.specs.declared.error.CommandError.TheVariants.{Name};
-ghost use Rattle.fedbundle.specs.declared.exits.Exit.TheVariants.{Refused};
+ghost use Rattle.fedbundle.specs.declared.exits.Exit.TheVariants.{Refused, TooManyBytes};
 ghost use Rattle.local_requests.specs.Journalling.{JournalsChange};
 ghost use Rattle.local_requests.specs.RequestRun.{Answers, Ends, SaysNoRecord, SaysNoVerdict};
 ghost use Rattle.local_requests.specs.RequestRun.{SaysRecord, SaysVerdict, call_run, change_run};
@@ -82,6 +83,8 @@ pub(crate) fn merge<C: Closure>(
         (state_run (C.state closure.old) (C.state closure.new))) }
     ensures unchanged { OnErr result
         ((C.state closure.new).meaning ≡ (C.state closure.old).meaning) }
+    ensures within { OnOk result (length input.now ≤ room) }
+    ensures over { IfErr result (λ exit. exit ≡ TooManyBytes → room < length input.now) }
 {
     let _asked = call;
     if input.len() as u64 > room {
