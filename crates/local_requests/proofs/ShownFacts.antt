@@ -5,7 +5,6 @@ use Rattle.spiffe_name.specs.declared.error.NameError.{NameError}
 use Rattle.receipt_core.specs.Acceptance.{Meaning}
 use Rattle.receipt_core.specs.declared.distrust.Distrust.{Distrust}
 use Rattle.bundle_view.specs.Report.{IsReport, WritesReport}
-use Rattle.text_lines.specs.TextLines.{WritesSome}
 use Rattle.fedbundle.specs.CommandRun.{CommandRun, DeviceRun}
 use Rattle.fedbundle.specs.CurrentBundle.{RunsBundle, RunsBundlePem}
 use Rattle.fedbundle.specs.Distrust.{ShowsDistrust}
@@ -50,9 +49,9 @@ report_shown m empty filled output none is w =
 -- ---- `status`
 
 -- such a text was written
-pub some_shown : (Is : List ℕ → Type 0) (empty filled output : List ℕ) → empty ≡ [] → output ≡ filled → WritesSome Is (Some empty) (Some filled)
+pub some_shown : (Is : List ℕ → Type 0) (empty text filled output : List ℕ) → empty ≡ [] → output ≡ filled → Is text → filled ≡ empty ++ text
     → Is output
-some_shown Is empty filled output none is w = subst Is (all_held empty w.text filled none w.written ∙ sym is) w.is
+some_shown Is empty text filled output none is holds written = subst Is (all_held empty text filled none written ∙ sym is) holds
 
 -- ---- `bundle`
 

@@ -27,7 +27,8 @@ pub(crate) fn report<C: Closure>(
         (change_run (state_run (C.state closure.now) (C.state closure.now)) input.now))) }
     ensures unjournalled { IfOk result (λ reply. reply.journal.items ≡ []) }
 {
-    let _asked = (call, input);
+    let _asked = call;
+    let _unread = input;
     let text = shown_replies::report(alloc, closure)?;
     Ok(Reply::done(alloc, text)?)
 }
@@ -46,7 +47,7 @@ pub(crate) fn bundle<C: Closure>(
         (change_run (state_run (C.state closure.now) (C.state closure.now)) input.now))) }
     ensures unjournalled { IfOk result (λ reply. reply.journal.items ≡ []) }
 {
-    let _asked = input;
+    let _unread = input;
     let domain = wanted(call, OptionName::Domain)?;
     let format = read_bundle_format(given(call, OptionName::Format))?;
     let text = shown_replies::bundle_in(alloc, closure, domain, format)?;
@@ -107,7 +108,7 @@ pub(crate) fn status<C: Closure>(
         (change_run (state_run (C.state closure.now) (C.state closure.now)) input.now))) }
     ensures unjournalled { IfOk result (λ reply. reply.journal.items ≡ []) }
 {
-    let _asked = input;
+    let _unread = input;
     let format = read_status_format(given(call, OptionName::Format))?;
     let shown = shown_replies::status(alloc, closure, format)?;
     let ended = u8::from(shown.is_warned);
@@ -129,7 +130,9 @@ pub(crate) fn stop<C: Closure>(
         (change_run (state_run (C.state closure.now) (C.state closure.now)) input.now))) }
     ensures unjournalled { IfOk result (λ reply. reply.journal.items ≡ []) }
 {
-    let _asked = (closure, call, input);
+    let _held = closure;
+    let _asked = call;
+    let _unread = input;
     let mut reply = Reply::done(alloc, Vec::new(alloc))?;
     reply.ends = true;
     Ok(reply)
