@@ -185,11 +185,11 @@ EndsDistrust state x exit = ⊥
 
 -- These streams and this status, which the first line says; nothing is journalled, and the replica
 -- goes on.
-pub record IsWith (reply : Reply) (output errors : List ℕ) (status : ℕ) : Type 0 where
-  pub head : reply.head.items ≡ first_line output errors status
-  pub output : reply.output.items ≡ output
-  pub errors : reply.errors.items ≡ errors
-  pub status : reply.status ≡ status
+pub record IsWith (reply : Reply) (text beside : List ℕ) (exit : ℕ) : Type 0 where
+  pub head : reply.head.items ≡ first_line text beside exit
+  pub output : reply.output.items ≡ text
+  pub errors : reply.errors.items ≡ beside
+  pub status : reply.status ≡ exit
   pub unjournalled : reply.journal.items ≡ []
   pub goes_on : reply.ends ≡ false
 

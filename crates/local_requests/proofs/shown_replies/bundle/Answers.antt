@@ -12,12 +12,12 @@ pub returns-in-Ok-true : goal.returns-in-Ok-true
 returns-in-Ok-true g c =
     let empty : c.new-output.result.writer.items ≡ [] = cc in
     let is : c.into_inner.result.items ≡ c.run_bundle.new.sink.writer.items = cc in
-    bundle_shown _ _ _ _ _ _ c.in_ok-domain.ensures.ok empty is c.in-Ok-true.ensures
+    bundle_shown _ _ _ _ _ _ c.in_ok-domain.ensures.ok empty is (rw c.in-Ok-true.field-0-is at c.in-Ok-true.ensures)
 
 pub returns-in-Ok-false : goal.returns-in-Ok-false
 returns-in-Ok-false g c =
     let empty : c.new-output.result.writer.items ≡ [] = cc in
-    bundle_lacking _ _ _ _ _ c.in_ok-domain.ensures.ok.0 empty c.in-Ok-false.ensures
+    bundle_lacking _ _ _ _ _ c.in_ok-domain.ensures.ok.0 empty (rw c.in-Ok-false.field-0-is at c.in-Ok-false.ensures)
 
-pub returns-in-Err : goal.returns-in-Err
-returns-in-Err g c = bundle_failed _ _ _ _ _ _ c.in_ok-domain.ensures.ok.0 c.in_memory.ensures c.in-Err.ensures
+pub returns : goal.returns
+returns g c = bundle_failed _ _ _ _ _ _ c.in_ok-domain.ensures.ok.0 c.in_memory.ensures c.in-Err.ensures
