@@ -1,6 +1,5 @@
 //! A request, read and carried out.
-ghost use Rattle.std.specs.Prelude.{◌≡◌, ℕ, List, IfErr, IfOk, OnErr, map, option_map};
-ghost use Rattle.std.specs.Str.{string_bytes};
+ghost use Rattle.std.specs.Prelude.{◌≡◌, IfErr, IfOk, OnErr, map, option_map, string_bytes};
 ghost use Rattle.fedbundle.specs.CommandRun.{state_run};
 ghost use Rattle.local_requests.specs.Journalling.{JournalsChange};
 ghost use Rattle.local_requests.specs.Replies.{RefusesWordsLine};

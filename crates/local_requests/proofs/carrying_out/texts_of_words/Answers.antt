@@ -1,6 +1,6 @@
 use Rattle.std.proofs.Common.{◌∙◌, ◌∷◌, [], ap, map, sym}
 use Rattle.std.proofs.lemmas.List.{map-append}
-use Rattle.std.specs.Str.{string_bytes}
+use Rattle.std.specs.Prelude.{string_bytes}
 use Rattle.local_requests.proofs.ChangingFacts.{word_more}
 use Rattle.local_requests.proofs.carrying_out.texts_of_words.Goals as goal
 

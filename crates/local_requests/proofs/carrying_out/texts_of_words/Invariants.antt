@@ -1,6 +1,6 @@
 -- The texts so far, with those of the words that are left, are those of all words.
 use Rattle.std.proofs.Common.{◌≡◌, ◌++◌, drop, map}
-use Rattle.std.specs.Str.{string_bytes}
+use Rattle.std.specs.Prelude.{string_bytes}
 use Rattle.local_requests.proofs.carrying_out.texts_of_words.Given as goal
 
 abbrev pub invariant-words : goal.invariant-words

@@ -42,25 +42,25 @@ pub returns-then-is_flag_given-clause-journals : goal.returns-then-is_flag_given
 returns-then-is_flag_given-clause-journals g c =
     same_journalled (g.C.Closure.state c.args.closure.now) (g.C.Closure.state c.args.closure.now) _ c.in_ok-done.ensures.unjournalled refl
 
-pub returns-else-is_flag_given-clause-answers : goal.returns-else-is_flag_given-clause-answers
-returns-else-is_flag_given-clause-answers g c =
+pub returns-clause-answers : goal.returns-clause-answers
+returns-clause-answers g c =
     let run : CallRun = call_run c.args.call.now.name (map (option_map (λ t. t.now)) c.args.call.now.texts.items)
     (change_run (state_run (g.C.Closure.state c.args.closure.now) (g.C.Closure.state c.distrust.new.closure)) c.args.input.now) in
     distrust_called run c.in_ok-record.record c.is_flag_given-is_verbose.result c.distrust.result c.in_ok-record.ensures.says
     (flag_said _ _ _ false c.given.ensures c.is_flag_given.ensures c.if-is_flag_given.false)
-    (flag_said _ _ _ c.is_flag_given-is_verbose.result c.given-is_verbose.ensures c.is_flag_given-is_verbose.ensures refl)
+    (flag_said _ _ _ c.is_flag_given-is_verbose.result c.given-else-is_flag_given.ensures c.is_flag_given-is_verbose.ensures refl)
     c.distrust.ensures.answers
 
-pub returns-else-is_flag_given-clause-ends : goal.returns-else-is_flag_given-clause-ends
-returns-else-is_flag_given-clause-ends g c =
+pub returns-clause-ends : goal.returns-clause-ends
+returns-clause-ends g c =
     let run : CallRun = call_run c.args.call.now.name (map (option_map (λ t. t.now)) c.args.call.now.texts.items)
     (change_run (state_run (g.C.Closure.state c.args.closure.now) (g.C.Closure.state c.distrust.new.closure)) c.args.input.now) in
     distrust_call_ends run c.in_ok-record.record c.distrust.result c.in_ok-record.ensures.says
     (flag_said _ _ _ false c.given.ensures c.is_flag_given.ensures c.if-is_flag_given.false)
     c.distrust.ensures.ends
 
-pub returns-else-is_flag_given-clause-unchanged : goal.returns-else-is_flag_given-clause-unchanged
-returns-else-is_flag_given-clause-unchanged g c =
+pub returns-clause-unchanged : goal.returns-clause-unchanged
+returns-clause-unchanged g c =
     let state = state_run (g.C.Closure.state c.args.closure.now) (g.C.Closure.state c.distrust.new.closure) in
     let x = c.in_ok-record.record in
     on_any_error c.distrust.result (EndsDistrust state x) (IsAsHeld state) (distrust_unchanged state x) c.distrust.ensures.ends
