@@ -50,11 +50,7 @@ pub fn run_replica<R: Runtime<File = File, A = Global> + Net>(
     run_held(rt, alloc, &mut held, settings)
 }
 
-fn lock<R: Files<File = File>>(
-    rt: &R,
-    alloc: Global,
-    path: &str,
-) -> Result<StateLock, Exit> {
+fn lock<R: Files<File = File>>(rt: &R, alloc: Global, path: &str) -> Result<StateLock, Exit> {
     match file_at_step(Step::Lock, try_lock_state(rt, alloc, path))? {
         Some(mut lock) => {
             file_at_step(Step::Lock, lock.mark())?;
@@ -125,11 +121,7 @@ fn run_turns<C: Closure, R: Files<File = File> + Net + Clock + Eprint>(
     Ok(())
 }
 
-fn print_ready<C: Closure, R: Print>(
-    rt: &R,
-    alloc: Global,
-    closure: &C,
-) -> Result<(), Exit> {
+fn print_ready<C: Closure, R: Print>(rt: &R, alloc: Global, closure: &C) -> Result<(), Exit> {
     let digest = hex::encode(alloc, closure.config().digest().0)?;
     let receipts = closure.receipt_count();
     let distrusts = closure.distrusts().count();
