@@ -1,3 +1,6 @@
 mod PartFacts
 mod NewLineFacts
 mod RequestFacts
+mod ShownFacts
+mod CallWordFacts
+mod ChangingFacts

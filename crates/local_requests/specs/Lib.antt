@@ -1,5 +1,6 @@
 pub mod RequestLimits
 pub mod RequestBytes
+pub mod RequestWords
 pub mod Replies
 pub mod Sending
 pub mod Journalling
