@@ -45,8 +45,8 @@ returns-in-Ok-merge-clause-answers g c =
 pub returns-in-Ok-merge-clause-journals : goal.returns-in-Ok-merge-clause-journals
 returns-in-Ok-merge-clause-journals g c = merge_journals _ _ _ _ _ _ c.in_ok-new.ensures c.in-Ok-merge.ensures
 
-pub returns-in-Err-merge-clause-ends : goal.returns-in-Err-merge-clause-ends
-returns-in-Err-merge-clause-ends g c =
+pub returns-clause-ends : goal.returns-clause-ends
+returns-clause-ends g c =
     let before : c.new-source.result.reader.now ≡ c.args.input.now = cc in
     let source : DeviceRun = record {
       before = Some c.new-source.result.reader.now;
