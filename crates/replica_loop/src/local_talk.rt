@@ -1,6 +1,7 @@
 //! A connection of this machine, on which one request comes and one reply goes.
 use crate::ending::Ending;
 use crate::fresh_lines::Held;
+use crate::own_status::{OwnStatus, add_own_status, format_of};
 use closure_core::Closure;
 use local_requests::{Reply, RequestFault, RequestParts, answer_request};
 use std::alloc::Global;
@@ -8,10 +9,9 @@ use std::time::Instant;
 
 /// What a request may ask for beside what is held.
 #[derive(Clone, Copy)]
-pub(crate) struct Surroundings {
+pub(crate) struct Surroundings<'a> {
     pub(crate) now: Instant,
-    /// How many bytes the snapshot and the journal have.
-    pub(crate) state_bytes: u64,
+    pub(crate) own: OwnStatus<'a>,
 }
 
 /// The reply where a change could not be put on the disk. It takes no memory.
@@ -69,10 +69,10 @@ impl LocalTalk {
         &mut self,
         alloc: Global,
         held: &mut Held<C>,
-        around: &Surroundings,
+        around: &Surroundings<'_>,
     ) {
         match self.carry_out(alloc, held, around) {
-            Ok(reply) => self.answer = Answer::Whole(reply),
+            Ok(reply) => self.reply_with(alloc, Answer::Whole(reply)),
             Err(fault) => self.refuse(alloc, fault),
         }
     }
@@ -81,22 +81,32 @@ impl LocalTalk {
         &self,
         alloc: Global,
         held: &mut Held<C>,
-        around: &Surroundings,
+        around: &Surroundings<'_>,
     ) -> Result<Reply, RequestFault> {
         let request = self.parts.whole()?;
-        answer_request(
+        let status = format_of(alloc, request.words)?;
+        let mut reply = answer_request(
             alloc,
             &mut held.closure,
-            around.state_bytes,
+            around.own.state_bytes(),
             request.words,
             request.input,
-        )
+        )?;
+        // From here on a change may not be forgotten; the status changes nothing.
+        if let Some(format) = status {
+            add_own_status(alloc, &around.own, format, &mut reply)?;
+        }
+        Ok(reply)
+    }
+
+    fn refuse(&mut self, alloc: Global, fault: RequestFault) {
+        self.reply_with(alloc, Answer::Fault(fault.reply()));
     }
 
     // Nothing more is read, so what was read is let go.
-    fn refuse(&mut self, alloc: Global, fault: RequestFault) {
+    fn reply_with(&mut self, alloc: Global, answer: Answer) {
         self.parts = RequestParts::new(alloc);
-        self.answer = Answer::Fault(fault.reply());
+        self.answer = answer;
     }
 
     /// The lines that are to be on the disk before anything is sent.

@@ -1,5 +1,6 @@
 //! The beginning and the end of a replica that stays.
 use crate::fresh_lines::Held;
+use crate::saying::{Event, say};
 use crate::settings::Settings;
 use crate::step_fault::file_at_step;
 use crate::turn::{Works, turn};
@@ -50,11 +51,7 @@ pub fn run_replica<R: Runtime<File = File, A = Global> + Net>(
     run_held(rt, alloc, &mut held, settings)
 }
 
-fn lock<R: Files<File = File>>(
-    rt: &R,
-    alloc: Global,
-    path: &str,
-) -> Result<StateLock, Exit> {
+fn lock<R: Files<File = File>>(rt: &R, alloc: Global, path: &str) -> Result<StateLock, Exit> {
     match file_at_step(Step::Lock, try_lock_state(rt, alloc, path))? {
         Some(mut lock) => {
             file_at_step(Step::Lock, lock.mark())?;
@@ -117,19 +114,19 @@ fn run_turns<C: Closure, R: Files<File = File> + Net + Clock + Eprint>(
     settings: &Settings<'_>,
 ) -> Result<(), Exit> {
     for _ in 0..u64::MAX {
-        let done = turn(rt, alloc, held, works, events, settings);
-        if file_at_step(Step::Journal, done)? {
-            break;
+        match turn(rt, alloc, held, works, events, settings) {
+            Ok(true) => break,
+            Ok(false) => {}
+            Err(fault) => {
+                say(rt, alloc, Event::Journal(fault.why));
+                return Err(Exit::of_file(Step::Journal, fault));
+            }
         }
     }
     Ok(())
 }
 
-fn print_ready<C: Closure, R: Print>(
-    rt: &R,
-    alloc: Global,
-    closure: &C,
-) -> Result<(), Exit> {
+fn print_ready<C: Closure, R: Print>(rt: &R, alloc: Global, closure: &C) -> Result<(), Exit> {
     let digest = hex::encode(alloc, closure.config().digest().0)?;
     let receipts = closure.receipt_count();
     let distrusts = closure.distrusts().count();
