@@ -4,7 +4,7 @@ use crate::ending::Ending;
 use crate::journal::Journal;
 use crate::peers::{Peer, Peers};
 use crate::saying::code_of;
-use fedbundle::{CommandName, OptionName, given, read_request, read_status_format};
+use fedbundle::{CommandName, OptionName, command_of, given, read_request, read_status_format};
 use local_requests::{Reply, RequestFault};
 use replica_requests::{ReplyHead, read_request_words, write_reply_head};
 use status_view::StatusFormat;
@@ -40,9 +40,13 @@ pub(crate) fn format_of(alloc: Global, line: &[u8]) -> Result<Option<StatusForma
     let words = read_request_words(alloc, line)?;
     let texts: Vec<&str> = words.iter().map(|word| word.as_str()).collect(alloc)?;
     match texts.first() {
-        Some(word) if *word == CommandName::Status.text() => Ok(format_in(alloc, texts.as_slice())),
+        Some(word) if is_status(word) => Ok(format_in(alloc, texts.as_slice())),
         _ => Ok(None),
     }
+}
+
+fn is_status(word: &str) -> bool {
+    command_of(word) == Some(CommandName::Status)
 }
 
 // What is refused here is refused when the request is carried out.
