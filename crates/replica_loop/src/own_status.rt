@@ -12,6 +12,26 @@ use std::alloc::{AllocError, Global};
 use std::fmt;
 use std::fmt::{Display, Formatter};
 
+static SNAPSHOT_HEAD: &str = "# HELP fedbundle_snapshot_bytes Bytes of the snapshot.\n\
+    # TYPE fedbundle_snapshot_bytes gauge\n\
+    fedbundle_snapshot_bytes";
+
+static JOURNAL_HEAD: &str = "# HELP fedbundle_journal_bytes Bytes of the journal.\n\
+    # TYPE fedbundle_journal_bytes gauge\n\
+    fedbundle_journal_bytes";
+
+static RECEIPTS_HEAD: &str =
+    "# HELP fedbundle_peer_receipts_total Receipts that came from a peer and were not held.\n\
+    # TYPE fedbundle_peer_receipts_total counter\n";
+
+static ENDED_HEAD: &str = "# HELP fedbundle_peer_ended_well_timestamp_seconds \
+    When the last session with a peer that ended well did so.\n\
+    # TYPE fedbundle_peer_ended_well_timestamp_seconds gauge\n";
+
+static FAULT_HEAD: &str =
+    "# HELP fedbundle_peer_fault_info The fault of the last session with a peer that had one.\n\
+    # TYPE fedbundle_peer_fault_info gauge\n";
+
 /// What a running replica knows beside what it holds.
 #[derive(Clone, Copy)]
 pub(crate) struct OwnStatus<'a> {
@@ -154,26 +174,6 @@ fn push_metrics(alloc: Global, out: &mut Vec<u8>, own: &OwnStatus<'_>) -> Result
     out.extend_from_slice(FAULT_HEAD.as_bytes())?;
     push_fault_samples(alloc, out, own.peers)
 }
-
-static SNAPSHOT_HEAD: &str = "# HELP fedbundle_snapshot_bytes Bytes of the snapshot.\n\
-    # TYPE fedbundle_snapshot_bytes gauge\n\
-    fedbundle_snapshot_bytes";
-
-static JOURNAL_HEAD: &str = "# HELP fedbundle_journal_bytes Bytes of the journal.\n\
-    # TYPE fedbundle_journal_bytes gauge\n\
-    fedbundle_journal_bytes";
-
-static RECEIPTS_HEAD: &str =
-    "# HELP fedbundle_peer_receipts_total Receipts that came from a peer and were not held.\n\
-    # TYPE fedbundle_peer_receipts_total counter\n";
-
-static ENDED_HEAD: &str = "# HELP fedbundle_peer_ended_well_timestamp_seconds \
-    When the last session with a peer that ended well did so.\n\
-    # TYPE fedbundle_peer_ended_well_timestamp_seconds gauge\n";
-
-static FAULT_HEAD: &str =
-    "# HELP fedbundle_peer_fault_info The fault of the last session with a peer that had one.\n\
-    # TYPE fedbundle_peer_fault_info gauge\n";
 
 fn push_receipt_samples(
     alloc: Global,
