@@ -149,11 +149,13 @@ impl LocalTalk {
 
     /// So many bytes of the output were sent, or all where there are no more.
     pub(crate) fn wrote(&mut self, count: usize) {
-        let count = count.min(self.output().len());
         match &mut self.answer {
             Answer::Awaited => {}
-            Answer::Fault(text) => *text = &text[count..],
-            Answer::Whole(sending) => sending.wrote(count),
+            Answer::Fault(text) => *text = &text[count.min(text.len())..],
+            Answer::Whole(sending) => {
+                let count = count.min(sending.output().len());
+                sending.wrote(count);
+            }
         }
     }
 

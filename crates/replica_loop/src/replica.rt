@@ -42,7 +42,7 @@ const MOST_EVENTS: usize = 256;
 pub fn run_replica<R: Runtime<File = File, A = Global> + Net>(
     rt: &R,
     config: &Config,
-    settings: &Settings<'_>,
+    settings: &Settings<'_, '_>,
 ) -> Result<(), Exit> {
     let alloc = rt.alloc();
     let _lock = lock(rt, alloc, settings.state)?;
@@ -67,7 +67,7 @@ fn load<C: Closure, R: Files<File = File>>(
     rt: &R,
     alloc: Global,
     config: &Config,
-    settings: &Settings<'_>,
+    settings: &Settings<'_, '_>,
 ) -> Result<C, Exit> {
     let has_journal = has_journal(rt, alloc, settings.state)?;
     let has_state = file_at_step(Step::See, state_bytes(rt, settings.state))?.is_some();
@@ -94,7 +94,7 @@ fn run_held<C: Closure, R: Files<File = File> + Net + Clock + Print + Eprint>(
     rt: &R,
     alloc: Global,
     held: &mut Held<C>,
-    settings: &Settings<'_>,
+    settings: &Settings<'_, '_>,
 ) -> Result<(), Exit> {
     let mut works = Works::begin(rt, alloc, held.closure.config(), settings)?;
     let mut events = Events::with_capacity(alloc, MOST_EVENTS)?;
@@ -111,7 +111,7 @@ fn run_turns<C: Closure, R: Files<File = File> + Net + Clock + Eprint>(
     held: &mut Held<C>,
     works: &mut Works,
     events: &mut Events,
-    settings: &Settings<'_>,
+    settings: &Settings<'_, '_>,
 ) -> Result<(), Exit> {
     for _ in 0..u64::MAX {
         match turn(rt, alloc, held, works, events, settings) {

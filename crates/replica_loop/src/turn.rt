@@ -62,7 +62,7 @@ impl Works {
         rt: &R,
         alloc: Global,
         config: &Config,
-        settings: &Settings<'_>,
+        settings: &Settings<'_, '_>,
     ) -> Result<Works, Exit> {
         let now = at_step(Step::Socket, Instant::now(rt))?;
         let gates = Gates::open(rt, settings)?;
@@ -370,7 +370,7 @@ pub(crate) fn turn<C: Closure, R: Files<File = File> + Net + Clock + Eprint>(
     held: &mut Held<C>,
     works: &mut Works,
     events: &mut Events,
-    settings: &Settings<'_>,
+    settings: &Settings<'_, '_>,
 ) -> Result<bool, FileFault> {
     works.wait(rt, alloc, events);
     works.accept(rt, alloc);
