@@ -17,15 +17,15 @@ abbrev pub unsent : Sending → List ℕ
 unsent sending = left_of_head sending ++ (left_of_output sending ++ left_of_errors sending)
 
 -- the first of three that has a byte
-abbrev pub first_of : List ℕ → List ℕ → List ℕ → List ℕ
-first_of (byte ∷ head) output errors = byte ∷ head
-first_of [] (byte ∷ output) errors = byte ∷ output
-first_of [] [] errors = errors
+abbrev pub first_filled : List ℕ → List ℕ → List ℕ → List ℕ
+first_filled (byte ∷ head) output errors = byte ∷ head
+first_filled [] (byte ∷ output) errors = byte ∷ output
+first_filled [] [] errors = errors
 
 -- what is sent next: nothing as long as lines of the journal wait for the disk
 abbrev pub due_after : List ℕ → Sending → List ℕ
 due_after [] sending =
-    first_of (left_of_head sending) (left_of_output sending) (left_of_errors sending)
+    first_filled (left_of_head sending) (left_of_output sending) (left_of_errors sending)
 due_after (byte ∷ lines) sending = []
 
 abbrev pub due_part : Sending → List ℕ

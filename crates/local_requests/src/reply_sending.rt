@@ -17,7 +17,7 @@ pub struct Sending {
 }
 
 impl Sending {
-    ghost use Rattle.local_requests.specs.Sending.{due_part, first_of, left_of_errors};
+    ghost use Rattle.local_requests.specs.Sending.{due_part, first_filled, left_of_errors};
     ghost use Rattle.local_requests.specs.Sending.{left_of_head, left_of_output, unsent};
 
     /// Nothing of the reply is sent yet.
@@ -75,7 +75,7 @@ impl Sending {
     }
 
     fn next_part(&self) -> &[u8]
-        ensures { result.now ≡ first_of (left_of_head self.now) (left_of_output self.now)
+        ensures { result.now ≡ first_filled (left_of_head self.now) (left_of_output self.now)
             (left_of_errors self.now) }
     {
         let head = &self.reply.head[self.head_sent..];
