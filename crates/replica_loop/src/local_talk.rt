@@ -1,6 +1,7 @@
 //! A connection of this machine, on which one request comes and one reply goes.
 use crate::ending::Ending;
 use crate::fresh_lines::Held;
+use crate::own_status::{OwnStatus, add_own_status, format_of};
 use closure_core::Closure;
 use local_requests::{Reply, RequestFault, RequestParts, Sending, answer_request};
 use std::alloc::Global;
@@ -8,10 +9,9 @@ use std::time::Instant;
 
 /// What a request may ask for beside what is held.
 #[derive(Clone, Copy)]
-pub(crate) struct Surroundings {
+pub(crate) struct Surroundings<'a> {
     pub(crate) now: Instant,
-    /// How many bytes the snapshot and the journal have.
-    pub(crate) state_bytes: u64,
+    pub(crate) own: OwnStatus<'a>,
 }
 
 /// The reply where a change could not be put on the disk. It takes no memory.
@@ -66,10 +66,10 @@ impl LocalTalk {
         &mut self,
         alloc: Global,
         held: &mut Held<C>,
-        around: &Surroundings,
+        around: &Surroundings<'_>,
     ) {
         match self.carry_out(alloc, held, around) {
-            Ok(reply) => self.answer = Answer::Whole(Sending::new(reply)),
+            Ok(reply) => self.reply_with(alloc, Answer::Whole(Sending::new(reply))),
             Err(fault) => self.refuse(alloc, fault),
         }
     }
@@ -78,22 +78,32 @@ impl LocalTalk {
         &self,
         alloc: Global,
         held: &mut Held<C>,
-        around: &Surroundings,
+        around: &Surroundings<'_>,
     ) -> Result<Reply, RequestFault> {
         let request = self.parts.whole()?;
-        answer_request(
+        let status = format_of(alloc, request.words)?;
+        let mut reply = answer_request(
             alloc,
             &mut held.closure,
-            around.state_bytes,
+            around.own.state_bytes(),
             request.words,
             request.input,
-        )
+        )?;
+        // From here on a change may not be forgotten; the status changes nothing.
+        if let Some(format) = status {
+            add_own_status(alloc, &around.own, format, &mut reply)?;
+        }
+        Ok(reply)
+    }
+
+    fn refuse(&mut self, alloc: Global, fault: RequestFault) {
+        self.reply_with(alloc, Answer::Fault(fault.reply()));
     }
 
     // Nothing more is read, so what was read is let go.
-    fn refuse(&mut self, alloc: Global, fault: RequestFault) {
+    fn reply_with(&mut self, alloc: Global, answer: Answer) {
         self.parts = RequestParts::new(alloc);
-        self.answer = Answer::Fault(fault.reply());
+        self.answer = answer;
     }
 
     /// The lines that are to be on the disk before anything is sent.
@@ -139,11 +149,13 @@ impl LocalTalk {
 
     /// So many bytes of the output were sent, or all where there are no more.
     pub(crate) fn wrote(&mut self, count: usize) {
-        let count = count.min(self.output().len());
         match &mut self.answer {
             Answer::Awaited => {}
-            Answer::Fault(text) => *text = &text[count..],
-            Answer::Whole(sending) => sending.wrote(count),
+            Answer::Fault(text) => *text = &text[count.min(text.len())..],
+            Answer::Whole(sending) => {
+                let count = count.min(sending.output().len());
+                sending.wrote(count);
+            }
         }
     }
 
