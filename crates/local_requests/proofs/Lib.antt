@@ -1,3 +1,4 @@
 mod PartFacts
 mod NewLineFacts
 mod RequestFacts
+mod ChangeEventFacts

@@ -3,5 +3,6 @@ pub mod RequestBytes
 pub mod Replies
 pub mod Sending
 pub mod Journalling
+pub mod ChangeEvents
 pub mod RequestRun
 pub mod Inside

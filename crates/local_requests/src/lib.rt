@@ -9,6 +9,8 @@
 //! clients.
 #![tactic(auto)]
 
+pub mod laws;
+
 mod call_words;
 mod carrying_out;
 mod changing_calls;
