@@ -1,7 +1,7 @@
 -- What a replica that stays comes to hold, by the events of a world.
 use Rattle.std.proofs.Common.{◌≡◌, ◌≢◌, ℕ, ◌<◌, ◌≤◌, ◌⊎◌, inl, inr, Bool, true, false, ◌&&◌, List, [], ◌∷◌, ◌++◌, length, refl, sym, ap, ◌∙◌, subst, arith}
 use Rattle.std.proofs.Common.{append-nil, le-leb, Some}
-use Rattle.std.specs.Prelude.{slice_get}
+use Rattle.std.specs.Prelude.{Contains, slice_get}
 use Rattle.std.proofs.lemmas.Bool.{and_from, and_parts}
 use Rattle.std.specs.List.{AllByRecursion}
 use Rattle.std.specs.declared.cmp.Ordering.{Ordering}
@@ -11,9 +11,9 @@ use Rattle.receipt_core.specs.Acceptance.{IsFitting, IsMeaning, Meaning}
 use Rattle.receipt_core.specs.declared.distrust.Distrust.{Distrust}
 use Rattle.receipt_core.specs.Receipt.{Receipt, distrust_cmp, receipt_cmp}
 use Rattle.receipt_core.specs.Rising.{placed, with_item}
-use Rattle.receipt_core.proofs.RisingFacts.{Has, each_has, with_item-keeps}
+use Rattle.receipt_core.proofs.RisingFacts.{Contains-from_has, Has, Has-from_contains, with_item-keeps}
 use Rattle.replica_core.specs.Absorbing.{with_entries, with_entry}
-use Rattle.replica_core.specs.Convergence.{Gains, only_receipt, only_record}
+use Rattle.replica_core.specs.Convergence.{Gains, IsPartOf, only_receipt, only_record}
 use Rattle.replica_core.specs.Session.{HaveMessage, give_of, have_of, state_of}
 use Rattle.replica_core.specs.State.{State, ids_held, is_within_limits, joined, no_state}
 use Rattle.replica_core.specs.World.{Message, Rules, World, WorldRun, apply, empty_world, gained, gains, happens, is_replica, rules_in, rules_of, run_from}
@@ -21,7 +21,8 @@ use Rattle.replica_core.specs.World.{give_sent, have_sent, is_fitting, is_known,
 use Rattle.replica_core.specs.declared.entry.Entry.{Entry}
 use Rattle.replica_core.specs.declared.entry.Entry.TheVariants.{Record, Receipt as AReceipt}
 use Rattle.replica_core.specs.declared.event.Event.TheVariants.{Answer, Ask, Revoke, Take}
-use Rattle.replica_core.proofs.EventFacts.{at-here, at-other, replica-true}
+use Rattle.replica_core.proofs.ContainsFacts.{each-from}
+use Rattle.replica_core.proofs.EventFacts.{at-here, at-other, part-refl, part-trans, replica-true}
 use Rattle.replica_core.proofs.ExchangeFacts.{answered-is, asked-is, content_of, with_message}
 use Rattle.replica_sync.proofs.PullingFacts.{longer_with_items}
 use Rattle.replica_service.specs.Journal.{entry_text}
@@ -45,41 +46,41 @@ item-or-same : {A : Type 0} (cmp : A → A → Ordering) (item : A) (set : List 
 item-or-same cmp item [] = inl (inl refl)
 item-or-same cmp item (head ∷ rest) = placed-or-same (cmp item head) item head rest (with_item cmp item rest) (item-or-same cmp item rest)
 
--- the second state has all that the first one has
-record IsBelow (small large : State) : Type 0 where
-  pub receipts : (r : Receipt) → Has small.held r → Has large.held r
-  pub records : (x : Distrust) → Has small.records x → Has large.records x
+-- The second state has all that the first one has, and no fewer.
+pub record IsBelow (small large : State) : Type 0 where
+  pub part : IsPartOf small large
   pub few : length small.held ≤ length large.held
   pub few_records : length small.records ≤ length large.records
 
-below-itself : (state : State) → IsBelow state state
-below-itself state = record { receipts = λ r h. h; records = λ x h. h; few = omega arith; few_records = omega arith }
+pub below-itself : (state : State) → IsBelow state state
+below-itself state = record { part = part-refl state; few = omega arith; few_records = omega arith }
 
 below-both : (a b c : State) → IsBelow a b → IsBelow b c → IsBelow a c
 below-both a b c p q = record {
-  receipts = λ r h. q.receipts r (p.receipts r h);
-  records = λ x h. q.records x (p.records x h);
+  part = part-trans a b c p.part q.part;
   few = let first = p.few in let second = q.few in omega (arith, first, second);
   few_records = let first = p.few_records in let second = q.few_records in omega (arith, first, second);
 }
 
+-- A set with one more item has what it had.
+kept-with : {A : Type 0} (cmp : A → A → Ordering) (item : A) (set : List A) (x : A) → Contains set x → Contains (with_item cmp item set) x
+kept-with cmp item set x c = Contains-from_has (with_item cmp item set) x (with_item-keeps cmp item set x (Has-from_contains set x c))
+
 -- With an entry no less is held.
-below-one : (entry : Entry) (m : Meaning) → IsBelow (state_of m) (state_of (with_entry entry m))
+pub below-one : (entry : Entry) (m : Meaning) → IsBelow (state_of m) (state_of (with_entry entry m))
 below-one (Record x) m = record {
-  receipts = λ r h. h;
-  records = λ y h. with_item-keeps distrust_cmp x m.records y h;
+  part = record { receipts = λ r h. h; distrusts = λ y h. kept-with distrust_cmp x m.records y h };
   few = omega arith;
   few_records = longer_with_items distrust_cmp (x ∷ []) m.records;
 }
 below-one (AReceipt r) m = record {
-  receipts = λ s h. with_item-keeps receipt_cmp r m.held s h;
-  records = λ y h. h;
+  part = record { receipts = λ s h. kept-with receipt_cmp r m.held s h; distrusts = λ y h. h };
   few = longer_with_items receipt_cmp (r ∷ []) m.held;
   few_records = omega arith;
 }
 
 -- Nor with many.
-below-all : (entries : List Entry) (m : Meaning) → IsBelow (state_of m) (state_of (with_entries entries m))
+pub below-all : (entries : List Entry) (m : Meaning) → IsBelow (state_of m) (state_of (with_entries entries m))
 below-all [] m = below-itself (state_of m)
 below-all (entry ∷ entries) m =
     below-both (state_of m) (state_of (with_entry entry m)) (state_of (with_entries entries (with_entry entry m)))
@@ -97,13 +98,13 @@ same-config (entry ∷ entries) m = same-config entries (with_entry entry m) ∙
 -- ---- what a replica of the configuration can hold
 
 -- all of it fits, and it is not too much
-record IsHoldable (c : Configuration) (state : State) : Type 0 where
+pub record IsHoldable (c : Configuration) (state : State) : Type 0 where
   pub fitting : AllByRecursion (IsFitting c) state.held
   pub domains : AllByRecursion (λ x. HasDomain c x.domain) state.records
   pub few : length state.held ≤ 65536
   pub few_records : length state.records ≤ 4096
 
-meaning-holdable : (c : Configuration) (m : Meaning) → m.config ≡ c → IsMeaning m → IsHoldable c (state_of m)
+pub meaning-holdable : (c : Configuration) (m : Meaning) → m.config ≡ c → IsMeaning m → IsHoldable c (state_of m)
 meaning-holdable c m e valid = record {
   fitting = subst (λ (d : Configuration). AllByRecursion (IsFitting d) m.held) e valid.fitting;
   domains = subst (λ (d : Configuration). AllByRecursion (λ x. HasDomain d x.domain) m.records) e valid.domains;
@@ -112,7 +113,7 @@ meaning-holdable c m e valid = record {
 }
 
 -- What is below it is within the limits.
-below-within : (c : Configuration) (small large : State) → IsBelow small large → IsHoldable c large → is_within_limits small ≡ true
+pub below-within : (c : Configuration) (small large : State) → IsBelow small large → IsHoldable c large → is_within_limits small ≡ true
 below-within c small large part is =
     let less = part.few in
     let few = is.few in
@@ -202,7 +203,8 @@ module _ (takes : (past : WorldRun) (i : ℕ) (r : Receipt) → i < past.replica
       gain-is w i (state_of m) (only_record x) (is_replica (rules_of c n) i && is_known c x.domain) here
       (elim (item-or-same distrust_cmp x m.records) [
         | inl h ↦ inl (and_from _ _ (replica-true (rules_of c n) i l)
-            (record-passes revokes c x (each_has (λ y. HasDomain c y.domain) large.records x can.domains (below.records x h))))
+            (record-passes revokes c x (each-from (λ y. HasDomain c y.domain) large.records can.domains x
+            (below.part.distrusts x (Contains-from_has (with_item distrust_cmp x m.records) x h)))))
         | inr e ↦ inr (λ t. record { held = m.held; records = e t })
       ])
       (below-within c (state_of (with_entry (Record x) m)) large below can)
@@ -210,7 +212,8 @@ module _ (takes : (past : WorldRun) (i : ℕ) (r : Receipt) → i < past.replica
       gain-is w i (state_of m) (only_receipt r) (is_replica (rules_of c n) i && is_fitting c r) here
       (elim (item-or-same receipt_cmp r m.held) [
         | inl h ↦ inl (and_from _ _ (replica-true (rules_of c n) i l)
-            (receipt-passes takes c r (each_has (IsFitting c) large.held r can.fitting (below.receipts r h))))
+            (receipt-passes takes c r (each-from (IsFitting c) large.held can.fitting r
+            (below.part.receipts r (Contains-from_has (with_item receipt_cmp r m.held) r h)))))
         | inr e ↦ inr (λ t. record { held = e t; records = m.records })
       ])
       (below-within c (state_of (with_entry (AReceipt r) m)) large below can)

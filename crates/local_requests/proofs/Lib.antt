@@ -2,3 +2,4 @@ mod PartFacts
 mod NewLineFacts
 mod RequestFacts
 mod ChangeEventFacts
+mod PieceEventFacts

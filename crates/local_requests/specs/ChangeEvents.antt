@@ -1,7 +1,10 @@
 -- A replica that stays, in a world of replicas: the events by which what it holds changes, and the
 -- messages that it sends.
-use Rattle.std.specs.Prelude.{◌≡◌, ◌++◌, ℕ, List, flat_map, map}
-use Rattle.receipt_core.specs.Acceptance.{Meaning}
+use Rattle.std.specs.Prelude.{◌≡◌, ◌++◌, ℕ, List, [], ◌∷◌, flat_map, map}
+use Rattle.std.specs.List.{AllByRecursion}
+use Rattle.fed_config.specs.Configuration.{Configuration}
+use Rattle.receipt_core.specs.Acceptance.{IsMeaning, Meaning}
+use Rattle.replica_core.specs.Convergence.{IsPartOf}
 use Rattle.replica_core.specs.Session.{GiveMessage, HaveMessage, state_of}
 use Rattle.replica_core.specs.World.{Message, Rules, World, give_sent, have_sent, run_from}
 use Rattle.replica_core.specs.declared.entry.Entry.{Entry}
@@ -9,6 +12,7 @@ use Rattle.replica_core.specs.declared.entry.Entry.TheVariants.{Record, Receipt 
 use Rattle.replica_core.specs.declared.event.Event.{Event}
 use Rattle.replica_core.specs.declared.event.Event.TheVariants.{Revoke, Take}
 use Rattle.replica_service.specs.Journal.{entry_text}
+use Rattle.replica_service.specs.PulledPieces.{IsPulledGive, PulledGive, PulledPiece, pieces_of}
 
 -- ---- changes
 
@@ -32,6 +36,28 @@ pub record AppendsTo (rules : Rules) (w : World) (i : ℕ) (before after : List 
   pub text : List ℕ
   pub appended : after ≡ before ++ text
   pub brings : BringsTo rules w i text m
+
+-- ---- answers that come in pieces
+
+-- Before and after the piece a replica of the configuration holds this.
+pub record IsPieceOf (config : Configuration) (c : PulledPiece) : Type 0 where
+  pub own : c.old.config ≡ config
+  pub old : IsMeaning c.old
+  pub new : IsMeaning c.new
+
+-- What was held before the pieces, and what is held after each of them, is held when the next one
+-- comes; more may be.
+abbrev pub LosesNothing : Meaning → List PulledPiece → Type 0
+LosesNothing before [] = Unit {0}
+LosesNothing before (c ∷ came) = IsPartOf (state_of before) (state_of c.old)
+    × LosesNothing c.new came
+
+-- The answer about the bucket came in these pieces, and between them what is held only grew.
+pub record IsPulledAmid (config : Configuration) (bucket : ℕ) (g : PulledGive) : Type 0 where
+  pub give : IsPulledGive config bucket g
+  pub each : AllByRecursion (IsPieceOf config) (pieces_of g)
+  pub before : Meaning
+  pub grows : LosesNothing before (pieces_of g)
 
 -- ---- messages
 
