@@ -1,7 +1,7 @@
 -- What a replica holds by the pieces of an answer, as it holds it in a world by taking the answer's first lines.
-use Rattle.std.proofs.Common.{◌≡◌, ℕ, zero, suc, ◌+◌, ◌-◌, ◌<◌, ◌×◌, inl, inr, Bool, true, List, [], ◌∷◌, ◌++◌, length, map, take, refl, sym, ap, ◌∙◌, subst, arith}
-use Rattle.std.proofs.Common.{append-nil, append_assoc, Option, Some, length-append}
-use Rattle.std.specs.Prelude.{Contains, slice_get}
+use Rattle.std.proofs.Common.{◌≡◌, ℕ, zero, suc, ◌-◌, ◌<◌, inl, inr, Bool, true, List, [], ◌∷◌, ◌++◌, length, take, refl, sym, ap, ◌∙◌}
+use Rattle.std.proofs.Common.{append-nil, append_assoc, arith, subst, Option, Some}
+use Rattle.std.specs.Prelude.{slice_get}
 use Rattle.std.proofs.Math.Seq.{take-append_seam}
 use Rattle.std.proofs.lemmas.List.{length-map, take-map}
 use Rattle.std.proofs.lemmas.List.Sums.{fold-append}
@@ -126,7 +126,7 @@ content-formed content is =
 
 -- ---- one piece
 
--- Of the entries that were done and those that come, these were taken with the piece c and before it, and the later pieces take the rest.
+-- Of the entries that were done and those that come, these were taken up to the piece c, and the later pieces take the rest.
 record IsTurn (back : List PulledPiece) (c : PulledPiece) (done entries : List Entry) : Type 0 where
   pub taken : List Entry
   pub rest : List Entry
@@ -180,7 +180,8 @@ later-turn config (d ∷ front) back c done (entry ∷ entries) before each grow
 -- ---- in a world
 
 -- the configuration stays
-piece-config : (config : Configuration) (front back : List PulledPiece) (c : PulledPiece) → AllByRecursion (IsPieceOf config) (front ++ c ∷ back) → IsPieceOf config c
+piece-config : (config : Configuration) (front back : List PulledPiece) (c : PulledPiece) → AllByRecursion (IsPieceOf config) (front ++ c ∷ back)
+    → IsPieceOf config c
 piece-config config [] back c each = each.0
 piece-config config (d ∷ front) back c each = piece-config config front back c each.1
 
@@ -244,9 +245,11 @@ pub last-in-world : (config : Configuration) (bucket n i answerer have place : �
 last-in-world config bucket n i answerer have place w g l amid here sent =
     let found = turn-of config bucket g g.before [] g.last amid refl in
     let turn = found.0 in
-    let all : entries_of g.give.content ≡ turn.taken = turn.parts ∙ ap (λ (rest : List Entry). turn.taken ++ rest) (none-left turn.rest turn.later) ∙ append-nil turn.taken in
+    let all : entries_of g.give.content ≡ turn.taken =
+    turn.parts ∙ ap (λ (rest : List Entry). turn.taken ++ rest) (none-left turn.rest turn.later) ∙ append-nil turn.taken in
     let same : joined (state_of g.last.old) g.give.content ≡ state_of g.last.new =
-    sym (with-content g.last.old g.give.content) ∙ ap (λ (entries : List Entry). state_of (with_entries entries g.last.old)) all ∙ ap state_of turn.is in
+    sym (with-content g.last.old g.give.content) ∙ ap (λ (entries : List Entry). state_of (with_entries entries g.last.old)) all
+    ∙ ap state_of turn.is in
     let room = ap is_within_limits same ∙ meaning-fits g.last.new found.1.new in
     (ap (λ (state : State). is_within_limits (joined state g.give.content)) here ∙ room,
     whole-joins (rules_of config n) w i place answerer have g.give.content (state_of g.last.old) l here sent room ∙ ap (with_state w i) same)

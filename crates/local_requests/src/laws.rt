@@ -64,8 +64,8 @@ pub fn world_of_changes()
 /// `replica_core::laws::exchange` says what that brings.
 ///
 /// - `grows`: where receipts and records come to be held, nothing is lost.
-/// - `pieces`: after a piece the replica holds what it holds in the world by taking so many lines of
-///   the answer, and nothing else changes there.
+/// - `pieces`: after a piece the replica holds what it holds in the world by taking so many lines
+///   of the answer, and nothing else changes there.
 /// - `last_piece`: so it is after the last one with the whole answer, which is not too much.
 pub fn world_of_pieces()
     ensures grows { (m : Meaning) (entries : List Entry)
