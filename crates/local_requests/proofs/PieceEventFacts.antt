@@ -68,12 +68,21 @@ now-holds m valid (AReceipt r) form =
 
 -- ---- the first lines of an answer
 
+-- the first of no items
+take-none : {A : Type 0} (n : ℕ) → take {A = A} n [] ≡ []
+take-none zero = refl
+take-none (suc n) = refl
+
 -- the first of two lists
 take-both : {A : Type 0} (n : ℕ) (xs ys : List A) → take n (xs ++ ys) ≡ take n xs ++ take (n - length xs) ys
-take-both n [] ys = refl
-take-both zero (x ∷ xs) ys = refl
+take-both n [] ys =
+    let same : n ≡ n - 0 = omega arith in
+    ap (λ k. take k ys) same ∙ ap (λ front. front ++ take (n - 0) ys) (sym (take-none n))
+take-both zero (x ∷ xs) ys =
+    let none : 0 ≡ 0 - length (x ∷ xs) = omega arith in
+    ap (λ k. take k ys) none
 take-both (suc n) (x ∷ xs) ys =
-    let less : suc n - suc (length xs) ≡ n - length xs = omega arith in
+    let less : suc n - length (x ∷ xs) ≡ n - length xs = omega arith in
     ap (λ rest. x ∷ rest) (take-both n xs ys) ∙ ap (λ k. x ∷ (take n xs ++ take k ys)) (sym less)
 
 -- The entries of an answer's first lines are its first entries.
