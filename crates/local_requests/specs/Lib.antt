@@ -4,5 +4,6 @@ pub mod RequestWords
 pub mod Replies
 pub mod Sending
 pub mod Journalling
+pub mod ChangeEvents
 pub mod RequestRun
 pub mod Inside
