@@ -195,7 +195,6 @@ only-run rules (entry ∷ entries) i w =
 
 module _ (takes : (past : WorldRun) (i : ℕ) (r : Receipt) → i < past.replicas → IsFitting past.config r → Gains past (Take i r) i (only_receipt r))
     (revokes : (past : WorldRun) (i : ℕ) (x : Distrust) → i < past.replicas → HasDomain past.config x.domain → Gains past (Revoke i x) i (only_record x)) where
-
   -- By the event of an entry it is held, where that is part of what can be held.
   entry-is : (c : Configuration) (n i : ℕ) → i < n → (entry : Entry) (m : Meaning) (w : World) (large : State) → w.now i ≡ state_of m
       → IsBelow (state_of (with_entry entry m)) large → IsHoldable c large → (happens (rules_of c n) w (event_of i entry)).now i ≡ state_of (with_entry entry m)

@@ -1,5 +1,6 @@
 -- What the commands that show what is held answer over memory, and what is replied to their calls.
-use Rattle.std.proofs.Common.{◌≡◌, inl, inr, ℕ, ℤ, Bool, if◌then◌else◌, List, [], ◌++◌, Some, Ok, Err, Result, IfErr, IfOk, true, false, refl, sym, ap, ◌∙◌, subst}
+use Rattle.std.proofs.Common.{◌≡◌, inl, inr, ℕ, ℤ, Bool, if◌then◌else◌, List, [], ◌++◌, Some, Ok, Err, Result, IfErr, IfOk}
+use Rattle.std.proofs.Common.{true, false, refl, sym, ap, ◌∙◌, subst}
 use Rattle.std.specs.Int.{from_bool}
 use Rattle.spiffe_name.specs.TrustDomain.{IsDomainText, RefusesDomain}
 use Rattle.spiffe_name.specs.declared.error.NameError.{NameError}

@@ -27,5 +27,6 @@ returns-clause-answers g c = record {
   is_text = c.in_ok-shown.ensures.answers.0;
   warned = c.in_ok-shown.shown.is_warned;
   is_warned = c.in_ok-shown.ensures.answers.1;
-  replied = warned_status _ _ _ _ c.in_ok-shown.shown.is_warned c.new.ensures.items (c.from-ended.ensures ∙ warning_byte c.in_ok-shown.shown.is_warned) c.in_ok-of_streams.ensures;
+  replied = warned_status _ _ _ _ c.in_ok-shown.shown.is_warned c.new.ensures.items
+      (c.from-ended.ensures ∙ warning_byte c.in_ok-shown.shown.is_warned) c.in_ok-of_streams.ensures;
 }
