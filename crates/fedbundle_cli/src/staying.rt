@@ -24,7 +24,7 @@ pub(crate) fn stay(rt: &HostRuntime, config: &Config, call: &Call<'_>) -> Result
     Ok(0)
 }
 
-fn settings_of<'a>(call: &Call<'a>, peers: &'a [SocketAddr]) -> Result<Settings<'a>, Exit> {
+fn settings_of<'a, 'p>(call: &Call<'a>, peers: &'p [SocketAddr]) -> Result<Settings<'a, 'p>, Exit> {
     let manner = manner_of(call)?;
     Ok(Settings {
         state: wanted(call, OptionName::State)?,

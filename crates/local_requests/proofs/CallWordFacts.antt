@@ -1,5 +1,6 @@
 -- The words of the options of a request.
-use Rattle.std.proofs.Common.{◌≡◌, ℕ, ◌+◌, ◌<◌, List, [], ◌∷◌, ◌++◌, map, drop, length, not, Bool, Option, option_to_list, refl, sym, ap, ◌∙◌, append_assoc, arith}
+use Rattle.std.proofs.Common.{◌≡◌, ℕ, ◌+◌, ◌<◌, List, [], ◌∷◌, ◌++◌, map, drop, length, not, Bool, Option, option_to_list}
+use Rattle.std.proofs.Common.{refl, sym, ap, ◌∙◌, append_assoc, arith}
 use Rattle.fedbundle.specs.Words.{is_place}
 use Rattle.fedbundle.specs.declared.command_name.OptionName.{OptionName}
 use Rattle.fedbundle.specs.declared.command_name.OptionName.TheVariants.{At}

@@ -4,3 +4,5 @@ mod RequestFacts
 mod ShownFacts
 mod CallWordFacts
 mod ChangingFacts
+mod ChangeEventFacts
+mod PieceEventFacts

@@ -1,5 +1,7 @@
 -- What the commands that show what is held answer over memory, and what is replied to their calls.
-use Rattle.std.proofs.Common.{◌≡◌, inl, inr, ℕ, ℤ, Bool, if◌then◌else◌, List, [], ◌++◌, Some, Ok, Err, Result, IfErr, IfOk, true, false, refl, sym, ap, ◌∙◌, subst}
+use Rattle.std.proofs.Common.{◌≡◌, inl, inr, ℕ, ℤ, Bool, if◌then◌else◌, List, [], ◌++◌, Some, Ok, Err, Result, IfErr, IfOk}
+use Rattle.std.proofs.Common.{true, false, refl, sym, ap, ◌∙◌, subst}
+use Rattle.std.specs.Int.{from_bool}
 use Rattle.spiffe_name.specs.TrustDomain.{IsDomainText, RefusesDomain}
 use Rattle.spiffe_name.specs.declared.error.NameError.{NameError}
 use Rattle.receipt_core.specs.Acceptance.{Meaning}
@@ -209,6 +211,11 @@ replied Is reply output is with = record {
   status = with.status;
   goes_on = with.goes_on;
 }
+
+-- the byte of whether there is a warning
+pub warning_byte : (warned : Bool) → from_bool warned ≡ (if warned then 1 else 0)
+warning_byte true = refl
+warning_byte false = refl
 
 -- the status of a replica is replied, and a warning is its exit status
 pub warned_status : (reply : Reply) (text errors : List ℕ) (status : ℕ) (warned : Bool) → errors ≡ [] → status ≡ (if warned then 1 else 0)

@@ -17,6 +17,10 @@ const MOST_CONNECTIONS: usize = 128;
 
 const MOST_LOCAL: usize = 64;
 
+/// The most on which other replicas ask: however many come, there is room for this machine, for a
+/// reply that there are too many of that, and for a pull.
+const MOST_SERVED: usize = 48;
+
 /// The number of the first connection; those below it are of the gates.
 const FIRST_SERIAL: usize = 2;
 
@@ -40,6 +44,22 @@ impl ConnectionTable {
     /// Whether one more connection may come.
     pub(crate) fn has_room(&self) -> bool {
         self.connections.len() < MOST_CONNECTIONS
+    }
+
+    /// Whether one more connection may come on which this is said.
+    pub(crate) fn has_room_for(&self, talk: &Talk) -> bool {
+        match talk {
+            Talk::Served(_) => self.has_room() && self.served_count() < MOST_SERVED,
+            Talk::Local(_) | Talk::Pull(_) => self.has_room(),
+        }
+    }
+
+    fn served_count(&self) -> usize {
+        let served = self
+            .connections
+            .iter()
+            .filter(|conn| matches!(conn.talk, Talk::Served(_)));
+        served.count()
     }
 
     /// Whether one more connection of this machine may come.
@@ -88,7 +108,7 @@ impl ConnectionTable {
         &mut self,
         alloc: Global,
         held: &mut Held<C>,
-        around: &Surroundings,
+        around: &Surroundings<'_>,
     ) {
         for conn in &mut self.connections {
             conn.read(alloc, held, around, &mut self.buffer);
@@ -114,12 +134,10 @@ impl ConnectionTable {
         }
     }
 
-    /// It could not be put there.
+    /// It could not be put there: requests are told so, and nobody else is told anything.
     pub(crate) fn fail(&mut self) {
         for conn in &mut self.connections {
-            if let Talk::Local(talk) = &mut conn.talk {
-                talk.fail();
-            }
+            conn.fail();
         }
     }
 

@@ -30,8 +30,16 @@ pub(crate) struct Gates {
     pub(crate) poll: Poll,
     local: UnixListener,
     gossip: Option<TcpListener>,
-    local_waits: bool,
-    gossip_waits: bool,
+    at_local: Queue,
+    at_gossip: Queue,
+}
+
+/// What is known of those who wait at a listener.
+#[derive(Clone, Copy)]
+struct Queue {
+    // Whether somebody may wait.
+    is_filled: bool,
+    // When the next accept is tried, after one failed.
     closed_until: Option<Instant>,
 }
 
@@ -42,6 +50,8 @@ pub(crate) enum Arrival {
     Came(Socket, Option<SocketAddr>),
     /// Nobody waits.
     Nobody,
+    /// The one who waited has left, or a signal came. Others may wait.
+    Left,
     /// The system refused it.
     Failed,
 }
@@ -49,10 +59,7 @@ pub(crate) enum Arrival {
 impl Gates {
     /// Listens at both. The lock of the state is held, so a socket's file on which nobody listens
     /// is that of a replica that has ended.
-    pub(crate) fn open<R: Files + Net>(
-        rt: &R,
-        settings: &Settings<'_>,
-    ) -> Result<Gates, Exit> {
+    pub(crate) fn open<R: Files + Net>(rt: &R, settings: &Settings<'_, '_>) -> Result<Gates, Exit> {
         let poll = at_step(Step::Socket, Poll::new(rt))?;
         free_path(rt, settings.socket)?;
         let local = at_step(Step::Socket, open_local(rt, &poll, settings.socket))?;
@@ -64,50 +71,42 @@ impl Gates {
             poll,
             local,
             gossip,
-            local_waits: false,
-            gossip_waits: false,
-            closed_until: None,
+            at_local: Queue::new(),
+            at_gossip: Queue::new(),
         })
     }
 
     /// The poll reports that somebody waits.
     pub(crate) fn mark(&mut self, gate: usize) {
         match gate {
-            LOCAL_GATE => self.local_waits = true,
-            GOSSIP_GATE => self.gossip_waits = true,
+            LOCAL_GATE => self.at_local.is_filled = true,
+            GOSSIP_GATE => self.at_gossip.is_filled = true,
             _ => {}
         }
     }
 
     /// How long to wait before the next accept: `None` where nobody waits.
     pub(crate) fn time_left(&self, now: Instant) -> Option<Duration> {
-        if !self.local_waits && !self.gossip_waits {
-            return None;
-        }
-        match self.closed_until {
-            Some(until) => Some(until.duration_since(now)),
-            None => Some(Duration::ZERO),
+        match (self.at_local.time_left(now), self.at_gossip.time_left(now)) {
+            (Some(local), Some(gossip)) => Some(local.min(gossip)),
+            (local, gossip) => local.or(gossip),
         }
     }
 
     /// The next connection of this machine.
     pub(crate) fn accept_local(&mut self, now: Instant) -> Arrival {
-        if !self.local_waits || !self.is_open(now) {
+        if !self.at_local.is_open(now) {
             return Arrival::Nobody;
         }
-        let accepted = self.local.accept();
-        match accepted {
+        match self.local.accept() {
             Ok((stream, _)) => Arrival::Came(Socket::Unix(stream), None),
-            Err(error) => {
-                self.local_waits = self.is_to_try_again(&error, now);
-                arrival_of(&error)
-            }
+            Err(error) => self.at_local.note(&error, now),
         }
     }
 
     /// The next connection of another replica.
     pub(crate) fn accept_gossip(&mut self, now: Instant) -> Arrival {
-        if !self.gossip_waits || !self.is_open(now) {
+        if !self.at_gossip.is_open(now) {
             return Arrival::Nobody;
         }
         let Some(listener) = &self.gossip else {
@@ -119,43 +118,54 @@ impl Gates {
                 let _ = stream.set_nodelay(true);
                 Arrival::Came(Socket::Tcp(stream), Some(peer))
             }
-            Err(error) => {
-                self.gossip_waits = self.is_to_try_again(&error, now);
-                arrival_of(&error)
-            }
+            Err(error) => self.at_gossip.note(&error, now),
+        }
+    }
+}
+
+impl Queue {
+    fn new() -> Queue {
+        Queue {
+            is_filled: false,
+            closed_until: None,
         }
     }
 
-    // Whether accepts are tried now.
+    // How long to wait before the next accept: `None` where nobody waits.
+    fn time_left(&self, now: Instant) -> Option<Duration> {
+        if !self.is_filled {
+            return None;
+        }
+        match self.closed_until {
+            Some(until) => Some(until.duration_since(now)),
+            None => Some(Duration::ZERO),
+        }
+    }
+
+    // Whether an accept is to be tried now.
     fn is_open(&mut self, now: Instant) -> bool {
         let until = self.closed_until.unwrap_or(now);
-        if now < until {
+        if !self.is_filled || now < until {
             return false;
         }
         self.closed_until = None;
         true
     }
 
-    // Whether somebody may still wait. After a failure accepts pause, so that failures that come
-    // one after another take no processor.
-    fn is_to_try_again(&mut self, error: &io::Error, now: Instant) -> bool {
-        if is_nobody(error) {
-            return false;
+    // An accept gave nobody. After a failure the next one waits, so that failures that come one
+    // after another take no processor.
+    fn note(&mut self, error: &io::Error, now: Instant) -> Arrival {
+        match error.kind() {
+            ErrorKind::WouldBlock => {
+                self.is_filled = false;
+                Arrival::Nobody
+            }
+            ErrorKind::ConnectionAborted | ErrorKind::Interrupted => Arrival::Left,
+            _ => {
+                self.closed_until = now.checked_add(Duration::from_millis(PAUSE_MILLIS));
+                Arrival::Failed
+            }
         }
-        self.closed_until = now.checked_add(Duration::from_millis(PAUSE_MILLIS));
-        true
-    }
-}
-
-fn is_nobody(error: &io::Error) -> bool {
-    error.kind() == ErrorKind::WouldBlock
-}
-
-fn arrival_of(error: &io::Error) -> Arrival {
-    if is_nobody(error) {
-        Arrival::Nobody
-    } else {
-        Arrival::Failed
     }
 }
 

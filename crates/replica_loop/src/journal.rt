@@ -31,8 +31,8 @@ impl Journal {
         let file = new_journal(files, alloc, config, path)?;
         let snapshot_bytes = state_bytes(files, path)?.unwrap_or(0);
         Ok(Journal {
+            bytes: file.metadata()?.len(),
             file,
-            bytes: 0,
             is_synced: true,
             snapshot_bytes,
             fold_at: LONG_JOURNAL.max(snapshot_bytes / 2),
@@ -72,8 +72,13 @@ impl Journal {
         self.fold_at = self.bytes.saturating_add(LONG_JOURNAL);
     }
 
-    /// How many bytes the snapshot has, and the journal's lines without its first.
-    pub(crate) fn state_bytes(&self) -> u64 {
-        self.snapshot_bytes.saturating_add(self.bytes)
+    /// How many bytes the snapshot has.
+    pub(crate) fn snapshot_bytes(&self) -> u64 {
+        self.snapshot_bytes
+    }
+
+    /// How many bytes the journal has.
+    pub(crate) fn bytes(&self) -> u64 {
+        self.bytes
     }
 }

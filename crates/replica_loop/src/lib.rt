@@ -8,7 +8,8 @@
 //! `replica` begins and ends a replica, and `turn` is one round of the loop: what came is read, the
 //! changes go to the journal (`journal`), and only then anything is written. Connections come in at
 //! the `gates`. `connection_table` has them, `live_connection` is one of them, and what is said on
-//! it is a `talk`. `client` is the other side of a local request.
+//! it is a `talk`. `own_status` is what `status` shows beside what is held. `client` is the other
+//! side of a local request.
 #![tactic(auto)]
 
 mod client;
@@ -19,6 +20,7 @@ mod gates;
 mod journal;
 mod live_connection;
 mod local_talk;
+mod own_status;
 mod peers;
 mod pull_talk;
 mod replica;

@@ -92,7 +92,7 @@ impl Connection {
         &mut self,
         alloc: Global,
         held: &mut Held<C>,
-        around: &Surroundings,
+        around: &Surroundings<'_>,
         buffer: &mut [u8],
     ) {
         if self.ending.is_some() || !self.is_connected {
@@ -112,7 +112,7 @@ impl Connection {
         &mut self,
         alloc: Global,
         held: &mut Held<C>,
-        around: &Surroundings,
+        around: &Surroundings<'_>,
         buffer: &mut [u8],
     ) -> Result<(), Ending> {
         let mut left = buffer.len();
@@ -132,7 +132,7 @@ impl Connection {
         &mut self,
         alloc: Global,
         held: &mut Held<C>,
-        around: &Surroundings,
+        around: &Surroundings<'_>,
         buffer: &mut [u8],
     ) -> Result<usize, Ending> {
         match self.socket.read(buffer) {
@@ -152,6 +152,14 @@ impl Connection {
             }
             Progress::Interrupted => Ok(0),
             Progress::Failed => Err(Ending::Fault(SyncError::Io)),
+        }
+    }
+
+    /// A change could not be put on the disk: a request is told so, and another replica nothing.
+    pub(crate) fn fail(&mut self) {
+        match &mut self.talk {
+            Talk::Local(talk) => talk.fail(),
+            Talk::Served(_) | Talk::Pull(_) => self.ending = Some(Ending::Fault(SyncError::Io)),
         }
     }
 

@@ -1,17 +1,17 @@
 //! A connection of this machine, on which one request comes and one reply goes.
 use crate::ending::Ending;
 use crate::fresh_lines::Held;
+use crate::own_status::{OwnStatus, add_own_status, format_of};
 use closure_core::Closure;
-use local_requests::{Reply, RequestFault, RequestParts, answer_request};
+use local_requests::{Reply, RequestFault, RequestParts, Sending, answer_request};
 use std::alloc::Global;
 use std::time::Instant;
 
 /// What a request may ask for beside what is held.
 #[derive(Clone, Copy)]
-pub(crate) struct Surroundings {
+pub(crate) struct Surroundings<'a> {
     pub(crate) now: Instant,
-    /// How many bytes the snapshot and the journal have.
-    pub(crate) state_bytes: u64,
+    pub(crate) own: OwnStatus<'a>,
 }
 
 /// The reply where a change could not be put on the disk. It takes no memory.
@@ -22,7 +22,6 @@ static DISK_FAILED: &[u8] = b"{\"errors\":17,\"output\":0,\"status\":3}\nfedbund
 pub(crate) struct LocalTalk {
     parts: RequestParts,
     answer: Answer,
-    written: usize,
 }
 
 // What is being sent.
@@ -30,9 +29,9 @@ pub(crate) struct LocalTalk {
 enum Answer {
     // Nothing, as long as the request comes.
     Awaited,
-    // A reply that says why there is none of a command.
+    // What is left of a reply that says why there is none of a command.
     Fault(&'static [u8]),
-    Whole(Reply),
+    Whole(Sending),
 }
 
 impl LocalTalk {
@@ -40,7 +39,6 @@ impl LocalTalk {
         LocalTalk {
             parts: RequestParts::new(alloc),
             answer: Answer::Awaited,
-            written: 0,
         }
     }
 
@@ -49,7 +47,6 @@ impl LocalTalk {
         LocalTalk {
             parts: RequestParts::new(alloc),
             answer: Answer::Fault(RequestFault::TooManyRequests.reply()),
-            written: 0,
         }
     }
 
@@ -69,10 +66,10 @@ impl LocalTalk {
         &mut self,
         alloc: Global,
         held: &mut Held<C>,
-        around: &Surroundings,
+        around: &Surroundings<'_>,
     ) {
         match self.carry_out(alloc, held, around) {
-            Ok(reply) => self.answer = Answer::Whole(reply),
+            Ok(reply) => self.reply_with(alloc, Answer::Whole(Sending::new(reply))),
             Err(fault) => self.refuse(alloc, fault),
         }
     }
@@ -81,50 +78,63 @@ impl LocalTalk {
         &self,
         alloc: Global,
         held: &mut Held<C>,
-        around: &Surroundings,
+        around: &Surroundings<'_>,
     ) -> Result<Reply, RequestFault> {
         let request = self.parts.whole()?;
-        answer_request(
+        let status = format_of(alloc, request.words)?;
+        let mut reply = answer_request(
             alloc,
             &mut held.closure,
-            around.state_bytes,
+            around.own.state_bytes(),
             request.words,
             request.input,
-        )
+        )?;
+        // From here on a change may not be forgotten; the status changes nothing.
+        if let Some(format) = status {
+            add_own_status(alloc, &around.own, format, &mut reply)?;
+        }
+        Ok(reply)
+    }
+
+    fn refuse(&mut self, alloc: Global, fault: RequestFault) {
+        self.reply_with(alloc, Answer::Fault(fault.reply()));
     }
 
     // Nothing more is read, so what was read is let go.
-    fn refuse(&mut self, alloc: Global, fault: RequestFault) {
+    fn reply_with(&mut self, alloc: Global, answer: Answer) {
         self.parts = RequestParts::new(alloc);
-        self.answer = Answer::Fault(fault.reply());
+        self.answer = answer;
     }
 
     /// The lines that are to be on the disk before anything is sent.
     pub(crate) fn journal(&self) -> &[u8] {
         match &self.answer {
-            Answer::Whole(reply) if self.written == 0 => reply.journal.as_slice(),
+            Answer::Whole(sending) => sending.journal(),
             _ => b"".as_slice(),
         }
     }
 
     /// The lines are on the disk.
     pub(crate) fn settle(&mut self) {
-        if let Answer::Whole(reply) = &mut self.answer {
-            reply.journal.clear();
+        if let Answer::Whole(sending) = &mut self.answer {
+            sending.settle();
         }
     }
 
-    /// The lines could not be put on the disk: the reply says that in the place of what it said.
+    /// The lines of this turn could not be put on the disk: a reply of which nothing is sent says
+    /// that in the place of what it said, which may show what is not on the disk.
     pub(crate) fn fail(&mut self) {
-        if self.written == 0 && !self.wants_bytes() {
-            self.answer = Answer::Fault(DISK_FAILED);
+        if let Answer::Whole(sending) = &self.answer {
+            if !sending.has_begun() {
+                self.answer = Answer::Fault(DISK_FAILED);
+            }
         }
     }
 
     /// Whether it asks the replica to end.
     pub(crate) fn is_stop(&self) -> bool {
         match &self.answer {
-            Answer::Whole(reply) => reply.ends,
+            Answer::Whole(sending) => sending.ends(),
             _ => false,
         }
     }
@@ -132,36 +142,28 @@ impl LocalTalk {
     pub(crate) fn output(&self) -> &[u8] {
         match &self.answer {
             Answer::Awaited => b"".as_slice(),
-            Answer::Fault(text) => after(text, self.written),
-            Answer::Whole(reply) => after_in(reply, self.written),
+            Answer::Fault(text) => text,
+            Answer::Whole(sending) => sending.output(),
         }
     }
 
+    /// So many bytes of the output were sent, or all where there are no more.
     pub(crate) fn wrote(&mut self, count: usize) {
-        self.written = self.written.saturating_add(count);
+        match &mut self.answer {
+            Answer::Awaited => {}
+            Answer::Fault(text) => *text = &text[count.min(text.len())..],
+            Answer::Whole(sending) => {
+                let count = count.min(sending.output().len());
+                sending.wrote(count);
+            }
+        }
     }
 
     pub(crate) fn ending(&self) -> Option<Ending> {
-        if self.wants_bytes() || !self.output().is_empty() {
+        let waits = self.wants_bytes() || !self.journal().is_empty();
+        if waits || !self.output().is_empty() {
             return None;
         }
         Some(Ending::Well)
     }
-}
-
-// What comes after the first bytes of a text.
-fn after(text: &[u8], written: usize) -> &[u8] {
-    &text[written.min(text.len())..]
-}
-
-// What of the reply's next part comes after the first bytes of all.
-fn after_in(reply: &Reply, written: usize) -> &[u8] {
-    if written < reply.head.len() {
-        return &reply.head[written..];
-    }
-    let written = written - reply.head.len();
-    if written < reply.output.len() {
-        return &reply.output[written..];
-    }
-    after(reply.errors.as_slice(), written - reply.output.len())
 }

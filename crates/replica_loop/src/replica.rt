@@ -1,5 +1,6 @@
 //! The beginning and the end of a replica that stays.
 use crate::fresh_lines::Held;
+use crate::saying::{Event, say};
 use crate::settings::Settings;
 use crate::step_fault::file_at_step;
 use crate::turn::{Works, turn};
@@ -41,7 +42,7 @@ const MOST_EVENTS: usize = 256;
 pub fn run_replica<R: Runtime<File = File, A = Global> + Net>(
     rt: &R,
     config: &Config,
-    settings: &Settings<'_>,
+    settings: &Settings<'_, '_>,
 ) -> Result<(), Exit> {
     let alloc = rt.alloc();
     let _lock = lock(rt, alloc, settings.state)?;
@@ -50,11 +51,7 @@ pub fn run_replica<R: Runtime<File = File, A = Global> + Net>(
     run_held(rt, alloc, &mut held, settings)
 }
 
-fn lock<R: Files<File = File>>(
-    rt: &R,
-    alloc: Global,
-    path: &str,
-) -> Result<StateLock, Exit> {
+fn lock<R: Files<File = File>>(rt: &R, alloc: Global, path: &str) -> Result<StateLock, Exit> {
     match file_at_step(Step::Lock, try_lock_state(rt, alloc, path))? {
         Some(mut lock) => {
             file_at_step(Step::Lock, lock.mark())?;
@@ -70,7 +67,7 @@ fn load<C: Closure, R: Files<File = File>>(
     rt: &R,
     alloc: Global,
     config: &Config,
-    settings: &Settings<'_>,
+    settings: &Settings<'_, '_>,
 ) -> Result<C, Exit> {
     let has_journal = has_journal(rt, alloc, settings.state)?;
     let has_state = file_at_step(Step::See, state_bytes(rt, settings.state))?.is_some();
@@ -97,7 +94,7 @@ fn run_held<C: Closure, R: Files<File = File> + Net + Clock + Print + Eprint>(
     rt: &R,
     alloc: Global,
     held: &mut Held<C>,
-    settings: &Settings<'_>,
+    settings: &Settings<'_, '_>,
 ) -> Result<(), Exit> {
     let mut works = Works::begin(rt, alloc, held.closure.config(), settings)?;
     let mut events = Events::with_capacity(alloc, MOST_EVENTS)?;
@@ -114,22 +111,22 @@ fn run_turns<C: Closure, R: Files<File = File> + Net + Clock + Eprint>(
     held: &mut Held<C>,
     works: &mut Works,
     events: &mut Events,
-    settings: &Settings<'_>,
+    settings: &Settings<'_, '_>,
 ) -> Result<(), Exit> {
     for _ in 0..u64::MAX {
-        let done = turn(rt, alloc, held, works, events, settings);
-        if file_at_step(Step::Journal, done)? {
-            break;
+        match turn(rt, alloc, held, works, events, settings) {
+            Ok(true) => break,
+            Ok(false) => {}
+            Err(fault) => {
+                say(rt, alloc, Event::Journal(fault.why));
+                return Err(Exit::of_file(Step::Journal, fault));
+            }
         }
     }
     Ok(())
 }
 
-fn print_ready<C: Closure, R: Print>(
-    rt: &R,
-    alloc: Global,
-    closure: &C,
-) -> Result<(), Exit> {
+fn print_ready<C: Closure, R: Print>(rt: &R, alloc: Global, closure: &C) -> Result<(), Exit> {
     let digest = hex::encode(alloc, closure.config().digest().0)?;
     let receipts = closure.receipt_count();
     let distrusts = closure.distrusts().count();

@@ -96,7 +96,8 @@ impl Display for Outcome {
     }
 }
 
-fn code_of<'a>(why: SyncError) -> &'a str {
+/// The fault's short name.
+pub(crate) fn code_of<'a>(why: SyncError) -> &'a str {
     match why {
         SyncError::BadHeader => "S1",
         SyncError::ConfigDiffers => "S2",

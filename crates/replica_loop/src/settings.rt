@@ -4,7 +4,7 @@ use std::time::Duration;
 
 /// What the words say of a replica.
 #[derive(Clone, Copy, Debug)]
-pub struct Settings<'a> {
+pub struct Settings<'a, 'p> {
     /// The path of the state file.
     pub state: &'a str,
     /// The path of the socket for local requests.
@@ -12,7 +12,7 @@ pub struct Settings<'a> {
     /// Where other replicas pull from this one.
     pub listen: Option<SocketAddr>,
     /// From which replicas this one pulls.
-    pub peers: &'a [SocketAddr],
+    pub peers: &'p [SocketAddr],
     /// How long after a round of pulls began the next one begins.
     pub every: Duration,
     /// How many bytes the state's files and what a session brings may have together.

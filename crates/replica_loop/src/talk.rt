@@ -74,7 +74,7 @@ impl Talk {
         &mut self,
         alloc: Global,
         held: &mut Held<C>,
-        around: &Surroundings,
+        around: &Surroundings<'_>,
     ) -> Result<(), Ending> {
         match self {
             Talk::Local(talk) => {

@@ -7,6 +7,7 @@ use crate::gates::{Arrival, Gates};
 use crate::journal::Journal;
 use crate::live_connection::Connection;
 use crate::local_talk::{LocalTalk, Surroundings};
+use crate::own_status::OwnStatus;
 use crate::peers::Peers;
 use crate::pull_talk::PullTalk;
 use crate::saying::{Event, say};
@@ -23,7 +24,7 @@ use mio::net::TcpStream;
 use replica_sync::SyncError;
 use std::alloc::Global;
 use std::fs::{File, Files};
-use std::io::Eprint;
+use std::io::{Eprint, ErrorKind};
 use std::net::{Net, SocketAddr};
 use std::thread;
 use std::time::{Clock, Duration, Instant};
@@ -61,7 +62,7 @@ impl Works {
         rt: &R,
         alloc: Global,
         config: &Config,
-        settings: &Settings<'_>,
+        settings: &Settings<'_, '_>,
     ) -> Result<Works, Exit> {
         let now = at_step(Step::Socket, Instant::now(rt))?;
         let gates = Gates::open(rt, settings)?;
@@ -80,9 +81,12 @@ impl Works {
     /// Waits until something is ready or due.
     pub(crate) fn wait<R: Clock + Eprint>(&mut self, rt: &R, alloc: Global, events: &mut Events) {
         let wait = self.time_left();
-        if self.gates.poll.poll(events, Some(wait)).is_err() {
-            say(rt, alloc, Event::Poll);
-            thread::sleep(rt, Duration::from_millis(PAUSE_MILLIS));
+        if let Err(error) = self.gates.poll.poll(events, Some(wait)) {
+            // A signal came, as where the process was stopped and goes on.
+            if error.kind() != ErrorKind::Interrupted {
+                say(rt, alloc, Event::Poll);
+                thread::sleep(rt, Duration::from_millis(PAUSE_MILLIS));
+            }
         }
         // Where the clock fails no time has passed.
         if let Ok(now) = Instant::now(rt) {
@@ -102,7 +106,7 @@ impl Works {
         let table = self.table.time_left(self.now).unwrap_or(most);
         let gates = self.gates.time_left(self.now).unwrap_or(most);
         let peers = match self.peers.time_left(self.now) {
-            Some(left) if self.table.has_room() => left,
+            Some(left) if self.may_pull() => left,
             _ => most,
         };
         let end = match self.ends_at {
@@ -110,6 +114,10 @@ impl Works {
             None => most,
         };
         most.min(table).min(gates).min(peers).min(end)
+    }
+
+    fn may_pull(&self) -> bool {
+        self.ends_at.is_none() && self.table.has_room()
     }
 
     /// Takes in the connections that came.
@@ -132,6 +140,7 @@ impl Works {
     fn take_in<R: Eprint>(&mut self, rt: &R, alloc: Global, arrival: Arrival) -> bool {
         match arrival {
             Arrival::Nobody => false,
+            Arrival::Left => true,
             Arrival::Failed => {
                 self.report_once(rt, alloc, Event::Accept);
                 false
@@ -165,7 +174,7 @@ impl Works {
         talk: Talk,
         peer: Option<SocketAddr>,
     ) {
-        if !self.table.has_room() {
+        if !self.table.has_room_for(&talk) {
             self.report_once(rt, alloc, Event::Refuse);
             return;
         }
@@ -194,13 +203,16 @@ impl Works {
         closure: &C,
         most_bytes: u64,
     ) {
-        if !self.table.has_room() {
+        if !self.may_pull() {
             return;
         }
         let Some(peer) = self.peers.begin(self.now) else {
             return;
         };
-        let left = most_bytes.saturating_sub(self.journal.state_bytes());
+        let left = most_bytes.saturating_sub(OwnStatus::of(
+            &self.journal,
+            &self.peers,
+        ).state_bytes());
         if let Err(ending) = self.connect(rt, alloc, closure, peer, left) {
             self.peers.end(ending, 0, None);
             say(rt, alloc, Event::Pull(peer, 0, Duration::ZERO, ending));
@@ -238,7 +250,7 @@ impl Works {
     pub(crate) fn read<C: Closure>(&mut self, alloc: Global, held: &mut Held<C>) {
         let around = Surroundings {
             now: self.now,
-            state_bytes: self.journal.state_bytes(),
+            own: OwnStatus::of(&self.journal, &self.peers),
         };
         self.table.read(alloc, held, &around);
         if self.ends_at.is_none() && self.table.is_stopped() {
@@ -307,7 +319,7 @@ impl Works {
         match save_state(rt, alloc, closure, path) {
             Ok(()) => {
                 self.journal = Journal::begin(rt, alloc, closure.config(), path)?;
-                say(rt, alloc, Event::Fold(self.journal.state_bytes()));
+                say(rt, alloc, Event::Fold(self.journal.snapshot_bytes()));
             }
             Err(fault) => {
                 self.journal.put_off();
@@ -358,16 +370,13 @@ pub(crate) fn turn<C: Closure, R: Files<File = File> + Net + Clock + Eprint>(
     held: &mut Held<C>,
     works: &mut Works,
     events: &mut Events,
-    settings: &Settings<'_>,
+    settings: &Settings<'_, '_>,
 ) -> Result<bool, FileFault> {
     works.wait(rt, alloc, events);
     works.accept(rt, alloc);
     works.begin_pull(rt, alloc, &held.closure, settings.most_bytes);
     works.read(alloc, held);
-    if let Err(fault) = works.commit(held) {
-        say(rt, alloc, Event::Journal(fault.why));
-        return Err(fault);
-    }
+    works.commit(held)?;
     works.write();
     works.end_connections(rt, alloc, settings.is_verbose);
     works.fold(rt, alloc, &held.closure, settings.state)?;

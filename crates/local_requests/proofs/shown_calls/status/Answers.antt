@@ -1,7 +1,7 @@
-use Rattle.std.proofs.Common.{inl, inr, subst, sym}
+use Rattle.std.proofs.Common.{◌∙◌, inl, inr, subst, sym}
 use Rattle.std.proofs.lemmas.Result.{err_from_is_err_and}
 use Rattle.local_requests.specs.RequestRun.{EndsAnyhow}
-use Rattle.local_requests.proofs.ShownFacts.{warned_status}
+use Rattle.local_requests.proofs.ShownFacts.{warned_status, warning_byte}
 use Rattle.local_requests.proofs.shown_calls.status.Goals as goal
 
 pub returns-in_err-format-clause-ends : goal.returns-in_err-format-clause-ends
@@ -27,5 +27,6 @@ returns-clause-answers g c = record {
   is_text = c.in_ok-shown.ensures.answers.0;
   warned = c.in_ok-shown.shown.is_warned;
   is_warned = c.in_ok-shown.ensures.answers.1;
-  replied = warned_status _ _ _ _ c.in_ok-shown.shown.is_warned c.new.ensures.items c.from-ended.ensures c.in_ok-of_streams.ensures;
+  replied = warned_status _ _ _ _ c.in_ok-shown.shown.is_warned c.new.ensures.items
+      (c.from-ended.ensures ∙ warning_byte c.in_ok-shown.shown.is_warned) c.in_ok-of_streams.ensures;
 }

@@ -1,4 +1,4 @@
-use Rattle.std.proofs.Common.{inl, refl, subst}
+use Rattle.std.proofs.Common.{[], inl, refl, subst}
 use Rattle.std.proofs.lemmas.Result.{err_from_is_err_and}
 use Rattle.local_requests.specs.RequestRun.{IsReplied}
 use Rattle.local_requests.proofs.shown_calls.stop.Goals as goal

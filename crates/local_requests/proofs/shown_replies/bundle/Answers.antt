@@ -1,5 +1,6 @@
-use Rattle.std.proofs.Common.{◌≡◌, []}
+use Rattle.std.proofs.Common.{◌≡◌, [], Some}
 use Rattle.std.proofs.lemmas.Result.{err_from_is_err_and}
+use Rattle.fedbundle.specs.CommandRun.{DeviceRun}
 use Rattle.local_requests.proofs.ShownFacts.{bundle_failed, bundle_lacking, bundle_misnamed, bundle_shown}
 use Rattle.local_requests.proofs.shown_replies.bundle.Goals as goal
 
@@ -12,12 +13,19 @@ pub returns-in-Ok-true : goal.returns-in-Ok-true
 returns-in-Ok-true g c =
     let empty : c.new-output.result.writer.items ≡ [] = cc in
     let is : c.into_inner.result.items ≡ c.run_bundle.new.sink.writer.items = cc in
-    bundle_shown _ _ _ _ _ _ c.in_ok-domain.ensures.ok empty is (rw c.in-Ok-true.field-0-is at c.in-Ok-true.ensures)
+    bundle_shown _ _ _ _ _ _ c.in_ok-domain.ensures.ok empty is (rw c.in-Ok-true.field-0-test at c.in-Ok-true.ensures)
 
 pub returns-in-Ok-false : goal.returns-in-Ok-false
 returns-in-Ok-false g c =
     let empty : c.new-output.result.writer.items ≡ [] = cc in
-    bundle_lacking _ _ _ _ _ c.in_ok-domain.ensures.ok.0 empty (rw c.in-Ok-false.field-0-is at c.in-Ok-false.ensures)
+    bundle_lacking _ _ _ _ _ c.in_ok-domain.ensures.ok.0 empty (rw c.in-Ok-false.field-0-test at c.in-Ok-false.ensures)
 
 pub returns : goal.returns
-returns g c = bundle_failed _ _ _ _ _ _ c.in_ok-domain.ensures.ok.0 c.in_memory.ensures c.in-Err.ensures
+returns g c =
+    let sink : DeviceRun = record {
+      before = Some c.new-output.result.writer.items;
+      after = Some c.run_bundle.new.sink.writer.items;
+      had_failed = c.new-output.result.failed;
+      has_failed = c.run_bundle.new.sink.failed;
+    } in
+    bundle_failed _ _ _ sink _ _ c.in_ok-domain.ensures.ok.0 c.in_memory.ensures c.in-Err.ensures

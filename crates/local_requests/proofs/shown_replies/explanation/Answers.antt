@@ -13,13 +13,14 @@ returns-in-Ok-true g c =
     let empty : c.new-output.result.writer.items ≡ [] = cc in
     let source : c.new-source.result.reader.now ≡ c.args.input.now = cc in
     let is : c.into_inner.result.items ≡ c.run_explain.new.sink.writer.items = cc in
-    explain_shown _ _ _ _ _ _ _ c.in_ok-domain.ensures.ok (ap Some source) (ap Some empty) (ap Some (sym is)) (rw c.in-Ok-true.field-0-is at c.in-Ok-true.ensures)
+    explain_shown _ _ _ _ _ _ _ c.in_ok-domain.ensures.ok (ap Some source) (ap Some empty) (ap Some (sym is))
+    (rw c.in-Ok-true.field-0-test at c.in-Ok-true.ensures)
 
 pub returns-in-Ok-false : goal.returns-in-Ok-false
 returns-in-Ok-false g c =
     let empty : c.new-output.result.writer.items ≡ [] = cc in
     let source : c.new-source.result.reader.now ≡ c.args.input.now = cc in
-    explain_lacking _ _ _ _ _ _ c.in_ok-domain.ensures.ok.0 (ap Some source) (ap Some empty) (rw c.in-Ok-false.field-0-is at c.in-Ok-false.ensures)
+    explain_lacking _ _ _ _ _ _ c.in_ok-domain.ensures.ok.0 (ap Some source) (ap Some empty) (rw c.in-Ok-false.field-0-test at c.in-Ok-false.ensures)
 
 pub returns : goal.returns
 returns g c =

@@ -7,8 +7,7 @@ pub returns-in-Ok-clause-answers : goal.returns-in-Ok-clause-answers
 returns-in-Ok-clause-answers g c =
     let empty : c.new-output.result.writer.items ≡ [] = cc in
     let is : c.into_inner.result.items ≡ c.write_status.new.sink.writer.items = cc in
-    let wrote = c.in-Ok.ensures.ok in
-    (
+    let wrote = c.in-Ok.ensures.ok in (
       some_shown (IsStatusIn (g.C.Closure.state c.args.closure.now).meaning c.args.format) _ wrote.text _ _ empty is wrote.is wrote.written,
       c.in-Ok.ensures.warning,
     )

@@ -8,5 +8,5 @@ returns-in-Ok c =
     let empty : c.new-line.result.writer.items ≡ [] = cc in
     let is : c.into_inner-errors.result.items ≡ c.write_exit.new.sink.writer.items = cc in
     IfOk-weaker c.of_streams.result _ _
-    (λ reply with. ended_with c.args.exit.now reply _ _ _ _ _ c.in-Ok.ensures.ok empty is c.new-2.ensures.items c.exit_status.ensures with)
+    (λ reply with. ended_with c.args.exit.now reply _ _ _ _ _ c.in-Ok.ensures.ok empty is c.new-in-Ok.ensures.items c.exit_status.ensures with)
     c.of_streams.ensures
