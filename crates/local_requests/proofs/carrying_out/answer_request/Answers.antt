@@ -32,18 +32,18 @@ returns-in-Ok-clause-answers g c =
 pub returns-in-Ok-clause-fault : goal.returns-in-Ok-clause-fault
 returns-in-Ok-clause-fault g c = result_lacks_memory c.args.words.now c.answer_call.result c.answer_call.ensures.memory
 
-pub returns-in_err-reply_by_words-clause-fault : goal.returns-in_err-reply_by_words-clause-fault
-returns-in_err-reply_by_words-clause-fault g c =
+pub returns-in_err-reply_by_words-in-Err-clause-fault : goal.returns-in_err-reply_by_words-in-Err-clause-fault
+returns-in_err-reply_by_words-in-Err-clause-fault g c =
     let exit = err_from_is_err_and c.from_residual-in_err-reply_by_words.result c.from_residual-in_err-reply_by_words.ensures.1 in
     rw exit.1 (lacks_memory _ _ exit.2)
 
-pub returns-in-Err-clause-answers : goal.returns-in-Err-clause-answers
-returns-in-Err-clause-answers g c = record {
+pub returns-clause-answers : goal.returns-clause-answers
+returns-clause-answers g c = record {
   words = map string_bytes c.in_ok-words.words.items;
   says = c.in_ok-words.ensures;
   replied = inr (record { replied = c.in_ok-reply_by_words.ensures; held = refl });
 }
 
-pub returns-in-Err-clause-journals : goal.returns-in-Err-clause-journals
-returns-in-Err-clause-journals g c =
+pub returns-clause-journals : goal.returns-clause-journals
+returns-clause-journals g c =
     same_journalled (g.C.Closure.state c.args.closure.now) (g.C.Closure.state c.args.closure.now) _ c.in_ok-reply_by_words.ensures.unjournalled refl

@@ -4,10 +4,10 @@ use Rattle.local_requests.proofs.ChangingFacts.{none_journalled}
 use Rattle.local_requests.proofs.ShownFacts.{answers_as, anyhow, ends_as, none_asked}
 use Rattle.local_requests.proofs.carrying_out.carry_out.Goals as goal
 
-pub returns-in_err-manner_of-clause-ends : goal.returns-in_err-manner_of-clause-ends
-returns-in_err-manner_of-clause-ends g c =
+pub returns-in_err-most_bytes-clause-ends : goal.returns-in_err-most_bytes-clause-ends
+returns-in_err-most_bytes-clause-ends g c =
     let exit = err_from_is_err_and c.from_residual.result c.from_residual.ensures.1 in
-    let refused = c.in_err-manner_of.ensures in
+    let refused = c.in_err-most_bytes.ensures in
     rw (exit.1, exit.2) (anyhow _ _ _ (BadNumber refused.0) refused.1 tt)
 
 pub returns-in-Report-clause-answers : goal.returns-in-Report-clause-answers
