@@ -61,6 +61,12 @@ pub shown_by_clap : (result : Result Reply AllocError) → IfOk result ShowsText
 shown_by_clap (Ok reply) shown = inr shown
 shown_by_clap (Err e) shown = tt
 
+-- nothing is journalled for words that are no call
+pub words_unjournalled : (reply : Reply) → SaysOfWords reply → reply.journal.items ≡ []
+words_unjournalled reply (inl ended) = ended.2.unjournalled
+words_unjournalled reply (inr (inl with)) = with.unjournalled
+words_unjournalled reply (inr (inr with)) = with.unjournalled
+
 -- ---- `observe`
 
 -- where no receipt is made, by the exit

@@ -4,7 +4,7 @@ use Rattle.std.specs.Prelude.{string_bytes}
 use Rattle.fedbundle.specs.CommandRun.{state_run}
 use Rattle.fedbundle.specs.Words.{CallsInRequest}
 use Rattle.local_requests.specs.RequestRun.{CallRun, call_run, change_run}
-use Rattle.local_requests.proofs.ChangingFacts.{lacks_memory, line_called, result_lacks_memory}
+use Rattle.local_requests.proofs.ChangingFacts.{lacks_memory, line_called, result_lacks_memory, words_unjournalled}
 use Rattle.local_requests.proofs.RequestFacts.{same_journalled}
 use Rattle.local_requests.proofs.carrying_out.answer_request.Goals as goal
 
@@ -34,16 +34,16 @@ returns-in-Ok-clause-fault g c = result_lacks_memory c.args.words.now c.answer_c
 
 pub returns-in_err-reply_by_words-in-Err-clause-fault : goal.returns-in_err-reply_by_words-in-Err-clause-fault
 returns-in_err-reply_by_words-in-Err-clause-fault g c =
-    let exit = err_from_is_err_and c.from_residual-in_err-reply_by_words.result c.from_residual-in_err-reply_by_words.ensures.1 in
+    let exit = err_from_is_err_and c.from_residual-in_err-reply_by_words-in-Err.result c.from_residual-in_err-reply_by_words-in-Err.ensures.1 in
     rw exit.1 (lacks_memory _ _ exit.2)
 
 pub returns-clause-answers : goal.returns-clause-answers
 returns-clause-answers g c = record {
   words = map string_bytes c.in_ok-words.words.items;
   says = c.in_ok-words.ensures;
-  replied = inr (record { replied = c.in_ok-reply_by_words.ensures; held = refl });
+  replied = inr (record { replied = c.in_ok-reply_by_words-in-Err.ensures; held = refl });
 }
 
 pub returns-clause-journals : goal.returns-clause-journals
 returns-clause-journals g c =
-    same_journalled (g.C.Closure.state c.args.closure.now) (g.C.Closure.state c.args.closure.now) _ c.in_ok-reply_by_words.ensures.unjournalled refl
+    same_journalled (g.C.Closure.state c.args.closure.now) (g.C.Closure.state c.args.closure.now) _ (words_unjournalled _ c.in_ok-reply_by_words-in-Err.ensures) refl

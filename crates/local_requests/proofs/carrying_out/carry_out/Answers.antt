@@ -7,7 +7,7 @@ use Rattle.local_requests.proofs.carrying_out.carry_out.Goals as goal
 pub returns-in_err-most_bytes-clause-ends : goal.returns-in_err-most_bytes-clause-ends
 returns-in_err-most_bytes-clause-ends g c =
     let exit = err_from_is_err_and c.from_residual.result c.from_residual.ensures.1 in
-    let refused = c.in_err-most_bytes.ensures in
+    let refused = c.in_err-most_bytes.ensures.refused in
     rw (exit.1, exit.2) (anyhow _ _ _ (BadNumber refused.0) refused.1 tt)
 
 pub returns-in-Report-clause-answers : goal.returns-in-Report-clause-answers
