@@ -1,5 +1,5 @@
 -- What a replica that stays comes to hold, by the events of a world.
-use Rattle.std.proofs.Common.{◌≡◌, ◌≢◌, ℕ, ◌<◌, ◌≤◌, ◌⊎◌, inl, inr, Bool, true, false, ◌&&◌, List, [], ◌∷◌, ◌++◌, length, refl, sym, ap, ◌∙◌, subst, arith}
+use Rattle.std.proofs.Common.{◌≡◌, ◌≢◌, ℕ, ◌<◌, ◌≤◌, ◌⊎◌, inl, inr, Bool, true, false, ◌&&◌, List, [], ◌∷◌, length, refl, sym, ap, ◌∙◌, subst, arith}
 use Rattle.std.proofs.Common.{append-nil, le-leb, Some}
 use Rattle.std.specs.Prelude.{Contains, slice_get}
 use Rattle.std.proofs.lemmas.Bool.{and_from, and_parts}
@@ -16,7 +16,7 @@ use Rattle.replica_core.specs.Absorbing.{with_entries, with_entry}
 use Rattle.replica_core.specs.Convergence.{Gains, IsPartOf, only_receipt, only_record}
 use Rattle.replica_core.specs.Session.{HaveMessage, give_of, have_of, state_of}
 use Rattle.replica_core.specs.State.{State, ids_held, is_within_limits, joined, no_state}
-use Rattle.replica_core.specs.World.{Message, Rules, World, WorldRun, apply, empty_world, gained, gains, happens, is_replica, rules_in, rules_of, run_from}
+use Rattle.replica_core.specs.World.{Rules, World, WorldRun, apply, empty_world, gained, gains, happens, is_replica, rules_of, run_from}
 use Rattle.replica_core.specs.World.{give_sent, have_sent, is_fitting, is_known, sends, where_so}
 use Rattle.replica_core.specs.declared.entry.Entry.{Entry}
 use Rattle.replica_core.specs.declared.entry.Entry.TheVariants.{Record, Receipt as AReceipt}
@@ -195,7 +195,6 @@ only-run rules (entry ∷ entries) i w =
 
 module _ (takes : (past : WorldRun) (i : ℕ) (r : Receipt) → i < past.replicas → IsFitting past.config r → Gains past (Take i r) i (only_receipt r))
     (revokes : (past : WorldRun) (i : ℕ) (x : Distrust) → i < past.replicas → HasDomain past.config x.domain → Gains past (Revoke i x) i (only_record x)) where
-
   -- By the event of an entry it is held, where that is part of what can be held.
   entry-is : (c : Configuration) (n i : ℕ) → i < n → (entry : Entry) (m : Meaning) (w : World) (large : State) → w.now i ≡ state_of m
       → IsBelow (state_of (with_entry entry m)) large → IsHoldable c large → (happens (rules_of c n) w (event_of i entry)).now i ≡ state_of (with_entry entry m)

@@ -17,7 +17,7 @@ use Rattle.receipt_core.proofs.RisingFacts.{Contains-from_has, Has-from_contains
 use Rattle.replica_core.specs.Absorbing.{entries_of, of_receipts, of_records, with_entries, with_entry}
 use Rattle.replica_core.specs.Convergence.{IsPartOf}
 use Rattle.replica_core.specs.Session.{state_of}
-use Rattle.replica_core.specs.State.{State, first_of, is_within_limits, joined, meaning_of_state}
+use Rattle.replica_core.specs.State.{State, first_of, is_within_limits, joined}
 use Rattle.replica_core.specs.World.{Message, Rules, World, apply, gained, give_sent, happens, rules_of, takes_part, where_so, with_state}
 use Rattle.replica_core.specs.declared.entry.Entry.{Entry}
 use Rattle.replica_core.specs.declared.entry.Entry.TheVariants.{Record, Receipt as AReceipt}
@@ -221,11 +221,12 @@ meaning-fits m valid = below-within m.config (state_of m) (state_of m) (below-it
 turn-of : (config : Configuration) (bucket : ℕ) (g : PulledGive) (front back : List PulledPiece) (c : PulledPiece) → IsPulledAmid config bucket g
     → pieces_of g ≡ front ++ c ∷ back → IsTurn back c [] (entries_of g.give.content) × IsPieceOf config c
 turn-of config bucket g front back c amid e =
-    let each = subst (λ (came : List PulledPiece). AllByRecursion (IsPieceOf config) came) e amid.each in
-    (later-turn config front back c [] (entries_of g.give.content) amid.before each (subst (LosesNothing amid.before) e amid.grows)
-    (content-formed g.give.content amid.give.about.form.valid) tt
-    (subst (λ (came : List PulledPiece). TakesInTurn came (entries_of g.give.content)) e amid.give.takes),
-    piece-config config front back c each)
+    let each = subst (λ (came : List PulledPiece). AllByRecursion (IsPieceOf config) came) e amid.each in (
+      later-turn config front back c [] (entries_of g.give.content) amid.before each (subst (LosesNothing amid.before) e amid.grows)
+          (content-formed g.give.content amid.give.about.form.valid) tt
+          (subst (λ (came : List PulledPiece). TakesInTurn came (entries_of g.give.content)) e amid.give.takes),
+      piece-config config front back c each,
+    )
 
 -- A piece of an answer is the taking of its first lines, so many of them.
 pub pieces-in-world : (config : Configuration) (bucket n i answerer have place : ℕ) (w : World) (g : PulledGive)
@@ -237,10 +238,11 @@ pieces-in-world config bucket n i answerer have place w g front back c l amid e 
     let turn = found.0 in
     let content = g.give.content in
     let same : joined (state_of c.old) (first_of (length turn.taken) content) ≡ state_of c.new =
-    first-joined content turn.taken turn.rest c.old turn.parts ∙ ap state_of turn.is in
-    (length turn.taken,
-    part-joins (rules_of config n) w i place answerer have (length turn.taken) content (state_of c.old) l here sent
-    (ap is_within_limits same ∙ meaning-fits c.new found.1.new) ∙ ap (with_state w i) same)
+    first-joined content turn.taken turn.rest c.old turn.parts ∙ ap state_of turn.is in (
+      length turn.taken,
+      part-joins (rules_of config n) w i place answerer have (length turn.taken) content (state_of c.old) l here sent
+          (ap is_within_limits same ∙ meaning-fits c.new found.1.new) ∙ ap (with_state w i) same,
+    )
 
 -- no pieces take nothing
 none-left : (entries : List Entry) → TakesInTurn [] entries → entries ≡ []
@@ -259,6 +261,7 @@ last-in-world config bucket n i answerer have place w g l amid here sent =
     let same : joined (state_of g.last.old) g.give.content ≡ state_of g.last.new =
     sym (with-content g.last.old g.give.content) ∙ ap (λ (entries : List Entry). state_of (with_entries entries g.last.old)) all
     ∙ ap state_of turn.is in
-    let room = ap is_within_limits same ∙ meaning-fits g.last.new found.1.new in
-    (ap (λ (state : State). is_within_limits (joined state g.give.content)) here ∙ room,
-    whole-joins (rules_of config n) w i place answerer have g.give.content (state_of g.last.old) l here sent room ∙ ap (with_state w i) same)
+    let room = ap is_within_limits same ∙ meaning-fits g.last.new found.1.new in (
+      ap (λ (state : State). is_within_limits (joined state g.give.content)) here ∙ room,
+      whole-joins (rules_of config n) w i place answerer have g.give.content (state_of g.last.old) l here sent room ∙ ap (with_state w i) same,
+    )
