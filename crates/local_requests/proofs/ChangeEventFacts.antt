@@ -238,6 +238,7 @@ module _ (takes : (past : WorldRun) (i : ℕ) (r : Receipt) → i < past.replica
       → IsMeaning state.new.meaning → JournalsChange text state → BringsTo (rules_of state.old.meaning.config n) w i text state.new.meaning
   request-in-world text state n i w l here valid change = record {
     entries = change.entries;
+    each = change.lines.each;
     spelt = change.lines.spelt;
     holds = change-in-world state.old.meaning state.new.meaning change.entries n i w l here valid change.meaning;
   }
@@ -248,13 +249,14 @@ module _ (takes : (past : WorldRun) (i : ℕ) (r : Receipt) → i < past.replica
   piece-in-world old new before after n i w l here valid (inl same) = record {
     text = [];
     appended = same.1 ∙ sym (append-nil before);
-    brings = record { entries = []; spelt = refl; holds = here ∙ ap state_of (sym same.0) };
+    brings = record { entries = []; each = tt; spelt = refl; holds = here ∙ ap state_of (sym same.0) };
   }
   piece-in-world old new before after n i w l here valid (inr one) = record {
     text = entry_text one.entry;
     appended = one.text;
     brings = record {
       entries = one.entry ∷ [];
+      each = (one.form, tt);
       spelt = sym (append-nil (entry_text one.entry));
       holds = change-in-world old new (one.entry ∷ []) n i w l here valid one.meaning;
     };
