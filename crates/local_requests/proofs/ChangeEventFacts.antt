@@ -1,5 +1,5 @@
 -- What a replica that stays comes to hold, by the events of a world.
-use Rattle.std.proofs.Common.{◌≡◌, ◌≢◌, ℕ, ◌<◌, ◌≤◌, ◌⊎◌, inl, inr, Bool, true, false, ◌&&◌, List, [], ◌∷◌, ◌++◌, length, refl, sym, ap, ◌∙◌, subst, arith}
+use Rattle.std.proofs.Common.{◌≡◌, ◌≢◌, ℕ, ◌<◌, ◌≤◌, ◌⊎◌, inl, inr, Bool, true, false, ◌&&◌, List, [], ◌∷◌, length, refl, sym, ap, ◌∙◌, subst, arith}
 use Rattle.std.proofs.Common.{append-nil, le-leb, Some}
 use Rattle.std.specs.Prelude.{Contains, slice_get}
 use Rattle.std.proofs.lemmas.Bool.{and_from, and_parts}
@@ -16,7 +16,7 @@ use Rattle.replica_core.specs.Absorbing.{with_entries, with_entry}
 use Rattle.replica_core.specs.Convergence.{Gains, IsPartOf, only_receipt, only_record}
 use Rattle.replica_core.specs.Session.{HaveMessage, give_of, have_of, state_of}
 use Rattle.replica_core.specs.State.{State, ids_held, is_within_limits, joined, no_state}
-use Rattle.replica_core.specs.World.{Message, Rules, World, WorldRun, apply, empty_world, gained, gains, happens, is_replica, rules_in, rules_of, run_from}
+use Rattle.replica_core.specs.World.{Rules, World, WorldRun, apply, empty_world, gained, gains, happens, is_replica, rules_of, run_from}
 use Rattle.replica_core.specs.World.{give_sent, have_sent, is_fitting, is_known, sends, where_so}
 use Rattle.replica_core.specs.declared.entry.Entry.{Entry}
 use Rattle.replica_core.specs.declared.entry.Entry.TheVariants.{Record, Receipt as AReceipt}
@@ -238,6 +238,7 @@ module _ (takes : (past : WorldRun) (i : ℕ) (r : Receipt) → i < past.replica
       → IsMeaning state.new.meaning → JournalsChange text state → BringsTo (rules_of state.old.meaning.config n) w i text state.new.meaning
   request-in-world text state n i w l here valid change = record {
     entries = change.entries;
+    each = change.lines.each;
     spelt = change.lines.spelt;
     holds = change-in-world state.old.meaning state.new.meaning change.entries n i w l here valid change.meaning;
   }
@@ -248,13 +249,14 @@ module _ (takes : (past : WorldRun) (i : ℕ) (r : Receipt) → i < past.replica
   piece-in-world old new before after n i w l here valid (inl same) = record {
     text = [];
     appended = same.1 ∙ sym (append-nil before);
-    brings = record { entries = []; spelt = refl; holds = here ∙ ap state_of (sym same.0) };
+    brings = record { entries = []; each = tt; spelt = refl; holds = here ∙ ap state_of (sym same.0) };
   }
   piece-in-world old new before after n i w l here valid (inr one) = record {
     text = entry_text one.entry;
     appended = one.text;
     brings = record {
       entries = one.entry ∷ [];
+      each = (one.form, tt);
       spelt = sym (append-nil (entry_text one.entry));
       holds = change-in-world old new (one.entry ∷ []) n i w l here valid one.meaning;
     };

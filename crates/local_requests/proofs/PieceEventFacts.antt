@@ -17,7 +17,7 @@ use Rattle.receipt_core.proofs.RisingFacts.{Contains-from_has, Has-from_contains
 use Rattle.replica_core.specs.Absorbing.{entries_of, of_receipts, of_records, with_entries, with_entry}
 use Rattle.replica_core.specs.Convergence.{IsPartOf}
 use Rattle.replica_core.specs.Session.{state_of}
-use Rattle.replica_core.specs.State.{State, first_of, is_within_limits, joined, meaning_of_state}
+use Rattle.replica_core.specs.State.{State, first_of, is_within_limits, joined}
 use Rattle.replica_core.specs.World.{Message, Rules, World, apply, gained, give_sent, happens, rules_of, takes_part, where_so, with_state}
 use Rattle.replica_core.specs.declared.entry.Entry.{Entry}
 use Rattle.replica_core.specs.declared.entry.Entry.TheVariants.{Record, Receipt as AReceipt}

@@ -11,7 +11,7 @@ use Rattle.replica_core.specs.declared.entry.Entry.{Entry}
 use Rattle.replica_core.specs.declared.entry.Entry.TheVariants.{Record, Receipt as AReceipt}
 use Rattle.replica_core.specs.declared.event.Event.{Event}
 use Rattle.replica_core.specs.declared.event.Event.TheVariants.{Revoke, Take}
-use Rattle.replica_service.specs.Journal.{entry_text}
+use Rattle.replica_service.specs.Journal.{AreWellFormed, entry_text}
 use Rattle.replica_service.specs.PulledPieces.{IsPulledGive, PulledGive, PulledPiece, pieces_of}
 
 -- ---- changes
@@ -27,6 +27,7 @@ events_of i entries = map (event_of i) entries
 -- The text is the lines of entries, and after their events the replica holds what m says.
 pub record BringsTo (rules : Rules) (w : World) (i : ℕ) (text : List ℕ) (m : Meaning) : Type 0 where
   pub entries : List Entry
+  pub each : AreWellFormed entries
   pub spelt : text ≡ flat_map entry_text entries
   pub holds : (run_from rules w (events_of i entries)).now i ≡ state_of m
 
