@@ -1,9 +1,11 @@
 -- What comes of a request, in the words of the command's function over files: its source has the
 -- input, and its sink, which held nothing, holds the output.
-use Rattle.std.specs.Prelude.{◌≡◌, ◌⊎◌, ℕ, ℤ, List, [], Bool, true, false, Option, Some}
+use Rattle.std.specs.Prelude.{◌≡◌, ◌⊎◌, ℕ, ℤ, List, [], Bool, true, false, Option, Some, None}
 use Rattle.std.specs.Prelude.{Result, Ok, Err, if◌then◌else◌}
 use Rattle.hex.specs.Hex.{decode_sized}
+use Rattle.spiffe_name.specs.SpiffeId.{IsId, RefusesId}
 use Rattle.spiffe_name.specs.TrustDomain.{IsDomainText, RefusesDomain}
+use Rattle.spiffe_name.specs.declared.error.NameError.{NameError}
 use Rattle.receipt_core.specs.Acceptance.{Meaning}
 use Rattle.receipt_core.specs.declared.distrust.Distrust.{Distrust}
 use Rattle.bundle_view.specs.Report.{IsReport}
@@ -181,17 +183,15 @@ EndsDistrust state x exit = ⊥
 
 -- ---- the reply
 
--- These streams and this status, which the first line says; nothing is journalled.
-pub record IsWith (reply : Reply) (output errors : List ℕ) (status : ℕ) : Type 0 where
-  pub head : reply.head.items ≡ first_line output errors status
-  pub output : reply.output.items ≡ output
-  pub errors : reply.errors.items ≡ errors
-  pub status : reply.status ≡ status
+-- These streams and this status, which the first line says; nothing is journalled, and the replica
+-- goes on.
+pub record IsWith (reply : Reply) (text beside : List ℕ) (exit : ℕ) : Type 0 where
+  pub head : reply.head.items ≡ first_line text beside exit
+  pub output : reply.output.items ≡ text
+  pub errors : reply.errors.items ≡ beside
+  pub status : reply.status ≡ exit
   pub unjournalled : reply.journal.items ≡ []
-
--- Its first line says what streams and status it has; nothing is journalled.
-abbrev pub IsWholeReply : Reply → Type 0
-IsWholeReply reply = IsWith reply reply.output.items reply.errors.items reply.status
+  pub goes_on : reply.ends ≡ false
 
 -- The command is done: its output, and what it says beside it.
 abbrev pub IsReplied : Reply → List ℕ → List ℕ → Type 0
@@ -205,6 +205,7 @@ pub record HasStreams (Answers : List ℕ → Type 0) (reply : Reply) : Type 0 w
   pub is_output : reply.output.items ≡ output
   pub errors : reply.errors.items ≡ []
   pub status : reply.status ≡ 0
+  pub goes_on : reply.ends ≡ false
 
 -- What a record of distrust changes, where that is asked for: all of it, or a beginning where
 -- memory ran out.
@@ -223,6 +224,7 @@ pub record SaysDistrusted (state : StateRun) (x : Distrust) (is_verbose : Bool)
   pub output : reply.output.items ≡ []
   pub is_errors : reply.errors.items ≡ errors
   pub status : reply.status ≡ 0
+  pub goes_on : reply.ends ≡ false
 
 -- The command ended so: nothing but the line that says why.
 abbrev pub IsEnded : Reply → Exit → Type 0
@@ -261,6 +263,7 @@ pub record SaysRecord (name : CommandName) (texts : List (Option (List ℕ)))
 pub record SaysVerdict (name : CommandName) (texts : List (Option (List ℕ)))
     (verdict : Verdict) : Type 0 where
   pub endpoint : option_said name texts Endpoint ≡ Some verdict.endpoint.text
+  pub form : IsId verdict.endpoint
   pub digits : List ℕ
   pub key : option_said name texts Key ≡ Some digits
   pub is_key : decode_sized digits 32 ≡ Ok verdict.key.0
@@ -321,10 +324,16 @@ pub record AnswersObserveCall (run : CallRun) (reply : Reply) : Type 0 where
   pub says : SaysFetched run fetched
   pub answers : HasStreams (AnswersObserve run.change fetched) reply
 
+-- The record is held, and beside it stands what it changes where the words have `--verbose`.
+pub record HoldsAsSaid (run : CallRun) (x : Distrust) (reply : Reply) : Type 0 where
+  pub verbose : Bool
+  pub is_verbose : SaysFlag (said run Verbose) verbose
+  pub held : SaysDistrusted run.change.state x verbose reply
+
 -- What a record would change where the words have `--dry-run`; and else it is held.
-abbrev pub AnswersRecord : (is_dry is_verbose : Bool) → StateRun → Distrust → Reply → Type 0
-AnswersRecord true is_verbose state x reply = HasStreams (AnswersDryRun state.old.meaning x) reply
-AnswersRecord false is_verbose state x reply = SaysDistrusted state x is_verbose reply
+abbrev pub AnswersRecord : (is_dry : Bool) → CallRun → Distrust → Reply → Type 0
+AnswersRecord true run x reply = HasStreams (AnswersDryRun (held_in run) x) reply
+AnswersRecord false run x reply = HoldsAsSaid run x reply
 
 -- `distrust`
 pub record AnswersDistrust (run : CallRun) (reply : Reply) : Type 0 where
@@ -332,9 +341,16 @@ pub record AnswersDistrust (run : CallRun) (reply : Reply) : Type 0 where
   pub says : SaysRecord run.name run.texts x
   pub dry : Bool
   pub is_dry : SaysFlag (said run DryRun) dry
-  pub verbose : Bool
-  pub is_verbose : SaysFlag (said run Verbose) verbose
-  pub answers : AnswersRecord dry verbose run.change.state x reply
+  pub answers : AnswersRecord dry run x reply
+
+-- `stop`: nothing is said, and the replica ends
+pub record AnswersStop (reply : Reply) : Type 0 where
+  pub head : reply.head.items ≡ first_line [] [] 0
+  pub output : reply.output.items ≡ []
+  pub errors : reply.errors.items ≡ []
+  pub status : reply.status ≡ 0
+  pub unjournalled : reply.journal.items ≡ []
+  pub ends : reply.ends ≡ true
 
 -- What is replied, by the command.
 abbrev pub Answers : CommandName → CallRun → Reply → Type 0
@@ -346,20 +362,60 @@ Answers command.Status run reply = AnswersStatus run reply
 Answers command.Observe run reply = AnswersObserveCall run reply
 Answers command.Merge run reply = HasStreams (AnswersMerge run.change) reply
 Answers command.Distrust run reply = AnswersDistrust run reply
-Answers command.Stop run reply = IsReplied reply [] [] × (reply.ends ≡ true)
+Answers command.Stop run reply = AnswersStop reply
 Answers name run reply = ⊥
 
 -- ---- how a call ends
 
--- A text of the words is refused, or memory ran out.
-abbrev pub EndsEarly : Exit → Type 0
-EndsEarly Usage = Unit {0}
-EndsEarly (BadNumber option) = Unit {0}
-EndsEarly BadKey = Unit {0}
-EndsEarly BadMoment = Unit {0}
-EndsEarly (Refused (Name e)) = Unit {0}
-EndsEarly (Refused NoMemory) = Unit {0}
-EndsEarly exit = ⊥
+-- How any command may end: a number of the words is none, or memory ran out.
+abbrev pub EndsAnyhow : Exit → Type 0
+EndsAnyhow (BadNumber option) = Unit {0}
+EndsAnyhow (Refused NoMemory) = Unit {0}
+EndsAnyhow exit = ⊥
+
+-- The words leave out this option, which the command wants.
+pub record EndsWithout (option : OptionName) (name : CommandName)
+    (texts : List (Option (List ℕ))) (exit : Exit) : Type 0 where
+  pub lacks : option_said name texts option ≡ None
+  pub is : exit ≡ Usage
+
+-- The name that the words give this option is refused, for a cause.
+pub record EndsAtName (Refuses : List ℕ → NameError → Type 0) (option : OptionName)
+    (name : CommandName) (texts : List (Option (List ℕ))) (exit : Exit) : Type 0 where
+  pub text : List ℕ
+  pub is_said : option_said name texts option ≡ Some text
+  pub why : NameError
+  pub refused : Refuses text why
+  pub is : exit ≡ Refused (Name why)
+
+-- The words give a key that is not read.
+pub record EndsAtDigits (name : CommandName) (texts : List (Option (List ℕ)))
+    (exit : Exit) : Type 0 where
+  pub digits : List ℕ
+  pub is_said : option_said name texts Key ≡ Some digits
+  pub is : exit ≡ BadKey
+
+-- They say no domain,
+abbrev pub EndsAtDomain : CommandName → List (Option (List ℕ)) → Exit → Type 0
+EndsAtDomain name texts exit = EndsWithout Domain name texts exit
+    ⊎ EndsAtName RefusesDomain Domain name texts exit
+
+-- no endpoint,
+abbrev pub EndsAtEndpoint : CommandName → List (Option (List ℕ)) → Exit → Type 0
+EndsAtEndpoint name texts exit = EndsWithout Endpoint name texts exit
+    ⊎ EndsAtName RefusesId Endpoint name texts exit
+
+-- or no key.
+abbrev pub EndsAtKey : CommandName → List (Option (List ℕ)) → Exit → Type 0
+EndsAtKey name texts exit = EndsWithout Key name texts exit ⊎ EndsAtDigits name texts exit
+
+-- They say no record of distrust.
+abbrev pub SaysNoRecord : CommandName → List (Option (List ℕ)) → Exit → Type 0
+SaysNoRecord name texts exit = EndsAtDomain name texts exit ⊎ EndsAtKey name texts exit
+
+-- They do not say what TLS said.
+abbrev pub SaysNoVerdict : CommandName → List (Option (List ℕ)) → Exit → Type 0
+SaysNoVerdict name texts exit = EndsAtEndpoint name texts exit ⊎ EndsAtKey name texts exit
 
 abbrev pub EndsBundleIn : BundleFormat → Meaning → List ℕ → Exit → Type 0
 EndsBundleIn Json m domain exit = EndsBundle m domain exit
@@ -408,26 +464,40 @@ pub record EndsDistrustCall (run : CallRun) (exit : Exit) : Type 0 where
   pub is_dry : SaysFlag (said run DryRun) dry
   pub ends : EndsRecord dry run.change.state x exit
 
--- how a command ends for what is held or what is read, by the command
+-- How a command ends for what the words say, for what is held or for what is read, by the command.
+-- `report` and `stop` never do; of the last row are those that are none of a request.
 abbrev pub EndsFor : CommandName → CallRun → Exit → Type 0
-EndsFor command.Bundle run exit = EndsBundleCall run exit
-EndsFor command.Explain run exit = EndsExplainCall run exit
-EndsFor command.Polls run exit = EndsPollsCall run exit
-EndsFor command.Observe run exit = EndsObserveCall run exit
+EndsFor command.Report run exit = ⊥
+EndsFor command.Stop run exit = ⊥
+EndsFor command.Status run exit = exit ≡ Usage
+EndsFor command.Bundle run exit = (exit ≡ Usage) ⊎ EndsBundleCall run exit
+EndsFor command.Explain run exit = EndsWithout Domain run.name run.texts exit
+    ⊎ EndsExplainCall run exit
+EndsFor command.Polls run exit = EndsWithout Now run.name run.texts exit
+    ⊎ ((exit ≡ BadMoment) ⊎ EndsPollsCall run exit)
+EndsFor command.Observe run exit = EndsAtDomain run.name run.texts exit
+    ⊎ (SaysNoVerdict run.name run.texts exit ⊎ EndsObserveCall run exit)
 EndsFor command.Merge run exit = (exit ≡ TooManyBytes) ⊎ EndsMerge run.change exit
-EndsFor command.Distrust run exit = EndsDistrustCall run exit
-EndsFor name run exit = ⊥
+EndsFor command.Distrust run exit = SaysNoRecord run.name run.texts exit
+    ⊎ EndsDistrustCall run exit
+EndsFor name run exit = exit ≡ Usage
 
 -- How a command ends that is not done.
 abbrev pub Ends : CommandName → CallRun → Exit → Type 0
-Ends name run exit = EndsEarly exit ⊎ EndsFor name run exit
+Ends name run exit = EndsAnyhow exit ⊎ EndsFor name run exit
 
 -- ---- a request
 
+-- The command ended, nothing has changed, and how it ended is replied.
+pub record RepliesWithEnd (run : CallRun) (reply : Reply) : Type 0 where
+  pub exit : Exit
+  pub ends : Ends run.name run exit
+  pub held : IsAsHeld run.change.state
+  pub replied : IsEnded reply exit
+
 -- What is replied to a call: what its command answers, or how it ends.
 abbrev pub RepliesToCall : CallRun → Reply → Type 0
-RepliesToCall run reply = Answers run.name run reply
-    ⊎ ((exit : Exit) × Ends run.name run exit × IsEnded reply exit)
+RepliesToCall run reply = Answers run.name run reply ⊎ RepliesWithEnd run reply
 
 -- The words are a call in a request, and that is replied.
 pub record RepliesAsCommand (words : List (List ℕ)) (change : ChangeRun)
@@ -437,9 +507,17 @@ pub record RepliesAsCommand (words : List (List ℕ)) (change : ChangeRun)
   pub call : CallsInRequest words name texts
   pub replied : RepliesToCall (call_run name texts change) reply
 
--- The words are refused, or ask for help: then nothing has changed.
+-- `clap` says why it refuses the words, or shows what they ask for of its help and its version.
+abbrev pub ShowsText : Reply → Type 0
+ShowsText reply = IsWith reply [] reply.errors.items 2 ⊎ IsWith reply reply.output.items [] 0
+
+-- That is replied, or that a subcommand or an option is missing.
+abbrev pub SaysOfWords : Reply → Type 0
+SaysOfWords reply = IsEnded reply Usage ⊎ ShowsText reply
+
+-- The words are no call, and nothing has changed.
 pub record RepliesToWords (change : ChangeRun) (reply : Reply) : Type 0 where
-  pub replied : IsWholeReply reply
+  pub replied : SaysOfWords reply
   pub held : IsAsHeld change.state
 
 -- What is replied to a line of words.

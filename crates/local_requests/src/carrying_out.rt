@@ -3,13 +3,15 @@ ghost use Rattle.std.specs.Prelude.{◌≡◌, ℕ, List, IfErr, IfOk, OnErr, ma
 ghost use Rattle.std.specs.Str.{string_bytes};
 ghost use Rattle.fedbundle.specs.CommandRun.{state_run};
 ghost use Rattle.local_requests.specs.Journalling.{JournalsChange};
-ghost use Rattle.local_requests.specs.RequestRun.{Answers, Ends, IsWholeReply, RepliesTo};
-ghost use Rattle.local_requests.specs.RequestRun.{RepliesToCall, call_run, change_run};
+ghost use Rattle.local_requests.specs.Replies.{RefusesWordsLine};
+ghost use Rattle.local_requests.specs.RequestRun.{Answers, Ends, RepliesTo, RepliesToCall};
+ghost use Rattle.local_requests.specs.RequestRun.{SaysOfWords, ShowsText, call_run, change_run};
+ghost use Rattle.local_requests.specs.declared.request_fault.RequestFault.TheVariants.{NoMemory};
 
 use crate::changing_calls::{distrust, merge, observe};
 use crate::reply::Reply;
 use crate::request_fault::RequestFault;
-use crate::shown_calls::show;
+use crate::shown_calls::{bundle, explain, polls, report, status, stop};
 use closure_core::Closure;
 use fedbundle::{Call, CommandName, Exit, WordsError, manner_of, read_request};
 use replica_requests::read_request_words;
@@ -24,8 +26,9 @@ use std::alloc::{AllocError, Global};
 ///
 /// # Errors
 /// Nothing has changed, and [`RequestFault::reply`] is to be replied.
-/// - [`RequestFault::WordsTooLong`], [`RequestFault::BadWords`]: the line of words is refused,
-/// - [`RequestFault::NoMemory`]: memory ran out for the reply.
+/// - [`RequestFault::WordsTooLong`]: the line of words has more than 65,536 bytes,
+/// - [`RequestFault::BadWords`]: it is no JSON array of texts,
+/// - [`RequestFault::NoMemory`]: memory ran out.
 pub fn answer_request<C: Closure>(
     alloc: Global,
     closure: &mut C,
@@ -37,6 +40,7 @@ pub fn answer_request<C: Closure>(
         (change_run (state_run (C.state closure.old) (C.state closure.new)) input.now)) }
     ensures journals { IfOk result (λ reply. JournalsChange reply.journal.items
         (state_run (C.state closure.old) (C.state closure.new))) }
+    ensures fault { IfErr result (RefusesWordsLine words.now) }
     ensures unchanged { OnErr result
         ((C.state closure.new).meaning ≡ (C.state closure.old).meaning) }
 {
@@ -60,7 +64,7 @@ fn texts_of_words(alloc: Global, words: &[String]) -> Result<Vec<&str>, AllocErr
 
 // The words are none of a command, or ask for help or for the version.
 fn reply_by_words(alloc: Global, error: &WordsError) -> Result<Reply, AllocError>
-    ensures { IfOk result IsWholeReply }
+    ensures { IfOk result SaysOfWords }
 {
     match error {
         WordsError::Words(shown) => reply_of_clap(alloc, shown),
@@ -70,7 +74,7 @@ fn reply_by_words(alloc: Global, error: &WordsError) -> Result<Reply, AllocError
 }
 
 fn reply_of_clap(alloc: Global, shown: &clap::Error) -> Result<Reply, AllocError>
-    ensures { IfOk result IsWholeReply }
+    ensures { IfOk result ShowsText }
 {
     let text = format!(in alloc; "{shown}")?.into_bytes();
     if shown.use_stderr() {
@@ -92,6 +96,7 @@ fn answer_call<C: Closure>(
         (change_run (state_run (C.state closure.old) (C.state closure.new)) input.now))) }
     ensures journals { IfOk result (λ reply. JournalsChange reply.journal.items
         (state_run (C.state closure.old) (C.state closure.new))) }
+    ensures memory { IfErr result (λ fault. fault ≡ NoMemory) }
     ensures unchanged { OnErr result
         ((C.state closure.new).meaning ≡ (C.state closure.old).meaning) }
 {
@@ -121,12 +126,18 @@ fn carry_out<C: Closure>(
 {
     let most_bytes = manner_of(call)?.most_bytes;
     match call.name {
+        CommandName::Report => report(alloc, closure, call, input),
+        CommandName::Bundle => bundle(alloc, closure, call, input),
+        CommandName::Explain => explain(alloc, closure, call, input),
+        CommandName::Polls => polls(alloc, closure, call, input),
+        CommandName::Status => status(alloc, closure, call, input),
         CommandName::Observe => observe(alloc, closure, call, input),
         CommandName::Merge => {
             let room = most_bytes.saturating_sub(held_bytes);
             merge(alloc, closure, room, call, input)
         }
         CommandName::Distrust => distrust(alloc, closure, call, input),
-        _ => show(alloc, closure, call, input),
+        CommandName::Stop => stop(alloc, closure, call, input),
+        _ => Err(Exit::Usage),
     }
 }

@@ -1,10 +1,15 @@
 //! The commands that change what is held, by what the words say.
-ghost use Rattle.std.specs.Prelude.{◌≡◌, IfErr, IfOk, OnErr, map, option_map};
+ghost use Rattle.std.specs.Prelude.{◌≡◌, ◌<◌, ◌≤◌, IfErr, IfOk, OnErr, OnOk, length, map};
+ghost use Rattle.std.specs.Prelude.{option_map};
+ghost use Rattle.spiffe_name.specs.SpiffeId.{IsId, RefusesId};
+ghost use Rattle.spiffe_name.specs.declared.error.NameError.{NameError};
 ghost use Rattle.fedbundle.specs.CommandRun.{state_run};
 ghost use Rattle.fedbundle.specs.declared.command_name.CommandName.TheVariants as command;
+ghost use Rattle.fedbundle.specs.declared.error.CommandError.TheVariants.{Name};
+ghost use Rattle.fedbundle.specs.declared.exits.Exit.TheVariants.{Refused, TooManyBytes};
 ghost use Rattle.local_requests.specs.Journalling.{JournalsChange};
-ghost use Rattle.local_requests.specs.RequestRun.{Answers, Ends, EndsEarly, SaysRecord};
-ghost use Rattle.local_requests.specs.RequestRun.{SaysVerdict, call_run, change_run};
+ghost use Rattle.local_requests.specs.RequestRun.{Answers, Ends, SaysNoRecord, SaysNoVerdict};
+ghost use Rattle.local_requests.specs.RequestRun.{SaysRecord, SaysVerdict, call_run, change_run};
 
 use crate::changing_replies;
 use crate::reply::Reply;
@@ -41,7 +46,8 @@ pub(crate) fn observe<C: Closure>(
 fn verdict_of(alloc: Global, call: &Call<'_>) -> Result<Verdict, Exit>
     ensures says { IfOk result (SaysVerdict call.now.name
         (map (option_map (λ t. t.now)) call.now.texts.items)) }
-    ensures early { IfErr result EndsEarly }
+    ensures ends { IfErr result (SaysNoVerdict call.now.name
+        (map (option_map (λ t. t.now)) call.now.texts.items)) }
 {
     let endpoint = endpoint_of(alloc, wanted(call, OptionName::Endpoint)?)?;
     let key = read_key(wanted(call, OptionName::Key)?)?;
@@ -49,8 +55,9 @@ fn verdict_of(alloc: Global, call: &Call<'_>) -> Result<Verdict, Exit>
 }
 
 fn endpoint_of(alloc: Global, text: &str) -> Result<SpiffeId, Exit>
-    ensures ok { IfOk result (λ endpoint. endpoint.text ≡ text.now) }
-    ensures early { IfErr result EndsEarly }
+    ensures ok { IfOk result (λ endpoint. (endpoint.text ≡ text.now) × IsId endpoint) }
+    ensures refused { IfErr result
+        (λ exit. ((e : NameError) × (exit ≡ Refused (Name e)) × RefusesId text.now e)) }
 {
     match SpiffeId::read(alloc, text) {
         Ok(endpoint) => Ok(endpoint),
@@ -76,6 +83,8 @@ pub(crate) fn merge<C: Closure>(
         (state_run (C.state closure.old) (C.state closure.new))) }
     ensures unchanged { OnErr result
         ((C.state closure.new).meaning ≡ (C.state closure.old).meaning) }
+    ensures within { OnOk result (length input.now ≤ room) }
+    ensures over { IfErr result (λ exit. exit ≡ TooManyBytes → room < length input.now) }
 {
     let _asked = call;
     if input.len() as u64 > room {
@@ -115,7 +124,8 @@ pub(crate) fn distrust<C: Closure>(
 fn record_of(alloc: Global, call: &Call<'_>) -> Result<Distrust, Exit>
     ensures says { IfOk result (SaysRecord call.now.name
         (map (option_map (λ t. t.now)) call.now.texts.items)) }
-    ensures early { IfErr result EndsEarly }
+    ensures ends { IfErr result (SaysNoRecord call.now.name
+        (map (option_map (λ t. t.now)) call.now.texts.items)) }
 {
     let domain = domain_of(alloc, wanted(call, OptionName::Domain)?)?;
     let key = read_key(wanted(call, OptionName::Key)?)?;

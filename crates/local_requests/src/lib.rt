@@ -13,6 +13,7 @@ mod call_words;
 mod carrying_out;
 mod changing_calls;
 mod changing_replies;
+pub mod laws;
 mod new_lines;
 mod reply;
 mod reply_sending;

@@ -1,6 +1,6 @@
 //! The lines of what is not held yet, as a journal has them.
 ghost use Rattle.std.specs.Prelude.{◌≡◌, ◌++◌, IfOk, OnOk};
-ghost use Rattle.receipt_core.specs.Receipt.{distrust_line};
+ghost use Rattle.receipt_core.specs.Receipt.{IsDigest, distrust_line};
 ghost use Rattle.replica_core.specs.declared.entry.Entry.TheVariants.{Record, Receipt as AReceipt};
 ghost use Rattle.replica_sync.specs.Snapshots.{ended};
 ghost use Rattle.local_requests.specs.Journalling.{AreLinesOfOther, IsLineIfNew};
@@ -50,6 +50,7 @@ pub(crate) fn line_of_record<C: Closure>(
 {
     // What these lend tells the form of the record and of what is held.
     let key = record.key;
+    let _form = key_of(&key.0);
     let _domain = record.domain.as_str();
     let _config = closure.config();
     if closure.is_distrusted(&record.domain, key) {
@@ -57,6 +58,17 @@ pub(crate) fn line_of_record<C: Closure>(
     }
     let line = end_line(record.write_line(alloc)?)?;
     Ok(line)
+}
+
+// What is read of a key tells its form.
+fn key_of(digest: &[u8; 32]) -> KeyId
+    ensures { IsDigest digest.now }
+{
+    key_id(*digest)
+}
+
+fn key_id(digest: [u8; 32]) -> KeyId {
+    KeyId(digest)
 }
 
 // The lines of all that the other holds and this one does not.

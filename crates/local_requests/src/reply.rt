@@ -42,10 +42,13 @@ impl Reply {
         ensures { IfOk result (λ reply. IsEnded reply exit.now) }
     {
         let mut line = FromWrite::new(Vec::new(alloc));
-        if write_exit(exit, &mut line).is_err() {
-            return Err(AllocError);
+        match write_exit(exit, &mut line) {
+            Ok(()) => {
+                let errors = line.into_inner();
+                Reply::of_streams(alloc, exit_status(exit), Vec::new(alloc), errors)
+            }
+            Err(_) => Err(AllocError),
         }
-        Reply::of_streams(alloc, exit_status(exit), Vec::new(alloc), line.into_inner())
     }
 
     pub(crate) fn of_streams(

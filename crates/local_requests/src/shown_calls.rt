@@ -8,39 +8,12 @@ use crate::reply::Reply;
 use crate::shown_replies;
 use closure_core::Closure;
 use fedbundle::{
-    Call, CommandName, Exit, OptionName, explanation_form, given, read_bundle_format, read_moment,
+    Call, Exit, OptionName, explanation_form, given, read_bundle_format, read_moment,
     read_status_format, wanted,
 };
 use std::alloc::Global;
 
-// The words may ask for nothing else here: what a request asks for shows what is held, changes it,
-// or ends the replica.
-pub(crate) fn show<C: Closure>(
-    alloc: Global,
-    closure: &C,
-    call: &Call<'_>,
-    input: &[u8],
-) -> Result<Reply, Exit>
-    ensures answers { IfOk result (Answers call.now.name (call_run call.now.name
-        (map (option_map (λ t. t.now)) call.now.texts.items)
-        (change_run (state_run (C.state closure.now) (C.state closure.now)) input.now))) }
-    ensures ends { IfErr result (Ends call.now.name (call_run call.now.name
-        (map (option_map (λ t. t.now)) call.now.texts.items)
-        (change_run (state_run (C.state closure.now) (C.state closure.now)) input.now))) }
-    ensures unjournalled { IfOk result (λ reply. reply.journal.items ≡ []) }
-{
-    match call.name {
-        CommandName::Report => report(alloc, closure, call, input),
-        CommandName::Bundle => bundle(alloc, closure, call, input),
-        CommandName::Explain => explain(alloc, closure, call, input),
-        CommandName::Polls => polls(alloc, closure, call, input),
-        CommandName::Status => status(alloc, closure, call, input),
-        CommandName::Stop => stop(alloc, closure, call, input),
-        _ => Err(Exit::Usage),
-    }
-}
-
-fn report<C: Closure>(
+pub(crate) fn report<C: Closure>(
     alloc: Global,
     closure: &C,
     call: &Call<'_>,
@@ -54,12 +27,13 @@ fn report<C: Closure>(
         (change_run (state_run (C.state closure.now) (C.state closure.now)) input.now))) }
     ensures unjournalled { IfOk result (λ reply. reply.journal.items ≡ []) }
 {
-    let _asked = (call, input);
+    let _asked = call;
+    let _unread = input;
     let text = shown_replies::report(alloc, closure)?;
     Ok(Reply::done(alloc, text)?)
 }
 
-fn bundle<C: Closure>(
+pub(crate) fn bundle<C: Closure>(
     alloc: Global,
     closure: &C,
     call: &Call<'_>,
@@ -73,14 +47,14 @@ fn bundle<C: Closure>(
         (change_run (state_run (C.state closure.now) (C.state closure.now)) input.now))) }
     ensures unjournalled { IfOk result (λ reply. reply.journal.items ≡ []) }
 {
-    let _asked = input;
+    let _unread = input;
     let domain = wanted(call, OptionName::Domain)?;
     let format = read_bundle_format(given(call, OptionName::Format))?;
     let text = shown_replies::bundle_in(alloc, closure, domain, format)?;
     Ok(Reply::done(alloc, text)?)
 }
 
-fn explain<C: Closure>(
+pub(crate) fn explain<C: Closure>(
     alloc: Global,
     closure: &C,
     call: &Call<'_>,
@@ -100,7 +74,7 @@ fn explain<C: Closure>(
     Ok(Reply::done(alloc, text)?)
 }
 
-fn polls<C: Closure>(
+pub(crate) fn polls<C: Closure>(
     alloc: Global,
     closure: &C,
     call: &Call<'_>,
@@ -120,7 +94,7 @@ fn polls<C: Closure>(
 }
 
 // A warning makes the exit status 1.
-fn status<C: Closure>(
+pub(crate) fn status<C: Closure>(
     alloc: Global,
     closure: &C,
     call: &Call<'_>,
@@ -134,7 +108,7 @@ fn status<C: Closure>(
         (change_run (state_run (C.state closure.now) (C.state closure.now)) input.now))) }
     ensures unjournalled { IfOk result (λ reply. reply.journal.items ≡ []) }
 {
-    let _asked = input;
+    let _unread = input;
     let format = read_status_format(given(call, OptionName::Format))?;
     let shown = shown_replies::status(alloc, closure, format)?;
     let ended = u8::from(shown.is_warned);
@@ -142,7 +116,7 @@ fn status<C: Closure>(
 }
 
 // Nothing is to be done but to end.
-fn stop<C: Closure>(
+pub(crate) fn stop<C: Closure>(
     alloc: Global,
     closure: &C,
     call: &Call<'_>,
@@ -156,7 +130,9 @@ fn stop<C: Closure>(
         (change_run (state_run (C.state closure.now) (C.state closure.now)) input.now))) }
     ensures unjournalled { IfOk result (λ reply. reply.journal.items ≡ []) }
 {
-    let _asked = (closure, call, input);
+    let _held = closure;
+    let _asked = call;
+    let _unread = input;
     let mut reply = Reply::done(alloc, Vec::new(alloc))?;
     reply.ends = true;
     Ok(reply)

@@ -33,10 +33,10 @@ pub(crate) fn report<C: Closure>(alloc: Global, closure: &C) -> Result<Vec<u8>, 
     ensures ends { IfErr result (λ exit. exit ≡ Refused NoMemory) }
 {
     let mut output = FromWrite::new(Vec::new(alloc));
-    if write_report(alloc, closure, &mut output).is_err() {
-        return Err(Exit::Refused(CommandError::NoMemory));
+    match write_report(alloc, closure, &mut output) {
+        Ok(()) => Ok(output.into_inner()),
+        Err(_) => Err(Exit::Refused(CommandError::NoMemory)),
     }
-    Ok(output.into_inner())
 }
 
 pub(crate) fn bundle_in<C: Closure>(

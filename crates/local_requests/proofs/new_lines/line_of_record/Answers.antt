@@ -12,6 +12,6 @@ returns-then-is_distrusted g c =
 pub returns : goal.returns
 returns g c =
     line_new _ (Record c.args.record.now) c.in_ok-line.line.items
-    (record { domain = c.as_str-domain.ensures.valid; key = search rules })
+    (record { domain = c.as_str-domain.ensures.valid; key = c.key_of-form.ensures })
     (not_told _ _ c.is_distrusted.ensures c.if-is_distrusted.false)
     (c.in_ok-line.ensures ∙ ap ended c.in_ok-write_line.ensures)
