@@ -19,6 +19,6 @@ pub struct Settings<'a, 'p> {
     pub most_bytes: u64,
     /// Whether it may begin without a state file.
     pub is_new: bool,
-    /// Whether turns are counted, and connections reported.
+    /// Whether each connection is reported that has ended, and not only those at fault.
     pub is_verbose: bool,
 }
