@@ -46,5 +46,5 @@ returns-clause-answers g c = record {
 
 pub returns-clause-journals : goal.returns-clause-journals
 returns-clause-journals g c =
-    same_journalled (g.C.Closure.state c.args.closure.now) (g.C.Closure.state c.args.closure.now) _
-    (words_unjournalled _ c.in_ok-reply_by_words-in-Err.ensures) refl
+    let state = g.C.Closure.state c.args.closure.now in
+    same_journalled state state _ (words_unjournalled _ c.in_ok-reply_by_words-in-Err.ensures) refl
