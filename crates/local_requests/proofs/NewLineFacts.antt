@@ -1,5 +1,5 @@
 -- The lines of what is new: which items of another set are not in this one, and what they make with it.
-use Rattle.std.proofs.Common.{◌≡◌, ℕ, ◌+◌, ◌≤◌, ◌⊎◌, inl, inr, List, [], ◌∷◌, ◌++◌, length, map, flat_map, refl, sym, ap, ◌∙◌, subst, arith}
+use Rattle.std.proofs.Common.{◌≡◌, ℕ, ◌+◌, ◌≤◌, inl, inr, List, [], ◌∷◌, ◌++◌, length, map, flat_map, refl, sym, ap, ◌∙◌, subst, arith}
 use Rattle.std.proofs.Common.{append_assoc, append-nil}
 use Rattle.std.specs.declared.cmp.Ordering.{Ordering}
 use Rattle.std.specs.declared.cmp.Ordering.TheVariants.{Less}
@@ -12,8 +12,7 @@ use Rattle.receipt_core.specs.Acceptance.{Meaning, IsMeaning}
 use Rattle.receipt_core.specs.Receipt.{Receipt, IsDistrust, IsReceipt, receipt_cmp, distrust_cmp}
 use Rattle.receipt_core.specs.Rising.{with_item, with_items}
 use Rattle.receipt_core.specs.Sets.{AreSets, Always}
-use Rattle.closure_core.specs.Changes.{union_of}
-use Rattle.closure_core.specs.Refusals.{all_receipts, all_records}
+use Rattle.closure_core.specs.Refusals.{all_receipts}
 use Rattle.closure_core.proofs.RisingFacts.{each_from, each_has, not_again, with_items_keeps}
 use Rattle.closure_core.proofs.UnionFacts.{receipt_sets, record_sets}
 use Rattle.replica_core.proofs.RisingListFacts.{rising_cons, rising_head, rising_tail, all_append, all_front, all_back}
@@ -22,7 +21,7 @@ use Rattle.replica_core.specs.declared.entry.Entry.{Entry}
 use Rattle.replica_core.specs.declared.entry.Entry.TheVariants.{Record, Receipt as AReceipt}
 use Rattle.replica_sync.specs.SoleLines.{IsWellFormed}
 use Rattle.replica_service.specs.Journal.{entry_text}
-use Rattle.local_requests.specs.Journalling.{AreLinesOfOther, AreNewLines, HoldsEntry, IsLineIfNew}
+use Rattle.local_requests.specs.Journalling.{AreLinesOfOther, HoldsEntry, IsLineIfNew}
 use Rattle.local_requests.specs.Inside.NewLineSteps.{AreReceiptLines, AreRecordLines, IsSifted, SiftsReceipts, SiftsRecords}
 
 -- ---- lists without one of their items

@@ -1,5 +1,5 @@
 -- What a command's function answers over memory, as what is replied.
-use Rattle.std.proofs.Common.{◌≡◌, ℕ, ◌+◌, ℤ, ◌⊎◌, inl, inr, List, [], ◌∷◌, length, refl, sym, ap, ◌∙◌, arith, true, false, Some, Ok, Err}
+use Rattle.std.proofs.Common.{◌≡◌, ℕ, ℤ, inl, inr, List, [], ◌∷◌, refl, sym, ap, ◌∙◌, arith, false, Some, Ok, Err}
 use Rattle.std.specs.List.{Contains}
 use Rattle.std.specs.Io.KnownBytes.{IsAtEnd}
 use Rattle.receipt_core.specs.Acceptance.{Meaning, IsMeaning}

@@ -1,5 +1,3 @@
-use Rattle.std.proofs.Common.{subst, IfOk}
-use Rattle.local_requests.specs.RequestRun.{IsWith}
 use Rattle.local_requests.proofs.ChangingFacts.{complained, printed}
 use Rattle.local_requests.proofs.carrying_out.reply_of_clap.Goals as goal
 

@@ -1,4 +1,4 @@
-use Rattle.std.proofs.Common.{inl, inr, map, option_map, refl}
+use Rattle.std.proofs.Common.{map, option_map}
 use Rattle.fedbundle.specs.CommandRun.{state_run}
 use Rattle.fedbundle.specs.Observe.{IsAsHeld}
 use Rattle.local_requests.specs.RequestRun.{CallRun, EndsMerge, call_run, change_run}

@@ -1,4 +1,4 @@
-use Rattle.std.proofs.Common.{inl, inr, subst, sym}
+use Rattle.std.proofs.Common.{inl, inr}
 use Rattle.std.proofs.lemmas.Result.{err_from_is_err_and}
 use Rattle.local_requests.specs.RequestRun.{AnswersBundleIn}
 use Rattle.local_requests.proofs.ShownFacts.{replied}
