@@ -1,3 +1,4 @@
 -- What the accepted documents offer, and lines as far as they are made.
 pub mod Offered
 pub mod MadeLines
+pub mod ShownForms

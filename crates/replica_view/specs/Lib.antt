@@ -1,4 +1,6 @@
--- `HeldLines` and `HeldTexts` have what a caller cites; `Inside` has how far the work has come.
+-- `HeldLines`, `HeldTexts` and `HeldJson` have what a caller cites; `Inside` has how far the work
+-- has come.
 pub mod HeldLines
 pub mod HeldTexts
+pub mod HeldJson
 pub mod Inside
