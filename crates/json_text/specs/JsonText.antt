@@ -1,6 +1,6 @@
--- Texts of JSON, as pieces that stand one after another. An object is made of members, of which each
--- has its label before it: what opens the object or parts it from the member before, its name, and
--- the colon.
+-- Texts of JSON, as pieces that stand one after another. An object is made of members, of which
+-- each has its label before it: what opens the object or parts it from the member before, its name,
+-- and the colon.
 use Rattle.std.specs.Prelude.{ℕ, List, [], ◌∷◌, ◌++◌, Bool, true, false}
 use Rattle.std.specs.Prelude.{codes, decimal, Option, Some, None}
 use Rattle.hex.specs.Hex.{encode_lower}

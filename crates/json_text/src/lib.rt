@@ -1,4 +1,5 @@
-//! Compact JSON, written piece by piece after what is there. It knows nothing of what the texts say.
+//! Compact JSON, written piece by piece after what is there. It knows nothing of what the texts
+//! say.
 #![tactic(auto)]
 
 mod json_array;

@@ -1,5 +1,5 @@
-//! What a replica holds, printed for operators: all of it, as lines or as JSON, or what one state has
-//! that another one lacks. It knows closures by their trait alone.
+//! What a replica holds, printed for operators: all of it, as lines or as JSON, or what one state
+//! has that another one lacks. It knows closures by their trait alone.
 #![tactic(auto)]
 
 mod comparing;

@@ -199,7 +199,8 @@ fn push_records<C: Closure>(
     lines: &mut Vec<TextLine>,
 ) -> Result<(), AllocError>
     ensures { OnOk result (AddsLinesFor (IsRecordOfOther (option_copied chosen.entry))
-        (ShowsRecordIn form) (C.state closure.now).meaning.records lines.old.items lines.new.items) }
+        (ShowsRecordIn form) (C.state closure.now).meaning.records
+        lines.old.items lines.new.items) }
 {
     for (domain, key) in closure.distrusts() {
         if is_left_aside(chosen, domain) {
