@@ -11,5 +11,5 @@ mod receipt_status;
 
 pub use comparing::write_held_difference;
 pub use listing::{write_held, write_held_json};
-pub use receipt_json::push_receipt_members;
+pub use receipt_json::{push_receipt_members, record_json};
 pub use receipt_status::ReceiptStatus;

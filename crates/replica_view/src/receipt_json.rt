@@ -114,7 +114,15 @@ fn status_member(status: ReceiptStatus) -> &'static str
     }
 }
 
-fn record_json(alloc: Global, domain: &TrustDomain, key: &KeyId) -> Result<TextLine, AllocError>
+/// The text of a record of distrust: an object of `distrust` with the key's id, and `domain`.
+///
+/// # Errors
+/// Memory ran out.
+pub fn record_json(
+    alloc: Global,
+    domain: &TrustDomain,
+    key: &KeyId,
+) -> Result<TextLine, AllocError>
     ensures { IfOk result (λ text. text
         ≡ held_record_json (record { domain = domain.now; key = key.now })) }
 {
