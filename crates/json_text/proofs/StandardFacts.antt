@@ -1,11 +1,12 @@
 -- Texts by hand, which pin the definitions.
 use Rattle.std.proofs.Common.{◌≡◌, [], ◌∷◌, ◌++◌, codes, refl, true, false, None, Some}
+use Rattle.std.specs.Fmt.{digits}
 use Rattle.json_text.specs.JsonText.{array_member, number_member, truth_member}
 
 -- an object of a truth, a number and an absent number
 an_object : truth_member (codes "{\"a\":") true ++ (number_member (codes ",\"b\":") (Some 12) ++ (number_member (codes ",\"c\":") None ++ codes "}"))
     ≡ codes "{\"a\":true,\"b\":12,\"c\":null}"
-unfolding truth_member number_member
+unfolding truth_member number_member digits
 an_object = refl
 
 -- arrays of none, one and three values

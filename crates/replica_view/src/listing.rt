@@ -229,7 +229,7 @@ fn push_shown_record(
 }
 
 // Whether another domain is chosen.
-fn is_left_aside(chosen: Option<&TrustDomain>, domain: &TrustDomain) -> bool
+pub(crate) fn is_left_aside(chosen: Option<&TrustDomain>, domain: &TrustDomain) -> bool
     ensures { result ≡ is_left_aside (option_copied chosen.entry) domain.now }
 {
     match chosen {
