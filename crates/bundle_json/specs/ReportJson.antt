@@ -32,7 +32,8 @@ current_member domain (Some d) = shown_current domain d
 -- its name, its current document, and all accepted ones
 abbrev pub accepted_domain_json : List ℕ → Option Bundle → List (List ℕ) → List ℕ
 accepted_domain_json domain current accepted = string_member (codes "{\"domain\":") domain
-    ++ (current_member domain current ++ (array_member (codes ",\"accepted\":") accepted ++ codes "}"))
+    ++ (current_member domain current
+    ++ (array_member (codes ",\"accepted\":") accepted ++ codes "}"))
 
 -- the texts of the accepted documents of the domain, in their order
 pub record AreAcceptedTexts (m : Meaning) (domain : List ℕ) (texts : List (List ℕ)) : Type 0 where

@@ -41,7 +41,8 @@ seen_label domain d = codes " [label=\"" ++ (domain
 
 -- the document that vouches for a receipt, of which the receipt says no more than its id
 abbrev pub voucher_line : Receipt → List ℕ
-voucher_line r = node_text r.voucher.0 ++ (unseen_label r.endpoint.domain r.voucher.0 ++ codes "\"];")
+voucher_line r = node_text r.voucher.0
+    ++ (unseen_label r.endpoint.domain r.voucher.0 ++ codes "\"];")
 
 -- the document that a receipt brought
 abbrev pub brought_line : Receipt → List ℕ
