@@ -6,6 +6,7 @@ ghost use Rattle.text_lines.specs.TextLines.{BeginsSome, WritesSome};
 ghost use Rattle.replica_view.specs.HeldTexts.{IsReceiptOfOther};
 ghost use Rattle.replica_view.specs.TrustGraph.{AreGraphLines, IsGraphText, IsOtherDomain};
 ghost use Rattle.replica_view.specs.TrustGraph.{IsSeedOfOther, ShowsConfigured, ShowsCurrent};
+ghost use Rattle.replica_view.specs.TrustGraph.{graph_head};
 ghost use Rattle.replica_view.specs.Inside.GraphParts.{IsWholeGraph, ShowsPart};
 ghost use Rattle.replica_view.specs.Inside.MadeLines.{AddsLinesFor, PushesLine};
 ghost use Rattle.replica_view.specs.Inside.Offered.{IsOfferSet};
@@ -85,12 +86,25 @@ fn whole_graph<C: Closure>(
         (option_copied chosen.entry) lines.items) }
 {
     let mut inner = graph_lines_of(alloc, closure, chosen)?;
-    let mut lines = Vec::new(alloc);
-    lines.push(TextLine::new(Vec::from_slice(alloc, b"digraph trust {")?))?;
-    lines.push(TextLine::new(Vec::from_slice(alloc, b"node [shape=box];")?))?;
+    let mut lines = graph_head(alloc)?;
     lines.append(&mut inner)?;
-    lines.push(TextLine::new(Vec::from_slice(alloc, b"}")?))?;
+    lines.push(fixed_line(alloc, b"}")?)?;
     Ok(lines)
+}
+
+fn graph_head(alloc: Global) -> Result<Vec<TextLine>, AllocError>
+    ensures { IfOk result (λ lines. lines.items ≡ graph_head) }
+{
+    let mut lines = Vec::new(alloc);
+    lines.push(fixed_line(alloc, b"digraph trust {")?)?;
+    lines.push(fixed_line(alloc, b"node [shape=box];")?)?;
+    Ok(lines)
+}
+
+fn fixed_line(alloc: Global, text: &[u8]) -> Result<TextLine, AllocError>
+    ensures { IfOk result (λ line. line ≡ text.now) }
+{
+    Ok(TextLine::new(Vec::from_slice(alloc, text)?))
 }
 
 fn graph_lines_of<C: Closure>(
@@ -181,8 +195,20 @@ fn push_configured(
         if is_left_aside(chosen, &seed.domain) {
             continue;
         }
-        lines.push(configured_line(alloc, seed)?)?;
+        push_configured_line(alloc, seed, lines)?;
     }
+    Ok(())
+}
+
+fn push_configured_line(
+    alloc: Global,
+    seed: &Seed,
+    lines: &mut Vec<TextLine>,
+) -> Result<(), AllocError>
+    ensures { OnOk result (PushesLine (ShowsConfigured seed.now) lines.old.items
+        lines.new.items) }
+{
+    lines.push(configured_line(alloc, seed)?)?;
     Ok(())
 }
 
