@@ -11,9 +11,9 @@ use config_view::{write_config, write_config_difference};
 use fed_config::Config;
 use fedbundle::{
     Call, CommandError, CommandName, ExplanationForm, RunError, WordsError, read_sessions,
-    read_words, run_bundle, run_bundle_pem, run_canon, run_distrust, run_explain, run_merge,
-    run_migrate, run_observe, run_polls, run_pull, run_report, run_report_with, run_serve,
-    show_distrust, status, write_fault, write_served,
+    read_status_format, read_words, run_bundle, run_bundle_pem, run_canon, run_distrust,
+    run_explain, run_merge, run_migrate, run_observe, run_polls, run_pull, run_report,
+    run_report_with, run_serve, show_distrust, status, write_fault, write_served,
 };
 use jiff::Timestamp;
 use jwk_set::KeyId;
@@ -24,6 +24,7 @@ use replica_sync::{read_snapshot, write_snapshot};
 use replica_view::{write_held, write_held_difference};
 use row_script::Script;
 use spiffe_name::{SpiffeId, TrustDomain};
+use status_view::write_status;
 use std::alloc::Global;
 
 /// What is run.
@@ -140,7 +141,7 @@ fn do_under_config<C: Closure>(
     match (asked.name, asked.given) {
         (CommandName::Config, [None]) => print_config(case.alloc, config, devices),
         (CommandName::Config, [Some(with)]) => compare_configs(case, config, with, devices),
-        (CommandName::Report, [None]) => report::<C>(case, config, devices),
+        (CommandName::Report, [None, _]) => report::<C>(case, config, devices),
         (name, [Some(state), given @ ..]) => {
             let file = case.script.text(state);
             do_over_file::<C>(case, Asked { name, given }, config, file, devices)
@@ -271,13 +272,14 @@ fn do_asked<C: Closure>(
 ) -> Result<(), CommandError> {
     let (input, output) = (&mut devices.input, &mut devices.output);
     match (asked.name, asked.given) {
-        (CommandName::Report, []) => report_held(case.alloc, closure, devices),
+        (CommandName::Report, [_]) => report_held(case.alloc, closure, devices),
         (CommandName::List, [domain, _]) => list_held(case, closure, *domain, devices),
         (CommandName::Diff, [Some(with), _]) => compare_held(case, closure, with, devices),
-        (CommandName::Bundle, [Some(domain), format, _]) => {
+        (CommandName::Status, [format, ..]) => status_of(case, closure, *format, devices),
+        (CommandName::Bundle, [Some(domain), format, ..]) => {
             bundle(case, closure, domain, *format, devices)
         }
-        (CommandName::Explain, [Some(domain), Some(short), _]) => {
+        (CommandName::Explain, [Some(domain), Some(short), ..]) => {
             explain(case, closure, domain, short, devices)
         }
         (CommandName::Observe, [Some(domain), Some(endpoint), Some(key), ..]) => {
@@ -287,7 +289,7 @@ fn do_asked<C: Closure>(
         (CommandName::Migrate, [Some(to), Some(records_only)]) => {
             migrate(case, closure, to, records_only, devices)
         }
-        (CommandName::Polls, [Some(now), _]) => polls(case, closure, now, devices),
+        (CommandName::Polls, [Some(now), ..]) => polls(case, closure, now, devices),
         (CommandName::Distrust, [Some(domain), Some(key), flags @ ..]) => {
             let record = record_of(case.alloc, domain, key)?;
             distrust(case, closure, &record, flags, devices)
@@ -307,6 +309,22 @@ fn report_held<C: Closure>(
     devices: &mut Devices,
 ) -> Result<(), CommandError> {
     write_report(alloc, closure, &mut devices.output).map_err(RunError::from)?;
+    Ok(())
+}
+
+// A warning makes the exit status 1.
+fn status_of<C: Closure>(
+    case: &Case<'_>,
+    closure: &C,
+    format: Option<&str>,
+    devices: &mut Devices,
+) -> Result<(), CommandError> {
+    let Ok(format) = read_status_format(format) else {
+        tell(b"fedbundle: usage\n", 2, devices);
+        return Ok(());
+    };
+    let is_warned = write_status(case.alloc, closure, format, &mut devices.output)?;
+    devices.status = u8::from(is_warned);
     Ok(())
 }
 
@@ -447,7 +465,7 @@ fn distrust<C: Closure>(
     if is_dry(flags) {
         return show_distrust(case.alloc, closure, record, &mut devices.output);
     }
-    if flags.last() == Some(&Some("true")) {
+    if flags.get(2) == Some(&Some("true")) {
         let _ = show_distrust(case.alloc, closure, record, &mut devices.errors);
     }
     run_distrust(closure, &record.domain, record.key)

@@ -1,4 +1,5 @@
 mod WordsFacts
+mod OptionTextFacts
 mod TakenFacts
 mod ComplaintFacts
 mod RunFacts

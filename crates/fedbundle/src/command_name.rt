@@ -31,6 +31,12 @@ pub enum OptionName {
     Verbose,
     Format,
     Short,
+    Socket,
+    /// The address where the command does without one, too.
+    OptionalListen,
+    Peers,
+    Every,
+    New,
 }
 
 /// A subcommand.
@@ -68,10 +74,14 @@ pub enum CommandName {
     Serve,
     /// Asks another replica, and takes what it answers.
     Pull,
+    /// Holds what a replica holds in memory, and answers requests and other replicas.
+    Replica,
+    /// Ends a running replica.
+    Stop,
 }
 
 /// All subcommands, in the order in which help lists them.
-pub(crate) static COMMANDS: [CommandName; 16] = [
+pub(crate) static COMMANDS: [CommandName; 18] = [
     CommandName::Canon,
     CommandName::Config,
     CommandName::Report,
@@ -88,6 +98,8 @@ pub(crate) static COMMANDS: [CommandName; 16] = [
     CommandName::Distrust,
     CommandName::Serve,
     CommandName::Pull,
+    CommandName::Replica,
+    CommandName::Stop,
 ];
 
 impl OptionName {
@@ -118,6 +130,11 @@ impl OptionName {
             OptionName::Verbose => "verbose",
             OptionName::Format => "format",
             OptionName::Short => "short",
+            OptionName::Socket => "socket",
+            OptionName::OptionalListen => "listen",
+            OptionName::Peers => "peers",
+            OptionName::Every => "every",
+            OptionName::New => "new",
         }
     }
 
@@ -127,7 +144,11 @@ impl OptionName {
     {
         matches!(
             self,
-            OptionName::RecordsOnly | OptionName::DryRun | OptionName::Verbose | OptionName::Short
+            OptionName::RecordsOnly
+                | OptionName::DryRun
+                | OptionName::Verbose
+                | OptionName::Short
+                | OptionName::New
         )
     }
 
@@ -145,6 +166,9 @@ impl OptionName {
                 | OptionName::MostBytes
                 | OptionName::Allow
                 | OptionName::Format
+                | OptionName::OptionalListen
+                | OptionName::Peers
+                | OptionName::Every
         )
     }
 
@@ -152,7 +176,10 @@ impl OptionName {
     pub fn is_place(self) -> bool
         ensures { result ≡ is_place self }
     {
-        matches!(self, OptionName::Config | OptionName::State)
+        matches!(
+            self,
+            OptionName::Config | OptionName::State | OptionName::OptionalState
+        )
     }
 }
 
@@ -160,7 +187,11 @@ static DOMAIN: [OptionName; 1] = [OptionName::Domain];
 
 static CONFIG: [OptionName; 2] = [OptionName::Config, OptionName::With];
 
-static REPORT: [OptionName; 2] = [OptionName::Config, OptionName::OptionalState];
+static REPORT: [OptionName; 3] = [
+    OptionName::Config,
+    OptionName::OptionalState,
+    OptionName::At,
+];
 
 static LIST: [OptionName; 4] = [
     OptionName::Config,
@@ -176,30 +207,33 @@ static DIFF: [OptionName; 4] = [
     OptionName::Verbose,
 ];
 
-static STATUS: [OptionName; 4] = [
+static STATUS: [OptionName; 5] = [
     OptionName::Config,
     OptionName::State,
     OptionName::Format,
     OptionName::Verbose,
+    OptionName::At,
 ];
 
-static BUNDLE: [OptionName; 5] = [
+static BUNDLE: [OptionName; 6] = [
     OptionName::Config,
     OptionName::State,
     OptionName::Domain,
     OptionName::Format,
     OptionName::Verbose,
+    OptionName::At,
 ];
 
-static EXPLAIN: [OptionName; 5] = [
+static EXPLAIN: [OptionName; 6] = [
     OptionName::Config,
     OptionName::State,
     OptionName::Domain,
     OptionName::Short,
     OptionName::Verbose,
+    OptionName::At,
 ];
 
-static OBSERVE: [OptionName; 7] = [
+static OBSERVE: [OptionName; 8] = [
     OptionName::Config,
     OptionName::State,
     OptionName::Domain,
@@ -207,14 +241,16 @@ static OBSERVE: [OptionName; 7] = [
     OptionName::Key,
     OptionName::Wait,
     OptionName::Verbose,
+    OptionName::At,
 ];
 
-static MERGE: [OptionName; 5] = [
+static MERGE: [OptionName; 6] = [
     OptionName::Config,
     OptionName::State,
     OptionName::Wait,
     OptionName::MostBytes,
     OptionName::Verbose,
+    OptionName::At,
 ];
 
 static MIGRATE: [OptionName; 4] = [
@@ -231,14 +267,15 @@ static RESEED: [OptionName; 4] = [
     OptionName::Verbose,
 ];
 
-static POLLS: [OptionName; 4] = [
+static POLLS: [OptionName; 5] = [
     OptionName::Config,
     OptionName::State,
     OptionName::Now,
     OptionName::Verbose,
+    OptionName::At,
 ];
 
-static DISTRUST: [OptionName; 7] = [
+static DISTRUST: [OptionName; 8] = [
     OptionName::Config,
     OptionName::State,
     OptionName::Domain,
@@ -246,6 +283,7 @@ static DISTRUST: [OptionName; 7] = [
     OptionName::DryRun,
     OptionName::Wait,
     OptionName::Verbose,
+    OptionName::At,
 ];
 
 static SERVE: [OptionName; 5] = [
@@ -264,6 +302,20 @@ static PULL: [OptionName; 6] = [
     OptionName::MostBytes,
     OptionName::Verbose,
 ];
+
+static REPLICA: [OptionName; 9] = [
+    OptionName::Config,
+    OptionName::State,
+    OptionName::Socket,
+    OptionName::OptionalListen,
+    OptionName::Peers,
+    OptionName::Every,
+    OptionName::MostBytes,
+    OptionName::New,
+    OptionName::Verbose,
+];
+
+static STOP: [OptionName; 1] = [OptionName::At];
 
 impl CommandName {
     /// The subcommand's word.
@@ -287,6 +339,8 @@ impl CommandName {
             CommandName::Distrust => "distrust",
             CommandName::Serve => "serve",
             CommandName::Pull => "pull",
+            CommandName::Replica => "replica",
+            CommandName::Stop => "stop",
         }
     }
 
@@ -311,6 +365,8 @@ impl CommandName {
             CommandName::Distrust => DISTRUST.as_slice(),
             CommandName::Serve => SERVE.as_slice(),
             CommandName::Pull => PULL.as_slice(),
+            CommandName::Replica => REPLICA.as_slice(),
+            CommandName::Stop => STOP.as_slice(),
         }
     }
 }

@@ -249,6 +249,36 @@ seconds are over: so it takes 630 seconds at most.
 Ends with 0; with 1 where anything read or answered is refused; with 3 where there is no
 connection or it failed.";
 
+const REPLICA_NOTES: &str = "\
+Reads the configuration and the state file, and nothing from standard input. It keeps what
+they hold in memory, and the lock of FILE.lock, until `stop` ends it.
+
+Answers requests of this machine on the socket, whose mode is 0600: the commands with --at.
+Answers other replicas at the address of --listen, as `serve` does, and pulls from each of
+--peers in turn, as `pull` does. At most 128 connections are open at once, 64 of them of
+this machine. One on which nothing moves for 30 seconds, or which is older than 600
+seconds, is closed.
+
+Each change is appended to FILE.journal and put on the disk before it is acknowledged. The
+journal is folded into the state file at the start, and when it has more than 8,388,608
+bytes and more than half of those of the state file. Without a state file --new is needed.
+
+Writes to standard output a line `ready`, the configuration's digest, `receipts` and how
+many are held, `distrusts` and how many records, once it accepts requests. Writes to
+standard error a line for each event, with pairs of a word and a value.
+
+Ends with 0 after `stop`; with 1 where the configuration or the state is refused, or there
+is no state file; with 3 where the state is locked, the socket is taken, or a change could
+not be put on the disk.";
+
+const STOP_NOTES: &str = "\
+Asks the running replica whose socket is at the path to end, and reads nothing from
+standard input. What the replica acknowledged before is on the disk.
+
+It prints nothing, and writes no file.
+
+Ends with 0; with 3 where no replica answers there.";
+
 impl OptionName {
     /// What help calls the option's text.
     pub(crate) fn value_name<'a>(self) -> &'a str {
@@ -275,6 +305,11 @@ impl OptionName {
             OptionName::Verbose => "",
             OptionName::Format => "FORMAT",
             OptionName::Short => "",
+            OptionName::Socket => "PATH",
+            OptionName::OptionalListen => "ADDRESS",
+            OptionName::Peers => "ADDRESS,..",
+            OptionName::Every => "SECONDS",
+            OptionName::New => "",
         }
     }
 
@@ -309,6 +344,14 @@ impl OptionName {
             OptionName::Verbose => "Says more on standard error",
             OptionName::Format => "The format of what is printed; the formats are named below",
             OptionName::Short => "Prints a short line for each step",
+            OptionName::Socket => "The path of the socket to answer requests of this machine at",
+            OptionName::OptionalListen =>
+                "The address where other replicas pull: an IP address and a port",
+            OptionName::Peers =>
+                "The addresses of at most 16 replicas to pull from, with commas between them",
+            OptionName::Every =>
+                "How long after a round of pulls the next one begins, from 1 to 86400 seconds [60]",
+            OptionName::New => "Begins without a state file where there is none",
         }
     }
 }
@@ -346,6 +389,10 @@ impl CommandName {
             CommandName::Distrust => "Distrusts a key in a domain, for good",
             CommandName::Serve => "Answers other replicas that pull from this one",
             CommandName::Pull => "Asks another replica, and takes what this one lacks",
+            CommandName::Replica => {
+                "Stays: answers requests of this machine and other replicas, and pulls by itself"
+            }
+            CommandName::Stop => "Ends a running replica",
         }
     }
 
@@ -354,7 +401,10 @@ impl CommandName {
         match self {
             CommandName::Canon => "fedbundle canon --domain <DOMAIN>",
             CommandName::Config => "fedbundle config --config <FILE> [--with <FILE>]",
-            CommandName::Report => "fedbundle report --config <FILE> [--state <FILE>]",
+            CommandName::Report => {
+                "fedbundle report --config <FILE> [--state <FILE>]\n       \
+                fedbundle report --at <PATH>"
+            }
             CommandName::List => {
                 "fedbundle list --config <FILE> --state <FILE> [--domain <DOMAIN>] [--verbose]"
             }
@@ -362,23 +412,30 @@ impl CommandName {
                 "fedbundle diff --config <FILE> --state <FILE> --with <FILE> [--verbose]"
             }
             CommandName::Status => {
-                "fedbundle status --config <FILE> --state <FILE> [--format <FORMAT>] [--verbose]"
+                "fedbundle status --config <FILE> --state <FILE> [--format <FORMAT>] \
+                [--verbose]\n       \
+                fedbundle status --at <PATH> [--format <FORMAT>] [--verbose]"
             }
             CommandName::Bundle => {
                 "fedbundle bundle --config <FILE> --state <FILE> --domain <DOMAIN> \
-                [--format <FORMAT>] [--verbose]"
+                [--format <FORMAT>] [--verbose]\n       \
+                fedbundle bundle --at <PATH> --domain <DOMAIN> [--format <FORMAT>] [--verbose]"
             }
             CommandName::Explain => {
                 "fedbundle explain --config <FILE> --state <FILE> --domain <DOMAIN> [--short] \
-                [--verbose]"
+                [--verbose]\n       \
+                fedbundle explain --at <PATH> --domain <DOMAIN> [--short] [--verbose]"
             }
             CommandName::Observe => {
                 "fedbundle observe --config <FILE> --state <FILE> --domain <DOMAIN> \
-                --endpoint <SPIFFE_ID> --key <KEY_ID> [--wait <SECONDS>] [--verbose]"
+                --endpoint <SPIFFE_ID> --key <KEY_ID> [--wait <SECONDS>] [--verbose]\n       \
+                fedbundle observe --at <PATH> --domain <DOMAIN> --endpoint <SPIFFE_ID> \
+                --key <KEY_ID> [--verbose]"
             }
             CommandName::Merge => {
                 "fedbundle merge --config <FILE> --state <FILE> [--wait <SECONDS>] \
-                [--most-bytes <BYTES>] [--verbose]"
+                [--most-bytes <BYTES>] [--verbose]\n       \
+                fedbundle merge --at <PATH> [--most-bytes <BYTES>] [--verbose]"
             }
             CommandName::Migrate => {
                 "fedbundle migrate --config <FILE> --state <FILE> --to <FILE> [--records-only]"
@@ -387,11 +444,15 @@ impl CommandName {
                 "fedbundle reseed --config <FILE> --state <FILE> [--allow <DOMAIN>] [--verbose]"
             }
             CommandName::Polls => {
-                "fedbundle polls --config <FILE> --state <FILE> --now <SECONDS> [--verbose]"
+                "fedbundle polls --config <FILE> --state <FILE> --now <SECONDS> \
+                [--verbose]\n       \
+                fedbundle polls --at <PATH> --now <SECONDS> [--verbose]"
             }
             CommandName::Distrust => {
                 "fedbundle distrust --config <FILE> --state <FILE> --domain <DOMAIN> \
-                --key <KEY_ID> [--dry-run] [--wait <SECONDS>] [--verbose]"
+                --key <KEY_ID> [--dry-run] [--wait <SECONDS>] [--verbose]\n       \
+                fedbundle distrust --at <PATH> --domain <DOMAIN> --key <KEY_ID> [--dry-run] \
+                [--verbose]"
             }
             CommandName::Serve => {
                 "fedbundle serve --config <FILE> --state <FILE> --listen <ADDRESS> \
@@ -401,6 +462,12 @@ impl CommandName {
                 "fedbundle pull --config <FILE> --state <FILE> --peer <ADDRESS> \
                 [--wait <SECONDS>] [--most-bytes <BYTES>] [--verbose]"
             }
+            CommandName::Replica => {
+                "fedbundle replica --config <FILE> --state <FILE> --socket <PATH> \
+                [--listen <ADDRESS>] [--peers <ADDRESS,..>] [--every <SECONDS>] \
+                [--most-bytes <BYTES>] [--new] [--verbose]"
+            }
+            CommandName::Stop => "fedbundle stop --at <PATH>",
         }
     }
 
@@ -423,6 +490,8 @@ impl CommandName {
             CommandName::Distrust => DISTRUST_NOTES,
             CommandName::Serve => SERVE_NOTES,
             CommandName::Pull => PULL_NOTES,
+            CommandName::Replica => REPLICA_NOTES,
+            CommandName::Stop => STOP_NOTES,
         }
     }
 }

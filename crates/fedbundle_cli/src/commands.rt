@@ -1,14 +1,15 @@
 // The subcommands: the words are read, then the configuration, and then the command is carried out
 // by what it does with a state: it needs none, it shows what is held, it changes that, or it
 // talks with another replica.
-use crate::exit::{Exit, print_clap};
-use crate::options::{given, wanted};
+use crate::exit::print_clap;
 use crate::streams::{complaints, input, output};
-use crate::{changing, command_line, exchange, lacking, options, printing, reasons, showing};
+use crate::{at_replica, changing, command_line, exchange, lacking, options, printing, reasons};
+use crate::{showing, staying};
 use byte_lines::FromRead;
 use fed_config::Config;
 use fedbundle::{
-    Call, CommandError, CommandName, OptionName, WordsError, read_words, run_canon, run_report,
+    Call, CommandError, CommandName, Exit, OptionName, WordsError, given, manner_of, read_words,
+    run_canon, run_report, wanted,
 };
 use spiffe_name::TrustDomain;
 
@@ -36,7 +37,10 @@ fn carry_out(rt: &HostRuntime, call: &Call<'_>) -> Result<u8, Exit> {
     if let Some(option) = empty_path(call) {
         return Err(Exit::EmptyPath(option));
     }
-    options::manner_of(call)?;
+    manner_of(call)?;
+    if let Some(path) = given(call, OptionName::At) {
+        return at_replica::ask(rt, call, path);
+    }
     match call.name {
         CommandName::Canon => canon(rt, call),
         CommandName::Serve => serve(rt, call),
@@ -48,9 +52,10 @@ fn empty_path(call: &Call<'_>) -> Option<OptionName> {
     let paths = [
         OptionName::Config,
         OptionName::State,
-        OptionName::OptionalState,
         OptionName::To,
         OptionName::With,
+        OptionName::At,
+        OptionName::Socket,
     ];
     paths
         .iter()
@@ -79,6 +84,7 @@ fn carry_out_under(rt: &HostRuntime, config: &Config, call: &Call<'_>) -> Result
         CommandName::Observe => changing::observe(rt, config, call),
         CommandName::Merge => changing::merge(rt, config, call),
         CommandName::Pull => exchange::pull(rt, config, call),
+        CommandName::Replica => staying::stay(rt, config, call),
         CommandName::Report if given(call, OptionName::OptionalState).is_none() => {
             report_lines(rt, config)
         }

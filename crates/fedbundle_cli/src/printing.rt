@@ -1,12 +1,10 @@
 // What a configuration says, and the report of what a state file holds, printed.
-use crate::exit::Exit;
 use crate::options;
-use crate::options::given;
 use crate::streams::output;
 use bundle_view::write_report;
 use config_view::{write_config, write_config_difference};
 use fed_config::Config;
-use fedbundle::{Call, CommandError, OptionName, RunError};
+use fedbundle::{Call, CommandError, Exit, OptionName, RunError, given};
 use trust_closure::IndexedClosure;
 
 /// Prints what the configuration says, or where it differs from another one.

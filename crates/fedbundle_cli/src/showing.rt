@@ -1,14 +1,13 @@
 // The subcommands that show what a state file holds, and write no file: they take no lock. The
 // replica is made and given back in one place, and each command only borrows it.
-use crate::exit::Exit;
 use crate::keeping::{keeping_of, look};
-use crate::options::{given, wanted};
 use crate::streams::{complaints, input, output};
 use crate::{anew, distrusting, options, printing, viewing};
 use fed_config::Config;
 use fedbundle::{
-    Call, CommandName, ExplanationForm, OptionName, run_bundle, run_bundle_pem, run_explain,
-    run_migrate, run_polls,
+    BundleFormat, Call, CommandName, Exit, ExplanationForm, OptionName, explanation_form, given,
+    read_bundle_format, read_moment, run_bundle, run_bundle_pem, run_explain, run_migrate,
+    run_polls, wanted,
 };
 use migration::Choice;
 use spiffe_name::TrustDomain;
@@ -43,10 +42,9 @@ fn show_of(
 
 fn bundle(rt: &HostRuntime, closure: &IndexedClosure, call: &Call<'_>) -> Result<u8, Exit> {
     let domain = options::domain(rt.alloc(), wanted(call, OptionName::Domain)?)?;
-    let is_printed = match given(call, OptionName::Format) {
-        None | Some("json") => run_bundle(closure, &domain, &mut output(rt))?,
-        Some("pem") => run_bundle_pem(rt.alloc(), closure, &domain, &mut output(rt))?,
-        Some(_) => return Err(Exit::Usage),
+    let is_printed = match read_bundle_format(given(call, OptionName::Format))? {
+        BundleFormat::Json => run_bundle(closure, &domain, &mut output(rt))?,
+        BundleFormat::Pem => run_bundle_pem(rt.alloc(), closure, &domain, &mut output(rt))?,
     };
     if is_printed {
         Ok(0)
@@ -57,11 +55,7 @@ fn bundle(rt: &HostRuntime, closure: &IndexedClosure, call: &Call<'_>) -> Result
 
 fn explain(rt: &HostRuntime, closure: &IndexedClosure, call: &Call<'_>) -> Result<u8, Exit> {
     let domain = options::domain(rt.alloc(), wanted(call, OptionName::Domain)?)?;
-    let form = if given(call, OptionName::Short) == Some("true") {
-        ExplanationForm::Steps
-    } else {
-        ExplanationForm::Receipts
-    };
+    let form = explanation_form(given(call, OptionName::Short));
     explain_in(rt, closure, &domain, form)
 }
 
@@ -117,7 +111,7 @@ fn migrate_to(
 }
 
 fn polls(rt: &HostRuntime, closure: &IndexedClosure, now: &str) -> Result<u8, Exit> {
-    let now = options::moment(now)?;
+    let now = read_moment(now)?;
     run_polls(rt.alloc(), closure, now, &mut input(rt), &mut output(rt))?;
     Ok(0)
 }

@@ -1,14 +1,12 @@
 // What a state file holds, or only one of two, and how the replica stands, printed.
-use crate::exit::Exit;
 use crate::keeping::load;
 use crate::options;
-use crate::options::{given, wanted};
 use crate::streams::output;
 use fed_config::Config;
-use fedbundle::{Call, CommandError, OptionName};
+use fedbundle::{Call, CommandError, Exit, OptionName, given, read_status_format, wanted};
 use replica_view::{write_held, write_held_difference};
 use spiffe_name::TrustDomain;
-use status_view::{StatusFormat, write_status};
+use status_view::write_status;
 use trust_closure::IndexedClosure;
 
 /// Prints each receipt and each record of distrust, or those of a domain.
@@ -62,18 +60,9 @@ pub(crate) fn status(
     closure: &IndexedClosure,
     call: &Call<'_>,
 ) -> Result<u8, Exit> {
-    let format = status_format(given(call, OptionName::Format))?;
+    let format = read_status_format(given(call, OptionName::Format))?;
     match write_status(rt.alloc(), closure, format, &mut output(rt)) {
         Ok(is_warned) => Ok(u8::from(is_warned)),
         Err(error) => Err(Exit::Refused(CommandError::from(error))),
-    }
-}
-
-fn status_format(text: Option<&str>) -> Result<StatusFormat, Exit> {
-    match text {
-        None | Some("text") => Ok(StatusFormat::Text),
-        Some("json") => Ok(StatusFormat::Json),
-        Some("prometheus") => Ok(StatusFormat::Prometheus),
-        Some(_) => Err(Exit::Usage),
     }
 }

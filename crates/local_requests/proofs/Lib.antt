@@ -1,1 +1,3 @@
 mod PartFacts
+mod NewLineFacts
+mod RequestFacts

@@ -1,11 +1,18 @@
--- What is sent back where there is no reply of a command.
-use Rattle.std.specs.Prelude.{ℕ, List, codes}
+-- What is sent back: a first line, standard output and standard error.
+use Rattle.std.specs.Prelude.{ℕ, List, codes, length}
+use Rattle.replica_requests.specs.RequestLines.{reply_line}
+use Rattle.replica_sync.specs.Snapshots.{ended}
 use Rattle.local_requests.specs.declared.request_fault.RequestFault.{RequestFault}
 use Rattle.local_requests.specs.declared.request_fault.RequestFault.TheVariants.{WordsTooLong}
 use Rattle.local_requests.specs.declared.request_fault.RequestFault.TheVariants.{InputTooLong}
 use Rattle.local_requests.specs.declared.request_fault.RequestFault.TheVariants.{NoWords, BadWords}
 use Rattle.local_requests.specs.declared.request_fault.RequestFault.TheVariants.{TooManyRequests}
 use Rattle.local_requests.specs.declared.request_fault.RequestFault.TheVariants.{NoMemory}
+
+-- the first line with its line feed: how long the two streams are, and the exit status
+abbrev pub first_line : List ℕ → List ℕ → ℕ → List ℕ
+first_line output errors status = ended
+    (reply_line (record { errors = length errors; output = length output; status = status }))
 
 -- the whole reply where there is none of a command
 abbrev pub fault_reply : RequestFault → List ℕ

@@ -1,0 +1,36 @@
+//! A replica that stays: one thread over readiness holds the closure in memory, answers requests of
+//! its own machine, gives other replicas what it holds, and takes what they hold.
+//!
+//! What is decided stands in the crates below, without a socket, a file or a clock: this one moves
+//! bytes. Of the system's sockets and files no clause says anything, so proved here are safety and
+//! that each turn returns where the system's calls do; the rest is shown by runs of the program.
+//!
+//! `replica` begins and ends a replica, and `turn` is one round of the loop: what came is read, the
+//! changes go to the journal (`journal`), and only then anything is written. Connections come in at
+//! the `gates`. `connection_table` has them, `live_connection` is one of them, and what is said on
+//! it is a `talk`. `client` is the other side of a local request.
+#![tactic(auto)]
+
+mod client;
+mod connection_table;
+mod ending;
+mod fresh_lines;
+mod gates;
+mod journal;
+mod live_connection;
+mod local_talk;
+mod peers;
+mod pull_talk;
+mod replica;
+mod rest;
+mod saying;
+mod served_talk;
+mod settings;
+mod socket;
+mod step_fault;
+mod talk;
+mod turn;
+
+pub use client::{AskFault, ask_replica};
+pub use replica::run_replica;
+pub use settings::Settings;
