@@ -134,8 +134,8 @@ options_of command.Stop = At ∷ []
 abbrev pub all_names : List CommandName
 all_names = command.Canon ∷ command.Config ∷ command.Report ∷ command.List ∷ command.Diff
     ∷ command.Graph ∷ command.Status ∷ command.Bundle ∷ command.Explain ∷ command.Observe
-    ∷ command.Merge ∷ command.Migrate ∷ command.Reseed ∷ command.Polls ∷ command.Distrust ∷ command.Serve
-    ∷ command.Pull ∷ command.Replica ∷ command.Stop ∷ []
+    ∷ command.Merge ∷ command.Migrate ∷ command.Reseed ∷ command.Polls ∷ command.Distrust
+    ∷ command.Serve ∷ command.Pull ∷ command.Replica ∷ command.Stop ∷ []
 
 -- ---- the command, as clap knows it
 

@@ -179,8 +179,8 @@ impl OptionName {
         )
     }
 
-    /// Whether it names a file that a running replica has itself, or is a format that such a replica
-    /// does not print: words with `--at` leave it out.
+    /// Whether it names a file that a running replica has itself, or is a format that such a
+    /// replica does not print: words with `--at` leave it out.
     pub fn is_place(self) -> bool
         ensures { result ≡ is_place self }
     {

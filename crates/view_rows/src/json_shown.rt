@@ -104,7 +104,8 @@ pub(crate) fn report<C: Closure>(
     show(script, written, &sink, answer)
 }
 
-/// Tells why it accepts a document: `CONFIG DOMAIN NAME`, where the text of the name is the document.
+/// Tells why it accepts a document: `CONFIG DOMAIN NAME`, where the text of the name is the
+/// document.
 pub(crate) fn chain<C: Closure>(
     alloc: Global,
     script: &Script,
