@@ -62,16 +62,16 @@ pub fn write_report_json<C: Closure, W: Sink>(
 fn report_json<C: Closure>(alloc: Global, closure: &C) -> Result<Vec<u8>, AllocError>
     ensures { IfOk result (λ text. IsReportJson (C.state closure.now).meaning text.items) }
 {
-    let domains = domain_texts(alloc, closure, closure.config().domains())?;
+    let accepted = domain_texts(alloc, closure, closure.config().domains())?;
     let found = conflicts(alloc, closure)?;
-    let conflicts = conflict_texts(alloc, found.as_slice())?;
+    let clashes = conflict_texts(alloc, found.as_slice())?;
     let records = record_texts(alloc, closure)?;
     let mut out = Vec::new(alloc);
     push_report_counts(&mut out, closure)?;
     push_report_lists(
         &mut out,
-        domains.as_slice(),
-        conflicts.as_slice(),
+        accepted.as_slice(),
+        clashes.as_slice(),
         records.as_slice(),
     )?;
     Ok(out)

@@ -6,8 +6,8 @@ use Rattle.poll_log.specs.PollLines.{IsLogOf, RefusesPolls}
 use Rattle.poll_log.specs.declared.error.PollError.{PollError}
 use Rattle.poll_log.specs.declared.error.PollError.TheVariants.{Io as SourceFailed}
 use Rattle.poll_view.specs.PollTexts.{IsPollsText}
-use Rattle.poll_view.specs.declared.poll_texts.PollsForm.{PollsForm}
-use Rattle.poll_view.specs.declared.poll_texts.PollsForm.TheVariants.{Lines}
+use Rattle.poll_view.specs.declared.polls_writer.PollsForm.{PollsForm}
+use Rattle.poll_view.specs.declared.polls_writer.PollsForm.TheVariants.{Lines}
 use Rattle.fedbundle.specs.CommandRun.{CommandRun, DeviceRun, IsReadOut, PrintsText, WritesNothing}
 use Rattle.fedbundle.specs.CommandRun.{CutsOff, HasFailed}
 use Rattle.fedbundle.specs.declared.error.CommandError.{CommandError}

@@ -6,9 +6,9 @@ use Rattle.receipt_core.specs.Acceptance.{Meaning}
 use Rattle.bundle_view.specs.Current.{IsCurrent}
 use Rattle.poll_log.specs.Polling.{PollStatus, IsPollDue, IsNext, polled, standing_in}
 use Rattle.poll_log.specs.declared.error.PollError.TheVariants.{PastRange as RangeLeft}
-use Rattle.poll_view.specs.declared.next_polls.DomainPoll.{DomainPoll}
-use Rattle.poll_view.specs.declared.next_polls.NextPoll.{NextPoll}
-use Rattle.poll_view.specs.declared.next_polls.NextPoll.TheVariants.{Due, At, PastRange}
+use Rattle.poll_view.specs.declared.domain_polls.DomainPoll.{DomainPoll}
+use Rattle.poll_view.specs.declared.domain_polls.NextPoll.{NextPoll}
+use Rattle.poll_view.specs.declared.domain_polls.NextPoll.TheVariants.{Due, At, PastRange}
 
 -- the refresh hint of a document, if there is one (SPIFFE Trust Domain and Bundle, section 4.1.2)
 abbrev pub hint_of : Option Bundle → Option ℕ

@@ -4,11 +4,11 @@ use Rattle.std.specs.Fmt.{signed_decimal}
 use Rattle.jiff.specs.Types.{Timestamp}
 use Rattle.json_text.specs.JsonText.{array_member, string_member}
 use Rattle.poll_view.specs.NextPolls.{AreNextPolls, PollView}
-use Rattle.poll_view.specs.declared.next_polls.DomainPoll.{DomainPoll}
-use Rattle.poll_view.specs.declared.next_polls.NextPoll.{NextPoll}
-use Rattle.poll_view.specs.declared.next_polls.NextPoll.TheVariants.{Due, At, PastRange}
-use Rattle.poll_view.specs.declared.poll_texts.PollsForm.{PollsForm}
-use Rattle.poll_view.specs.declared.poll_texts.PollsForm.TheVariants.{Lines, Json}
+use Rattle.poll_view.specs.declared.domain_polls.DomainPoll.{DomainPoll}
+use Rattle.poll_view.specs.declared.domain_polls.NextPoll.{NextPoll}
+use Rattle.poll_view.specs.declared.domain_polls.NextPoll.TheVariants.{Due, At, PastRange}
+use Rattle.poll_view.specs.declared.polls_writer.PollsForm.{PollsForm}
+use Rattle.poll_view.specs.declared.polls_writer.PollsForm.TheVariants.{Lines, Json}
 
 -- a moment in seconds since the Unix epoch, rounded toward zero
 abbrev pub seconds_text : Timestamp → List ℕ

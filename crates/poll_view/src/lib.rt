@@ -2,8 +2,8 @@
 //! by their trait alone.
 #![tactic(auto)]
 
-mod next_polls;
-mod poll_texts;
+mod domain_polls;
+mod polls_writer;
 
-pub use next_polls::{DomainPoll, NextPoll, next_polls};
-pub use poll_texts::{PollsForm, polls_text};
+pub use domain_polls::{DomainPoll, NextPoll, next_polls};
+pub use polls_writer::{PollsForm, polls_text};

@@ -81,13 +81,15 @@ ShowsBrought r line = line ≡ brought_line r
 abbrev pub ShowsConfigured : Seed → List ℕ → Type 0
 ShowsConfigured s line = line ≡ configured_line s
 
-abbrev pub ShowsCurrent : Meaning → List ℕ → List ℕ → Type 0
-ShowsCurrent m domain line = (current : Option Bundle) × IsCurrent m domain current
-    × (line ≡ graph_current_line domain current)
+pub record ShowsCurrent (m : Meaning) (domain line : List ℕ) : Type 0 where
+  pub current : Option Bundle
+  pub is_current : IsCurrent m domain current
+  pub is : line ≡ graph_current_line domain current
 
-abbrev pub ShowsEdge : Meaning → Receipt → List ℕ → Type 0
-ShowsEdge m r line = (status : ReceiptStatus) × IsStatusOf m r status
-    × (line ≡ edge_line r status)
+pub record ShowsEdge (m : Meaning) (r : Receipt) (line : List ℕ) : Type 0 where
+  pub status : ReceiptStatus
+  pub is_status : IsStatusOf m r status
+  pub is : line ≡ edge_line r status
 
 -- ---- the whole
 

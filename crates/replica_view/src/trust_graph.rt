@@ -6,7 +6,7 @@ ghost use Rattle.text_lines.specs.TextLines.{BeginsSome, WritesSome};
 ghost use Rattle.replica_view.specs.HeldTexts.{IsReceiptOfOther};
 ghost use Rattle.replica_view.specs.TrustGraph.{AreGraphLines, IsGraphText, IsOtherDomain};
 ghost use Rattle.replica_view.specs.TrustGraph.{IsSeedOfOther, ShowsConfigured, ShowsCurrent};
-ghost use Rattle.replica_view.specs.TrustGraph.{graph_head};
+ghost use Rattle.replica_view.specs.TrustGraph.{ShowsEdge, graph_head};
 ghost use Rattle.replica_view.specs.Inside.GraphParts.{IsWholeGraph, ShowsPart};
 ghost use Rattle.replica_view.specs.Inside.MadeLines.{AddsLinesFor, PushesLine};
 ghost use Rattle.replica_view.specs.Inside.Offered.{IsOfferSet};
@@ -178,8 +178,22 @@ fn part_line<C: Closure>(
     match part {
         GraphPart::Voucher => voucher_line(alloc, receipt),
         GraphPart::Brought => brought_line(alloc, receipt),
-        GraphPart::Edge => edge_line(alloc, receipt, status_of(closure, offered, receipt)),
+        GraphPart::Edge => edge_of(alloc, closure, offered, receipt),
     }
+}
+
+fn edge_of<C: Closure>(
+    alloc: Global,
+    closure: &C,
+    offered: &BTreeSet<Triple>,
+    receipt: &Receipt,
+) -> Result<TextLine, AllocError>
+    requires offered { IsOfferSet (C.state closure.now).meaning offered.now }
+    requires held { Contains (C.state closure.now).meaning.held receipt.now }
+    ensures { IfOk result (ShowsEdge (C.state closure.now).meaning receipt.now) }
+{
+    let status = status_of(closure, offered, receipt);
+    Ok(edge_line(alloc, receipt, status)?)
 }
 
 fn push_configured(

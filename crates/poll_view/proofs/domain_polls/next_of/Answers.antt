@@ -1,7 +1,7 @@
 use Rattle.std.proofs.Common.{Ok, subst}
 use Rattle.poll_log.specs.Polling.{IsPollDue, IsNext, standing_in}
 use Rattle.poll_view.proofs.NextPollFacts.{not_due, past_range}
-use Rattle.poll_view.proofs.next_polls.next_of.Goals as goal
+use Rattle.poll_view.proofs.domain_polls.next_of.Goals as goal
 
 pub returns-in-Ok-Some : goal.returns-in-Ok-Some
 returns-in-Ok-Some c = (

@@ -1,7 +1,7 @@
 use Rattle.std.proofs.Common.{take}
 use Rattle.std.specs.List.{AllZip}
 use Rattle.poll_view.specs.NextPolls.{IsDomainPoll}
-use Rattle.poll_view.proofs.next_polls.next_polls.Given as goal
+use Rattle.poll_view.proofs.domain_polls.next_polls.Given as goal
 
 abbrev pub invariant-loop-relationship : goal.invariant-loop-relationship
 invariant-loop-relationship g l =

@@ -11,7 +11,7 @@ use spiffe_name::TrustDomain;
 use std::alloc::{AllocError, Global};
 
 /// When a domain is polled next.
-#[derive(Clone, Copy, Debug, PartialEq, Eq)]
+#[derive(Clone, Copy, Debug)]
 pub enum NextPoll {
     /// Now.
     Due,

@@ -3,9 +3,9 @@ ghost use Rattle.std.specs.Prelude.{◌≡◌, ◌++◌, flat_map, map, IfOk, On
 ghost use Rattle.poll_log.specs.Polling.{polled, polled_domains};
 ghost use Rattle.poll_view.specs.PollTexts.{IsPollsText, next_members, next_text, poll_json};
 ghost use Rattle.poll_view.specs.PollTexts.{poll_line, polls_in, polls_json, seconds_text};
-ghost use Rattle.poll_view.specs.declared.next_polls.NextPoll.TheVariants.{At};
+ghost use Rattle.poll_view.specs.declared.domain_polls.NextPoll.TheVariants.{At};
 
-use crate::next_polls::{DomainPoll, NextPoll, next_polls};
+use crate::domain_polls::{DomainPoll, NextPoll, next_polls};
 use closure_core::Closure;
 use itoa::Buffer;
 use jiff::Timestamp;
