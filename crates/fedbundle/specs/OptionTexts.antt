@@ -53,9 +53,9 @@ SaysOutputForm text output.Json = text ≡ Some (codes "json")
 
 -- by the flag for short lines, and by the form
 abbrev pub SaysExplanationIn : (short form : Option (List ℕ)) → ExplanationForm → Type 0
-SaysExplanationIn short form chain.Json = SaysOutputForm form output.Json × SaysFlag short false
-SaysExplanationIn short form chosen = SaysOutputForm form output.Text
-    × SaysExplanationForm short chosen
+SaysExplanationIn short form chosen =
+    (SaysOutputForm form output.Text × SaysExplanationForm short chosen)
+    ⊎ (SaysOutputForm form output.Json × SaysFlag short false × (chosen ≡ chain.Json))
 
 -- Unix seconds as a moment, in nanoseconds
 pub record SaysMoment (text : List ℕ) (moment : ℤ) : Type 0 where
