@@ -26,9 +26,13 @@ poll_line p = p.domain ++ (codes " " ++ (next_text p.next ++ codes "\n"))
 
 -- ---- JSON
 
+-- at a later moment
+abbrev pub later_members : Timestamp → List ℕ
+later_members t = codes ",\"due\":false,\"next\":" ++ (seconds_text t ++ codes "}")
+
 abbrev pub next_members : NextPoll → List ℕ
 next_members Due = codes ",\"due\":true,\"next\":null}"
-next_members (At t) = codes ",\"due\":false,\"next\":" ++ (seconds_text t ++ codes "}")
+next_members (At t) = later_members t
 next_members PastRange = codes ",\"due\":false,\"next\":null}"
 
 abbrev pub poll_json : DomainPoll → List ℕ

@@ -1,9 +1,9 @@
 //! The next polls as lines and as compact JSON.
 ghost use Rattle.std.specs.Prelude.{◌≡◌, ◌++◌, flat_map, map, IfOk, OnOk};
 ghost use Rattle.poll_log.specs.Polling.{polled, polled_domains};
-ghost use Rattle.poll_view.specs.PollTexts.{IsPollsText, next_members, next_text, poll_json};
-ghost use Rattle.poll_view.specs.PollTexts.{poll_line, polls_in, polls_json, seconds_text};
-ghost use Rattle.poll_view.specs.declared.domain_polls.NextPoll.TheVariants.{At};
+ghost use Rattle.poll_view.specs.PollTexts.{IsPollsText, later_members, next_members};
+ghost use Rattle.poll_view.specs.PollTexts.{next_text, poll_json, poll_line, polls_in};
+ghost use Rattle.poll_view.specs.PollTexts.{polls_json, seconds_text};
 
 use crate::domain_polls::{DomainPoll, NextPoll, next_polls};
 use closure_core::Closure;
@@ -131,7 +131,7 @@ fn push_next_members(text: &mut Vec<u8>, next: NextPoll) -> Result<(), AllocErro
 }
 
 fn push_next_moment(text: &mut Vec<u8>, moment: Timestamp) -> Result<(), AllocError>
-    ensures { OnOk result (text.new.items ≡ text.old.items ++ next_members (At moment)) }
+    ensures { OnOk result (text.new.items ≡ text.old.items ++ later_members moment) }
 {
     text.extend_from_slice(b",\"due\":false,\"next\":")?;
     push_moment(text, moment)?;

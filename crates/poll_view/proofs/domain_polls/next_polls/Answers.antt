@@ -3,7 +3,7 @@ use Rattle.std.specs.List.{AllZip}
 use Rattle.fed_config.specs.Configuration.{Configuration}
 use Rattle.fed_config.specs.declared.relationship.Relationship.{Relationship}
 use Rattle.json_text.proofs.PartFacts.{zip_end, zip_next}
-use Rattle.poll_view.specs.NextPolls.{IsDomainPoll}
+use Rattle.poll_view.specs.NextPolls.{IsDomainPoll, PollView}
 use Rattle.poll_view.proofs.NextPollFacts.{zip_mapped}
 use Rattle.poll_view.proofs.domain_polls.next_polls.Goals as goal
 
@@ -18,7 +18,7 @@ loop-relationship-preserved g c =
 pub returns : goal.returns
 returns g c =
     let m = (g.C.Closure.state c.args.closure.now).meaning in
-    let view = record { meaning = m; log = c.args.log.now; now = c.args.now.nanosecond } in
+    let view : PollView = record { meaning = m; log = c.args.log.now; now = c.args.now.nanosecond } in
     let rs = c.relationships-relationship-items.result.now in
     let polls = c.loop-relationship.polls.items in
     subst (λ (all : List Relationship). AllZip (IsDomainPoll view) (map (λ (r : Relationship). r.domain) all) polls)
