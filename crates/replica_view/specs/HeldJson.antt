@@ -13,22 +13,24 @@ use Rattle.replica_view.specs.declared.receipt_status.ReceiptStatus.TheVariants.
 
 -- ---- a receipt
 
+unfoldable pub named_members : Receipt → List ℕ
+named_members r = digest_member (codes "{\"receipt\":") (receipt_id_of r)
+    ++ string_member (codes ",\"domain\":") r.domain
+
 -- which document it brought
-abbrev pub brought_members : Receipt → List ℕ
-brought_members r = digest_member (codes "{\"receipt\":") (receipt_id_of r)
-    ++ (string_member (codes ",\"domain\":") r.domain
-    ++ (number_member (codes ",\"sequence\":") r.document.rank
-    ++ digest_member (codes ",\"document\":") (doc_id_of r.domain r.document)))
+unfoldable pub brought_members : Receipt → List ℕ
+brought_members r = number_member (codes ",\"sequence\":") r.document.rank
+    ++ digest_member (codes ",\"document\":") (doc_id_of r.domain r.document)
 
 -- from where, and by which key of which document
-abbrev pub fetched_members : Receipt → List ℕ
+unfoldable pub fetched_members : Receipt → List ℕ
 fetched_members r = string_member (codes ",\"endpoint\":") r.endpoint.text
     ++ (digest_member (codes ",\"key\":") r.key.0
     ++ digest_member (codes ",\"voucher\":") r.voucher.0)
 
 -- the brace that opens an object, and the members of the five parts
 abbrev pub receipt_members : Receipt → List ℕ
-receipt_members r = brought_members r ++ fetched_members r
+receipt_members r = named_members r ++ (brought_members r ++ fetched_members r)
 
 abbrev pub status_member : ReceiptStatus → List ℕ
 status_member Accepted = codes ",\"status\":\"accepted\"}"

@@ -31,11 +31,16 @@ short_text id = encode_lower (take 4 id)
 abbrev pub unseen_label : (domain id : List ℕ) → List ℕ
 unseen_label domain id = codes " [label=\"" ++ (domain ++ (codes "\\n" ++ short_text id))
 
+abbrev pub label_start : List ℕ → List ℕ
+label_start domain = codes " [label=\"" ++ domain
+
+abbrev pub sequence_label : List ℕ → Bundle → List ℕ
+sequence_label domain d = codes "\\nsequence " ++ (number_or_none d.rank
+    ++ (codes "\\n" ++ short_text (doc_id_of domain d)))
+
 -- a label of a domain, a sequence number and a short id
 abbrev pub seen_label : List ℕ → Bundle → List ℕ
-seen_label domain d = codes " [label=\"" ++ (domain
-    ++ (codes "\\nsequence " ++ (number_or_none d.rank
-    ++ (codes "\\n" ++ short_text (doc_id_of domain d)))))
+seen_label domain d = label_start domain ++ sequence_label domain d
 
 -- ---- lines
 
@@ -54,9 +59,12 @@ abbrev pub configured_line : Seed → List ℕ
 configured_line s = node_text (doc_id_of s.domain s.document)
     ++ (seen_label s.domain s.document ++ codes "\", peripheries=2];")
 
--- a domain's current document; or a comment, where it has none
+-- a comment where a domain has no current document, and else that document
+abbrev pub no_current_line : List ℕ → List ℕ
+no_current_line domain = codes "// no current document of " ++ domain
+
 abbrev pub graph_current_line : List ℕ → Option Bundle → List ℕ
-graph_current_line domain None = codes "// no current document of " ++ domain
+graph_current_line domain None = no_current_line domain
 graph_current_line domain (Some d) = node_text (doc_id_of domain d) ++ codes " [style=bold];"
 
 abbrev pub status_style : ReceiptStatus → List ℕ

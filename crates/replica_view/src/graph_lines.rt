@@ -1,8 +1,9 @@
 //! The lines of a graph: its nodes and its edges.
-ghost use Rattle.std.specs.Prelude.{◌≡◌, ◌++◌, length, option_copied, IfOk, OnOk};
+ghost use Rattle.std.specs.Prelude.{◌≡◌, ◌++◌, option_copied, IfOk, OnOk};
 ghost use Rattle.replica_view.specs.TrustGraph.{brought_line, configured_line, edge_label};
-ghost use Rattle.replica_view.specs.TrustGraph.{edge_line, graph_current_line, node_text};
-ghost use Rattle.replica_view.specs.TrustGraph.{seen_label};
+ghost use Rattle.replica_view.specs.TrustGraph.{edge_line, graph_current_line, label_start};
+ghost use Rattle.replica_view.specs.TrustGraph.{no_current_line, node_text, seen_label};
+ghost use Rattle.replica_view.specs.TrustGraph.{sequence_label};
 ghost use Rattle.replica_view.specs.TrustGraph.{short_text, status_style, unseen_label};
 ghost use Rattle.replica_view.specs.TrustGraph.{voucher_line};
 
@@ -76,11 +77,15 @@ fn push_current_line(
             push_node(line, &document.id(domain).0)?;
             line.extend_from_slice(b" [style=bold];")
         }
-        None => {
-            line.extend_from_slice(b"// no current document of ")?;
-            line.extend_from_slice(domain.as_str().as_bytes())
-        }
+        None => push_no_current(line, domain),
     }
+}
+
+fn push_no_current(line: &mut Vec<u8>, domain: &TrustDomain) -> Result<(), AllocError>
+    ensures { OnOk result (line.new.items ≡ line.old.items ++ no_current_line domain.now) }
+{
+    line.extend_from_slice(b"// no current document of ")?;
+    line.extend_from_slice(domain.as_str().as_bytes())
 }
 
 /// The receipt, from the document that vouches for it to the one that it brought.
@@ -153,8 +158,26 @@ fn push_seen_label(
     ensures { OnOk result (line.new.items ≡ line.old.items
         ++ seen_label domain.now document.now) }
 {
+    push_label_start(line, domain)?;
+    push_sequence_label(alloc, line, domain, document)
+}
+
+fn push_label_start(line: &mut Vec<u8>, domain: &TrustDomain) -> Result<(), AllocError>
+    ensures { OnOk result (line.new.items ≡ line.old.items ++ label_start domain.now) }
+{
     line.extend_from_slice(b" [label=\"")?;
-    line.extend_from_slice(domain.as_str().as_bytes())?;
+    line.extend_from_slice(domain.as_str().as_bytes())
+}
+
+fn push_sequence_label(
+    alloc: Global,
+    line: &mut Vec<u8>,
+    domain: &TrustDomain,
+    document: &Document,
+) -> Result<(), AllocError>
+    ensures { OnOk result (line.new.items ≡ line.old.items
+        ++ sequence_label domain.now document.now) }
+{
     line.extend_from_slice(b"\\nsequence ")?;
     push_number_or_none(line, document.rank())?;
     line.extend_from_slice(b"\\n")?;

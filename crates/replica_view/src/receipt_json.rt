@@ -2,7 +2,8 @@
 ghost use Rattle.std.specs.Prelude.{◌≡◌, ◌++◌, Contains, IfOk, OnOk};
 ghost use Rattle.replica_view.specs.HeldJson.{ShowsReceiptJson, ShowsRecordJson, brought_members};
 ghost use Rattle.replica_view.specs.HeldJson.{fetched_members, held_receipt_json};
-ghost use Rattle.replica_view.specs.HeldJson.{held_record_json, receipt_members, status_member};
+ghost use Rattle.replica_view.specs.HeldJson.{held_record_json, named_members, receipt_members};
+ghost use Rattle.replica_view.specs.HeldJson.{status_member};
 ghost use Rattle.replica_view.specs.Inside.MadeLines.{PushesLine};
 ghost use Rattle.replica_view.specs.Inside.Offered.{IsOfferSet};
 
@@ -75,23 +76,32 @@ pub fn push_receipt_members(
 ) -> Result<(), AllocError>
     ensures { OnOk result (out.new.items ≡ out.old.items ++ receipt_members receipt.now) }
 {
-    push_brought_members(alloc, out, receipt)?;
+    push_named_members(alloc, out, receipt)?;
+    push_brought_members(out, receipt)?;
     push_fetched_members(alloc, out, receipt)
 }
 
-fn push_brought_members(
+#[tactic(auto, unfolding(crate::specs::HeldJson::named_members))]
+fn push_named_members(
     alloc: Global,
     out: &mut Vec<u8>,
     receipt: &Receipt,
 ) -> Result<(), AllocError>
-    ensures { OnOk result (out.new.items ≡ out.old.items ++ brought_members receipt.now) }
+    ensures { OnOk result (out.new.items ≡ out.old.items ++ named_members receipt.now) }
 {
     push_digest(out, b"{\"receipt\":", &receipt.id().0)?;
-    push_string(alloc, out, b",\"domain\":", receipt.domain().as_str())?;
+    push_string(alloc, out, b",\"domain\":", receipt.domain().as_str())
+}
+
+#[tactic(auto, unfolding(crate::specs::HeldJson::brought_members))]
+fn push_brought_members(out: &mut Vec<u8>, receipt: &Receipt) -> Result<(), AllocError>
+    ensures { OnOk result (out.new.items ≡ out.old.items ++ brought_members receipt.now) }
+{
     push_optional(out, b",\"sequence\":", receipt.document().rank())?;
     push_digest(out, b",\"document\":", &receipt.document().id(receipt.domain()).0)
 }
 
+#[tactic(auto, unfolding(crate::specs::HeldJson::fetched_members))]
 fn push_fetched_members(
     alloc: Global,
     out: &mut Vec<u8>,
