@@ -135,5 +135,6 @@ fn push_next_moment(text: &mut Vec<u8>, moment: Timestamp) -> Result<(), AllocEr
 {
     text.extend_from_slice(b",\"due\":false,\"next\":")?;
     push_moment(text, moment)?;
-    text.extend_from_slice(b"}")
+    text.extend_from_slice(b"}")?;
+    Ok(())
 }

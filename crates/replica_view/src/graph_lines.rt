@@ -85,7 +85,8 @@ fn push_no_current(line: &mut Vec<u8>, domain: &TrustDomain) -> Result<(), Alloc
     ensures { OnOk result (line.new.items ≡ line.old.items ++ no_current_line domain.now) }
 {
     line.extend_from_slice(b"// no current document of ")?;
-    line.extend_from_slice(domain.as_str().as_bytes())
+    line.extend_from_slice(domain.as_str().as_bytes())?;
+    Ok(())
 }
 
 /// The receipt, from the document that vouches for it to the one that it brought.
