@@ -26,7 +26,13 @@ pub(crate) fn canon(
         return usage(devices);
     };
     let domain = TrustDomain::read(case.alloc, domain)?;
-    run_canon(case.alloc, &domain, form, &mut devices.input, &mut devices.output)
+    run_canon(
+        case.alloc,
+        &domain,
+        form,
+        &mut devices.input,
+        &mut devices.output,
+    )
 }
 
 pub(crate) fn print_config(
@@ -90,10 +96,7 @@ pub(crate) fn graph_held<C: Closure>(
     Ok(())
 }
 
-fn domain_of(
-    case: &Case<'_>,
-    domain: Option<&str>,
-) -> Result<Option<TrustDomain>, CommandError> {
+fn domain_of(case: &Case<'_>, domain: Option<&str>) -> Result<Option<TrustDomain>, CommandError> {
     match domain {
         Some(domain) => Ok(Some(TrustDomain::read(case.alloc, domain)?)),
         None => Ok(None),

@@ -196,11 +196,7 @@ impl OptionName {
 
 static CANON: [OptionName; 2] = [OptionName::Domain, OptionName::FileFormat];
 
-static CONFIG: [OptionName; 3] = [
-    OptionName::Config,
-    OptionName::With,
-    OptionName::FileFormat,
-];
+static CONFIG: [OptionName; 3] = [OptionName::Config, OptionName::With, OptionName::FileFormat];
 
 static REPORT: [OptionName; 4] = [
     OptionName::Config,

@@ -9,10 +9,7 @@ use replica_loop::{AskFault, ask_replica};
 /// the path, and writes what it replies.
 pub(crate) fn ask(rt: &HostRuntime, call: &Call<'_>, path: &str) -> Result<u8, Exit> {
     let words = request_words(rt.alloc(), call)?;
-    let texts: Vec<&str> = words
-        .iter()
-        .map(|word| word.as_str())
-        .collect(rt.alloc())?;
+    let texts: Vec<&str> = words.iter().map(|word| word.as_str()).collect(rt.alloc())?;
     let text = input_of(rt, call.name)?;
     let asked = ask_replica(
         rt,

@@ -3,8 +3,10 @@
 // talks with another replica.
 use crate::exit::print_clap;
 use crate::streams::{complaints, input, output};
-use crate::{at_replica, changing, command_line, exchange, lacking, options, printing, reasons};
-use crate::{showing, staying};
+use crate::{
+    at_replica, changing, command_line, exchange, lacking, options, printing, reasons, showing,
+    staying,
+};
 use byte_lines::FromRead;
 use fed_config::Config;
 use fedbundle::{

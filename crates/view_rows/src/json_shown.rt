@@ -119,7 +119,10 @@ pub(crate) fn chain<C: Closure>(
     let Some(replica) = replica_of::<C>(alloc, script, config, lines)? else {
         return answer.push_str("no replica\n");
     };
-    match (TrustDomain::read(alloc, domain), Document::read(alloc, bytes)) {
+    match (
+        TrustDomain::read(alloc, domain),
+        Document::read(alloc, bytes),
+    ) {
         (Ok(domain), Ok(document)) => {
             show_chain(alloc, script, &replica, &domain, &document, answer)
         }
