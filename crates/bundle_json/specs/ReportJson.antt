@@ -1,5 +1,5 @@
 -- What a replica accepts, as one JSON object
-use Rattle.std.specs.Prelude.{◌≡◌, ℕ, List, ◌++◌, map, length, codes, Option, Some, None}
+use Rattle.std.specs.Prelude.{◌≡◌, ℕ, List, [], ◌++◌, map, length, codes, Option, Some, None}
 use Rattle.std.specs.List.{AllZip}
 use Rattle.bundle_doc.specs.Bundle.{Bundle, doc_id_of}
 use Rattle.bundle_doc.specs.declared.document.DocId.{DocId}

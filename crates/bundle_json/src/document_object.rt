@@ -1,5 +1,6 @@
 //! A bundle document as compact JSON.
-ghost use Rattle.std.specs.Prelude.{◌≡◌, ◌++◌, IfOk, OnOk};
+ghost use Rattle.std.specs.Prelude.{◌≡◌, ◌++◌, [], IfOk, OnOk};
+ghost use Rattle.json_text.specs.JsonText.{digest_member};
 ghost use Rattle.bundle_json.specs.DocumentJson.{bundle_member, document_json, id_members};
 ghost use Rattle.bundle_json.specs.DocumentJson.{key_texts, key_texts_of};
 
