@@ -82,7 +82,8 @@ fn push_shown_current(
 {
     push_digest(out, b",\"current\":{\"document\":", &document.id(domain).0)?;
     push_optional(out, b",\"sequence\":", document.rank())?;
-    out.extend_from_slice(b"}")
+    out.extend_from_slice(b"}")?;
+    Ok(())
 }
 
 fn accepted_texts<C: Closure>(

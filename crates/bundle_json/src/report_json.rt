@@ -83,7 +83,8 @@ fn push_report_counts<C: Closure>(out: &mut Vec<u8>, closure: &C) -> Result<(), 
 {
     push_digest(out, b"{\"config\":", &closure.config().digest().0)?;
     push_optional(out, b",\"receipts\":", Some(closure.receipt_count() as u64))?;
-    push_optional(out, b",\"pending\":", Some(closure.pending_count() as u64))
+    push_optional(out, b",\"pending\":", Some(closure.pending_count() as u64))?;
+    Ok(())
 }
 
 #[tactic(auto, unfolding(crate::specs::ReportJson::report_lists))]
@@ -99,7 +100,8 @@ fn push_report_lists(
     push_array(out, b",\"domains\":", domains)?;
     push_array(out, b",\"conflicts\":", conflicts)?;
     push_array(out, b",\"records\":", records)?;
-    out.extend_from_slice(b"}\n")
+    out.extend_from_slice(b"}\n")?;
+    Ok(())
 }
 
 fn record_texts<C: Closure>(alloc: Global, closure: &C) -> Result<Vec<TextLine>, AllocError>
