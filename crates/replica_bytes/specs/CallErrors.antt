@@ -1,0 +1,32 @@
+-- Why bytes are refused as a name, and what a call that lacks nothing but memory reports.
+use Rattle.std.specs.Prelude.{ℕ, List}
+use Rattle.std.specs.Str.{IsUtf8}
+use Rattle.spiffe_name.specs.TrustDomain.{RefusesDomain}
+use Rattle.spiffe_name.specs.SpiffeId.{RefusesId}
+use Rattle.replica_core.specs.declared.error.SyncError.TheVariants.{NoMemory as NoMemoryToSync}
+use Rattle.replica_bytes.specs.declared.call_error.CallError.{CallError}
+use Rattle.replica_bytes.specs.declared.call_error.CallError.TheVariants.{Usage, Name, Sync}
+use Rattle.replica_bytes.specs.declared.call_error.CallError.TheVariants.{NoMemory}
+
+-- the bytes are no domain's name
+abbrev pub RefusesDomainBytes : List ℕ → CallError → Type 0
+RefusesDomainBytes bytes Usage = IsUtf8 bytes → ⊥
+RefusesDomainBytes bytes (Name e) = RefusesDomain bytes e
+RefusesDomainBytes bytes _ = ⊥
+
+-- they are no SPIFFE ID
+abbrev pub RefusesIdBytes : List ℕ → CallError → Type 0
+RefusesIdBytes bytes Usage = IsUtf8 bytes → ⊥
+RefusesIdBytes bytes (Name e) = RefusesId bytes e
+RefusesIdBytes bytes _ = ⊥
+
+-- they are no domain's name, or memory ran out
+abbrev pub RefusesDomainText : List ℕ → CallError → Type 0
+RefusesDomainText bytes NoMemory = Unit {0}
+RefusesDomainText bytes e = RefusesDomainBytes bytes e
+
+-- memory ran out
+abbrev pub IsWantOfMemory : CallError → Type 0
+IsWantOfMemory NoMemory = Unit {0}
+IsWantOfMemory (Sync NoMemoryToSync) = Unit {0}
+IsWantOfMemory _ = ⊥

@@ -1,0 +1,68 @@
+//! Names and keys, read from bytes.
+ghost use Rattle.std.specs.Prelude.{◌≡◌, MatchResult};
+ghost use Rattle.hex.specs.Hex.{encode_lower};
+ghost use Rattle.spiffe_name.specs.TrustDomain.{IsDomainText};
+ghost use Rattle.spiffe_name.specs.SpiffeId.{IsId};
+ghost use Rattle.replica_bytes.specs.CallErrors.{RefusesDomainBytes, RefusesIdBytes};
+ghost use Rattle.replica_bytes.specs.declared.call_error.CallError.TheVariants.{Usage};
+
+use crate::call_error::CallError;
+use jwk_set::KeyId;
+use spiffe_name::{SpiffeId, TrustDomain};
+use std::alloc::Global;
+use std::str;
+
+/// The trust domain with this name.
+///
+/// # Errors
+/// `Usage` where the bytes are not UTF-8, and else what [`TrustDomain::read`] reports.
+pub(crate) fn domain_of(alloc: Global, bytes: &[u8]) -> Result<TrustDomain, CallError>
+    ensures { MatchResult result
+        (λ domain. (domain ≡ bytes.now) × IsDomainText bytes.now)
+        (RefusesDomainBytes bytes.now) }
+{
+    let Ok(text) = str::from_utf8(bytes) else {
+        return Err(CallError::Usage);
+    };
+    Ok(TrustDomain::read(alloc, text)?)
+}
+
+/// The SPIFFE ID that the bytes spell.
+///
+/// # Errors
+/// `Usage` where the bytes are not UTF-8, and else what [`SpiffeId::read`] reports.
+pub(crate) fn endpoint_of(alloc: Global, bytes: &[u8]) -> Result<SpiffeId, CallError>
+    ensures { MatchResult result
+        (λ id. (id.text ≡ bytes.now) × IsId id)
+        (RefusesIdBytes bytes.now) }
+{
+    let Ok(text) = str::from_utf8(bytes) else {
+        return Err(CallError::Usage);
+    };
+    match SpiffeId::read(alloc, text) {
+        Ok(id) => Ok(id),
+        Err(why) => Err(CallError::Name(why)),
+    }
+}
+
+/// The key id of 64 lower-case hexadecimal digits.
+///
+/// # Errors
+/// `Usage` for any other bytes.
+pub(crate) fn key_of(bytes: &[u8]) -> Result<KeyId, CallError>
+    ensures { MatchResult result (λ key. bytes.now ≡ encode_lower key.0) (λ e. e ≡ Usage) }
+{
+    let mut id = [0u8; 32];
+    let mut digits = [0u8; 64];
+    if hex::decode_to_slice(bytes, &mut id).is_err()
+        || hex::encode_to_slice(&id, &mut digits).is_err()
+    {
+        return Err(CallError::Usage);
+    }
+    // Upper-case digits are read too, and not written.
+    if digits.as_slice() == bytes {
+        Ok(KeyId(id))
+    } else {
+        Err(CallError::Usage)
+    }
+}
