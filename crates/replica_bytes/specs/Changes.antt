@@ -1,6 +1,5 @@
 -- How a replica changes by bytes: what is taken, and what a refusal leaves.
 use Rattle.std.specs.Prelude.{◌≡◌, ℕ, ◌<◌, ◌≤◌, ◌⊎◌, ◌++◌, List, length, Option, Some}
-use Rattle.hex.specs.Hex.{encode_lower}
 use Rattle.spiffe_name.specs.TrustDomain.{IsDomainText}
 use Rattle.spiffe_name.specs.SpiffeId.{IsId}
 use Rattle.receipt_core.specs.declared.distrust.Distrust.{Distrust}
@@ -22,7 +21,9 @@ use Rattle.replica_core.specs.declared.error.SyncError.{SyncError}
 use Rattle.replica_core.specs.declared.error.SyncError.TheVariants.{NotCanonical}
 use Rattle.bundle_view.specs.Observe.{FetchedBundle, HasObserved, HasNotObserved, IsObservation}
 use Rattle.bundle_view.specs.declared.observe_error.ObserveError.{ObserveError}
-use Rattle.replica_bytes.specs.CallErrors.{RefusesDomainBytes, RefusesIdBytes}
+use Rattle.bundle_view.specs.declared.observation.Verdict.{Verdict}
+use Rattle.replica_bytes.specs.CallErrors.{IsKeyDigits, IsNoKey, RefusesDomainBytes}
+use Rattle.replica_bytes.specs.CallErrors.{RefusesIdBytes}
 use Rattle.replica_bytes.specs.declared.bundle_observing.FetchedBytes.{FetchedBytes}
 use Rattle.replica_bytes.specs.declared.bundle_observing.ObservedBytes.{ObservedBytes}
 use Rattle.replica_bytes.specs.declared.bundle_observing.ObservedBytes.TheVariants.{Held, NeedsRoom}
@@ -64,7 +65,7 @@ pub record DistrustsBytes (old : Meaning) (domain key : List ℕ) (new : Meaning
   pub entry : Distrust
   pub domain_is : entry.domain ≡ domain
   pub form : IsDomainText domain
-  pub key_is : key ≡ encode_lower entry.key.0
+  pub key_is : IsKeyDigits key entry.key
   pub holds : Distrusts old entry new outcome
 
 -- They name a record that is refused, for this cause.
@@ -72,12 +73,13 @@ pub record RefusesNamedKey (old : Meaning) (domain key : List ℕ) (new : Meanin
     (why : TakeError) : Type 0 where
   pub entry : Distrust
   pub domain_is : entry.domain ≡ domain
-  pub key_is : key ≡ encode_lower entry.key.0
+  pub key_is : IsKeyDigits key entry.key
   pub refused : HasRefusedDistrust old entry new why
 
--- They are no name, or no key's digits.
+-- They are no name, or they name a domain and no key; or that record is refused.
 abbrev pub RefusesKeyBytes : Meaning → List ℕ → List ℕ → Meaning → CallError → Type 0
-RefusesKeyBytes old domain key new Usage = Unit {0}
+RefusesKeyBytes old domain key new Usage = RefusesDomainBytes domain Usage
+    ⊎ (IsDomainText domain × IsNoKey key)
 RefusesKeyBytes old domain key new (Name e) = RefusesDomainBytes domain (Name e)
 RefusesKeyBytes old domain key new (Take why) = RefusesNamedKey old domain key new why
 RefusesKeyBytes old domain key new _ = ⊥
@@ -165,64 +167,77 @@ pub record HasRefusedGiveBytes (old : HeldAndRoom) (bytes : List ℕ) (new : Mea
 
 -- ---- a bundle that was fetched
 
--- If it is observed, this is its receipt's line, with a line feed.
-abbrev pub IsForeseen : Meaning → FetchedBundle → List ℕ → Type 0
-IsForeseen m fetched text = (r : Receipt) → IsObservation m fetched r → text ≡ receipt_text r
+-- the bytes are the ID of the endpoint and the digits of the key
+pub record NamesVerdict (bytes : FetchedBytes) (verdict : Verdict) : Type 0 where
+  pub endpoint : verdict.endpoint.text ≡ bytes.endpoint.now
+  pub id : IsId verdict.endpoint
+  pub key : IsKeyDigits bytes.key.now verdict.key
 
--- It is not observed.
-abbrev pub IsUnforeseen : Meaning → FetchedBundle → Type 0
-IsUnforeseen m fetched = (r : Receipt) → IsObservation m fetched r → ⊥
-
--- the bytes are the names and the digits of these, and the document's
+-- they are those, the domain's name and the document
 pub record NamesFetched (bytes : FetchedBytes) (fetched : FetchedBundle) : Type 0 where
   pub domain : fetched.domain ≡ bytes.domain.now
   pub form : IsDomainText fetched.domain
-  pub endpoint : fetched.verdict.endpoint.text ≡ bytes.endpoint.now
-  pub id : IsId fetched.verdict.endpoint
-  pub key : bytes.key.now ≡ encode_lower fetched.verdict.key.0
+  pub verdict : NamesVerdict bytes fetched.verdict
   pub document : fetched.bytes ≡ bytes.document.now
 
--- Its receipt is held, and this is the receipt's line.
-pub record HoldsFetched (old : HeldAndRoom) (bytes : FetchedBytes) (new : HeldAndRoom)
-    (text : List ℕ) : Type 0 where
+-- they are a bundle of which this holds
+pub record HoldsOfFetched (bytes : FetchedBytes) (P : FetchedBundle → Type 0) : Type 0 where
   pub fetched : FetchedBundle
   pub names : NamesFetched bytes fetched
+  pub is : P fetched
+
+-- Its receipt is held, and this is the receipt's line.
+pub record HasHeldLine (old : HeldAndRoom) (fetched : FetchedBundle) (new : HeldAndRoom)
+    (text : List ℕ) : Type 0 where
   pub receipt : Receipt
   pub observed : HasObserved old.meaning fetched new.meaning receipt
   pub line : text ≡ receipt_text receipt
 
--- The line has more bytes than there is room for, if it is observed; nothing was taken.
-pub record LacksRoom (old : HeldAndRoom) (bytes : FetchedBytes) (room : ℕ) (new : HeldAndRoom)
+-- Its receipt's line has more bytes than there is room for; nothing was taken.
+pub record LacksRoom (old : HeldAndRoom) (fetched : FetchedBundle) (room : ℕ) (new : HeldAndRoom)
     (needed : ℕ) : Type 0 where
-  pub fetched : FetchedBundle
-  pub names : NamesFetched bytes fetched
-  pub text : List ℕ
-  pub foreseen : IsForeseen old.meaning fetched text
-  pub size : needed ≡ length text
+  pub receipt : Receipt
+  pub observation : IsObservation old.meaning fetched receipt
+  pub size : needed ≡ length (receipt_text receipt)
   pub more : room < needed
   pub same : new ≡ old
 
-abbrev pub ObservesFetched : HeldAndRoom → FetchedBytes → ℕ → HeldAndRoom → ObservedBytes → Type 0
-ObservesFetched old bytes room new (Held text) = HoldsFetched old bytes new text.items
+abbrev pub ObservesNamed : HeldAndRoom → FetchedBundle → ℕ → HeldAndRoom → ObservedBytes → Type 0
+ObservesNamed old fetched room new (Held text) = HasHeldLine old fetched new text.items
     × (length text.items ≤ room)
-ObservesFetched old bytes room new (NeedsRoom needed) = LacksRoom old bytes room new needed
+ObservesNamed old fetched room new (NeedsRoom needed) = LacksRoom old fetched room new needed
 
--- The names are good, and nothing is observed, for this cause.
-pub record RefusesNamedFetched (old : HeldAndRoom) (bytes : FetchedBytes) (new : HeldAndRoom)
-    (why : ObserveError) : Type 0 where
-  pub fetched : FetchedBundle
-  pub names : NamesFetched bytes fetched
-  pub refused : HasNotObserved old fetched new why
+abbrev pub ObservesFetched : HeldAndRoom → FetchedBytes → ℕ → HeldAndRoom → ObservedBytes → Type 0
+ObservesFetched old bytes room new observed =
+    HoldsOfFetched bytes (λ fetched. ObservesNamed old fetched room new observed)
 
-abbrev pub RefusesFetched : HeldAndRoom → FetchedBytes → HeldAndRoom → CallError → Type 0
-RefusesFetched old bytes new Usage = Unit {0}
-RefusesFetched old bytes new (Name e) = RefusesDomainBytes bytes.domain.now (Name e)
-    ⊎ RefusesIdBytes bytes.endpoint.now (Name e)
-RefusesFetched old bytes new (Observe why) = RefusesNamedFetched old bytes new why
-RefusesFetched old bytes new NoMemory = Unit {0}
-RefusesFetched old bytes new _ = ⊥
+-- Its receipt can be taken, and memory ran out for the line; nothing was taken.
+pub record LosesLine (old : HeldAndRoom) (fetched : FetchedBundle)
+    (new : HeldAndRoom) : Type 0 where
+  pub receipt : Receipt
+  pub observation : IsObservation old.meaning fetched receipt
+  pub same : new ≡ old
 
-pub record HasRefusedFetched (old : HeldAndRoom) (bytes : FetchedBytes) (new : HeldAndRoom)
+-- Nothing is observed, for this cause, or memory ran out for the line.
+abbrev pub RefusesNamed : HeldAndRoom → FetchedBundle → HeldAndRoom → CallError → Type 0
+RefusesNamed old fetched new (Observe why) = HasNotObserved old fetched new why
+RefusesNamed old fetched new NoMemory = LosesLine old fetched new
+RefusesNamed old fetched new _ = ⊥
+
+-- why the bytes are no verdict
+abbrev pub RefusesVerdictBytes : FetchedBytes → CallError → Type 0
+RefusesVerdictBytes bytes Usage = RefusesIdBytes bytes.endpoint.now Usage ⊎ IsNoKey bytes.key.now
+RefusesVerdictBytes bytes e = RefusesIdBytes bytes.endpoint.now e
+
+-- they name no domain, or one and no verdict; nothing was taken
+pub record RefusesNames (old : HeldAndRoom) (bytes : FetchedBytes) (new : HeldAndRoom)
     (e : CallError) : Type 0 where
-  pub cause : RefusesFetched old bytes new e
-  pub unchanged : IsUnchanged old new
+  pub cause : RefusesDomainBytes bytes.domain.now e
+      ⊎ (IsDomainText bytes.domain.now × RefusesVerdictBytes bytes e)
+  pub same : new ≡ old
+
+abbrev pub HasRefusedFetched : HeldAndRoom → FetchedBytes → HeldAndRoom → CallError → Type 0
+HasRefusedFetched old bytes new Usage = RefusesNames old bytes new Usage
+HasRefusedFetched old bytes new (Name e) = RefusesNames old bytes new (Name e)
+HasRefusedFetched old bytes new e =
+    HoldsOfFetched bytes (λ fetched. RefusesNamed old fetched new e)

@@ -5,7 +5,7 @@ use Rattle.bundle_doc.specs.Bundle.{Bundle, IsDocument, canonical_text}
 use Rattle.bundle_doc.specs.Refusal.{RefusesBytes}
 use Rattle.bundle_doc.specs.declared.error.DocError.{DocError}
 use Rattle.receipt_core.specs.Acceptance.{Meaning, IsMember}
-use Rattle.receipt_core.specs.Receipt.{Receipt}
+use Rattle.receipt_core.specs.Receipt.{Receipt, Pair}
 use Rattle.closure_core.specs.AcceptedList.{document_of}
 use Rattle.bundle_view.specs.Current.{IsCurrent}
 use Rattle.bundle_view.specs.Explain.{IsShortest}
@@ -56,14 +56,18 @@ pub record IsNotAccepted (m : Meaning) (domain bytes : List ℕ) : Type 0 where
   pub read : IsDocument bytes document
   pub apart : IsMember m (document_of domain document) → ⊥
 
+-- These are the lines of a shortest chain to it.
+pub record ExplainsBy (m : Meaning) (p : Pair) (text : List ℕ) : Type 0 where
+  pub chain : List Receipt
+  pub shortest : IsShortest m p chain
+  pub is : text ≡ flat_map receipt_text chain
+
 -- They are one that is, and these are the lines of a shortest chain to it.
 pub record HasChainText (m : Meaning) (domain bytes text : List ℕ) : Type 0 where
   pub form : IsDomainText domain
   pub document : Bundle
   pub read : IsDocument bytes document
-  pub chain : List Receipt
-  pub shortest : IsShortest m (document_of domain document) chain
-  pub is : text ≡ flat_map receipt_text chain
+  pub explains : ExplainsBy m (document_of domain document) text
 
 -- They are no domain's name, or no document, for this cause; or memory ran out.
 abbrev pub RefusesDocumentBytes : List ℕ → List ℕ → CallError → Type 0

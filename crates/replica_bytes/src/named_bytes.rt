@@ -1,9 +1,11 @@
 //! Names and keys, read from bytes.
-ghost use Rattle.std.specs.Prelude.{◌≡◌, MatchResult};
+ghost use Rattle.std.specs.Prelude.{◌≡◌, ◌↔◌, ℕ, List, IsTrue, MatchResult, Some};
 ghost use Rattle.hex.specs.Hex.{encode_lower};
+ghost use Rattle.receipt_core.specs.Receipt.{IsDigest};
 ghost use Rattle.spiffe_name.specs.TrustDomain.{IsDomainText};
 ghost use Rattle.spiffe_name.specs.SpiffeId.{IsId};
-ghost use Rattle.replica_bytes.specs.CallErrors.{RefusesDomainBytes, RefusesIdBytes};
+ghost use Rattle.replica_bytes.specs.CallErrors.{IsKeyDigits, IsNoKey, RefusesDomainBytes};
+ghost use Rattle.replica_bytes.specs.CallErrors.{RefusesIdBytes};
 ghost use Rattle.replica_bytes.specs.declared.call_error.CallError.TheVariants.{Usage};
 
 use crate::call_error::CallError;
@@ -50,19 +52,35 @@ pub(crate) fn endpoint_of(alloc: Global, bytes: &[u8]) -> Result<SpiffeId, CallE
 /// # Errors
 /// `Usage` for any other bytes.
 pub(crate) fn key_of(bytes: &[u8]) -> Result<KeyId, CallError>
-    ensures { MatchResult result (λ key. bytes.now ≡ encode_lower key.0) (λ e. e ≡ Usage) }
+    ensures { MatchResult result (IsKeyDigits bytes.now) (λ e. (e ≡ Usage) × IsNoKey bytes.now) }
 {
-    let mut id = [0u8; 32];
-    let mut digits = [0u8; 64];
-    if hex::decode_to_slice(bytes, &mut id).is_err()
-        || hex::encode_to_slice(&id, &mut digits).is_err()
-    {
+    let Some(id) = decoded(bytes) else {
         return Err(CallError::Usage);
-    }
-    // Upper-case digits are read too, and not written.
-    if digits.as_slice() == bytes {
+    };
+    // Upper-case digits are decoded too.
+    if is_digits(&id, bytes) {
         Ok(KeyId(id))
     } else {
         Err(CallError::Usage)
     }
+}
+
+// The key id of these digits, of whatever case.
+fn decoded(bytes: &[u8]) -> Option<[u8; 32]>
+    ensures { (id : List ℕ) → encode_lower id ≡ bytes.now → IsDigest id → result ≡ Some id }
+{
+    let mut id = [0; 32];
+    match hex::decode_to_slice(bytes, &mut id) {
+        Ok(()) => Some(id),
+        Err(_) => None,
+    }
+}
+
+fn is_digits(id: &[u8; 32], bytes: &[u8]) -> bool
+    ensures same { IsTrue result ↔ (encode_lower id.now ≡ bytes.now) }
+    ensures form { IsDigest id.now }
+{
+    let mut digits = [0; 64];
+    hex::encode_to_slice(*id, &mut digits).unwrap();
+    digits.as_slice() == bytes
 }

@@ -3,9 +3,12 @@ ghost use Rattle.std.specs.Prelude.{◌≡◌, ◌++◌, flat_map, IfErr, IfOk, 
 ghost use Rattle.std.specs.Prelude.{MatchResult};
 ghost use Rattle.replica_sync.specs.WrittenSnapshot.{written_snapshot};
 ghost use Rattle.bundle_view.specs.Report.{IsReport};
+ghost use Rattle.receipt_core.specs.Acceptance.{IsMember};
+ghost use Rattle.closure_core.specs.AcceptedList.{document_of};
 ghost use Rattle.replica_sync.specs.Messages.{receipt_text};
 ghost use Rattle.replica_bytes.specs.Texts.{HasNoCurrentBundle, IsCurrentBundle, bundle_line};
 ghost use Rattle.replica_bytes.specs.Texts.{HasChainText, IsNotAccepted, RefusesDocumentBytes};
+ghost use Rattle.replica_bytes.specs.Texts.{ExplainsBy};
 ghost use Rattle.replica_bytes.specs.CallErrors.{IsWantOfMemory, RefusesDomainText};
 
 use crate::call_error::CallError;
@@ -16,6 +19,7 @@ use bundle_view::{current, explain, write_report};
 use closure_core::Closure;
 use receipt_core::Receipt;
 use replica_sync::write_snapshot;
+use spiffe_name::TrustDomain;
 use std::alloc::{AllocError, Global};
 
 /// The report of what is accepted.
@@ -104,10 +108,25 @@ pub fn explain_bytes<C: Closure>(
 {
     let domain = domain_of(alloc, domain)?;
     let document = Document::read(alloc, document)?;
-    match explain(alloc, closure, &domain, &document)? {
-        Some(chain) => Ok(Some(chain_lines(alloc, chain.as_slice())?)),
-        None => Ok(None),
-    }
+    Ok(chain_text(alloc, closure, &domain, &document)?)
+}
+
+// The lines of a shortest chain to the document, if it is accepted.
+fn chain_text<C: Closure>(
+    alloc: Global,
+    closure: &C,
+    domain: &TrustDomain,
+    document: &Document,
+) -> Result<Option<Vec<u8>>, AllocError>
+    ensures { IfOk result (λ found. MatchOption found
+        (IsMember (C.state closure.now).meaning (document_of domain.now document.now) → ⊥)
+        (λ text. ExplainsBy (C.state closure.now).meaning (document_of domain.now document.now)
+        text.items)) }
+{
+    let Some(chain) = explain(alloc, closure, domain, document)? else {
+        return Ok(None);
+    };
+    Ok(Some(chain_lines(alloc, chain.as_slice())?))
 }
 
 fn chain_lines(alloc: Global, chain: &[Receipt]) -> Result<Vec<u8>, AllocError>
@@ -123,7 +142,15 @@ fn chain_lines(alloc: Global, chain: &[Receipt]) -> Result<Vec<u8>, AllocError>
 fn push_line(alloc: Global, text: &mut Vec<u8>, receipt: &Receipt) -> Result<(), AllocError>
     ensures { OnOk result (text.new.items ≡ text.old.items ++ receipt_text receipt.now) }
 {
-    let line = receipt.write_line(alloc)?;
-    text.extend_from_slice(line.as_slice())?;
-    text.extend_from_slice(b"\n")
+    let line = ended_line(alloc, receipt)?;
+    text.extend_from_slice(line.as_slice())
+}
+
+/// A receipt's line, with its line feed.
+pub(crate) fn ended_line(alloc: Global, receipt: &Receipt) -> Result<Vec<u8>, AllocError>
+    ensures { IfOk result (λ text. text.items ≡ receipt_text receipt.now) }
+{
+    let mut text = receipt.write_line(alloc)?;
+    text.push(b'\n')?;
+    Ok(text)
 }
