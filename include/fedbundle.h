@@ -92,6 +92,10 @@ int64_t fedbundle_raw_answer(fedbundle_replica *replica, const uint8_t *asked, s
 int64_t fedbundle_raw_absorb(fedbundle_replica *replica, const uint8_t *answered, size_t answered_length,
                              fedbundle_outcome *outcome);
 void fedbundle_raw_close(fedbundle_replica *replica);
+int64_t fedbundle_raw_report(const uint8_t *config, size_t config_length, const uint8_t *lines, size_t lines_length,
+                             uint8_t *out, size_t room, fedbundle_outcome *outcome);
+int64_t fedbundle_raw_canon(const uint8_t *domain, size_t domain_length, const uint8_t *document,
+                            size_t document_length, uint8_t *out, size_t room, fedbundle_outcome *outcome);
 
 /* An address for no bytes. */
 static inline const uint8_t *fedbundle_in(const void *bytes, size_t length) {
@@ -199,6 +203,24 @@ static inline int64_t fedbundle_absorb(fedbundle_replica *replica, const void *a
 
 /* Frees the replica, and closes its place. */
 static inline void fedbundle_close(fedbundle_replica *replica) { fedbundle_raw_close(replica); }
+
+/* Writes the report of what is accepted from the receipts of these lines, each of which ends with a line feed. No replica
+ * is kept. Counts the lines without a receipt that fits, and bytes after the last line as one more, also where there is no
+ * room for the report. C1 to C9, E1, E2. */
+static inline int64_t fedbundle_report(const void *config, size_t config_length, const void *lines, size_t lines_length,
+                                       void *out, size_t room, fedbundle_outcome *outcome) {
+    return fedbundle_raw_report(fedbundle_in(config, config_length), config_length, fedbundle_in(lines, lines_length),
+                                lines_length, fedbundle_out(out, room), room, outcome);
+}
+
+/* Writes the canonical text of a document of a domain, a line with its id, and a line with the id of each key of an X.509
+ * authority. N1 to N6, B1 to B8, E2. */
+static inline int64_t fedbundle_canon(const void *domain, size_t domain_length, const void *document,
+                                      size_t document_length, void *out, size_t room, fedbundle_outcome *outcome) {
+    return fedbundle_raw_canon(fedbundle_in(domain, domain_length), domain_length,
+                               fedbundle_in(document, document_length), document_length, fedbundle_out(out, room), room,
+                               outcome);
+}
 
 #ifdef __cplusplus
 }

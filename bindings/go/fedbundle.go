@@ -159,9 +159,29 @@ func (r *Replica) Absorb(answered []byte) (uint64, error) {
 	return taken.Count, err
 }
 
+// Report returns the report of what is accepted from lines of receipts, and how many lines have no receipt that fits.
+func Report(config, lines []byte) ([]byte, uint64, error) {
+	var refused uint64
+	text, _, err := written(func(out unsafe.Pointer, room C.size_t, end *C.fedbundle_outcome) C.int64_t {
+		code := C.fedbundle_report(at(config), size(config), at(lines), size(lines), out, room, end)
+		refused = uint64(end.count)
+		return code
+	})
+	return text, refused, err
+}
+
+// Canon returns the canonical text of a document of a domain, its id and the ids of its keys, each on a line of its own.
+func Canon(domain string, document []byte) ([]byte, error) {
+	d := []byte(domain)
+	text, _, err := written(func(out unsafe.Pointer, room C.size_t, end *C.fedbundle_outcome) C.int64_t {
+		return C.fedbundle_canon(at(d), size(d), at(document), size(document), out, room, end)
+	})
+	return text, err
+}
+
 // Version returns the version of the library.
 func Version() string {
-	text, _, _ := new(Replica).text(func(out unsafe.Pointer, room C.size_t, end *C.fedbundle_outcome) C.int64_t {
+	text, _, _ := written(func(out unsafe.Pointer, room C.size_t, end *C.fedbundle_outcome) C.int64_t {
 		return C.fedbundle_version(out, room, end)
 	})
 	return string(text)
@@ -179,10 +199,15 @@ func (r *Replica) count(call func(*C.fedbundle_outcome) C.int64_t) (Taken, error
 	return Taken{Already: code == C.FEDBUNDLE_ALREADY, Count: uint64(end.count)}, nil
 }
 
-// text makes a call that writes, with as much room as it needs, and says whether there is something.
+// text makes a call on the replica that writes.
 func (r *Replica) text(call func(unsafe.Pointer, C.size_t, *C.fedbundle_outcome) C.int64_t) ([]byte, bool, error) {
 	r.mutex.Lock()
 	defer r.mutex.Unlock()
+	return written(call)
+}
+
+// written makes a call that writes, with as much room as it needs, and says whether there is something.
+func written(call func(unsafe.Pointer, C.size_t, *C.fedbundle_outcome) C.int64_t) ([]byte, bool, error) {
 	for room := firstRoom; ; {
 		out := make([]byte, room)
 		var end C.fedbundle_outcome

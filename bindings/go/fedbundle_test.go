@@ -148,6 +148,25 @@ func TestRefusals(t *testing.T) {
 	wantCode(t, err, Usage, "usage")
 }
 
+func TestNoReplica(t *testing.T) {
+	config, lines, want := example(t, "config.json"), example(t, "receipts.jsonl"), example(t, "receipts.report")
+	if report, refused, err := Report(config, lines); err != nil || refused != 0 || !bytes.Equal(report, want) {
+		t.Errorf("%v, %d refused, %s", err, refused, report)
+	}
+	more := append(append([]byte(nil), lines...), "{}\ncut"...)
+	if report, refused, err := Report(config, more); err != nil || refused != 2 || !bytes.Equal(report, want) {
+		t.Errorf("%v, %d refused, %s", err, refused, report)
+	}
+	_, _, err := Report([]byte("["), lines)
+	wantCode(t, err, -301, "C1 NotJson")
+	text, err := Canon("a.example", example(t, "a.example.json"))
+	if err != nil || !bytes.Equal(text, example(t, "a.example.canon")) {
+		t.Errorf("%v, %s", err, text)
+	}
+	_, err = Canon("a.example", []byte("["))
+	wantCode(t, err, -202, "B2 NotJson")
+}
+
 func TestTurns(t *testing.T) {
 	r := taken(t)
 	want, _ := r.Report()

@@ -5,7 +5,7 @@ that was printed last. So two replicas can talk. Each language has such a progra
 """
 import sys
 
-from fedbundle import USAGE, Refused, Replica
+from fedbundle import USAGE, Refused, Replica, canon, report
 
 replicas = {}
 last = b""
@@ -16,7 +16,9 @@ def text_of(word):
 
 
 def made(call, replica, words):
-    """What a call returns: a number of receipts or bundles, or a text, or None."""
+    """What a call returns: a number of receipts or bundles, or a text, or None; or a text and a number."""
+    if call in ("canon", "report_of"):
+        return (canon if call == "canon" else report)(*map(text_of, words))
     if call == "open":
         replicas[replica] = Replica(*map(text_of, words))
         return 0
@@ -37,7 +39,10 @@ for line in sys.stdin:
     except Refused as refused:
         print("refused", refused.number, refused.text)
         continue
-    if isinstance(value, bytes):
+    if isinstance(value, tuple):
+        last, count = value
+        print("counted", count, last.hex() or "-")
+    elif isinstance(value, bytes):
         last = value
         print("text", value.hex() or "-")
     elif value is None:

@@ -69,6 +69,8 @@ _have = _export("have", _REPLICA + [ctypes.c_uint8] + _OUT + _END)
 _answer = _export("answer", _REPLICA + _IN + _OUT + _END)
 _absorb = _export("absorb", _REPLICA + _IN + _END)
 _close = _export("close", _REPLICA, None)
+_report_of = _export("report", 2 * _IN + _OUT + _END)
+_canon = _export("canon", 2 * _IN + _OUT + _END)
 
 
 def _inputs(texts):
@@ -85,15 +87,19 @@ def _judge(returned, outcome):
     return returned
 
 
-def _text(function, *arguments):
-    """What a call writes, or None where there is none of it."""
+def _text_and_count(function, *arguments):
+    """What a call writes, or None where there is none of it, and what it counts."""
     outcome, room = _Outcome(), FIRST_ROOM
     while True:
         buffer = ctypes.create_string_buffer(room)
         returned = _judge(function(*arguments, buffer, room, outcome), outcome)
         if returned != NEEDS_ROOM:
-            return buffer.raw[: outcome.length] if returned == DONE else None
+            return buffer.raw[: outcome.length] if returned == DONE else None, outcome.count
         room = outcome.length
+
+
+def _text(function, *arguments):
+    return _text_and_count(function, *arguments)[0]
 
 
 def _number(function, *arguments):
@@ -106,6 +112,16 @@ def _number(function, *arguments):
 def version():
     """The version of the library."""
     return _text(_version).decode()
+
+
+def report(config, lines):
+    """The report of what is accepted from lines of receipts, and how many lines have no receipt that fits."""
+    return _text_and_count(_report_of, *_inputs([config, lines]))
+
+
+def canon(domain, document):
+    """The canonical text of a document of a domain, its id and the ids of its keys, each on a line of its own."""
+    return _text(_canon, *_inputs([domain, document]))
 
 
 class Replica:

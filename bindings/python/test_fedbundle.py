@@ -3,7 +3,7 @@ import threading
 import unittest
 from pathlib import Path
 
-from fedbundle import USAGE, Refused, Replica
+from fedbundle import USAGE, Refused, Replica, canon, report
 
 EXAMPLES = Path(__file__).resolve().parents[2] / "examples"
 CONFIG = (EXAMPLES / "config.json").read_bytes()
@@ -56,6 +56,16 @@ class Examples(unittest.TestCase):
         self.assertEqual(before, replica.report())
         replica.close()
         self.refuses(USAGE, "usage", replica.report)
+
+    def test_no_replica(self):
+        lines = (EXAMPLES / "receipts.jsonl").read_bytes()
+        wanted = (EXAMPLES / "receipts.report").read_bytes()
+        self.assertEqual((wanted, 0), report(CONFIG, lines))
+        self.assertEqual((wanted, 2), report(CONFIG, lines + b"{}\ncut"))
+        self.refuses(-301, "C1 NotJson", report, b"[", lines)
+        wanted = (EXAMPLES / "a.example.canon").read_bytes()
+        self.assertEqual(wanted, canon(b"a.example", (EXAMPLES / "a.example.json").read_bytes()))
+        self.refuses(-202, "B2 NotJson", canon, b"a.example", b"[")
 
     def test_turns(self):
         replica = taken()

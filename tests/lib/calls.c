@@ -55,7 +55,7 @@ static struct text text_of(const char *word) {
 }
 
 static int writes(const char *call) {
-    static const char *const those[] = {"observe", "current", "explain", "report", "snapshot", "have", "answer", 0};
+    static const char *const those[] = {"observe", "current", "explain", "report", "snapshot", "have", "answer", "canon", "report_of", 0};
     for (const char *const *at = those; *at; at++)
         if (!strcmp(*at, call)) return 1;
     return 0;
@@ -77,6 +77,8 @@ static int64_t made(const char *call, fedbundle_replica *r, struct text *t, unsi
     if (!strcmp(call, "snapshot")) return fedbundle_snapshot(r, out, room, end);
     if (!strcmp(call, "have")) return fedbundle_have(r, (uint8_t)bucket, out, room, end);
     if (!strcmp(call, "answer")) return fedbundle_answer(r, T(0), out, room, end);
+    if (!strcmp(call, "canon")) return fedbundle_canon(T(0), T(1), out, room, end);
+    if (!strcmp(call, "report_of")) return fedbundle_report(T(0), T(1), out, room, end);
 #undef T
     if (strcmp(call, "close")) stop("no such call");
     fedbundle_close(r);
@@ -120,7 +122,10 @@ static void print(const char *call, int64_t returned, const fedbundle_outcome *e
     else if (!writes(call))
         printf("done %llu\n", (unsigned long long)end->count);
     else {
-        fputs("text ", stdout);
+        if (!strcmp(call, "report_of"))
+            printf("counted %llu ", (unsigned long long)end->count);
+        else
+            fputs("text ", stdout);
         for (size_t i = 0; i < end->length; i++) printf("%02x", out[i]);
         puts(end->length ? "" : "-");
     }

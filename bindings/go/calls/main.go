@@ -71,9 +71,24 @@ func counted(count uint64, err error) error {
 	return say(fedbundle.Taken{Count: count}, err)
 }
 
+func reported(text []byte, count uint64, err error) error {
+	if err != nil {
+		return err
+	}
+	last = text
+	fmt.Println("counted", count, hex.EncodeToString(text))
+	return nil
+}
+
 func call(replicas map[string]*fedbundle.Replica, words []string) error {
 	name, r := words[0], replicas[words[1]]
 	arg := func(i int) []byte { return textOf(words[i+2]) }
+	switch name {
+	case "canon":
+		return found(fedbundle.Canon(string(arg(0)), arg(1)))
+	case "report_of":
+		return reported(fedbundle.Report(arg(0), arg(1)))
+	}
 	if r == nil && name != "open" && name != "close" {
 		return &fedbundle.Error{Code: fedbundle.Usage, Text: "usage"}
 	}

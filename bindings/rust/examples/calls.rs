@@ -2,7 +2,7 @@
 //!
 //! A line has the call, the replica (a number from 0), and the texts in hexadecimal: `-` is an empty one, and `$` the text
 //! that was printed last. So two replicas can talk. Each language has such a program, and tests/library compares them.
-use fedbundle::{Refused, Replica, Taken};
+use fedbundle::{canon, report, Refused, Replica, Taken};
 use std::collections::HashMap;
 use std::io::stdin;
 
@@ -39,6 +39,16 @@ impl Calls {
     fn make(&mut self, words: &[&str]) -> Result<String, Refused> {
         let words_of_texts = if words[0] == "have" { &[] } else { &words[2..] };
         let texts: Vec<Vec<u8>> = words_of_texts.iter().map(|word| self.text_of(word)).collect();
+        if words[0] == "canon" {
+            let text = canon(&texts[0], &texts[1])?;
+            return Ok(self.show(Some(text)));
+        }
+        if words[0] == "report_of" {
+            let (text, count) = report(&texts[0], &texts[1])?;
+            let shown = format!("counted {count} {}", hex_of(&text));
+            self.last = text;
+            return Ok(shown);
+        }
         if words[0] == "open" {
             let opened = Replica::open(&texts[0], &texts[1])?;
             self.replicas.insert(words[1].into(), opened);

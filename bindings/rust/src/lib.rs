@@ -27,71 +27,58 @@ struct Outcome {
     fault: [u8; 240],
 }
 
+// A text that is read, and one that is written, of which the length comes next.
+type In = *const u8;
+type Out = *mut u8;
+
 extern "C" {
-    fn fedbundle_raw_version(out: *mut u8, room: usize, end: &mut Outcome) -> i64;
-    fn fedbundle_raw_open(
-        place: &mut Place,
-        config: *const u8,
-        config_length: usize,
-        snapshot: *const u8,
-        snapshot_length: usize,
-        end: &mut Outcome,
-    ) -> i64;
-    fn fedbundle_raw_take(place: &mut Place, line: *const u8, length: usize, end: &mut Outcome) -> i64;
+    fn fedbundle_raw_version(out: Out, room: usize, end: &mut Outcome) -> i64;
+    fn fedbundle_raw_open(p: &mut Place, config: In, c: usize, snapshot: In, s: usize, end: &mut Outcome) -> i64;
+    fn fedbundle_raw_take(p: &mut Place, line: In, l: usize, end: &mut Outcome) -> i64;
     fn fedbundle_raw_observe(
-        place: &mut Place,
-        domain: *const u8,
-        domain_length: usize,
-        endpoint: *const u8,
-        endpoint_length: usize,
-        key: *const u8,
-        key_length: usize,
-        document: *const u8,
-        document_length: usize,
-        out: *mut u8,
+        p: &mut Place,
+        domain: In,
+        d: usize,
+        endpoint: In,
+        e: usize,
+        key: In,
+        k: usize,
+        document: In,
+        b: usize,
+        out: Out,
         room: usize,
         end: &mut Outcome,
     ) -> i64;
-    fn fedbundle_raw_distrust(
-        place: &mut Place,
-        domain: *const u8,
-        domain_length: usize,
-        key: *const u8,
-        key_length: usize,
-        end: &mut Outcome,
-    ) -> i64;
-    fn fedbundle_raw_merge(place: &mut Place, snapshot: *const u8, length: usize, end: &mut Outcome) -> i64;
-    fn fedbundle_raw_current(
-        place: &mut Place,
-        domain: *const u8,
-        length: usize,
-        out: *mut u8,
-        room: usize,
-        end: &mut Outcome,
-    ) -> i64;
+    fn fedbundle_raw_distrust(p: &mut Place, domain: In, d: usize, key: In, k: usize, end: &mut Outcome) -> i64;
+    fn fedbundle_raw_merge(p: &mut Place, snapshot: In, s: usize, end: &mut Outcome) -> i64;
+    fn fedbundle_raw_current(p: &mut Place, domain: In, d: usize, out: Out, room: usize, end: &mut Outcome) -> i64;
     fn fedbundle_raw_explain(
-        place: &mut Place,
-        domain: *const u8,
-        domain_length: usize,
-        document: *const u8,
-        document_length: usize,
-        out: *mut u8,
+        p: &mut Place,
+        domain: In,
+        d: usize,
+        document: In,
+        b: usize,
+        out: Out,
         room: usize,
         end: &mut Outcome,
     ) -> i64;
-    fn fedbundle_raw_replica_report(place: &mut Place, out: *mut u8, room: usize, end: &mut Outcome) -> i64;
-    fn fedbundle_raw_snapshot(place: &mut Place, out: *mut u8, room: usize, end: &mut Outcome) -> i64;
-    fn fedbundle_raw_have(place: &mut Place, bucket: u8, out: *mut u8, room: usize, end: &mut Outcome) -> i64;
-    fn fedbundle_raw_answer(
-        place: &mut Place,
-        asked: *const u8,
-        length: usize,
-        out: *mut u8,
+    fn fedbundle_raw_replica_report(p: &mut Place, out: Out, room: usize, end: &mut Outcome) -> i64;
+    fn fedbundle_raw_snapshot(p: &mut Place, out: Out, room: usize, end: &mut Outcome) -> i64;
+    fn fedbundle_raw_have(p: &mut Place, bucket: u8, out: Out, room: usize, end: &mut Outcome) -> i64;
+    fn fedbundle_raw_answer(p: &mut Place, asked: In, a: usize, out: Out, room: usize, end: &mut Outcome) -> i64;
+    fn fedbundle_raw_absorb(p: &mut Place, answered: In, a: usize, end: &mut Outcome) -> i64;
+    fn fedbundle_raw_close(p: &mut Place);
+    fn fedbundle_raw_report(config: In, c: usize, lines: In, l: usize, out: Out, room: usize, end: &mut Outcome)
+        -> i64;
+    fn fedbundle_raw_canon(
+        domain: In,
+        d: usize,
+        document: In,
+        b: usize,
+        out: Out,
         room: usize,
         end: &mut Outcome,
     ) -> i64;
-    fn fedbundle_raw_absorb(place: &mut Place, answered: *const u8, length: usize, end: &mut Outcome) -> i64;
-    fn fedbundle_raw_close(place: &mut Place);
 }
 
 /// A call that was refused.
@@ -140,6 +127,26 @@ fn written(mut call: impl FnMut(*mut u8, usize, &mut Outcome) -> i64) -> Result<
 pub fn version() -> String {
     let text = written(|out, room, end| unsafe { fedbundle_raw_version(out, room, end) });
     String::from_utf8_lossy(&text.ok().flatten().unwrap_or_default()).into_owned()
+}
+
+/// The report of what is accepted from lines of receipts, and how many lines have no receipt that fits.
+pub fn report(config: &[u8], lines: &[u8]) -> Result<(Vec<u8>, u64), Refused> {
+    let mut refused = 0;
+    let made = text(written(|out, room, end| unsafe {
+        let (c, l) = (config, lines);
+        let returned = fedbundle_raw_report(c.as_ptr(), c.len(), l.as_ptr(), l.len(), out, room, end);
+        refused = end.count;
+        returned
+    }));
+    Ok((made?, refused))
+}
+
+/// The canonical text of a document of a domain, its id and the ids of its keys, each on a line of its own.
+pub fn canon(domain: &[u8], document: &[u8]) -> Result<Vec<u8>, Refused> {
+    let (d, b) = (domain, document);
+    text(written(|out, room, end| unsafe {
+        fedbundle_raw_canon(d.as_ptr(), d.len(), b.as_ptr(), b.len(), out, room, end)
+    }))
 }
 
 /// A replica of a configuration. It is freed where it is dropped.

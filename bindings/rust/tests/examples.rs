@@ -1,5 +1,5 @@
 //! The crate over the examples. tests/library runs it.
-use fedbundle::{Refused, Replica, Taken};
+use fedbundle::{canon, report, Refused, Replica, Taken};
 use std::fs;
 use std::path::Path;
 use std::sync::Mutex;
@@ -24,8 +24,18 @@ fn refused<T>(made: Result<T, Refused>) -> (i64, String) {
 }
 
 #[test]
-fn report() {
+fn report_of_a_replica() {
     assert_eq!(example("receipts.report"), taken().report().unwrap());
+}
+
+#[test]
+fn no_replica() {
+    let (config, lines, want) = (example("config.json"), example("receipts.jsonl"), example("receipts.report"));
+    assert_eq!(Ok((want.clone(), 0)), report(&config, &lines));
+    assert_eq!(Ok((want, 2)), report(&config, &[&lines[..], b"{}\ncut"].concat()));
+    assert_eq!((-301, "C1 NotJson".into()), refused(report(b"[", &lines)));
+    assert_eq!(Ok(example("a.example.canon")), canon(b"a.example", &example("a.example.json")));
+    assert_eq!((-202, "B2 NotJson".into()), refused(canon(b"a.example", b"[")));
 }
 
 #[test]

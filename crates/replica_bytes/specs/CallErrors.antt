@@ -1,5 +1,5 @@
--- What bytes are a key's digits, why bytes are refused as a name, and what a call that lacks nothing
--- but memory reports.
+-- What bytes are a key's digits, why bytes are refused as a name, and what a call reports that can
+-- lack nothing but memory.
 use Rattle.std.specs.Prelude.{◌≡◌, ℕ, List}
 use Rattle.std.specs.Str.{IsUtf8}
 use Rattle.hex.specs.Hex.{encode_lower}

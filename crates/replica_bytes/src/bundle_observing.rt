@@ -36,8 +36,8 @@ pub enum ObservedBytes {
     NeedsRoom(usize),
 }
 
-/// Takes the receipt of a bundle, as [`observe`](bundle_view::observe) does, if its line has no more
-/// bytes than `room`.
+/// Takes the receipt of a bundle, as [`observe`](bundle_view::observe) does, if its line has no
+/// more bytes than `room`.
 ///
 /// # Errors
 /// What is held stays. Of these the first that holds:

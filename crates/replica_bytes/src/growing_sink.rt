@@ -5,8 +5,11 @@ ghost use Rattle.byte_lines.specs.Memory.{unread_bytes};
 use byte_lines::{Fault, MemSource, Sink};
 use std::alloc::{AllocError, Global};
 
-/// A source of these bytes. It has a copy of them, for which the allocator may refuse memory.
-pub(crate) fn source_of(alloc: Global, bytes: &[u8]) -> Result<MemSource, AllocError>
+/// A source of these bytes. It has a copy of them.
+///
+/// # Errors
+/// Memory ran out.
+pub fn source_of(alloc: Global, bytes: &[u8]) -> Result<MemSource, AllocError>
     ensures { IfOk result (λ source. unread_bytes source ≡ bytes.now) }
 {
     Ok(MemSource::new(Vec::from_slice(alloc, bytes)?, Vec::new(alloc)))
@@ -15,7 +18,7 @@ pub(crate) fn source_of(alloc: Global, bytes: &[u8]) -> Result<MemSource, AllocE
 /// Takes all bytes that it is given, as long as there is memory for them. A growth that is refused
 /// is a fault, and there is no other.
 #[derive(Drop)]
-pub(crate) struct GrowingSink {
+pub struct GrowingSink {
     text: Vec<u8>,
     failed: bool,
 }
@@ -24,7 +27,8 @@ impl GrowingSink {
     ghost use Rattle.std.specs.Prelude.{◌≡◌, [], false};
     ghost use Rattle.replica_bytes.specs.Texts.{gathered_text, has_overrun};
 
-    pub(crate) fn new(alloc: Global) -> GrowingSink
+    /// A sink that has taken nothing.
+    pub fn new(alloc: Global) -> GrowingSink
         ensures empty { gathered_text result ≡ [] }
         ensures sound { has_overrun result ≡ false }
     {
@@ -34,7 +38,8 @@ impl GrowingSink {
         }
     }
 
-    pub(crate) fn into_text(self) -> Vec<u8>
+    /// All that it was given, in order.
+    pub fn into_text(self) -> Vec<u8>
         ensures { result.items ≡ gathered_text self }
     {
         self.text

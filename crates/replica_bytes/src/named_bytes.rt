@@ -18,7 +18,7 @@ use std::str;
 ///
 /// # Errors
 /// `Usage` where the bytes are not UTF-8, and else what [`TrustDomain::read`] reports.
-pub(crate) fn domain_of(alloc: Global, bytes: &[u8]) -> Result<TrustDomain, CallError>
+pub fn domain_of(alloc: Global, bytes: &[u8]) -> Result<TrustDomain, CallError>
     ensures { MatchResult result
         (λ domain. (domain ≡ bytes.now) × IsDomainText bytes.now)
         (RefusesDomainBytes bytes.now) }
