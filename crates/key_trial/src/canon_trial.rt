@@ -1,0 +1,5 @@
+//! Trial.
+
+/// x
+#[tactic(auto, using(crate::proofs::CanonFacts::whole_document))]
+pub fn x() {}
