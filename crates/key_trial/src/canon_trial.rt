@@ -1,5 +1,0 @@
-//! Trial.
-
-/// x
-#[tactic(auto, using(crate::proofs::CanonFacts::whole_document))]
-pub fn x() {}
