@@ -1,4 +1,5 @@
-use Rattle.std.proofs.Common.{◌≡◌, ◌++◌, drop, flat_map}
+use Rattle.std.proofs.Common.{◌≡◌, ◌++◌, drop}
+use Rattle.std.specs.List.{flat_map}
 use Rattle.replica_sync.specs.Messages.{receipt_text}
 use Rattle.replica_bytes.proofs.replica_texts.chain_lines.Given as goal
 
