@@ -1,5 +1,5 @@
 //! Exports: the calls that hold no replica.
-ghost use Rattle.fedbundle_c.specs.Exports.{CanonsByBytes, ReportsByBytes};
+ghost use Rattle.fedbundle_c.specs.Stateless.{CanonsByBytes, ReportsByBytes};
 
 use command_bytes::{canon_bytes, report_lines};
 use replica_bytes::CallOutcome;
