@@ -24,7 +24,6 @@ pub fn canon_bytes(alloc: Global, domain: &[u8], document: &[u8]) -> Result<Vec<
     canon_of(alloc, &domain, document)
 }
 
-#[tactic(auto, using(crate::proofs::CanonFacts::whole_document, crate::proofs::CanonFacts::whole_refusal))]
 fn canon_of(alloc: Global, domain: &TrustDomain, document: &[u8]) -> Result<Vec<u8>, CallError>
     ensures { MatchResult result (λ text. WritesCanon domain.now document.now text.items)
         (RefusesCanon document.now) }
