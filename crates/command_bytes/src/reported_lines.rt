@@ -26,11 +26,7 @@ pub struct ReportedLines {
 /// - [`CallError::Config`]: the bytes are no configuration,
 /// - [`CallError::Full`]: more than 65,536 different receipts fit,
 /// - [`CallError::NoMemory`]: memory ran out.
-pub fn report_lines(
-    alloc: Global,
-    config: &[u8],
-    lines: &[u8],
-) -> Result<ReportedLines, CallError>
+pub fn report_lines(alloc: Global, config: &[u8], lines: &[u8]) -> Result<ReportedLines, CallError>
     ensures { MatchResult result (ReportsBytes config.now lines.now)
         (RefusesReportBytes config.now lines.now) }
 {

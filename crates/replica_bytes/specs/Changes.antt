@@ -20,7 +20,6 @@ use Rattle.replica_core.specs.Absorbing.{HasAbsorbed, RefusesAbsorbing}
 use Rattle.replica_core.specs.declared.error.SyncError.{SyncError}
 use Rattle.replica_core.specs.declared.error.SyncError.TheVariants.{NotCanonical}
 use Rattle.bundle_view.specs.Observe.{FetchedBundle, HasObserved, HasNotObserved, IsObservation}
-use Rattle.bundle_view.specs.declared.observe_error.ObserveError.{ObserveError}
 use Rattle.bundle_view.specs.declared.observation.Verdict.{Verdict}
 use Rattle.replica_bytes.specs.CallErrors.{IsKeyDigits, IsNoKey, RefusesDomainBytes}
 use Rattle.replica_bytes.specs.CallErrors.{RefusesIdBytes}

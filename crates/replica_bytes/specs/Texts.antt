@@ -3,7 +3,6 @@ use Rattle.std.specs.Prelude.{◌≡◌, ℕ, List, flat_map, Some, None, Bool}
 use Rattle.spiffe_name.specs.TrustDomain.{IsDomainText}
 use Rattle.bundle_doc.specs.Bundle.{Bundle, IsDocument, canonical_text}
 use Rattle.bundle_doc.specs.Refusal.{RefusesBytes}
-use Rattle.bundle_doc.specs.declared.error.DocError.{DocError}
 use Rattle.receipt_core.specs.Acceptance.{Meaning, IsMember}
 use Rattle.receipt_core.specs.Receipt.{Receipt, Pair}
 use Rattle.closure_core.specs.AcceptedList.{document_of}

@@ -29,11 +29,11 @@ pub returns : goal.returns
 returns g c =
     let fetched : FetchedBundle = record { domain = c.in_ok-domain.domain; bytes = c.args.fetched.now.document.now; verdict = c.in_ok-verdict.verdict } in
     let names : NamesFetched c.args.fetched.now fetched =
-      record {
-        domain = c.in_ok-domain.ensures.0;
-        form = rw c.in_ok-domain.ensures.0 c.in_ok-domain.ensures.1;
-        verdict = c.in_ok-verdict.ensures;
-        document = refl;
-      } in
+    record {
+      domain = c.in_ok-domain.ensures.0;
+      form = rw c.in_ok-domain.ensures.0 c.in_ok-domain.ensures.1;
+      verdict = c.in_ok-verdict.ensures;
+      document = refl;
+    } in
     named (g.C.Closure.state c.args.closure.now) (g.C.Closure.state c.observe_named.new.closure) c.args.fetched.now fetched c.args.room
     c.observe_named.result names c.observe_named.ensures

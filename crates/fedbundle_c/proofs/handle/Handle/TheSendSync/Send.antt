@@ -1,5 +1,4 @@
 -- What a handle owns says the same to every thread.
-use Rattle.std.proofs.Common.{◌≡◌}
 use mir.Raw.{raw}
 use base.Fraction.{full_share}
 use base.Shift.{Keyless}

@@ -10,7 +10,7 @@ use types.Part.{agg}
 use contract.Monad.{fact, fact_i}
 use contract.Running.{tables}
 use denote.Exit.{yes}
-use denote.RattleType.{RattleType, owns}
+use denote.RattleType.{owns}
 use denote.Builtin.{RawPtr}
 use denote.RawPtr.{Ptr, null_ptr, ptr_val}
 use denote.Signature.{types_at, plain}
