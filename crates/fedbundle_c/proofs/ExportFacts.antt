@@ -1,47 +1,37 @@
--- A handle that held a replica holds another one, after a call of this outcome.
-use Rattle.std.proofs.Common.{◌≡◌, ℕ, ℤ, List, sym, subst}
-use Rattle.std.specs.Prelude.{Option, Some, Result, MatchResult, MatchOption}
-use Rattle.closure_core.specs.declared.outcome.Taken.{Taken}
-use Rattle.closure_core.specs.declared.outcome.Distrusted.{Distrusted}
-use Rattle.replica_bytes.specs.Changes.{TakesLineBytes, HasRefusedLineBytes, DistrustsBytes, HasRefusedKeyBytes, MergesBytes}
-use Rattle.replica_bytes.specs.Changes.{HasRefusedSnapshotBytes, AbsorbsBytes, HasRefusedGiveBytes}
+-- A handle that held a replica holds it again, after what was made of it was put out.
+use Rattle.std.proofs.Common.{◌≡◌, ℕ, ℤ, List, sym, subst, inl, inr, Some, None, Ok, Err}
+use Rattle.std.specs.Prelude.{Option, Result, MatchResult, MatchOption}
+use Rattle.receipt_core.specs.Acceptance.{Meaning}
+use Rattle.replica_bytes.specs.Outcomes.{WritesOut, Refuses, ReturnsNone}
 use Rattle.replica_bytes.specs.declared.call_error.CallError.{CallError}
-use Rattle.fedbundle_c.specs.Exports.{HandleRun, IsUsedClosed, state_in, meaning_in, TakesByHandle, HasTakenLine, SaysTaken}
-use Rattle.fedbundle_c.specs.Exports.{DistrustsByHandle, HasDistrustedKey, SaysDistrusted, MergesByHandle, HasMergedSnapshot}
-use Rattle.fedbundle_c.specs.Exports.{AbsorbsByHandle, HasAbsorbedAnswer, SaysCount}
+use Rattle.fedbundle_c.specs.Exports.{HandleRun, BufferRun, IsUsedClosed, meaning_in, FindsByHandle, FindsHeld}
 use Rattle.fedbundle_c.specs.declared.replica.Replica.{Replica}
 
-module _ (old new : Option Replica) (held after : Replica) (said : ℕ) (returned : ℤ) (was : old ≡ Some held) (is : new ≡ Some after) where
+module _ (old new : Option Replica) (held : Replica) (before after : List ℕ) (said : ℕ) (returned : ℤ) (was : old ≡ Some held) (is : new ≡ Some held) where
   abbrev run : HandleRun
   run = record { old = old; new = new; said = said; returned = returned }
 
+  abbrev buffer : BufferRun
+  buffer = record { before = before; after = after }
+
+  -- by what was made: a text, none, or a refusal
+  found : {V : Type 0} (N : Type 0) (P : List ℕ → Type 0) (Q : CallError → Type 0) (made : Result (Option V) CallError) (items : V → List ℕ)
+      → MatchResult made (λ o. MatchOption o N (λ v. P (items v))) Q
+      → MatchResult made (λ o. MatchOption o (ReturnsNone returned × (after ≡ before)) (λ v. WritesOut (items v) before after said returned))
+      (λ e. Refuses e returned × (after ≡ before))
+      → FindsHeld held N P Q buffer run
+  found N P Q (Ok None) items is_so put = record { same = is; shows = inl (record { absent = is_so; same = put.1; none = put.0 }) }
+  found N P Q (Ok (Some v)) items is_so put = record { same = is; shows = inr (inl (record { text = items v; is = is_so; written = put })) }
+  found N P Q (Err e) items is_so put =
+      record { same = is; shows = inr (inr (record { error = e; cause = is_so; same = put.1; refused = put.0 })) }
+
   -- whatever is so of the replica that was held is so of the handle
-  by_held : (P : Replica → Type 0) → P held → MatchOption old (IsUsedClosed new returned) P
-  by_held P p = subst (λ (o : Option Replica). MatchOption o (IsUsedClosed new returned) P) (sym was) p
-
-  pub takes-by : (line : List ℕ) (outcome : Result Taken CallError)
-      → MatchResult outcome (TakesLineBytes (state_in held) line (state_in after)) (HasRefusedLineBytes (state_in held) line (state_in after))
-      → SaysTaken outcome said returned → TakesByHandle run line
-  takes-by line outcome takes says = by_held (λ h. HasTakenLine h line run)
-      (record { after = after; is = is; outcome = outcome; takes = takes; says = says })
-
-  pub distrusts-by : (domain key : List ℕ) (outcome : Result Distrusted CallError)
-      → MatchResult outcome (DistrustsBytes (meaning_in held) domain key (meaning_in after))
-      (HasRefusedKeyBytes (meaning_in held) domain key (meaning_in after))
-      → SaysDistrusted outcome said returned → DistrustsByHandle run domain key
-  distrusts-by domain key outcome distrusts says = by_held (λ h. HasDistrustedKey h domain key run)
-      (record { after = after; is = is; outcome = outcome; distrusts = distrusts; says = says })
-
-  pub merges-by : (snapshot : List ℕ) (outcome : Result ℕ CallError)
-      → MatchResult outcome (MergesBytes (state_in held) snapshot (state_in after))
-      (HasRefusedSnapshotBytes (state_in held) snapshot (state_in after))
-      → SaysCount outcome said returned → MergesByHandle run snapshot
-  merges-by snapshot outcome merges says = by_held (λ h. HasMergedSnapshot h snapshot run)
-      (record { after = after; is = is; outcome = outcome; merges = merges; says = says })
-
-  pub absorbs-by : (answered : List ℕ) (outcome : Result ℕ CallError)
-      → MatchResult outcome (AbsorbsBytes (meaning_in held) answered (meaning_in after))
-      (HasRefusedGiveBytes (state_in held) answered (meaning_in after))
-      → SaysCount outcome said returned → AbsorbsByHandle run answered
-  absorbs-by answered outcome absorbs says = by_held (λ h. HasAbsorbedAnswer h answered run)
-      (record { after = after; is = is; outcome = outcome; absorbs = absorbs; says = says })
+  pub finds-by : {V : Type 0} (N : Meaning → Type 0) (P : Meaning → List ℕ → Type 0) (Q : CallError → Type 0) (made : Result (Option V) CallError)
+      (items : V → List ℕ)
+      → MatchResult made (λ o. MatchOption o (N (meaning_in held)) (λ v. P (meaning_in held) (items v))) Q
+      → MatchResult made (λ o. MatchOption o (ReturnsNone returned × (after ≡ before)) (λ v. WritesOut (items v) before after said returned))
+      (λ e. Refuses e returned × (after ≡ before))
+      → FindsByHandle N P Q buffer run
+  finds-by N P Q made items is_so put =
+      subst (λ (o : Option Replica). MatchOption o (IsUsedClosed new returned) (λ h. FindsHeld h (N (meaning_in h)) (P (meaning_in h)) Q buffer run))
+      (sym was) (found (N (meaning_in held)) (P (meaning_in held)) Q made items is_so put)

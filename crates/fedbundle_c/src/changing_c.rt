@@ -110,7 +110,12 @@ pub extern "C" fn fedbundle_raw_observe(
     outcome: &mut CallOutcome,
 ) -> i64
     ensures { ObservesByHandle
-        (record { domain = domain; endpoint = endpoint; key = key; document = document })
+        (record {
+          domain = domain.entry;
+          endpoint = endpoint.entry;
+          key = key.entry;
+          document = document.entry;
+        })
         (record { before = out.old; after = out.new })
         (record {
           old = handle.old.value;
