@@ -1,11 +1,18 @@
--- A handle that held a replica holds it again, after what was made of it was put out.
-use Rattle.std.proofs.Common.{◌≡◌, ℕ, ℤ, List, sym, subst, inl, inr, Some, None, Ok, Err}
+-- A handle that held a replica holds it again, after what was made of it was put out; and a text that
+-- is short enough is put out whole.
+use Rattle.std.proofs.Common.{◌≡◌, ℕ, ◌≤◌, ℤ, List, length, sym, subst, inl, inr, Some, None, Ok, Err, arith}
 use Rattle.std.specs.Prelude.{Option, Result, MatchResult, MatchOption}
 use Rattle.receipt_core.specs.Acceptance.{Meaning}
-use Rattle.replica_bytes.specs.Outcomes.{WritesOut, Refuses, ReturnsNone}
+use Rattle.replica_bytes.specs.Outcomes.{WritesOut, FitsOut, Refuses, ReturnsNone}
 use Rattle.replica_bytes.specs.declared.call_error.CallError.{CallError}
 use Rattle.fedbundle_c.specs.Exports.{HandleRun, BufferRun, IsUsedClosed, meaning_in, FindsByHandle, FindsHeld}
 use Rattle.fedbundle_c.specs.declared.replica.Replica.{Replica}
+
+-- a text for which there is room is written
+pub fits_held : (text old new : List ℕ) (said : ℕ) (returned : ℤ) → length text ≤ length old → WritesOut text old new said returned
+    → FitsOut text old new said returned
+fits_held text old new said returned h (inl fits) = fits
+fits_held text old new said returned h (inr over) = let more = over.more in absurd (omega arith)
 
 module _ (old new : Option Replica) (held : Replica) (before after : List ℕ) (said : ℕ) (returned : ℤ) (was : old ≡ Some held) (is : new ≡ Some held) where
   abbrev run : HandleRun
