@@ -103,8 +103,18 @@ fn relationship_json(alloc: Global, relationship: &Relationship) -> Result<TextL
     ensures { IfOk result (λ text. text ≡ relationship_json relationship.now) }
 {
     let mut text = Vec::new(alloc);
-    push_string(alloc, &mut text, b"{\"domain\":", relationship.domain.as_str())?;
-    push_string(alloc, &mut text, b",\"endpoint\":", relationship.endpoint.as_str())?;
+    push_string(
+        alloc,
+        &mut text,
+        b"{\"domain\":",
+        relationship.domain.as_str(),
+    )?;
+    push_string(
+        alloc,
+        &mut text,
+        b",\"endpoint\":",
+        relationship.endpoint.as_str(),
+    )?;
     push_string(alloc, &mut text, b",\"url\":", relationship.url.as_str())?;
     text.extend_from_slice(b"}")?;
     Ok(TextLine::new(text))
@@ -143,7 +153,11 @@ fn seed_json(alloc: Global, seed: &Seed) -> Result<TextLine, AllocError>
 {
     let mut text = Vec::new(alloc);
     push_string(alloc, &mut text, b"{\"domain\":", seed.domain.as_str())?;
-    push_digest(&mut text, b",\"document\":", &seed.document.id(&seed.domain).0)?;
+    push_digest(
+        &mut text,
+        b",\"document\":",
+        &seed.document.id(&seed.domain).0,
+    )?;
     push_optional(&mut text, b",\"sequence\":", seed.document.rank())?;
     text.extend_from_slice(b"}")?;
     Ok(TextLine::new(text))

@@ -58,11 +58,7 @@ fn push_quoted_digest(out: &mut Vec<u8>, digest: &[u8; 32]) -> Result<(), AllocE
 /// # Errors
 /// Memory ran out. Nothing is said then of what is there.
 #[tactic(auto, unfolding(crate::specs::JsonText::number_member))]
-pub fn push_optional(
-    out: &mut Vec<u8>,
-    label: &[u8],
-    number: Option<u64>,
-) -> Result<(), AllocError>
+pub fn push_optional(out: &mut Vec<u8>, label: &[u8], number: Option<u64>) -> Result<(), AllocError>
     ensures { OnOk result (out.new.items ≡ out.old.items ++ number_member label.now number) }
 {
     out.extend_from_slice(label)?;

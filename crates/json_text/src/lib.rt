@@ -6,5 +6,6 @@ mod json_array;
 mod json_value;
 
 pub use json_array::{push_array, push_comma};
-pub use json_value::{push_bool, push_digest, push_number_or_null, push_optional, push_string};
-pub use json_value::push_truth;
+pub use json_value::{
+    push_bool, push_digest, push_number_or_null, push_optional, push_string, push_truth,
+};

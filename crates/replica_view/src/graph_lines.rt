@@ -22,7 +22,12 @@ pub(crate) fn voucher_line(alloc: Global, receipt: &Receipt) -> Result<TextLine,
 {
     let mut line = Vec::new(alloc);
     push_node(&mut line, &receipt.voucher().0)?;
-    push_unseen_label(alloc, &mut line, &receipt.need().domain, &receipt.voucher().0)?;
+    push_unseen_label(
+        alloc,
+        &mut line,
+        &receipt.need().domain,
+        &receipt.voucher().0,
+    )?;
     line.extend_from_slice(b"\"];")?;
     Ok(TextLine::new(line))
 }

@@ -78,7 +78,14 @@ fn held_lines_of<C: Closure>(
 {
     let offered = offer_set(alloc, closure)?;
     let mut lines = Vec::new(alloc);
-    push_receipts(alloc, closure, &offered, chosen, ShownForm::Line, &mut lines)?;
+    push_receipts(
+        alloc,
+        closure,
+        &offered,
+        chosen,
+        ShownForm::Line,
+        &mut lines,
+    )?;
     push_records(alloc, closure, chosen, ShownForm::Line, &mut lines)?;
     Ok(lines)
 }
@@ -129,7 +136,14 @@ fn held_json<C: Closure>(
 {
     let offered = offer_set(alloc, closure)?;
     let mut receipts = Vec::new(alloc);
-    push_receipts(alloc, closure, &offered, chosen, ShownForm::Json, &mut receipts)?;
+    push_receipts(
+        alloc,
+        closure,
+        &offered,
+        chosen,
+        ShownForm::Json,
+        &mut receipts,
+    )?;
     let mut records = Vec::new(alloc);
     push_records(alloc, closure, chosen, ShownForm::Json, &mut records)?;
     both_json(alloc, receipts.as_slice(), records.as_slice())

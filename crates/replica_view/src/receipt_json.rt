@@ -82,11 +82,7 @@ pub fn push_receipt_members(
 }
 
 #[tactic(auto, unfolding(crate::specs::HeldJson::named_members))]
-fn push_named_members(
-    alloc: Global,
-    out: &mut Vec<u8>,
-    receipt: &Receipt,
-) -> Result<(), AllocError>
+fn push_named_members(alloc: Global, out: &mut Vec<u8>, receipt: &Receipt) -> Result<(), AllocError>
     ensures { OnOk result (out.new.items ≡ out.old.items ++ named_members receipt.now) }
 {
     push_digest(out, b"{\"receipt\":", &receipt.id().0)?;
@@ -98,7 +94,11 @@ fn push_brought_members(out: &mut Vec<u8>, receipt: &Receipt) -> Result<(), Allo
     ensures { OnOk result (out.new.items ≡ out.old.items ++ brought_members receipt.now) }
 {
     push_optional(out, b",\"sequence\":", receipt.document().rank())?;
-    push_digest(out, b",\"document\":", &receipt.document().id(receipt.domain()).0)
+    push_digest(
+        out,
+        b",\"document\":",
+        &receipt.document().id(receipt.domain()).0,
+    )
 }
 
 #[tactic(auto, unfolding(crate::specs::HeldJson::fetched_members))]
@@ -128,11 +128,7 @@ fn status_member(status: ReceiptStatus) -> &'static str
 ///
 /// # Errors
 /// Memory ran out.
-pub fn record_json(
-    alloc: Global,
-    domain: &TrustDomain,
-    key: &KeyId,
-) -> Result<TextLine, AllocError>
+pub fn record_json(alloc: Global, domain: &TrustDomain, key: &KeyId) -> Result<TextLine, AllocError>
     ensures { IfOk result (λ text. text
         ≡ held_record_json (record { domain = domain.now; key = key.now })) }
 {

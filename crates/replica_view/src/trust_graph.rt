@@ -117,11 +117,38 @@ fn graph_lines_of<C: Closure>(
 {
     let offered = offer_set(alloc, closure)?;
     let mut lines = Vec::new(alloc);
-    push_part(alloc, closure, &offered, chosen, GraphPart::Voucher, &mut lines)?;
-    push_part(alloc, closure, &offered, chosen, GraphPart::Brought, &mut lines)?;
+    push_part(
+        alloc,
+        closure,
+        &offered,
+        chosen,
+        GraphPart::Voucher,
+        &mut lines,
+    )?;
+    push_part(
+        alloc,
+        closure,
+        &offered,
+        chosen,
+        GraphPart::Brought,
+        &mut lines,
+    )?;
     push_configured(alloc, closure.config().seeds(), chosen, &mut lines)?;
-    push_currents(alloc, closure, closure.config().domains(), chosen, &mut lines)?;
-    push_part(alloc, closure, &offered, chosen, GraphPart::Edge, &mut lines)?;
+    push_currents(
+        alloc,
+        closure,
+        closure.config().domains(),
+        chosen,
+        &mut lines,
+    )?;
+    push_part(
+        alloc,
+        closure,
+        &offered,
+        chosen,
+        GraphPart::Edge,
+        &mut lines,
+    )?;
     Ok(lines)
 }
 
