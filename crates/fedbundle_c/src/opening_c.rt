@@ -6,7 +6,7 @@ ghost use Rattle.replica_bytes.specs.Opening.{OpensBytes, RefusesOpening};
 ghost use Rattle.replica_bytes.specs.Outcomes.{WritesOut};
 
 use crate::handle::Handle;
-use crate::replica::Replica;
+use crate::held_replica::Replica;
 use replica_bytes::{CallError, CallOutcome, DONE, open_bytes};
 use std::alloc::Global;
 use trust_closure::ExchangeClosure;

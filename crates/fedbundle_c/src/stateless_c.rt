@@ -16,7 +16,8 @@ pub extern "C" fn fedbundle_raw_report(
     out: &mut [u8],
     outcome: &mut CallOutcome,
 ) -> i64
-    ensures does { ReportsByBytes config.now lines.now (record { before = out.old; after = out.new })
+    ensures does { ReportsByBytes config.now lines.now
+        (record { before = out.old; after = out.new })
         (record {
           count = outcome.new.count;
           length = outcome.new.length;
@@ -46,7 +47,8 @@ pub extern "C" fn fedbundle_raw_canon(
     out: &mut [u8],
     outcome: &mut CallOutcome,
 ) -> i64
-    ensures does { CanonsByBytes domain.now document.now (record { before = out.old; after = out.new })
+    ensures does { CanonsByBytes domain.now document.now
+        (record { before = out.old; after = out.new })
         (record {
           count = outcome.new.count;
           length = outcome.new.length;
