@@ -14,14 +14,16 @@ pub record StatelessRun : Type 0 where
   pub returned : ℤ
 
 -- The report is written, or there is no room for it; the lines that do not count are counted.
-pub record PutsReport (config lines : List ℕ) (buffer : BufferRun) (run : StatelessRun) : Type 0 where
+pub record PutsReport (config lines : List ℕ) (buffer : BufferRun)
+    (run : StatelessRun) : Type 0 where
   pub reported : ReportedLines
   pub is : ReportsBytes config lines reported
   pub written : WritesOut reported.report.items buffer.before buffer.after run.length run.returned
   pub counted : run.count ≡ reported.refused
 
 -- There is none, for this cause, and the buffer is as it was.
-pub record RefusesCall (Q : CallError → Type 0) (buffer : BufferRun) (run : StatelessRun) : Type 0 where
+pub record RefusesCall (Q : CallError → Type 0) (buffer : BufferRun)
+    (run : StatelessRun) : Type 0 where
   pub error : CallError
   pub cause : Q error
   pub same : buffer.after ≡ buffer.before
@@ -32,7 +34,8 @@ ReportsByBytes config lines buffer run = PutsReport config lines buffer run
     ⊎ RefusesCall (RefusesReportBytes config lines) buffer run
 
 -- The text is written, or there is no room for it.
-pub record PutsCanon (domain document : List ℕ) (buffer : BufferRun) (run : StatelessRun) : Type 0 where
+pub record PutsCanon (domain document : List ℕ) (buffer : BufferRun)
+    (run : StatelessRun) : Type 0 where
   pub text : List ℕ
   pub is : WritesCanonBytes domain document text
   pub written : WritesOut text buffer.before buffer.after run.length run.returned
