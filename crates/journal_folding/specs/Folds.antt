@@ -40,6 +40,17 @@ abbrev pub WritesLine : FoldTexts → Option FoldStep → List ℕ → Type 0
 WritesLine texts (Some WriteSnapshot) line = HasWholeLine texts.snapshot line
 WritesLine texts _ line = Unit {0}
 
+-- the step after this one: the journal is emptied only where the new snapshot has all of it
+abbrev pub following_step : Bool → Option FoldStep → Option FoldStep
+following_step whole (Some WriteSnapshot) = Some SyncSnapshot
+following_step whole (Some SyncSnapshot) = Some ReplaceSnapshot
+following_step whole (Some ReplaceSnapshot) = Some SyncFolder
+following_step true (Some SyncFolder) = Some EmptyJournal
+following_step false (Some SyncFolder) = None
+following_step whole (Some EmptyJournal) = Some SyncJournal
+following_step whole (Some SyncJournal) = None
+following_step whole None = None
+
 -- how many steps it takes to empty the journal
 abbrev pub steps_left : Option FoldStep → ℕ
 steps_left (Some WriteSnapshot) = 6

@@ -3,7 +3,7 @@ ghost use Rattle.std.specs.Prelude.{◌≡◌, ◌≢◌, ◌-◌, ◌≤◌, �
 ghost use Rattle.journal_folding.specs.Files.{HasOneFile, HasWholeLine, IsJournalled, KeepsLine};
 ghost use Rattle.journal_folding.specs.Files.{StateDisk, appended, appending};
 ghost use Rattle.journal_folding.specs.Folds.{FoldKeeps, FoldTexts, IsDueOn, IsFolded, WritesLine};
-ghost use Rattle.journal_folding.specs.Folds.{after_due, steps_left};
+ghost use Rattle.journal_folding.specs.Folds.{after_due, following_step, steps_left};
 
 /// A step of a fold.
 #[derive(Clone, Copy, Debug, PartialEq, Eq)]
@@ -91,14 +91,7 @@ impl Folding {
         ensures fewer { steps_left self.new.next ≤ steps_left self.old.next - 1 }
         ensures whole { self.new.is_whole ≡ self.old.is_whole }
     {
-        self.next = match self.next {
-            Some(FoldStep::WriteSnapshot) => Some(FoldStep::SyncSnapshot),
-            Some(FoldStep::SyncSnapshot) => Some(FoldStep::ReplaceSnapshot),
-            Some(FoldStep::ReplaceSnapshot) => Some(FoldStep::SyncFolder),
-            Some(FoldStep::SyncFolder) if self.is_whole => Some(FoldStep::EmptyJournal),
-            Some(FoldStep::EmptyJournal) => Some(FoldStep::SyncJournal),
-            _ => None,
-        };
+        self.next = step_after(self.next, self.is_whole);
     }
 
     /// Says that lines were appended to the journal, and are on the disk. Between the emptying of
@@ -135,5 +128,19 @@ impl Folding {
             }
             _ => self.is_whole = false,
         }
+    }
+}
+
+// The step that is due after this one.
+fn step_after(step: Option<FoldStep>, is_whole: bool) -> Option<FoldStep>
+    ensures { result ≡ following_step is_whole step }
+{
+    match step {
+        Some(FoldStep::WriteSnapshot) => Some(FoldStep::SyncSnapshot),
+        Some(FoldStep::SyncSnapshot) => Some(FoldStep::ReplaceSnapshot),
+        Some(FoldStep::ReplaceSnapshot) => Some(FoldStep::SyncFolder),
+        Some(FoldStep::SyncFolder) if is_whole => Some(FoldStep::EmptyJournal),
+        Some(FoldStep::EmptyJournal) => Some(FoldStep::SyncJournal),
+        _ => None,
     }
 }
