@@ -1,7 +1,7 @@
 -- Lemmas on how far a fold has come.
 use Rattle.std.proofs.Common.{◌≡◌, ◌≢◌, ℕ, ◌⊎◌, inl, inr, Bool, true, false, List, [], ◌∷◌, Option, None, Some, sym, ap, subst, refl}
 use Rattle.journal_folding.specs.Files.{AreKeeping, FileText, HasOneFile, HasWholeLine, IsFirst, KeepsLine, StateDisk}
-use Rattle.journal_folding.specs.Files.{appended, appending, kept_file, settled_name, synced_file, with_first}
+use Rattle.journal_folding.specs.Files.{appended, appending, kept_file, longer_file, settled_name, synced_file, with_first}
 use Rattle.journal_folding.specs.Folds.{FoldTexts, IsDueOn, IsKeptOn, IsTakenOver, WritesLine, after_due, following_step, steps_left}
 use Rattle.journal_folding.specs.declared.folding.FoldStep.{FoldStep}
 use Rattle.journal_folding.specs.declared.folding.FoldStep.TheVariants.{WriteSnapshot, SyncSnapshot, ReplaceSnapshot}
@@ -57,27 +57,16 @@ taken_written : (whole : Bool) (texts : FoldTexts) (disk : StateDisk) (line : Li
 taken_written true texts disk line has = has
 taken_written false texts disk line has = inl has
 
--- what is taken over is in the new snapshot or in the journal
-taken_either : (whole : Bool) (texts : FoldTexts) (disk : StateDisk) (line snapshot journal : List ℕ)
-    → IsTakenOver whole texts disk line → (HasWholeLine texts.snapshot line → HasWholeLine snapshot line)
-    → (IsTakenOver false texts disk line → HasWholeLine snapshot line ⊎ HasWholeLine journal line)
-    → HasWholeLine snapshot line ⊎ HasWholeLine journal line
-taken_either true texts disk line snapshot journal taken new either = inl (new taken)
-taken_either false texts disk line snapshot journal taken new either = either taken
+-- The new snapshot, on the disk, or the journal has the line.
+replaced_keeps : (texts : FoldTexts) (disk : StateDisk) (line : List ℕ) → HasOneFile disk.journal
+    → disk.new ≡ kept_file texts.snapshot → IsTakenOver false texts disk line → AreKeeping (disk.new ∷ []) disk.journal line
+replaced_keeps texts disk line one is (inl has) snapshot journal at_snapshot at_journal =
+    snapshot_keeps (disk.new ∷ []) disk.journal texts.snapshot line (ap (λ file. file ∷ []) is) has
+    snapshot journal at_snapshot at_journal
+replaced_keeps texts disk line one is (inr has) snapshot journal at_snapshot at_journal =
+    inr (journal_has disk.journal journal line one at_journal has)
 
-taken_any : (whole : Bool) (texts : FoldTexts) (disk : StateDisk) (line : List ℕ) → IsTakenOver whole texts disk line
-    → IsTakenOver false texts disk line
-taken_any true texts disk line taken = inl taken
-taken_any false texts disk line taken = taken
-
--- the new snapshot, on the disk, or the journal has the line
-replaced_has : (texts : FoldTexts) (new : FileText) (disk : StateDisk) (line snapshot journal : List ℕ) (size : ℕ)
-    → new ≡ kept_file texts.snapshot → IsTakenOver false texts disk line → HasOneFile disk.journal
-    → AreKeeping (new ∷ []) disk.journal line
-replaced_has texts new disk line snapshot journal size is (inl has) one = snapshot_keeps (new ∷ []) disk.journal texts.snapshot line (ap (λ f. f ∷ []) is) has
-replaced_has texts new disk line snapshot journal size is (inr has) one = λ s j at_snapshot at_journal. inr (journal_has disk.journal j line one at_journal has)
-
--- a name of two sets of files keeps what each keeps
+-- A name keeps what its first file and the others keep.
 keeping_both : (new : FileText) (snapshots journals : List FileText) (line : List ℕ) → AreKeeping (new ∷ []) journals line
     → AreKeeping snapshots journals line → AreKeeping (new ∷ snapshots) journals line
 keeping_both new snapshots journals line first others snapshot journal (inl left) at_journal = first snapshot journal (inl left) at_journal
@@ -96,13 +85,11 @@ done_kept texts (Some WriteSnapshot) whole disk line due kept writes =
 done_kept texts (Some SyncSnapshot) true disk line due kept writes = (kept.0, kept.1)
 done_kept texts (Some SyncSnapshot) false disk line due kept writes = (kept.0, kept.1)
 done_kept texts (Some ReplaceSnapshot) true disk line due kept writes = (
-  keeping_both disk.new disk.snapshot disk.journal line
-      (replaced_has texts disk.new disk line [] [] 0 due.1 (inl kept.1) due.0) kept.0,
+  keeping_both disk.new disk.snapshot disk.journal line (replaced_keeps texts disk line due.0 due.1 (inl kept.1)) kept.0,
   kept.1,
 )
 done_kept texts (Some ReplaceSnapshot) false disk line due kept writes = (
-  keeping_both disk.new disk.snapshot disk.journal line
-      (replaced_has texts disk.new disk line [] [] 0 due.1 kept.1 due.0) kept.0,
+  keeping_both disk.new disk.snapshot disk.journal line (replaced_keeps texts disk line due.0 due.1 kept.1) kept.0,
   kept.1,
 )
 done_kept texts (Some SyncFolder) true disk line due kept writes = kept.1
@@ -131,6 +118,22 @@ appending_keeps texts next whole disk bytes line not_last due kept =
     keeping_appending disk.snapshot disk.journal bytes line (one_journal texts next disk not_last due)
     (keeps_now texts next whole disk line due kept)
 
+one_appended : (journals : List FileText) (bytes : List ℕ) → HasOneFile journals
+    → HasOneFile (with_first (λ file. synced_file (longer_file bytes file)) journals)
+one_appended [] bytes one = absurd one
+one_appended (file ∷ []) bytes one = tt
+one_appended (file ∷ (other ∷ files)) bytes one = absurd one
+
+pub appended_due : (texts : FoldTexts) (next : Option FoldStep) (disk : StateDisk) (bytes : List ℕ)
+    → steps_left next ≢ 1 → IsDueOn texts next disk → IsDueOn texts next (appended bytes disk)
+appended_due texts (Some WriteSnapshot) disk bytes not_last due = one_appended disk.journal bytes due
+appended_due texts (Some SyncSnapshot) disk bytes not_last due = (one_appended disk.journal bytes due.0, due.1)
+appended_due texts (Some ReplaceSnapshot) disk bytes not_last due = (one_appended disk.journal bytes due.0, due.1)
+appended_due texts (Some SyncFolder) disk bytes not_last due = (one_appended disk.journal bytes due.0, due.1)
+appended_due texts (Some EmptyJournal) disk bytes not_last due = (one_appended disk.journal bytes due.0, due.1)
+appended_due texts (Some SyncJournal) disk bytes not_last due = absurd (not_last refl)
+appended_due texts None disk bytes not_last due = one_appended disk.journal bytes due
+
 taken_later : (whole : Bool) (texts : FoldTexts) (disk : StateDisk) (bytes line : List ℕ) → IsTakenOver whole texts disk line
     → IsTakenOver false texts (appended bytes disk) line
 taken_later true texts disk bytes line taken = inl taken
@@ -152,3 +155,12 @@ appended_kept texts (Some EmptyJournal) whole disk bytes line not_last due kept 
 appended_kept texts (Some SyncJournal) whole disk bytes line not_last due kept = absurd (not_last refl)
 appended_kept texts None whole disk bytes line not_last due kept =
     keeping_appended disk.snapshot disk.journal bytes line due kept
+
+-- a fold whose snapshot is not begun is as it was
+pub appended_fresh : (texts : FoldTexts) (next : Option FoldStep) (whole : Bool) (disk : StateDisk) (bytes line : List ℕ)
+    → next ≡ Some WriteSnapshot → IsDueOn texts next disk → IsKeptOn texts next whole disk line
+    → IsKeptOn texts next whole (appended bytes disk) line
+appended_fresh texts next whole disk bytes line is due kept =
+    subst (λ step. IsKeptOn texts step whole (appended bytes disk) line) (sym is)
+    (keeping_appended disk.snapshot disk.journal bytes line (subst (λ step. IsDueOn texts step disk) is due)
+    (subst (λ step. IsKeptOn texts step whole disk line) is kept))
