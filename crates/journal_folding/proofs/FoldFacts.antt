@@ -1,6 +1,6 @@
 -- Lemmas on how far a fold has come.
 use Rattle.std.proofs.Common.{◌≡◌, ◌≢◌, ℕ, ◌⊎◌, inl, inr, Bool, true, false, List, [], ◌∷◌, Option, None, Some, sym, ap, subst, refl}
-use Rattle.journal_folding.specs.Files.{AreKeeping, FileText, HasOneFile, HasWholeLine, IsFirst, KeepsLine, StateDisk}
+use Rattle.journal_folding.specs.Files.{AreKeeping, FileText, HasOneFile, HasWholeLine, IsFirstFile, KeepsLine, StateDisk}
 use Rattle.journal_folding.specs.Files.{appended, appending, kept_file, longer_file, settled_name, synced_file, with_first}
 use Rattle.journal_folding.specs.Folds.{FoldTexts, IsDueOn, IsKeptOn, IsTakenOver, WritesLine, after_due, following_step, steps_left}
 use Rattle.journal_folding.specs.declared.folding.FoldStep.{FoldStep}
@@ -32,11 +32,11 @@ keeps_now texts None whole disk line due kept = kept
 -- ---- a step is done
 
 -- the first file of a name, on the disk under it
-settled_first : (name : List FileText) (file : FileText) → IsFirst file name → settled_name name ≡ file ∷ []
+settled_first : (name : List FileText) (file : FileText) → IsFirstFile file name → settled_name name ≡ file ∷ []
 settled_first [] file first = absurd first
 settled_first (own ∷ files) file first = ap (λ f. f ∷ []) first
 
-one_settled : (name : List FileText) (file : FileText) → IsFirst file name → HasOneFile (settled_name (with_first synced_file name))
+one_settled : (name : List FileText) (file : FileText) → IsFirstFile file name → HasOneFile (settled_name (with_first synced_file name))
 one_settled [] file first = absurd first
 one_settled (own ∷ files) file first = tt
 

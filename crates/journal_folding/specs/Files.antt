@@ -41,9 +41,9 @@ abbrev pub with_first : (FileText → FileText) → List FileText → List FileT
 with_first change [] = []
 with_first change (file ∷ files) = change file ∷ files
 
-abbrev pub IsFirst : FileText → List FileText → Type 0
-IsFirst file [] = ⊥
-IsFirst file (first ∷ files) = first ≡ file
+abbrev pub IsFirstFile : FileText → List FileText → Type 0
+IsFirstFile file [] = ⊥
+IsFirstFile file (first ∷ files) = first ≡ file
 
 abbrev pub HasOneFile : List FileText → Type 0
 HasOneFile (file ∷ []) = Unit {0}

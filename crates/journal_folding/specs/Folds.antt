@@ -1,7 +1,7 @@
 -- A fold: all that is held is written as a new snapshot, which takes the place of the old one, and
 -- then the journal is emptied.
 use Rattle.std.specs.Prelude.{◌≡◌, ℕ, ◌⊎◌, Bool, true, false, List, [], ◌∷◌, Option, None, Some}
-use Rattle.journal_folding.specs.Files.{HasOneFile, HasWholeLine, IsFirst, IsJournalled, KeepsLine}
+use Rattle.journal_folding.specs.Files.{HasOneFile, HasWholeLine, IsFirstFile, IsJournalled, KeepsLine}
 use Rattle.journal_folding.specs.Files.{StateDisk, kept_file, settled_name, synced_file}
 use Rattle.journal_folding.specs.Files.{unkept_file, with_first}
 use Rattle.journal_folding.specs.declared.folding.Folding.{Folding}
@@ -71,11 +71,11 @@ IsDueOn texts (Some SyncSnapshot) disk = HasOneFile disk.journal
 IsDueOn texts (Some ReplaceSnapshot) disk = HasOneFile disk.journal
     × (disk.new ≡ kept_file texts.snapshot)
 IsDueOn texts (Some SyncFolder) disk = HasOneFile disk.journal
-    × IsFirst (kept_file texts.snapshot) disk.snapshot
+    × IsFirstFile (kept_file texts.snapshot) disk.snapshot
 IsDueOn texts (Some EmptyJournal) disk = HasOneFile disk.journal
     × (disk.snapshot ≡ kept_file texts.snapshot ∷ [])
 IsDueOn texts (Some SyncJournal) disk = (disk.snapshot ≡ kept_file texts.snapshot ∷ [])
-    × IsFirst (unkept_file texts.first_line) disk.journal
+    × IsFirstFile (unkept_file texts.first_line) disk.journal
 IsDueOn texts None disk = HasOneFile disk.journal
 
 -- The new snapshot has the line; or where lines came since it was begun, the journal has it.

@@ -60,7 +60,8 @@ impl Folding {
         self.next
     }
 
-    /// Whether the new snapshot has all lines. Where the fold is over, the journal was emptied then.
+    /// Whether the new snapshot has all lines. Where the fold is over, this says whether the journal
+    /// was emptied.
     pub fn is_whole(&self) -> bool
         ensures { result ≡ self.now.is_whole }
     {
