@@ -29,6 +29,15 @@ impl Journal {
         path: &str,
     ) -> Result<Journal, FileFault> {
         let file = new_journal(files, alloc, config, path)?;
+        Journal::of_file(files, file, path)
+    }
+
+    /// The empty journal whose file was begun beside a state file that has all that is held.
+    pub(crate) fn of_file<R: Files<File = File>>(
+        files: &R,
+        file: File,
+        path: &str,
+    ) -> Result<Journal, FileFault> {
         let snapshot_bytes = state_bytes(files, path)?.unwrap_or(0);
         Ok(Journal {
             bytes: file.metadata()?.len(),

@@ -2,6 +2,7 @@
 //! anything is written. So nobody is shown a change that a kill could take back.
 use crate::connection_table::ConnectionTable;
 use crate::ending::Ending;
+use crate::fold_files::{FoldFault, fold_files};
 use crate::fresh_lines::Held;
 use crate::gates::{Arrival, Gates};
 use crate::journal::Journal;
@@ -18,7 +19,7 @@ use crate::step_fault::{at_step, file_at_step};
 use crate::talk::Talk;
 use closure_core::Closure;
 use fed_config::Config;
-use fedbundle::{Exit, FileFault, Step, save_state};
+use fedbundle::{Exit, FileFault, Step};
 use mio::Events;
 use mio::net::TcpStream;
 use replica_sync::SyncError;
@@ -316,15 +317,17 @@ impl Works {
         if !self.journal.is_long() {
             return Ok(());
         }
-        match save_state(rt, alloc, closure, path) {
-            Ok(()) => {
-                self.journal = Journal::begin(rt, alloc, closure.config(), path)?;
+        match fold_files(rt, alloc, closure, path) {
+            Ok(Some(file)) => {
+                self.journal = Journal::of_file(rt, file, path)?;
                 say(rt, alloc, Event::Fold(self.journal.snapshot_bytes()));
             }
-            Err(fault) => {
+            Ok(None) => self.journal.put_off(),
+            Err(FoldFault::Kept(fault)) => {
                 self.journal.put_off();
                 say(rt, alloc, Event::FoldFault(fault.why));
             }
+            Err(FoldFault::Emptying(fault)) => return Err(fault),
         }
         Ok(())
     }
