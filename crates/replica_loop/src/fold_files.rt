@@ -52,7 +52,7 @@ struct MadeFiles {
 ///
 /// # Errors
 /// Where the system refused a step, or memory ran out.
-pub(crate) fn fold_files<C: Closure, R: Files<File = File>>(
+pub(crate) fn fold_state<C: Closure, R: Files<File = File>>(
     files: &R,
     alloc: Global,
     closure: &C,

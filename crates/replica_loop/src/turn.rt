@@ -2,7 +2,7 @@
 //! anything is written. So nobody is shown a change that a kill could take back.
 use crate::connection_table::ConnectionTable;
 use crate::ending::Ending;
-use crate::fold_files::{FoldFault, fold_files};
+use crate::fold_files::{FoldFault, fold_state};
 use crate::fresh_lines::Held;
 use crate::gates::{Arrival, Gates};
 use crate::journal::Journal;
@@ -317,7 +317,7 @@ impl Works {
         if !self.journal.is_long() {
             return Ok(());
         }
-        match fold_files(rt, alloc, closure, path) {
+        match fold_state(rt, alloc, closure, path) {
             Ok(Some(file)) => {
                 self.journal = Journal::of_file(rt, file, path)?;
                 say(rt, alloc, Event::Fold(self.journal.snapshot_bytes()));
