@@ -11,6 +11,7 @@ mod devices;
 mod refusals;
 mod requests;
 mod settings;
+mod shown_forms;
 mod words;
 
 use crate::settings::{Trial, answer_run, answer_trial};

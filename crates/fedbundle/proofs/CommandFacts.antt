@@ -10,14 +10,15 @@ use Rattle.fedbundle.specs.Canon.{RunsCanon}
 use Rattle.fedbundle.specs.Errors.{of_read}
 use Rattle.fedbundle.specs.Explain.{ExplanationCall, RunsExplain}
 use Rattle.fedbundle.specs.Observe.{Fetched, RefusesToMake, RunsObserve}
+use Rattle.fedbundle.specs.declared.option_texts.OutputForm.{OutputForm}
 use Rattle.fedbundle.specs.declared.error.CommandError.{CommandError}
 use Rattle.fedbundle.specs.declared.error.CommandError.TheVariants.{Io, NoMemory, Observe}
 
 -- Where the source failed or memory ran out, nothing was written: the promise of `canon` at both.
-pub canon_unread : (run : CommandRun) (domain : List ℕ) (e : DeviceError) → (e ≡ SourceFailed → HasFailed run.source)
-    → WritesNothing run.sink → RunsCanon run domain (Err (of_read e))
-canon_unread run domain SourceFailed failed same = inl (failed refl, same)
-canon_unread run domain NoMemoryForBytes failed same = same
+pub canon_unread : (run : CommandRun) (domain : List ℕ) (form : OutputForm) (e : DeviceError) → (e ≡ SourceFailed → HasFailed run.source)
+    → WritesNothing run.sink → RunsCanon run domain form (Err (of_read e))
+canon_unread run domain form SourceFailed failed same = inl (failed refl, same)
+canon_unread run domain form NoMemoryForBytes failed same = same
 
 -- the same of `explain`
 pub explain_unread : (run : CommandRun) (m : Meaning) (call : ExplanationCall) (e : DeviceError)

@@ -4,7 +4,6 @@ mod TakenFacts
 mod ComplaintFacts
 mod RunFacts
 mod ComplaintOrderFacts
-mod PollsFacts
 mod SessionsFacts
 mod DeviceFacts
 mod CommandFacts

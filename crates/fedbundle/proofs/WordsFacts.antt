@@ -61,6 +61,7 @@ plain_leaf command.Config = refl
 plain_leaf command.Report = refl
 plain_leaf command.List = refl
 plain_leaf command.Diff = refl
+plain_leaf command.Graph = refl
 plain_leaf command.Status = refl
 plain_leaf command.Bundle = refl
 plain_leaf command.Explain = refl

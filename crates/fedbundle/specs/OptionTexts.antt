@@ -9,10 +9,13 @@ use Rattle.status_view.specs.declared.status_writer.StatusFormat.TheVariants as 
 use Rattle.fedbundle.specs.Words.{options_of, option_text}
 use Rattle.fedbundle.specs.declared.chain_text.ExplanationForm.{ExplanationForm}
 use Rattle.fedbundle.specs.declared.chain_text.ExplanationForm.TheVariants.{Receipts, Steps}
+use Rattle.fedbundle.specs.declared.chain_text.ExplanationForm.TheVariants as chain
 use Rattle.fedbundle.specs.declared.command_name.CommandName.{CommandName}
 use Rattle.fedbundle.specs.declared.command_name.OptionName.{OptionName}
 use Rattle.fedbundle.specs.declared.option_texts.BundleFormat.{BundleFormat}
 use Rattle.fedbundle.specs.declared.option_texts.BundleFormat.TheVariants.{Json, Pem}
+use Rattle.fedbundle.specs.declared.option_texts.OutputForm.{OutputForm}
+use Rattle.fedbundle.specs.declared.option_texts.OutputForm.TheVariants as output
 
 -- the text beside the first option of this name
 abbrev pub said_beside : List OptionName → List (Option (List ℕ)) → OptionName → Option (List ℕ)
@@ -42,6 +45,17 @@ SaysFlag text false = text ≡ Some (codes "true") → ⊥
 abbrev pub SaysExplanationForm : Option (List ℕ) → ExplanationForm → Type 0
 SaysExplanationForm text Steps = SaysFlag text true
 SaysExplanationForm text Receipts = SaysFlag text false
+SaysExplanationForm text chain.Json = ⊥
+
+abbrev pub SaysOutputForm : Option (List ℕ) → OutputForm → Type 0
+SaysOutputForm text output.Text = (text ≡ None) ⊎ (text ≡ Some (codes "text"))
+SaysOutputForm text output.Json = text ≡ Some (codes "json")
+
+-- by the flag for short lines, and by the form
+abbrev pub SaysExplanationIn : (short form : Option (List ℕ)) → ExplanationForm → Type 0
+SaysExplanationIn short form chosen =
+    (SaysOutputForm form output.Text × SaysExplanationForm short chosen)
+    ⊎ (SaysOutputForm form output.Json × SaysFlag short false × (chosen ≡ chain.Json))
 
 -- Unix seconds as a moment, in nanoseconds
 pub record SaysMoment (text : List ℕ) (moment : ℤ) : Type 0 where

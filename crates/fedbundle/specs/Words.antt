@@ -20,6 +20,7 @@ use Rattle.fedbundle.specs.declared.command_name.OptionName.TheVariants.{Allow, 
 use Rattle.fedbundle.specs.declared.command_name.OptionName.TheVariants.{OptionalDomain, Format}
 use Rattle.fedbundle.specs.declared.command_name.OptionName.TheVariants.{Short, Socket, Every, New}
 use Rattle.fedbundle.specs.declared.command_name.OptionName.TheVariants.{OptionalListen, Peers}
+use Rattle.fedbundle.specs.declared.command_name.OptionName.TheVariants.{FileFormat}
 
 abbrev pub option_text : OptionName → List ℕ
 option_text Config = codes "config"
@@ -49,6 +50,7 @@ option_text OptionalListen = codes "listen"
 option_text Peers = codes "peers"
 option_text Every = codes "every"
 option_text New = codes "new"
+option_text FileFormat = codes "format"
 
 -- it has no text after it
 abbrev pub is_flag : OptionName → Bool
@@ -72,13 +74,16 @@ may_be_left_out Format = true
 may_be_left_out OptionalListen = true
 may_be_left_out Peers = true
 may_be_left_out Every = true
+may_be_left_out FileFormat = true
 may_be_left_out option = false
 
--- it names a file that a running replica has itself, so words with `--at` leave it out
+-- it names a file that a running replica has itself, or it is a format that such a replica does not
+-- print, so words with `--at` leave it out
 abbrev pub is_place : OptionName → Bool
 is_place Config = true
 is_place State = true
 is_place OptionalState = true
+is_place FileFormat = true
 is_place option = false
 
 abbrev pub name_text : CommandName → List ℕ
@@ -87,6 +92,7 @@ name_text command.Config = codes "config"
 name_text command.Report = codes "report"
 name_text command.List = codes "list"
 name_text command.Diff = codes "diff"
+name_text command.Graph = codes "graph"
 name_text command.Status = codes "status"
 name_text command.Bundle = codes "bundle"
 name_text command.Explain = codes "explain"
@@ -102,20 +108,21 @@ name_text command.Replica = codes "replica"
 name_text command.Stop = codes "stop"
 
 abbrev pub options_of : CommandName → List OptionName
-options_of command.Canon = Domain ∷ []
-options_of command.Config = Config ∷ With ∷ []
-options_of command.Report = Config ∷ OptionalState ∷ At ∷ []
-options_of command.List = Config ∷ State ∷ OptionalDomain ∷ Verbose ∷ []
+options_of command.Canon = Domain ∷ FileFormat ∷ []
+options_of command.Config = Config ∷ With ∷ FileFormat ∷ []
+options_of command.Report = Config ∷ OptionalState ∷ FileFormat ∷ At ∷ []
+options_of command.List = Config ∷ State ∷ OptionalDomain ∷ FileFormat ∷ Verbose ∷ []
 options_of command.Diff = Config ∷ State ∷ With ∷ Verbose ∷ []
+options_of command.Graph = Config ∷ State ∷ OptionalDomain ∷ Verbose ∷ []
 options_of command.Status = Config ∷ State ∷ Format ∷ Verbose ∷ At ∷ []
 options_of command.Bundle = Config ∷ State ∷ Domain ∷ Format ∷ Verbose ∷ At ∷ []
-options_of command.Explain = Config ∷ State ∷ Domain ∷ Short ∷ Verbose ∷ At ∷ []
+options_of command.Explain = Config ∷ State ∷ Domain ∷ Short ∷ FileFormat ∷ Verbose ∷ At ∷ []
 options_of command.Observe = Config ∷ State ∷ Domain ∷ Endpoint ∷ Key ∷ Wait ∷ Verbose
     ∷ At ∷ []
 options_of command.Merge = Config ∷ State ∷ Wait ∷ MostBytes ∷ Verbose ∷ At ∷ []
 options_of command.Migrate = Config ∷ State ∷ To ∷ RecordsOnly ∷ []
 options_of command.Reseed = Config ∷ State ∷ Allow ∷ Verbose ∷ []
-options_of command.Polls = Config ∷ State ∷ Now ∷ Verbose ∷ At ∷ []
+options_of command.Polls = Config ∷ State ∷ Now ∷ FileFormat ∷ Verbose ∷ At ∷ []
 options_of command.Distrust = Config ∷ State ∷ Domain ∷ Key ∷ DryRun ∷ Wait ∷ Verbose
     ∷ At ∷ []
 options_of command.Serve = Config ∷ State ∷ Listen ∷ Sessions ∷ Verbose ∷ []
@@ -126,9 +133,9 @@ options_of command.Stop = At ∷ []
 
 abbrev pub all_names : List CommandName
 all_names = command.Canon ∷ command.Config ∷ command.Report ∷ command.List ∷ command.Diff
-    ∷ command.Status ∷ command.Bundle ∷ command.Explain ∷ command.Observe ∷ command.Merge
-    ∷ command.Migrate ∷ command.Reseed ∷ command.Polls ∷ command.Distrust ∷ command.Serve
-    ∷ command.Pull ∷ command.Replica ∷ command.Stop ∷ []
+    ∷ command.Graph ∷ command.Status ∷ command.Bundle ∷ command.Explain ∷ command.Observe
+    ∷ command.Merge ∷ command.Migrate ∷ command.Reseed ∷ command.Polls ∷ command.Distrust
+    ∷ command.Serve ∷ command.Pull ∷ command.Replica ∷ command.Stop ∷ []
 
 -- ---- the command, as clap knows it
 

@@ -37,6 +37,8 @@ pub enum OptionName {
     Peers,
     Every,
     New,
+    /// The format where a running replica prints one format alone.
+    FileFormat,
 }
 
 /// A subcommand.
@@ -52,6 +54,8 @@ pub enum CommandName {
     List,
     /// Prints what only one of two state files holds.
     Diff,
+    /// Prints which document vouches for which, as a graph.
+    Graph,
     /// Prints how a replica stands.
     Status,
     /// Prints the current bundle of a domain.
@@ -81,12 +85,13 @@ pub enum CommandName {
 }
 
 /// All subcommands, in the order in which help lists them.
-pub(crate) static COMMANDS: [CommandName; 18] = [
+pub(crate) static COMMANDS: [CommandName; 19] = [
     CommandName::Canon,
     CommandName::Config,
     CommandName::Report,
     CommandName::List,
     CommandName::Diff,
+    CommandName::Graph,
     CommandName::Status,
     CommandName::Bundle,
     CommandName::Explain,
@@ -135,6 +140,7 @@ impl OptionName {
             OptionName::Peers => "peers",
             OptionName::Every => "every",
             OptionName::New => "new",
+            OptionName::FileFormat => "format",
         }
     }
 
@@ -169,31 +175,45 @@ impl OptionName {
                 | OptionName::OptionalListen
                 | OptionName::Peers
                 | OptionName::Every
+                | OptionName::FileFormat
         )
     }
 
-    /// Whether it names a file that a running replica has itself: words with `--at` leave it out.
+    /// Whether it names a file that a running replica has itself, or is a format that such a
+    /// replica does not print: words with `--at` leave it out.
     pub fn is_place(self) -> bool
         ensures { result ≡ is_place self }
     {
         matches!(
             self,
-            OptionName::Config | OptionName::State | OptionName::OptionalState
+            OptionName::Config
+                | OptionName::State
+                | OptionName::OptionalState
+                | OptionName::FileFormat
         )
     }
 }
 
-static DOMAIN: [OptionName; 1] = [OptionName::Domain];
+static CANON: [OptionName; 2] = [OptionName::Domain, OptionName::FileFormat];
 
-static CONFIG: [OptionName; 2] = [OptionName::Config, OptionName::With];
+static CONFIG: [OptionName; 3] = [OptionName::Config, OptionName::With, OptionName::FileFormat];
 
-static REPORT: [OptionName; 3] = [
+static REPORT: [OptionName; 4] = [
     OptionName::Config,
     OptionName::OptionalState,
+    OptionName::FileFormat,
     OptionName::At,
 ];
 
-static LIST: [OptionName; 4] = [
+static LIST: [OptionName; 5] = [
+    OptionName::Config,
+    OptionName::State,
+    OptionName::OptionalDomain,
+    OptionName::FileFormat,
+    OptionName::Verbose,
+];
+
+static GRAPH: [OptionName; 4] = [
     OptionName::Config,
     OptionName::State,
     OptionName::OptionalDomain,
@@ -224,11 +244,12 @@ static BUNDLE: [OptionName; 6] = [
     OptionName::At,
 ];
 
-static EXPLAIN: [OptionName; 6] = [
+static EXPLAIN: [OptionName; 7] = [
     OptionName::Config,
     OptionName::State,
     OptionName::Domain,
     OptionName::Short,
+    OptionName::FileFormat,
     OptionName::Verbose,
     OptionName::At,
 ];
@@ -267,10 +288,11 @@ static RESEED: [OptionName; 4] = [
     OptionName::Verbose,
 ];
 
-static POLLS: [OptionName; 5] = [
+static POLLS: [OptionName; 6] = [
     OptionName::Config,
     OptionName::State,
     OptionName::Now,
+    OptionName::FileFormat,
     OptionName::Verbose,
     OptionName::At,
 ];
@@ -328,6 +350,7 @@ impl CommandName {
             CommandName::Report => "report",
             CommandName::List => "list",
             CommandName::Diff => "diff",
+            CommandName::Graph => "graph",
             CommandName::Status => "status",
             CommandName::Bundle => "bundle",
             CommandName::Explain => "explain",
@@ -349,11 +372,12 @@ impl CommandName {
         ensures { result.now ≡ options_of self }
     {
         match self {
-            CommandName::Canon => DOMAIN.as_slice(),
+            CommandName::Canon => CANON.as_slice(),
             CommandName::Config => CONFIG.as_slice(),
             CommandName::Report => REPORT.as_slice(),
             CommandName::List => LIST.as_slice(),
             CommandName::Diff => DIFF.as_slice(),
+            CommandName::Graph => GRAPH.as_slice(),
             CommandName::Status => STATUS.as_slice(),
             CommandName::Bundle => BUNDLE.as_slice(),
             CommandName::Explain => EXPLAIN.as_slice(),

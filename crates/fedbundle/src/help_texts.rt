@@ -32,8 +32,11 @@ Reads from standard input a bundle document, JSON of at most 1,048,576 bytes.
 Writes to standard output the canonical document, a line `id` with its document id, and
 for each X.509 authority a line `key` with its key id. It writes no file.
 
+--format json prints one object: `document` with the id, `sequence`, `refresh_hint`, `keys`,
+and `bundle` with the canonical document.
+
 Ends with 0; with 1 where the document or the name of the domain is refused, and then
-nothing is printed.";
+nothing is printed; with 2 where the format is neither text nor json.";
 
 const CONFIG_NOTES: &str = "\
 Reads the configuration, and with --with another one, and nothing from standard input.
@@ -44,8 +47,11 @@ only the first configuration has, each after `- `, and then those that only the 
 has, each after `+ `. It writes no file. Replicas exchange receipts only under equal
 configurations, which have one digest.
 
+--format json prints one object: `config`, `relationships`, `domains` and `seeds`. It does
+not go with --with.
+
 Ends with 0; with 1 where two configurations have two digests; with 1 and nothing printed
-where one is refused.";
+where one is refused; with 2 where the format is neither text nor json.";
 
 const REPORT_NOTES: &str = "\
 Reads the configuration. With --state it reads the state file, and nothing from standard
@@ -58,9 +64,12 @@ held and how many of them are pending, and for each domain its current document,
 accepted documents, their conflicts and the keys that are distrusted there. Writes to
 standard error the number of each line that is not taken, and why. It writes no file.
 
+--format json needs --state and prints one object: `config`, `receipts`, `pending`,
+`domains` with `current` and `accepted`, `conflicts`, and `records`.
+
 Ends with 0; with 1 where a line was not taken, and the report is printed all the same;
 with 1 and no report where the configuration or the state is refused or too many receipts
-fit.";
+fit; with 2 where the format is neither text nor json.";
 
 const LIST_NOTES: &str = "\
 Reads the configuration and the state file, and nothing from standard input.
@@ -74,8 +83,11 @@ The status is `accepted` where an accepted document vouches for the receipt, `di
 where its key is distrusted in the endpoint's domain, and else `pending`. It writes no
 file.
 
+--format json prints one object of `receipts` and `records`, whose members are named as
+above.
+
 Ends with 0; with 1 and nothing printed where anything read or the name of the domain is
-refused.";
+refused; with 2 where the format is neither text nor json.";
 
 const DIFF_NOTES: &str = "\
 Reads the configuration, the state file, and with --with another state file under the
@@ -88,6 +100,19 @@ that holds it. It writes no file.
 
 Ends with 0 where both hold the same, and then nothing is printed; with 1 where they do
 not; with 1 and nothing printed where anything read is refused.";
+
+const GRAPH_NOTES: &str = "\
+Reads the configuration and the state file, and nothing from standard input.
+
+Writes to standard output which document vouches for which, as a graph in the language of
+Graphviz: `fedbundle graph .. | dot -Tsvg` draws it. A box is a document, with two borders
+where it is configured, and bold where it is the current one of its domain. An arrow is a
+receipt, from the document that vouches for it to the one that it brought, with the first
+digits of its key: dashed where it is pending, and red where its key is distrusted. With
+--domain it has what brought documents of the domain. It writes no file.
+
+Ends with 0; with 1 and nothing printed where anything read or the name of the domain is
+refused.";
 
 const STATUS_NOTES: &str = "\
 Reads the configuration and the state file, and nothing from standard input.
@@ -128,7 +153,11 @@ one for the configured document:
   DOCUMENT_ID sequence N <- key KEY_ID of DOCUMENT_ID
   DOCUMENT_ID configured
 
-Ends with 0; with 1 where the document is not accepted, or where anything read is refused.";
+--format json prints one object: `document`, `configured` with the id of the configured
+document, and `receipts`. It does not go with --short.
+
+Ends with 0; with 1 where the document is not accepted, or where anything read is refused;
+with 2 where the format is neither text nor json.";
 
 const OBSERVE_NOTES: &str = "\
 Reads the configuration, the state file, and from standard input a bundle document as it
@@ -188,7 +217,11 @@ Writes to standard output a line for each relationship: `<domain> due`,
 `<domain> <seconds>` with the moment of its next poll, or `<domain> past range`. It writes
 no file.
 
-Ends with 0; with 1 where anything read is refused, and then nothing is printed.";
+--format json prints one object of `polls`, each with `domain`, `due`, and `next`, which is
+null where the poll is due or past the range.
+
+Ends with 0; with 1 where anything read is refused, and then nothing is printed; with 2
+where the format is neither text nor json.";
 
 const DISTRUST_NOTES: &str = "\
 Reads the configuration and the state file, and nothing from standard input.
@@ -310,6 +343,7 @@ impl OptionName {
             OptionName::Peers => "ADDRESS,..",
             OptionName::Every => "SECONDS",
             OptionName::New => "",
+            OptionName::FileFormat => "FORMAT",
         }
     }
 
@@ -352,6 +386,7 @@ impl OptionName {
             OptionName::Every =>
                 "How long after a round of pulls the next one begins, from 1 to 86400 seconds [60]",
             OptionName::New => "Begins without a state file where there is none",
+            OptionName::FileFormat => "The format of what is printed: text, or json",
         }
     }
 }
@@ -370,6 +405,7 @@ impl CommandName {
             }
             CommandName::List => "Prints each receipt and each record of distrust that is held",
             CommandName::Diff => "Prints what only one of two states holds",
+            CommandName::Graph => "Prints which document vouches for which, as a graph",
             CommandName::Status => "Prints how the replica stands, and what needs attention",
             CommandName::Bundle => "Prints the current bundle of a domain",
             CommandName::Explain => {
@@ -399,17 +435,23 @@ impl CommandName {
     /// The subcommand's usage: its word and its options, each with what its text is.
     pub(crate) fn usage<'a>(self) -> &'a str {
         match self {
-            CommandName::Canon => "fedbundle canon --domain <DOMAIN>",
-            CommandName::Config => "fedbundle config --config <FILE> [--with <FILE>]",
+            CommandName::Canon => "fedbundle canon --domain <DOMAIN> [--format <FORMAT>]",
+            CommandName::Config => {
+                "fedbundle config --config <FILE> [--with <FILE>] [--format <FORMAT>]"
+            }
             CommandName::Report => {
-                "fedbundle report --config <FILE> [--state <FILE>]\n       \
+                "fedbundle report --config <FILE> [--state <FILE>] [--format <FORMAT>]\n       \
                 fedbundle report --at <PATH>"
             }
             CommandName::List => {
-                "fedbundle list --config <FILE> --state <FILE> [--domain <DOMAIN>] [--verbose]"
+                "fedbundle list --config <FILE> --state <FILE> [--domain <DOMAIN>] \
+                [--format <FORMAT>] [--verbose]"
             }
             CommandName::Diff => {
                 "fedbundle diff --config <FILE> --state <FILE> --with <FILE> [--verbose]"
+            }
+            CommandName::Graph => {
+                "fedbundle graph --config <FILE> --state <FILE> [--domain <DOMAIN>] [--verbose]"
             }
             CommandName::Status => {
                 "fedbundle status --config <FILE> --state <FILE> [--format <FORMAT>] \
@@ -423,7 +465,7 @@ impl CommandName {
             }
             CommandName::Explain => {
                 "fedbundle explain --config <FILE> --state <FILE> --domain <DOMAIN> [--short] \
-                [--verbose]\n       \
+                [--format <FORMAT>] [--verbose]\n       \
                 fedbundle explain --at <PATH> --domain <DOMAIN> [--short] [--verbose]"
             }
             CommandName::Observe => {
@@ -445,7 +487,7 @@ impl CommandName {
             }
             CommandName::Polls => {
                 "fedbundle polls --config <FILE> --state <FILE> --now <SECONDS> \
-                [--verbose]\n       \
+                [--format <FORMAT>] [--verbose]\n       \
                 fedbundle polls --at <PATH> --now <SECONDS> [--verbose]"
             }
             CommandName::Distrust => {
@@ -479,6 +521,7 @@ impl CommandName {
             CommandName::Report => REPORT_NOTES,
             CommandName::List => LIST_NOTES,
             CommandName::Diff => DIFF_NOTES,
+            CommandName::Graph => GRAPH_NOTES,
             CommandName::Status => STATUS_NOTES,
             CommandName::Bundle => BUNDLE_NOTES,
             CommandName::Explain => EXPLAIN_NOTES,

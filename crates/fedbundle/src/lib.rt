@@ -45,10 +45,11 @@ pub use merge::{run_merge, take_other};
 pub use migrate::run_migrate;
 pub use observe::{Observed, prepare_observe, run_observe};
 pub use option_texts::{
-    BundleFormat, Manner, explanation_form, given, is_flag_given, manner_of, read_bundle_format,
-    read_key, read_moment, read_status_format, wanted,
+    BundleFormat, Manner, OutputForm, explanation_form, given, is_flag_given, manner_of,
+    read_bundle_format, read_explanation_form, read_key, read_moment, read_output_form,
+    read_status_format, wanted,
 };
-pub use polls::run_polls;
+pub use polls::{run_polls, run_polls_in};
 pub use pull::run_pull;
 pub use report::{run_report, run_report_with};
 pub use run_error::RunError;

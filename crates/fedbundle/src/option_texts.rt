@@ -3,7 +3,7 @@ ghost use Rattle.std.specs.Prelude.{◌≡◌, ℕ, IfOk, IfErr, Ok, Some, None,
 ghost use Rattle.hex.specs.Hex.{decode_sized};
 ghost use Rattle.fedbundle.specs.OptionTexts.{SaysBundleFormat, SaysExplanationForm, SaysFlag};
 ghost use Rattle.fedbundle.specs.OptionTexts.{SaysMoment, SaysStatusFormat, option_said};
-ghost use Rattle.fedbundle.specs.OptionTexts.{said_beside};
+ghost use Rattle.fedbundle.specs.OptionTexts.{SaysExplanationIn, SaysOutputForm, said_beside};
 ghost use Rattle.fedbundle.specs.declared.exits.Exit.TheVariants.{BadKey, BadMoment};
 ghost use Rattle.fedbundle.specs.declared.exits.Exit.TheVariants.{BadNumber, Usage};
 
@@ -31,6 +31,15 @@ pub enum BundleFormat {
     Json,
     /// The certificates of its X.509 authorities, as PEM.
     Pem,
+}
+
+/// In which of two forms a command writes what it shows.
+#[derive(Clone, Copy, Debug, PartialEq, Eq)]
+pub enum OutputForm {
+    /// Lines for people.
+    Text,
+    /// A compact JSON object and a line feed.
+    Json,
 }
 
 /// What the options say that may be left out.
@@ -210,5 +219,41 @@ pub fn explanation_form(short: Option<&str>) -> ExplanationForm
         ExplanationForm::Steps
     } else {
         ExplanationForm::Receipts
+    }
+}
+
+/// The form of `canon`, `config`, `report`, `list` and `polls`: `text`, which is also meant where
+/// nothing is said, or `json`.
+///
+/// # Errors
+/// The text is something else.
+pub fn read_output_form(text: Option<&str>) -> Result<OutputForm, Exit>
+    ensures ok { IfOk result (SaysOutputForm (option_map (λ t. t.now) text.entry)) }
+    ensures refused { IfErr result (λ exit. exit ≡ Usage) }
+{
+    match text {
+        None => Ok(OutputForm::Text),
+        Some(text) if text == "text" => Ok(OutputForm::Text),
+        Some(text) if text == "json" => Ok(OutputForm::Json),
+        Some(_) => Err(Exit::Usage),
+    }
+}
+
+/// How `explain` writes a chain, by the texts of its flag for short lines and of its form.
+///
+/// # Errors
+/// The text of the form is neither `text` nor `json`, or it is `json` and the flag is given.
+pub fn read_explanation_form(
+    short: Option<&str>,
+    form: Option<&str>,
+) -> Result<ExplanationForm, Exit>
+    ensures ok { IfOk result (SaysExplanationIn (option_map (λ t. t.now) short.entry)
+        (option_map (λ t. t.now) form.entry)) }
+    ensures refused { IfErr result (λ exit. exit ≡ Usage) }
+{
+    match read_output_form(form)? {
+        OutputForm::Text => Ok(explanation_form(short)),
+        OutputForm::Json if is_flag_given(short) => Err(Exit::Usage),
+        OutputForm::Json => Ok(ExplanationForm::Json),
     }
 }

@@ -10,8 +10,8 @@ use crate::{
 use byte_lines::FromRead;
 use fed_config::Config;
 use fedbundle::{
-    Call, CommandError, CommandName, Exit, OptionName, WordsError, given, manner_of, read_words,
-    run_canon, run_report, wanted,
+    Call, CommandError, CommandName, Exit, OptionName, OutputForm, WordsError, given, manner_of,
+    read_output_form, read_words, run_canon, run_report, wanted,
 };
 use spiffe_name::TrustDomain;
 
@@ -88,7 +88,7 @@ fn carry_out_under(rt: &HostRuntime, config: &Config, call: &Call<'_>) -> Result
         CommandName::Pull => exchange::pull(rt, config, call),
         CommandName::Replica => staying::stay(rt, config, call),
         CommandName::Report if given(call, OptionName::OptionalState).is_none() => {
-            report_lines(rt, config)
+            report_lines(rt, config, call)
         }
         CommandName::Distrust if given(call, OptionName::DryRun) != Some("true") => {
             changing::distrust(rt, config, call)
@@ -98,23 +98,34 @@ fn carry_out_under(rt: &HostRuntime, config: &Config, call: &Call<'_>) -> Result
 }
 
 fn canon(rt: &HostRuntime, call: &Call<'_>) -> Result<u8, Exit> {
+    let form = read_output_form(given(call, OptionName::FileFormat))?;
     let domain = options::domain(rt.alloc(), wanted(call, OptionName::Domain)?)?;
     let bytes = changing::read_bundle(rt)?;
-    let done = canon_of(rt, &domain, bytes.as_slice());
+    let done = canon_of(rt, &domain, form, bytes.as_slice());
     Ok(reasons::status_of_bundle(rt, call, done, bytes.as_slice()))
 }
 
-fn canon_of(rt: &HostRuntime, domain: &TrustDomain, bytes: &[u8]) -> Result<u8, Exit> {
+fn canon_of(
+    rt: &HostRuntime,
+    domain: &TrustDomain,
+    form: OutputForm,
+    bytes: &[u8],
+) -> Result<u8, Exit> {
     run_canon(
         rt.alloc(),
         domain,
+        form,
         &mut FromRead::new(bytes),
         &mut output(rt),
     )?;
     Ok(0)
 }
 
-fn report_lines(rt: &HostRuntime, config: &Config) -> Result<u8, Exit> {
+// The report of lines is text alone.
+fn report_lines(rt: &HostRuntime, config: &Config, call: &Call<'_>) -> Result<u8, Exit> {
+    if read_output_form(given(call, OptionName::FileFormat))? == OutputForm::Json {
+        return Err(Exit::Usage);
+    }
     let mut errors = complaints(rt);
     match run_report(
         rt.alloc(),

@@ -5,11 +5,12 @@ use crate::streams::{complaints, input, output};
 use crate::{anew, distrusting, options, printing, viewing};
 use fed_config::Config;
 use fedbundle::{
-    BundleFormat, Call, CommandName, Exit, ExplanationForm, OptionName, explanation_form, given,
-    read_bundle_format, read_moment, run_bundle, run_bundle_pem, run_explain, run_migrate,
-    run_polls, wanted,
+    BundleFormat, Call, CommandName, Exit, ExplanationForm, OptionName, OutputForm, given,
+    read_bundle_format, read_explanation_form, read_moment, read_output_form, run_bundle,
+    run_bundle_pem, run_explain, run_migrate, run_polls_in, wanted,
 };
 use migration::Choice;
+use poll_view::PollsForm;
 use spiffe_name::TrustDomain;
 use trust_closure::IndexedClosure;
 
@@ -26,15 +27,16 @@ fn show_of(
     call: &Call<'_>,
 ) -> Result<u8, Exit> {
     match call.name {
-        CommandName::Report => printing::report_state(rt, closure),
+        CommandName::Report => printing::report_state(rt, closure, call),
         CommandName::List => viewing::list(rt, closure, call),
         CommandName::Diff => viewing::diff(rt, config, closure, call),
+        CommandName::Graph => viewing::graph(rt, closure, call),
         CommandName::Status => viewing::status(rt, closure, call),
         CommandName::Bundle => bundle(rt, closure, call),
         CommandName::Explain => explain(rt, closure, call),
         CommandName::Migrate => migrate(rt, closure, call),
         CommandName::Reseed => anew::reseed(rt, closure, call),
-        CommandName::Polls => polls(rt, closure, wanted(call, OptionName::Now)?),
+        CommandName::Polls => polls(rt, closure, call),
         CommandName::Distrust => distrusting::show(rt, closure, call),
         _ => Err(Exit::Usage),
     }
@@ -55,7 +57,10 @@ fn bundle(rt: &HostRuntime, closure: &IndexedClosure, call: &Call<'_>) -> Result
 
 fn explain(rt: &HostRuntime, closure: &IndexedClosure, call: &Call<'_>) -> Result<u8, Exit> {
     let domain = options::domain(rt.alloc(), wanted(call, OptionName::Domain)?)?;
-    let form = explanation_form(given(call, OptionName::Short));
+    let form = read_explanation_form(
+        given(call, OptionName::Short),
+        given(call, OptionName::FileFormat),
+    )?;
     explain_in(rt, closure, &domain, form)
 }
 
@@ -110,8 +115,19 @@ fn migrate_to(
     }
 }
 
-fn polls(rt: &HostRuntime, closure: &IndexedClosure, now: &str) -> Result<u8, Exit> {
-    let now = read_moment(now)?;
-    run_polls(rt.alloc(), closure, now, &mut input(rt), &mut output(rt))?;
+fn polls(rt: &HostRuntime, closure: &IndexedClosure, call: &Call<'_>) -> Result<u8, Exit> {
+    let form = match read_output_form(given(call, OptionName::FileFormat))? {
+        OutputForm::Text => PollsForm::Lines,
+        OutputForm::Json => PollsForm::Json,
+    };
+    let now = read_moment(wanted(call, OptionName::Now)?)?;
+    run_polls_in(
+        rt.alloc(),
+        closure,
+        form,
+        now,
+        &mut input(rt),
+        &mut output(rt),
+    )?;
     Ok(0)
 }
