@@ -1,6 +1,7 @@
 //! Receipts. A clone copies what was computed: the offers, and the id where it is kept.
 ghost use Rattle.std.specs.Prelude.{◌≡◌, ◌↔◌, IsTrue, IfOk, IfSome, MatchResult, Some, refl};
 ghost use Rattle.std.specs.Cmp.{partial_equiv_from_equiv};
+ghost use Rattle.bundle_doc.specs.Bundle.{doc_id_of};
 ghost use Rattle.receipt_core.specs.Receipt.{IsReceipt, line, receipt_cmp, receipt_id_of, need_of};
 ghost use Rattle.receipt_core.specs.Receipt.{offers_of, pair_of};
 ghost use Rattle.receipt_core.specs.Order.{same_receipt, receipt_total, receipt_equiv, receipt_po};
@@ -163,6 +164,17 @@ impl Receipt {
         ensures { result.now ≡ self.now.document }
     {
         &self.document
+    }
+
+    /// The id of the document as one of its domain. Where the document offers something the id is
+    /// at hand, and else it is computed, which takes time for each byte of the document.
+    pub fn document_id(&self) -> DocId
+        ensures { result.0 ≡ doc_id_of self.now.domain self.now.document }
+    {
+        match self.offers.as_slice() {
+            [first, ..] => first.document,
+            [] => self.document.id(&self.domain),
+        }
     }
 
     /// The id of the document of the endpoint's trust domain that vouches for this one.
