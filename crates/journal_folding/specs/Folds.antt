@@ -1,8 +1,8 @@
 -- A fold: all that is held is written as a new snapshot, which takes the place of the old one, and
 -- then the journal is emptied.
 use Rattle.std.specs.Prelude.{◌≡◌, ℕ, ◌⊎◌, Bool, true, false, List, [], ◌∷◌, Option, None, Some}
-use Rattle.journal_folding.specs.Files.{HasOneFile, HasWholeLine, IsFirstFile, IsJournalled, KeepsLine}
-use Rattle.journal_folding.specs.Files.{StateDisk, kept_file, settled_name, synced_file}
+use Rattle.journal_folding.specs.Files.{HasOneFile, HasWholeLine, IsFirstFile, IsJournalled}
+use Rattle.journal_folding.specs.Files.{KeepsLine, StateDisk, kept_file, settled_name, synced_file}
 use Rattle.journal_folding.specs.Files.{unkept_file, with_first}
 use Rattle.journal_folding.specs.declared.folding.Folding.{Folding}
 use Rattle.journal_folding.specs.declared.folding.FoldStep.{FoldStep}

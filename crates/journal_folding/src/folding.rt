@@ -16,7 +16,8 @@ pub enum FoldStep {
     ReplaceSnapshot,
     /// The system puts the folder with the names on the disk.
     SyncFolder,
-    /// A new file with a journal's first line alone is given the journal's name.
+    /// A new file with a journal's first line alone is given the journal's name. Where the name has
+    /// no file for a moment, that is read as an empty one.
     EmptyJournal,
     /// The system puts the new journal, and the folder, on the disk.
     SyncJournal,
@@ -60,8 +61,8 @@ impl Folding {
         self.next
     }
 
-    /// Whether the new snapshot has all lines. Where the fold is over, this says whether the journal
-    /// was emptied.
+    /// Whether the new snapshot has all lines. Where the fold is over, this says whether the
+    /// journal was emptied.
     pub fn is_whole(&self) -> bool
         ensures { result ≡ self.now.is_whole }
     {
