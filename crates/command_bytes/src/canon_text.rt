@@ -3,7 +3,7 @@ ghost use Rattle.std.specs.Prelude.{MatchResult};
 ghost use Rattle.command_bytes.specs.Canonical.{RefusesCanon, RefusesCanonBytes};
 ghost use Rattle.command_bytes.specs.Canonical.{WritesCanon, WritesCanonBytes};
 
-use fedbundle::{CommandError, run_canon};
+use fedbundle::{CommandError, OutputForm, run_canon};
 use replica_bytes::{CallError, GrowingSink, domain_of, source_of};
 use spiffe_name::TrustDomain;
 use std::alloc::Global;
@@ -30,7 +30,7 @@ fn canon_of(alloc: Global, domain: &TrustDomain, document: &[u8]) -> Result<Vec<
 {
     let mut source = source_of(alloc, document)?;
     let mut sink = GrowingSink::new(alloc);
-    match run_canon(alloc, domain, &mut source, &mut sink) {
+    match run_canon(alloc, domain, OutputForm::Text, &mut source, &mut sink) {
         Ok(()) => Ok(sink.into_text()),
         Err(CommandError::Document(why)) => Err(CallError::Document(why)),
         // Bytes in memory do not fail, and the sink fails for lack of memory alone.
