@@ -57,7 +57,8 @@ typedef struct fedbundle_outcome {
 
 /* What a call returns. Below 0 it is the number of a code, as -204 for B4: its hundreds stand for the letter (N 1, B 2, C 3,
  * L 4, G 5, O 6, S 7, E 9), the rest is its number. A code in another one is added to 1,000 of these: -605204 is O5 with
- * B4 in it. docs/OPERATING.md says what each code means; L1 is NotCanonical, L2 TooLong, L3 NoMemory, of a receipt's line. */
+ * B4 in it. docs/OPERATING.md says what each code means; L1 is NotCanonical, L2 TooLong, L3 NoMemory, of a receipt's line.
+ * A call returns no other codes than those that are named at it, and FEDBUNDLE_USAGE. */
 #define FEDBUNDLE_DONE 0
 #define FEDBUNDLE_NEEDS_ROOM 1 /* the text has more bytes than the buffer; nothing has changed */
 #define FEDBUNDLE_NONE 2       /* there is none of what was asked for */
@@ -107,13 +108,13 @@ static inline uint8_t *fedbundle_out(void *bytes, size_t room) {
     return room ? (uint8_t *)bytes : none;
 }
 
-/* Writes the version of the library, without a line feed. */
+/* Writes the version of the library, without a line feed. It is never refused. */
 static inline int64_t fedbundle_version(void *out, size_t room, fedbundle_outcome *outcome) {
     return fedbundle_raw_version(fedbundle_out(out, room), room, outcome);
 }
 
 /* Opens a closed place: it holds a replica of this configuration, with what the snapshot has, or with nothing where the
- * snapshot has no bytes. A refusal leaves it closed. C1 to C9, S1 to S10. */
+ * snapshot has no bytes. A refusal leaves it closed. C1 to C9, S1 to S10, E2. */
 static inline int64_t fedbundle_open(fedbundle_replica *replica, const void *config, size_t config_length,
                                      const void *snapshot, size_t snapshot_length, fedbundle_outcome *outcome) {
     return fedbundle_raw_open(replica, fedbundle_in(config, config_length), config_length,
@@ -148,13 +149,15 @@ static inline int64_t fedbundle_distrust(fedbundle_replica *replica, const void 
                                   fedbundle_in(key, key_length), key_length, outcome);
 }
 
-/* Takes all that another replica's snapshot has, or nothing. Counts the receipts that were not held. S1 to S10, G1 to G5. */
+/* Takes all that another replica's snapshot has, or nothing. Counts the receipts that were not held. S1 to S10, G1 to G5,
+ * E2. */
 static inline int64_t fedbundle_merge(fedbundle_replica *replica, const void *snapshot, size_t snapshot_length,
                                       fedbundle_outcome *outcome) {
     return fedbundle_raw_merge(replica, fedbundle_in(snapshot, snapshot_length), snapshot_length, outcome);
 }
 
-/* Writes the current bundle of a domain in its canonical form, with a line feed. FEDBUNDLE_NONE where none is accepted. */
+/* Writes the current bundle of a domain in its canonical form, with a line feed. FEDBUNDLE_NONE where none is accepted;
+ * N1 to N6, E2. */
 static inline int64_t fedbundle_current(fedbundle_replica *replica, const void *domain, size_t domain_length, void *out,
                                         size_t room, fedbundle_outcome *outcome) {
     return fedbundle_raw_current(replica, fedbundle_in(domain, domain_length), domain_length, fedbundle_out(out, room),
@@ -162,7 +165,7 @@ static inline int64_t fedbundle_current(fedbundle_replica *replica, const void *
 }
 
 /* Writes the lines of a shortest chain of receipts by which a document is accepted: none for a configured one.
- * FEDBUNDLE_NONE where it is not accepted; N1 to N6, B1 to B8. */
+ * FEDBUNDLE_NONE where it is not accepted; N1 to N6, B1 to B8, E2. */
 static inline int64_t fedbundle_explain(fedbundle_replica *replica, const void *domain, size_t domain_length,
                                         const void *document, size_t document_length, void *out, size_t room,
                                         fedbundle_outcome *outcome) {
@@ -171,31 +174,31 @@ static inline int64_t fedbundle_explain(fedbundle_replica *replica, const void *
                                  room, outcome);
 }
 
-/* Writes the report of what is accepted. */
+/* Writes the report of what is accepted. E2, S10. */
 static inline int64_t fedbundle_replica_report(fedbundle_replica *replica, void *out, size_t room,
                                                fedbundle_outcome *outcome) {
     return fedbundle_raw_replica_report(replica, fedbundle_out(out, room), room, outcome);
 }
 
-/* Writes the snapshot of what is held: replicas that hold the same write the same bytes. */
+/* Writes the snapshot of what is held: replicas that hold the same write the same bytes. E2, S10. */
 static inline int64_t fedbundle_snapshot(fedbundle_replica *replica, void *out, size_t room, fedbundle_outcome *outcome) {
     return fedbundle_raw_snapshot(replica, fedbundle_out(out, room), room, outcome);
 }
 
-/* Writes the have of a bucket, a line with its line feed: what this replica holds of it. Another one answers it. */
+/* Writes the have of a bucket, a line with its line feed: what this replica holds of it. Another one answers it. E2, S10. */
 static inline int64_t fedbundle_have(fedbundle_replica *replica, uint8_t bucket, void *out, size_t room,
                                      fedbundle_outcome *outcome) {
     return fedbundle_raw_have(replica, bucket, fedbundle_out(out, room), room, outcome);
 }
 
-/* Writes the answer to another replica's have. S1 to S3, S7. */
+/* Writes the answer to another replica's have. S1 to S3, S7, S10, E2. */
 static inline int64_t fedbundle_answer(fedbundle_replica *replica, const void *asked, size_t asked_length, void *out,
                                        size_t room, fedbundle_outcome *outcome) {
     return fedbundle_raw_answer(replica, fedbundle_in(asked, asked_length), asked_length, fedbundle_out(out, room), room,
                                 outcome);
 }
 
-/* Takes all that an answer has, or nothing. Counts the receipts that were not held. S1 to S10. */
+/* Takes all that an answer has, or nothing. Counts the receipts that were not held. S1 to S10, E2. */
 static inline int64_t fedbundle_absorb(fedbundle_replica *replica, const void *answered, size_t answered_length,
                                        fedbundle_outcome *outcome) {
     return fedbundle_raw_absorb(replica, fedbundle_in(answered, answered_length), answered_length, outcome);

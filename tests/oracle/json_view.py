@@ -131,14 +131,20 @@ def explain_json(config, held, domain, value):
                     "receipts": [receipt_members(line, held.values[line]) for line in chain]})
 
 
+# The last second that there is a moment for.
+LAST_SECOND = 253402207200
+
+
 def next_poll(polls, hint, now):
-    """Whether a poll is due, and else at which second the next one is."""
+    """Whether a poll is due, and else at which second the next one is, None where there is no such moment."""
     if not polls:
         return True, None
     interval = 300 if hint is None else max(60, min(hint, 86400))
     failures = next((n for n, (ok, _) in enumerate(reversed(polls)) if ok), len(polls))
     wait = interval if failures == 0 else min(interval, 30 * 2 ** min(failures - 1, 11))
     at = polls[-1][1] + wait
+    if at > LAST_SECOND:
+        return False, None
     return (True, None) if at <= now else (False, at)
 
 
