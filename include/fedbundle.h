@@ -51,7 +51,7 @@ typedef struct fedbundle_replica {
 typedef struct fedbundle_outcome {
     uint64_t count;            /* what the call counts */
     uint64_t length;           /* how many bytes the text has, also where there is no room for them */
-    uint64_t fault_length;     /* how many bytes of `fault` are the refusal's text */
+    uint64_t fault_length;     /* how many bytes of `fault` are the refusal's text: never above 240 */
     unsigned char fault[240];  /* the refusal's text, as the command prints it: "S8 Refused line 3 G1 UnknownDomain" */
 } fedbundle_outcome;
 

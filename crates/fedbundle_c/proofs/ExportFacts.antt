@@ -6,7 +6,7 @@ use Rattle.receipt_core.specs.Acceptance.{Meaning}
 use Rattle.replica_bytes.specs.Outcomes.{WritesOut, FitsOut, Refuses, ReturnsNone}
 use Rattle.replica_bytes.specs.declared.call_error.CallError.{CallError}
 use Rattle.fedbundle_c.specs.Exports.{HandleRun, BufferRun, IsUsedClosed, meaning_in, FindsByHandle, FindsHeld}
-use Rattle.fedbundle_c.specs.declared.replica.Replica.{Replica}
+use Rattle.fedbundle_c.specs.declared.held_replica.Replica.{Replica}
 
 -- a text for which there is room is written
 pub fits_held : (text old new : List ℕ) (said : ℕ) (returned : ℤ) → length text ≤ length old → WritesOut text old new said returned
@@ -27,10 +27,10 @@ module _ (old new : Option Replica) (held : Replica) (before after : List ℕ) (
       → MatchResult made (λ o. MatchOption o (ReturnsNone returned × (after ≡ before)) (λ v. WritesOut (items v) before after said returned))
       (λ e. Refuses e returned × (after ≡ before))
       → FindsHeld held N P Q buffer run
-  found N P Q (Ok None) items is_so put = record { same = is; shows = inl (record { absent = is_so; same = put.1; none = put.0 }) }
-  found N P Q (Ok (Some v)) items is_so put = record { same = is; shows = inr (inl (record { text = items v; is = is_so; written = put })) }
+  found N P Q (Ok None) items is_so put = record { same = is; puts = inl (record { absent = is_so; same = put.1; none = put.0 }) }
+  found N P Q (Ok (Some v)) items is_so put = record { same = is; puts = inr (inl (record { text = items v; is = is_so; written = put })) }
   found N P Q (Err e) items is_so put =
-      record { same = is; shows = inr (inr (record { error = e; cause = is_so; same = put.1; refused = put.0 })) }
+      record { same = is; puts = inr (inr (record { error = e; cause = is_so; same = put.1; refused = put.0 })) }
 
   -- whatever is so of the replica that was held is so of the handle
   pub finds-by : {V : Type 0} (N : Meaning → Type 0) (P : Meaning → List ℕ → Type 0) (Q : CallError → Type 0) (made : Result (Option V) CallError)

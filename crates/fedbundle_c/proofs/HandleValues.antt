@@ -31,7 +31,7 @@ use Rattle.std.specs.contracts.impls.GlobalAllocator.TheImpl.{ghosts}
 use Rattle.std.proofs.GlobalToken.{dealloc_token-Testable}
 use Rattle.std_alloc.specs.Box.Ownership.{box_owns}
 use Rattle.fedbundle_c.specs.Holding.{handle_owns}
-use Rattle.fedbundle_c.specs.contracts.replica.Replica as held
+use Rattle.fedbundle_c.specs.contracts.held_replica.Replica as held
 use Rattle.fedbundle_c.specs.contracts.handle.Handle as handle
 use Rattle.fedbundle_c.proofs.Values.{both, both_tt}
 

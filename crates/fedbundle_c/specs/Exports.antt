@@ -29,7 +29,7 @@ use Rattle.replica_bytes.specs.declared.bundle_observing.ObservedBytes.{Observed
 use Rattle.replica_bytes.specs.declared.bundle_observing.ObservedBytes.TheVariants.{Held, NeedsRoom}
 use Rattle.replica_bytes.specs.declared.call_error.CallError.{CallError}
 use Rattle.replica_bytes.specs.declared.call_error.CallError.TheVariants.{Usage}
-use Rattle.fedbundle_c.specs.declared.replica.Replica.{Replica}
+use Rattle.fedbundle_c.specs.declared.held_replica.Replica.{Replica}
 
 -- ---- handles
 
@@ -82,21 +82,21 @@ pub record HandleRun : Type 0 where
   pub returned : ℤ
 
 -- what is said of a receipt
-abbrev pub SaysTaken : Result Taken CallError → ℕ → ℤ → Type 0
-SaysTaken (Ok (TakenNew n)) said returned = (said ≡ n) × ReturnsDone returned
-SaysTaken (Ok TakenAlready) said returned = ReturnsAlready returned
-SaysTaken (Err e) said returned = Refuses e returned
+abbrev pub SaysOfReceipt : Result Taken CallError → ℕ → ℤ → Type 0
+SaysOfReceipt (Ok (TakenNew n)) said returned = (said ≡ n) × ReturnsDone returned
+SaysOfReceipt (Ok TakenAlready) said returned = ReturnsAlready returned
+SaysOfReceipt (Err e) said returned = Refuses e returned
 
 -- what is said of a record
-abbrev pub SaysDistrusted : Result Distrusted CallError → ℕ → ℤ → Type 0
-SaysDistrusted (Ok (DistrustedNew n)) said returned = (said ≡ n) × ReturnsDone returned
-SaysDistrusted (Ok DistrustedAlready) said returned = ReturnsAlready returned
-SaysDistrusted (Err e) said returned = Refuses e returned
+abbrev pub SaysOfRecord : Result Distrusted CallError → ℕ → ℤ → Type 0
+SaysOfRecord (Ok (DistrustedNew n)) said returned = (said ≡ n) × ReturnsDone returned
+SaysOfRecord (Ok DistrustedAlready) said returned = ReturnsAlready returned
+SaysOfRecord (Err e) said returned = Refuses e returned
 
 -- what is said of a number of receipts
-abbrev pub SaysCount : Result ℕ CallError → ℕ → ℤ → Type 0
-SaysCount (Ok n) said returned = (said ≡ n) × ReturnsDone returned
-SaysCount (Err e) said returned = Refuses e returned
+abbrev pub SaysOfNumber : Result ℕ CallError → ℕ → ℤ → Type 0
+SaysOfNumber (Ok n) said returned = (said ≡ n) × ReturnsDone returned
+SaysOfNumber (Err e) said returned = Refuses e returned
 
 -- The line was taken or refused, and that is said.
 pub record HasTakenLine (held : Replica) (line : List ℕ) (run : HandleRun) : Type 0 where
@@ -106,7 +106,7 @@ pub record HasTakenLine (held : Replica) (line : List ℕ) (run : HandleRun) : T
   pub takes : MatchResult outcome
       (TakesLineBytes (state_in held) line (state_in after))
       (HasRefusedLineBytes (state_in held) line (state_in after))
-  pub says : SaysTaken outcome run.said run.returned
+  pub says : SaysOfReceipt outcome run.said run.returned
 
 abbrev pub TakesByHandle : HandleRun → List ℕ → Type 0
 TakesByHandle run line = MatchOption run.old (IsUsedClosed run.new run.returned)
@@ -121,7 +121,7 @@ pub record HasDistrustedKey (held : Replica) (domain key : List ℕ)
   pub distrusts : MatchResult outcome
       (DistrustsBytes (meaning_in held) domain key (meaning_in after))
       (HasRefusedKeyBytes (meaning_in held) domain key (meaning_in after))
-  pub says : SaysDistrusted outcome run.said run.returned
+  pub says : SaysOfRecord outcome run.said run.returned
 
 abbrev pub DistrustsByHandle : HandleRun → List ℕ → List ℕ → Type 0
 DistrustsByHandle run domain key = MatchOption run.old (IsUsedClosed run.new run.returned)
@@ -135,7 +135,7 @@ pub record HasMergedSnapshot (held : Replica) (snapshot : List ℕ) (run : Handl
   pub merges : MatchResult outcome
       (MergesBytes (state_in held) snapshot (state_in after))
       (HasRefusedSnapshotBytes (state_in held) snapshot (state_in after))
-  pub says : SaysCount outcome run.said run.returned
+  pub says : SaysOfNumber outcome run.said run.returned
 
 abbrev pub MergesByHandle : HandleRun → List ℕ → Type 0
 MergesByHandle run snapshot = MatchOption run.old (IsUsedClosed run.new run.returned)
@@ -149,7 +149,7 @@ pub record HasAbsorbedAnswer (held : Replica) (answered : List ℕ) (run : Handl
   pub absorbs : MatchResult outcome
       (AbsorbsBytes (meaning_in held) answered (meaning_in after))
       (HasRefusedGiveBytes (state_in held) answered (meaning_in after))
-  pub says : SaysCount outcome run.said run.returned
+  pub says : SaysOfNumber outcome run.said run.returned
 
 abbrev pub AbsorbsByHandle : HandleRun → List ℕ → Type 0
 AbsorbsByHandle run answered = MatchOption run.old (IsUsedClosed run.new run.returned)
@@ -163,51 +163,51 @@ pub record BufferRun : Type 0 where
   pub after : List ℕ
 
 -- A text of which this holds is written, or there is no room for it.
-pub record ShowsText (P : List ℕ → Type 0) (buffer : BufferRun) (run : HandleRun) : Type 0 where
+pub record PutsText (P : List ℕ → Type 0) (buffer : BufferRun) (run : HandleRun) : Type 0 where
   pub text : List ℕ
   pub is : P text
   pub written : WritesOut text buffer.before buffer.after run.said run.returned
 
 -- There is none, for this cause, and the buffer is as it was.
-pub record ShowsFault (Q : CallError → Type 0) (buffer : BufferRun) (run : HandleRun) : Type 0 where
+pub record PutsFault (Q : CallError → Type 0) (buffer : BufferRun) (run : HandleRun) : Type 0 where
   pub error : CallError
   pub cause : Q error
   pub same : buffer.after ≡ buffer.before
   pub refused : Refuses error run.returned
 
 -- The handle keeps what it holds, and one of the two is so.
-pub record ShowsHeld (held : Replica) (P : List ℕ → Type 0) (Q : CallError → Type 0)
+pub record PutsOfHeld (held : Replica) (P : List ℕ → Type 0) (Q : CallError → Type 0)
     (buffer : BufferRun) (run : HandleRun) : Type 0 where
   pub same : run.new ≡ Some held
-  pub shows : ShowsText P buffer run ⊎ ShowsFault Q buffer run
+  pub puts : PutsText P buffer run ⊎ PutsFault Q buffer run
 
-abbrev pub ShowsByHandle : (Meaning → List ℕ → Type 0) → (Meaning → CallError → Type 0) → BufferRun
+abbrev pub PutsByHandle : (Meaning → List ℕ → Type 0) → (Meaning → CallError → Type 0) → BufferRun
     → HandleRun → Type 0
-ShowsByHandle P Q buffer run = MatchOption run.old (IsUsedClosed run.new run.returned)
-    (λ held. ShowsHeld held (P (meaning_in held)) (Q (meaning_in held)) buffer run)
+PutsByHandle P Q buffer run = MatchOption run.old (IsUsedClosed run.new run.returned)
+    (λ held. PutsOfHeld held (P (meaning_in held)) (Q (meaning_in held)) buffer run)
 
 abbrev pub ReportsByHandle : BufferRun → HandleRun → Type 0
-ReportsByHandle = ShowsByHandle IsReport (λ m. IsWantOfMemory)
+ReportsByHandle = PutsByHandle IsReport (λ m. IsWantOfMemory)
 
 abbrev pub SnapshotsByHandle : BufferRun → HandleRun → Type 0
-SnapshotsByHandle = ShowsByHandle (λ m text. text ≡ written_snapshot m) (λ m. IsWantOfMemory)
+SnapshotsByHandle = PutsByHandle (λ m text. text ≡ written_snapshot m) (λ m. IsWantOfMemory)
 
 abbrev pub HavesByHandle : ℕ → BufferRun → HandleRun → Type 0
-HavesByHandle bucket = ShowsByHandle (λ m text. text ≡ have_text (have_of m bucket))
+HavesByHandle bucket = PutsByHandle (λ m text. text ≡ have_text (have_of m bucket))
     (λ m. IsWantOfMemory)
 
 abbrev pub AnswersByHandle : List ℕ → BufferRun → HandleRun → Type 0
-AnswersByHandle asked = ShowsByHandle (λ m. AnswersBytes m asked) (λ m. RefusesHaveBytes m asked)
+AnswersByHandle asked = PutsByHandle (λ m. AnswersBytes m asked) (λ m. RefusesHaveBytes m asked)
 
 -- ---- a bundle that was fetched
 
 -- what is said of it, and written
-abbrev pub SaysObserved : Result ObservedBytes CallError → BufferRun → HandleRun → Type 0
-SaysObserved (Ok (Held text)) buffer run =
+abbrev pub SaysOfFetched : Result ObservedBytes CallError → BufferRun → HandleRun → Type 0
+SaysOfFetched (Ok (Held text)) buffer run =
     FitsOut text.items buffer.before buffer.after run.said run.returned
-SaysObserved (Ok (NeedsRoom needed)) buffer run = (buffer.after ≡ buffer.before)
+SaysOfFetched (Ok (NeedsRoom needed)) buffer run = (buffer.after ≡ buffer.before)
     × (run.said ≡ needed) × ReturnsNeedsRoom run.returned
-SaysObserved (Err e) buffer run = (buffer.after ≡ buffer.before) × Refuses e run.returned
+SaysOfFetched (Err e) buffer run = (buffer.after ≡ buffer.before) × Refuses e run.returned
 
 -- It was observed or refused, and that is said.
 pub record HasObservedFetched (held : Replica) (fetched : FetchedBytes) (buffer : BufferRun)
@@ -218,7 +218,7 @@ pub record HasObservedFetched (held : Replica) (fetched : FetchedBytes) (buffer 
   pub observes : MatchResult outcome
       (ObservesFetched (state_in held) fetched (length buffer.before) (state_in after))
       (HasRefusedFetched (state_in held) fetched (state_in after))
-  pub says : SaysObserved outcome buffer run
+  pub says : SaysOfFetched outcome buffer run
 
 abbrev pub ObservesByHandle : FetchedBytes → BufferRun → HandleRun → Type 0
 ObservesByHandle fetched buffer run = MatchOption run.old (IsUsedClosed run.new run.returned)
@@ -227,7 +227,7 @@ ObservesByHandle fetched buffer run = MatchOption run.old (IsUsedClosed run.new 
 -- ---- what there may be none of
 
 -- There is none, and the buffer is as it was.
-pub record ShowsNone (N : Type 0) (buffer : BufferRun) (run : HandleRun) : Type 0 where
+pub record PutsNone (N : Type 0) (buffer : BufferRun) (run : HandleRun) : Type 0 where
   pub absent : N
   pub same : buffer.after ≡ buffer.before
   pub none : ReturnsNone run.returned
@@ -235,7 +235,7 @@ pub record ShowsNone (N : Type 0) (buffer : BufferRun) (run : HandleRun) : Type 
 pub record FindsHeld (held : Replica) (N : Type 0) (P : List ℕ → Type 0) (Q : CallError → Type 0)
     (buffer : BufferRun) (run : HandleRun) : Type 0 where
   pub same : run.new ≡ Some held
-  pub shows : ShowsNone N buffer run ⊎ (ShowsText P buffer run ⊎ ShowsFault Q buffer run)
+  pub puts : PutsNone N buffer run ⊎ (PutsText P buffer run ⊎ PutsFault Q buffer run)
 
 abbrev pub FindsByHandle : (Meaning → Type 0) → (Meaning → List ℕ → Type 0) → (CallError → Type 0)
     → BufferRun → HandleRun → Type 0

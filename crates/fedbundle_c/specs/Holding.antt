@@ -6,8 +6,8 @@ use Rattle.std.specs.declared.option.Option.TheVariants.{None, Some}
 use Rattle.std.specs.declared.alloc.Global.{Global}
 use Rattle.std.specs.contracts.impls.GlobalAllocator.TheImpl.{ghosts}
 use Rattle.std_alloc.specs.Box.Ownership.{box_owns}
-use Rattle.fedbundle_c.specs.contracts.replica.Replica.{the_row}
-use Rattle.fedbundle_c.specs.declared.replica.Replica.{Replica}
+use Rattle.fedbundle_c.specs.contracts.held_replica.Replica.{the_row}
+use Rattle.fedbundle_c.specs.declared.held_replica.Replica.{Replica}
 
 -- nothing at null, and else the box of a replica
 abbrev pub handle_owns : Global → Ptr → Option Replica → Fml

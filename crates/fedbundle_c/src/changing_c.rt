@@ -1,4 +1,5 @@
 //! Exports: what changes a replica.
+ghost use Rattle.std.specs.Prelude.{◌≤◌};
 ghost use Rattle.fedbundle_c.specs.Exports.{DistrustsByHandle, MergesByHandle};
 ghost use Rattle.fedbundle_c.specs.Exports.{ObservesByHandle, TakesByHandle};
 
@@ -19,12 +20,13 @@ pub extern "C" fn fedbundle_raw_take(
     line: &[u8],
     outcome: &mut CallOutcome,
 ) -> i64
-    ensures { TakesByHandle (record {
+    ensures does { TakesByHandle (record {
       old = handle.old.value;
       new = handle.new.value;
       said = outcome.new.count;
       returned = result;
     }) line.now }
+    ensures fault { outcome.new.fault_length ≤ 240 }
 {
     outcome.clear();
     let Some(mut replica) = handle.take_out(alloc) else {
@@ -49,12 +51,13 @@ pub extern "C" fn fedbundle_raw_distrust(
     key: &[u8],
     outcome: &mut CallOutcome,
 ) -> i64
-    ensures { DistrustsByHandle (record {
+    ensures does { DistrustsByHandle (record {
       old = handle.old.value;
       new = handle.new.value;
       said = outcome.new.count;
       returned = result;
     }) domain.now key.now }
+    ensures fault { outcome.new.fault_length ≤ 240 }
 {
     outcome.clear();
     let Some(mut replica) = handle.take_out(alloc) else {
@@ -77,12 +80,13 @@ pub extern "C" fn fedbundle_raw_merge(
     snapshot: &[u8],
     outcome: &mut CallOutcome,
 ) -> i64
-    ensures { MergesByHandle (record {
+    ensures does { MergesByHandle (record {
       old = handle.old.value;
       new = handle.new.value;
       said = outcome.new.count;
       returned = result;
     }) snapshot.now }
+    ensures fault { outcome.new.fault_length ≤ 240 }
 {
     outcome.clear();
     let Some(mut replica) = handle.take_out(alloc) else {
@@ -109,7 +113,7 @@ pub extern "C" fn fedbundle_raw_observe(
     out: &mut [u8],
     outcome: &mut CallOutcome,
 ) -> i64
-    ensures { ObservesByHandle
+    ensures does { ObservesByHandle
         (record {
           domain = domain.entry;
           endpoint = endpoint.entry;
@@ -123,6 +127,7 @@ pub extern "C" fn fedbundle_raw_observe(
           said = outcome.new.length;
           returned = result;
         }) }
+    ensures fault { outcome.new.fault_length ≤ 240 }
 {
     outcome.clear();
     let Some(mut replica) = handle.take_out(alloc) else {

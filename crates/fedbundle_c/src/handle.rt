@@ -6,10 +6,10 @@ ghost use Rattle.std.specs.declared.option.Option.{Option};
 ghost use Rattle.std.specs.declared.option.Option.TheVariants.{None, Some};
 ghost use denote.RawPtr.{null_ptr};
 ghost use Rattle.fedbundle_c.specs.Holding.{handle_owns};
-ghost use Rattle.fedbundle_c.specs.declared.replica.Replica.{Replica};
+ghost use Rattle.fedbundle_c.specs.declared.held_replica.Replica.{Replica};
 
+use crate::held_replica::Replica;
 use crate::loose::Loose;
-use crate::replica::Replica;
 use std::alloc::Global;
 use std::marker::Model;
 use std::mem;

@@ -11,12 +11,12 @@
 
 pub mod changing_c;
 mod handle;
+mod held_replica;
 mod loose;
 pub mod messaging_c;
 pub mod opening_c;
-mod replica;
 pub mod showing_c;
 pub mod stateless_c;
 
 pub use handle::Handle;
-pub use replica::Replica;
+pub use held_replica::Replica;

@@ -1,4 +1,5 @@
 //! Exports: the messages between replicas.
+ghost use Rattle.std.specs.Prelude.{◌≤◌};
 ghost use Rattle.fedbundle_c.specs.Exports.{AbsorbsByHandle, AnswersByHandle, HavesByHandle};
 
 use crate::handle::Handle;
@@ -14,13 +15,14 @@ pub extern "C" fn fedbundle_raw_have(
     out: &mut [u8],
     outcome: &mut CallOutcome,
 ) -> i64
-    ensures { HavesByHandle bucket (record { before = out.old; after = out.new })
+    ensures does { HavesByHandle bucket (record { before = out.old; after = out.new })
         (record {
           old = handle.old.value;
           new = handle.new.value;
           said = outcome.new.length;
           returned = result;
         }) }
+    ensures fault { outcome.new.fault_length ≤ 240 }
 {
     outcome.clear();
     let Some(replica) = handle.take_out(alloc) else {
@@ -40,13 +42,14 @@ pub extern "C" fn fedbundle_raw_answer(
     out: &mut [u8],
     outcome: &mut CallOutcome,
 ) -> i64
-    ensures { AnswersByHandle asked.now (record { before = out.old; after = out.new })
+    ensures does { AnswersByHandle asked.now (record { before = out.old; after = out.new })
         (record {
           old = handle.old.value;
           new = handle.new.value;
           said = outcome.new.length;
           returned = result;
         }) }
+    ensures fault { outcome.new.fault_length ≤ 240 }
 {
     outcome.clear();
     let Some(replica) = handle.take_out(alloc) else {
@@ -65,12 +68,13 @@ pub extern "C" fn fedbundle_raw_absorb(
     answered: &[u8],
     outcome: &mut CallOutcome,
 ) -> i64
-    ensures { AbsorbsByHandle (record {
+    ensures does { AbsorbsByHandle (record {
       old = handle.old.value;
       new = handle.new.value;
       said = outcome.new.count;
       returned = result;
     }) answered.now }
+    ensures fault { outcome.new.fault_length ≤ 240 }
 {
     outcome.clear();
     let Some(mut replica) = handle.take_out(alloc) else {

@@ -1,12 +1,12 @@
 //! Exports: the version, and a handle opened and closed.
-ghost use Rattle.std.specs.Prelude.{◌≡◌, codes, MatchResult};
+ghost use Rattle.std.specs.Prelude.{◌≡◌, ◌≤◌, codes, MatchResult};
 ghost use Rattle.std.specs.declared.option.Option.TheVariants.{None};
 ghost use Rattle.fedbundle_c.specs.Exports.{OpensHandle, meaning_in};
 ghost use Rattle.replica_bytes.specs.Opening.{OpensBytes, RefusesOpening};
 ghost use Rattle.replica_bytes.specs.Outcomes.{WritesOut};
 
 use crate::handle::Handle;
-use crate::replica::Replica;
+use crate::held_replica::Replica;
 use replica_bytes::{CallError, CallOutcome, DONE, open_bytes};
 use std::alloc::Global;
 use trust_closure::ExchangeClosure;
@@ -14,7 +14,8 @@ use trust_closure::ExchangeClosure;
 /// Writes the version of the library, without a line feed.
 #[unsafe(no_mangle)]
 pub extern "C" fn fedbundle_raw_version(out: &mut [u8], outcome: &mut CallOutcome) -> i64
-    ensures { WritesOut (codes "0.1.0") out.old out.new outcome.new.length result }
+    ensures does { WritesOut (codes "0.1.0") out.old out.new outcome.new.length result }
+    ensures fault { outcome.new.fault_length ≤ 240 }
 {
     outcome.put(b"0.1.0", out)
 }
@@ -30,7 +31,8 @@ pub extern "C" fn fedbundle_raw_open(
     snapshot: &[u8],
     outcome: &mut CallOutcome,
 ) -> i64
-    ensures { OpensHandle handle.old.value config.now snapshot.now handle.new.value result }
+    ensures does { OpensHandle handle.old.value config.now snapshot.now handle.new.value result }
+    ensures fault { outcome.new.fault_length ≤ 240 }
 {
     outcome.clear();
     if let Some(before) = handle.take_out(alloc) {

@@ -1,4 +1,5 @@
 //! Exports: what a replica holds and accepts, as texts. They change nothing.
+ghost use Rattle.std.specs.Prelude.{◌≤◌};
 ghost use Rattle.fedbundle_c.specs.Exports.{CurrentByHandle, ExplainsByHandle, ReportsByHandle};
 ghost use Rattle.fedbundle_c.specs.Exports.{SnapshotsByHandle};
 
@@ -16,13 +17,14 @@ pub extern "C" fn fedbundle_raw_replica_report(
     out: &mut [u8],
     outcome: &mut CallOutcome,
 ) -> i64
-    ensures { ReportsByHandle (record { before = out.old; after = out.new })
+    ensures does { ReportsByHandle (record { before = out.old; after = out.new })
         (record {
           old = handle.old.value;
           new = handle.new.value;
           said = outcome.new.length;
           returned = result;
         }) }
+    ensures fault { outcome.new.fault_length ≤ 240 }
 {
     outcome.clear();
     let Some(replica) = handle.take_out(alloc) else {
@@ -41,13 +43,14 @@ pub extern "C" fn fedbundle_raw_snapshot(
     out: &mut [u8],
     outcome: &mut CallOutcome,
 ) -> i64
-    ensures { SnapshotsByHandle (record { before = out.old; after = out.new })
+    ensures does { SnapshotsByHandle (record { before = out.old; after = out.new })
         (record {
           old = handle.old.value;
           new = handle.new.value;
           said = outcome.new.length;
           returned = result;
         }) }
+    ensures fault { outcome.new.fault_length ≤ 240 }
 {
     outcome.clear();
     let Some(replica) = handle.take_out(alloc) else {
@@ -68,13 +71,14 @@ pub extern "C" fn fedbundle_raw_current(
     out: &mut [u8],
     outcome: &mut CallOutcome,
 ) -> i64
-    ensures { CurrentByHandle domain.now (record { before = out.old; after = out.new })
+    ensures does { CurrentByHandle domain.now (record { before = out.old; after = out.new })
         (record {
           old = handle.old.value;
           new = handle.new.value;
           said = outcome.new.length;
           returned = result;
         }) }
+    ensures fault { outcome.new.fault_length ≤ 240 }
 {
     outcome.clear();
     let Some(replica) = handle.take_out(alloc) else {
@@ -96,7 +100,7 @@ pub extern "C" fn fedbundle_raw_explain(
     out: &mut [u8],
     outcome: &mut CallOutcome,
 ) -> i64
-    ensures { ExplainsByHandle domain.now document.now
+    ensures does { ExplainsByHandle domain.now document.now
         (record { before = out.old; after = out.new })
         (record {
           old = handle.old.value;
@@ -104,6 +108,7 @@ pub extern "C" fn fedbundle_raw_explain(
           said = outcome.new.length;
           returned = result;
         }) }
+    ensures fault { outcome.new.fault_length ≤ 240 }
 {
     outcome.clear();
     let Some(replica) = handle.take_out(alloc) else {

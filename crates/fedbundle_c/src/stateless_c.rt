@@ -1,4 +1,5 @@
 //! Exports: the calls that hold no replica.
+ghost use Rattle.std.specs.Prelude.{◌≤◌};
 ghost use Rattle.fedbundle_c.specs.Stateless.{CanonsByBytes, ReportsByBytes};
 
 use command_bytes::{canon_bytes, report_lines};
@@ -15,12 +16,14 @@ pub extern "C" fn fedbundle_raw_report(
     out: &mut [u8],
     outcome: &mut CallOutcome,
 ) -> i64
-    ensures { ReportsByBytes config.now lines.now (record { before = out.old; after = out.new })
+    ensures does { ReportsByBytes config.now lines.now
+        (record { before = out.old; after = out.new })
         (record {
           count = outcome.new.count;
           length = outcome.new.length;
           returned = result;
         }) }
+    ensures fault { outcome.new.fault_length ≤ 240 }
 {
     match report_lines(alloc, config, lines) {
         Ok(reported) => {
@@ -44,12 +47,14 @@ pub extern "C" fn fedbundle_raw_canon(
     out: &mut [u8],
     outcome: &mut CallOutcome,
 ) -> i64
-    ensures { CanonsByBytes domain.now document.now (record { before = out.old; after = out.new })
+    ensures does { CanonsByBytes domain.now document.now
+        (record { before = out.old; after = out.new })
         (record {
           count = outcome.new.count;
           length = outcome.new.length;
           returned = result;
         }) }
+    ensures fault { outcome.new.fault_length ≤ 240 }
 {
     let made = canon_bytes(alloc, domain, document);
     outcome.put_result(made, out)

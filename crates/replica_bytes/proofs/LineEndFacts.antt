@@ -1,5 +1,5 @@
 -- A stream with a line has a byte to come.
-use Rattle.std.proofs.Common.{ℕ, ◌<◌, ◌+◌, List, [], ◌∷◌, ◌++◌, length, arith}
+use Rattle.std.proofs.Common.{ℕ, ◌<◌, List, [], ◌∷◌, ◌++◌, length, arith}
 use Rattle.std.specs.Prelude.{Option}
 use Rattle.byte_lines.specs.Lines.{HasLine, HasMore}
 use Rattle.byte_lines.proofs.StreamFacts.{HasMore-text}

@@ -13,7 +13,7 @@ use Rattle.closure_core.specs.declared.error.TakeError.{TakeError}
 use Rattle.closure_core.specs.declared.outcome.Taken.{Taken}
 use Rattle.closure_core.specs.declared.outcome.Distrusted.{Distrusted}
 use Rattle.replica_sync.specs.Snapshots.{IsSnapshot, RefusesSnapshot}
-use Rattle.replica_sync.specs.Gives.{IsGive, RefusesGive}
+use Rattle.replica_sync.specs.Gives.{IsGive, RefusesGive, next_entry_number}
 use Rattle.replica_sync.specs.Messages.{give_text, receipt_text}
 use Rattle.replica_core.specs.Session.{GiveMessage}
 use Rattle.replica_core.specs.Absorbing.{HasAbsorbed, RefusesAbsorbing}
@@ -127,15 +127,14 @@ pub record HasBadGive (bytes : List ℕ) (e : SyncError) : Type 0 where
   pub left : Option (List ℕ)
   pub cause : RefusesGive (Some bytes) left e
 
--- They begin with one, and more follows it.
+-- They begin with one, and more follows it: the fault is that of the line after the answer's last.
 pub record HasMoreThanGive (bytes : List ℕ) (e : SyncError) : Type 0 where
   pub give : GiveMessage
   pub is : IsGive give
   pub rest : List ℕ
   pub text : bytes ≡ give_text give ++ rest
   pub more : 0 < length rest
-  pub number : ℕ
-  pub fault : e ≡ NotCanonical number
+  pub fault : e ≡ NotCanonical (next_entry_number 1 give.content)
 
 abbrev pub RefusesGiveBytes : List ℕ → CallError → Type 0
 RefusesGiveBytes bytes (Sync e) = HasBadGive bytes e ⊎ HasMoreThanGive bytes e

@@ -1,5 +1,5 @@
 //! What a caller in C reads of a call.
-ghost use Rattle.std.specs.Prelude.{◌≡◌, MatchResult, MatchOption};
+ghost use Rattle.std.specs.Prelude.{◌≡◌, ◌≤◌, MatchResult, MatchOption};
 ghost use Rattle.replica_bytes.specs.Outcomes.{ReturnsNeedsRoom, Counts, ReturnsNone, Refuses};
 ghost use Rattle.replica_bytes.specs.Outcomes.{WritesOut};
 
@@ -38,6 +38,7 @@ impl CallOutcome {
     pub fn clear(&mut self)
         ensures count { self.new.count ≡ 0 }
         ensures length { self.new.length ≡ 0 }
+        ensures fault { self.new.fault_length ≡ 0 }
     {
         self.count = 0;
         self.length = 0;
@@ -49,6 +50,7 @@ impl CallOutcome {
         ensures number { Refuses error.now result }
         ensures count { self.new.count ≡ self.old.count }
         ensures length { self.new.length ≡ self.old.length }
+        ensures fault { self.new.fault_length ≤ 240 }
     {
         let text = FaultBytes::of(error);
         let bytes = text.bytes;
@@ -59,7 +61,8 @@ impl CallOutcome {
 
     /// Says how much a call counts.
     pub fn count(&mut self, counted: Result<u64, CallError>) -> i64
-        ensures { Counts counted self.new.count result }
+        ensures counts { Counts counted self.new.count result }
+        ensures fault { self.new.fault_length ≤ 240 }
     {
         self.clear();
         match counted {
@@ -75,6 +78,7 @@ impl CallOutcome {
     pub fn need(&mut self, length: usize) -> i64
         ensures length { self.new.length ≡ length }
         ensures asks { ReturnsNeedsRoom result }
+        ensures fault { self.new.fault_length ≡ 0 }
     {
         self.clear();
         self.length = length as u64;
@@ -83,7 +87,8 @@ impl CallOutcome {
 
     /// Puts the text into `out` where there is room for it.
     pub fn put(&mut self, text: &[u8], out: &mut [u8]) -> i64
-        ensures { WritesOut text.now out.old out.new self.new.length result }
+        ensures writes { WritesOut text.now out.old out.new self.new.length result }
+        ensures fault { self.new.fault_length ≡ 0 }
     {
         if text.len() > out.len() {
             return self.need(text.len());
@@ -96,9 +101,10 @@ impl CallOutcome {
 
     /// The same of a text that a call returns.
     pub fn put_result(&mut self, made: Result<Vec<u8>, CallError>, out: &mut [u8]) -> i64
-        ensures { MatchResult made
+        ensures writes { MatchResult made
             (λ text. WritesOut text.items out.old out.new self.new.length result)
             (λ e. Refuses e result × (out.new ≡ out.old)) }
+        ensures fault { self.new.fault_length ≤ 240 }
     {
         match made {
             Ok(text) => self.put(text.as_slice(), out),
@@ -111,10 +117,11 @@ impl CallOutcome {
 
     /// The same of a text that there may be none of.
     pub fn put_option(&mut self, made: Result<Option<Vec<u8>>, CallError>, out: &mut [u8]) -> i64
-        ensures { MatchResult made
+        ensures writes { MatchResult made
             (λ found. MatchOption found (ReturnsNone result × (out.new ≡ out.old))
             (λ text. WritesOut text.items out.old out.new self.new.length result))
             (λ e. Refuses e result × (out.new ≡ out.old)) }
+        ensures fault { self.new.fault_length ≤ 240 }
     {
         match made {
             Ok(Some(text)) => self.put(text.as_slice(), out),

@@ -4,6 +4,7 @@ ghost use Rattle.std.specs.Io.KnownBytes.{IsAtEnd};
 ghost use Rattle.byte_lines.specs.Lines.{HasMore};
 ghost use Rattle.byte_lines.specs.Streams.{stream_of};
 ghost use Rattle.replica_core.specs.Session.{give_of, have_of};
+ghost use Rattle.replica_sync.specs.Gives.{next_entry_number};
 ghost use Rattle.replica_sync.specs.Messages.{give_text, have_text};
 ghost use Rattle.replica_bytes.specs.CallErrors.{IsWantOfMemory};
 ghost use Rattle.replica_bytes.specs.Changes.{AbsorbsBytes, HasRefusedGiveBytes};
@@ -131,7 +132,10 @@ fn ends<R: Source>(lines: &mut LineBuf, source: &mut R) -> Result<bool, AllocErr
 }
 
 // The number of the line that would follow the answer's last.
-fn line_after(give: &Give) -> u64 {
-    let entries = (give.distrusts().len() as u64).saturating_add(give.receipts().len() as u64);
-    entries.saturating_add(2)
+fn line_after(give: &Give) -> u64
+    ensures { result ≡ next_entry_number 1 give.now.content }
+{
+    let records = give.distrusts().len();
+    let receipts = give.receipts().len();
+    (2 + records + receipts) as u64
 }

@@ -4,7 +4,8 @@ use Rattle.replica_bytes.proofs.named_bytes.decoded.Goals as goal
 
 -- the digits of a digest are decoded, to that digest
 pub returns-in-Ok : goal.returns-in-Ok
-returns-in-Ok c = λ id e is. ap Some (decoded_digest c.args.bytes.now c.decode_to_slice.new.out id c.decode_to_slice.result c.decode_to_slice.ensures.value e is).1
+returns-in-Ok c = λ id e is.
+    ap Some (decoded_digest c.args.bytes.now c.decode_to_slice.new.out id c.decode_to_slice.result c.decode_to_slice.ensures.value e is).1
 
 pub returns-in-Err : goal.returns-in-Err
 returns-in-Err c = λ id e is.

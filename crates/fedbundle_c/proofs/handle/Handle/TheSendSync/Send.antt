@@ -14,9 +14,9 @@ use Rattle.std.proofs.alloc.Global.TheSendSync as heap
 use Rattle.std.proofs.Crossing.{frees}
 use Rattle.std_alloc.proofs.SendSync.{quiet}
 use Rattle.fedbundle_c.specs.Holding.{handle_owns}
-use Rattle.fedbundle_c.specs.contracts.replica.Replica as held
+use Rattle.fedbundle_c.specs.contracts.held_replica.Replica as held
 use Rattle.fedbundle_c.specs.contracts.handle.Handle.{the_row, the_type}
-use Rattle.fedbundle_c.proofs.replica.Replica.TheSendSync as replica
+use Rattle.fedbundle_c.proofs.held_replica.Replica.TheSendSync as replica
 
 held_keyless : (a : Global) (p : Ptr) (x : Option held.the_row.Denot) → Keyless (handle_owns a p x)
 held_keyless a null_ptr None = tt
