@@ -43,7 +43,14 @@ def seeds_of(config):
     return [seeds[key] for key in sorted(seeds)]
 
 
-def config_json(config):
+def kept_url(url):
+    """The URL as the URL Standard serializes it, in as far as the rows need that: in a query of https `'` is escaped."""
+    place, mark, query = url.partition("?")
+    return place + mark + query.replace("'", "%27")
+
+
+def config_json(given):
+    config = given | {"relationships": [r | {"url": kept_url(r["url"])} for r in given["relationships"]]}
     relationships = sorted(config["relationships"], key=lambda r: r["domain"].encode())
     return printed({
         "config": config_id(config),
