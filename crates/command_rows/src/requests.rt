@@ -41,25 +41,26 @@ fn ask_call<C: Closure>(
 ) -> Result<bool, CommandError> {
     let config = given(call, OptionName::Config).and_then(|name| case.script.text(name));
     match (config, given(call, OptionName::State)) {
-        (Some(config), Some(state)) if is_for_replicas(call.name) => {
+        (Some(config), Some(state)) if is_for_replicas(call) => {
             ask_under::<C>(case, call, config, case.script.text(state), devices)
         }
         _ => Ok(false),
     }
 }
 
-fn is_for_replicas(name: CommandName) -> bool {
-    matches!(
-        name,
-        CommandName::Report
-            | CommandName::Status
-            | CommandName::Bundle
-            | CommandName::Explain
-            | CommandName::Observe
-            | CommandName::Merge
-            | CommandName::Distrust
-            | CommandName::Polls
-    )
+// Of three commands a replica prints lines alone, and refuses words that say a format.
+fn is_for_replicas(call: &Call<'_>) -> bool {
+    match call.name {
+        CommandName::Report | CommandName::Explain | CommandName::Polls => {
+            given(call, OptionName::FileFormat).is_none()
+        }
+        CommandName::Status
+        | CommandName::Bundle
+        | CommandName::Observe
+        | CommandName::Merge
+        | CommandName::Distrust => true,
+        _ => false,
+    }
 }
 
 fn ask_under<C: Closure>(
