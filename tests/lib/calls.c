@@ -2,8 +2,9 @@
  * does. Empty texts are passed as null pointers.
  *
  * With the word `sweep`, under inject.c, each call is made again and again, with its first allocation refused, its second
- * and so on, until it is made without a refusal. After each refusal the replica must have the snapshot that it had, and the
- * refusal must be a NoMemory. It ends with the number of refusals on standard error.
+ * and so on up to the 500th, then ever fewer of those that follow, until it is made without a refusal. After each refusal
+ * the replica must have the snapshot that it had, and the refusal must be a NoMemory. It ends with the number of refusals
+ * on standard error.
  *
  * With the word `small`, each call that writes is made first with no room, and with one byte too little: it must say how
  * many bytes there are, write none, and change nothing. */
@@ -16,6 +17,8 @@
 #define MOST_WORDS 8
 #define REPLICAS 4
 #define GUARD 0x5a
+/* So many first allocations of a call are each refused, and of those after them fewer and fewer. */
+#define EACH_OF 500
 
 struct text {
     uint8_t *bytes;
@@ -149,11 +152,11 @@ static void try_small(const char *call, fedbundle_replica *r, struct text *t, un
     free(before.bytes);
 }
 
-/* Refuses the first allocation, the second and so on, until the call is made without. */
+/* Refuses one allocation after another, until the call is made without. */
 static int64_t swept(const char *call, fedbundle_replica *r, struct text *t, unsigned bucket, uint8_t *out, size_t room,
                      fedbundle_outcome *end) {
     struct text before = held(r);
-    for (unsigned long nth = 1;; nth++) {
+    for (unsigned long nth = 1;; nth += 1 + nth / EACH_OF) {
         char mark[40];
         snprintf(mark, sizeof mark, "REFUSE %lu", nth);
         getenv(mark);
