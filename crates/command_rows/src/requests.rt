@@ -48,11 +48,11 @@ fn ask_call<C: Closure>(
     }
 }
 
-// With --at these three have no --format.
+// Of three commands a replica prints lines alone, and refuses words that say a format.
 fn is_for_replicas(call: &Call<'_>) -> bool {
     match call.name {
         CommandName::Report | CommandName::Explain | CommandName::Polls => {
-            given(call, OptionName::Format).is_none()
+            given(call, OptionName::FileFormat).is_none()
         }
         CommandName::Status
         | CommandName::Bundle
