@@ -8,10 +8,11 @@ ghost use Rattle.receipt_core.specs.Order.{same_receipt, receipt_total, receipt_
 ghost use Rattle.receipt_core.specs.Line.{IsLine, RefusesReceiptLine};
 ghost use Rattle.receipt_core.specs.Parts.{IsKeptReceipt, parts_cmp, rest_cmp};
 
+use crate::known_digests::KnownDigests;
 use crate::line::{form_of_parts, id_of, write_receipt};
 use crate::line_error::LineError;
 use crate::line_reader::{read_directly, read_receipt};
-use crate::offers::{copies_of, offers_of};
+use crate::offers::{copies_of, offers_with};
 use crate::receipt_id::ReceiptId;
 use crate::triple::Triple;
 use bundle_doc::{DocId, Document};
@@ -89,9 +90,32 @@ impl Receipt {
               key = key;
             }) }
     {
+        let mut known = KnownDigests::closed(alloc);
+        Receipt::new_with(alloc, domain, endpoint, document, voucher, key, &mut known)
+    }
+
+    // The same, where digests are known.
+    pub(crate) fn new_with(
+        alloc: Global,
+        domain: TrustDomain,
+        endpoint: SpiffeId,
+        document: Document,
+        voucher: DocId,
+        key: KeyId,
+        known: &mut KnownDigests,
+    ) -> Result<Receipt, AllocError>
+        ensures { IfOk result (λ r. r
+            ≡ record {
+              domain = domain;
+              endpoint = endpoint;
+              document = document;
+              voucher = voucher;
+              key = key;
+            }) }
+    {
         form_of_parts(&domain, &endpoint, &document, voucher, key);
         let need = Triple::new(alloc, endpoint.domain(), voucher, key)?;
-        let offers = offers_of(alloc, &domain, &document)?;
+        let offers = offers_with(alloc, &domain, &document, known)?;
         Ok(Receipt {
             domain,
             endpoint,
@@ -120,7 +144,22 @@ impl Receipt {
     pub fn read_line(alloc: Global, bytes: &[u8]) -> Result<Receipt, LineError>
         ensures { MatchResult result (IsLine bytes.now) (RefusesReceiptLine bytes.now) }
     {
-        read_receipt(alloc, bytes)
+        read_receipt(alloc, bytes, &mut KnownDigests::closed(alloc))
+    }
+
+    /// Reads a line as [`Receipt::read_line`] does, where digests of certificates are known: one
+    /// that came in a line before is not hashed again.
+    ///
+    /// # Errors
+    /// As those of [`Receipt::read_line`].
+    pub fn read_line_with(
+        alloc: Global,
+        bytes: &[u8],
+        known: &mut KnownDigests,
+    ) -> Result<Receipt, LineError>
+        ensures { MatchResult result (IsLine bytes.now) (RefusesReceiptLine bytes.now) }
+    {
+        read_receipt(alloc, bytes, known)
     }
 
     /// Reads a line by its parts, with no JSON tree between, as [`Receipt::read_line`] does first.
@@ -131,7 +170,7 @@ impl Receipt {
     pub fn read_directly(alloc: Global, bytes: &[u8]) -> Result<Option<Receipt>, AllocError>
         ensures { IfOk result (λ o. IfSome o (IsLine bytes.now)) }
     {
-        read_directly(alloc, bytes)
+        read_directly(alloc, bytes, &mut KnownDigests::closed(alloc))
     }
 
     /// The line, without a line feed.
