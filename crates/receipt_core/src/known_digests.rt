@@ -20,7 +20,7 @@ const MOST_BYTES: usize = 4_096;
 #[derive(Drop)]
 pub struct KnownDigests {
     places: Vec<KnownDigest>,
-    is_open: bool,
+    keeps_more: bool,
 }
 
 #[derive(Drop)]
@@ -58,15 +58,15 @@ impl KnownDigests {
     pub fn new(alloc: Global) -> Self {
         KnownDigests {
             places: Vec::new(alloc),
-            is_open: true,
+            keeps_more: true,
         }
     }
 
-    // None is known, and none is kept.
-    pub(crate) fn closed(alloc: Global) -> Self {
+    /// None is known, and none is kept, for those who read a single line.
+    pub fn none(alloc: Global) -> Self {
         KnownDigests {
             places: Vec::new(alloc),
-            is_open: false,
+            keeps_more: false,
         }
     }
 
@@ -74,8 +74,8 @@ impl KnownDigests {
     pub(crate) fn digest(&mut self, bytes: &[u8]) -> [u8; 32]
         ensures { result ≡ sha256 bytes.now }
     {
-        if self.is_open && self.places.is_empty() {
-            self.is_open = false;
+        if self.keeps_more && self.places.is_empty() {
+            self.keeps_more = false;
             self.places = empty_places(*self.places.allocator());
         }
         if self.places.is_empty() || bytes.len() > MOST_BYTES {

@@ -24,7 +24,7 @@ pub fn offers_of(
     ensures { IfOk result (λ offers. offers.items
         ≡ offers_of (record { domain = domain.now; document = document.now })) }
 {
-    offers_with(alloc, domain, document, &mut KnownDigests::closed(alloc))
+    offers_with(alloc, domain, document, &mut KnownDigests::none(alloc))
 }
 
 // The same, where digests of certificates are known.

@@ -90,7 +90,7 @@ impl Receipt {
               key = key;
             }) }
     {
-        let mut known = KnownDigests::closed(alloc);
+        let mut known = KnownDigests::none(alloc);
         Receipt::new_with(alloc, domain, endpoint, document, voucher, key, &mut known)
     }
 
@@ -144,7 +144,7 @@ impl Receipt {
     pub fn read_line(alloc: Global, bytes: &[u8]) -> Result<Receipt, LineError>
         ensures { MatchResult result (IsLine bytes.now) (RefusesReceiptLine bytes.now) }
     {
-        read_receipt(alloc, bytes, &mut KnownDigests::closed(alloc))
+        read_receipt(alloc, bytes, &mut KnownDigests::none(alloc))
     }
 
     /// Reads a line as [`Receipt::read_line`] does, where digests of certificates are known: one
@@ -170,7 +170,7 @@ impl Receipt {
     pub fn read_directly(alloc: Global, bytes: &[u8]) -> Result<Option<Receipt>, AllocError>
         ensures { IfOk result (λ o. IfSome o (IsLine bytes.now)) }
     {
-        read_directly(alloc, bytes, &mut KnownDigests::closed(alloc))
+        read_directly(alloc, bytes, &mut KnownDigests::none(alloc))
     }
 
     /// The line, without a line feed.
