@@ -13,6 +13,7 @@ ghost use Rattle.sorted_order.specs.Inside.Seeking.{FindsFirst};
 
 use crate::block::{Block, HALF};
 use crate::directory::{add_blocks, locate, put_number};
+use crate::guess::{Guess, edge_by_guess};
 use crate::numbers::Numbers;
 use crate::probe::{Past, Probe};
 use crate::search::{edge, equal_from, first_from};
@@ -214,6 +215,23 @@ impl Order {
         }
         let blocks = self.blocks.as_slice();
         let (block, place) = edge(blocks, probe);
+        match equal_from(blocks, block, place, probe) {
+            Some(number) => Ok(number),
+            None => Err(length_before_block(blocks, self.sums.as_slice(), block) + place),
+        }
+    }
+
+    /// The same, where the place is guessed first. So few numbers are compared whole.
+    pub(crate) fn find_number_by_guess<P: Probe + Guess>(&self, probe: &P) -> Result<u32, usize>
+        requires known { All (P.knows probe.now) self.now.items }
+        requires rising { IsRising (P.compared probe.now) self.now.items }
+        ensures { FindsFirst (P.compared probe.now) self.now.items result }
+    {
+        if self.blocks.is_empty() {
+            return Err(0);
+        }
+        let blocks = self.blocks.as_slice();
+        let (block, place) = edge_by_guess(blocks, probe);
         match equal_from(blocks, block, place, probe) {
             Some(number) => Ok(number),
             None => Err(length_before_block(blocks, self.sums.as_slice(), block) + place),
