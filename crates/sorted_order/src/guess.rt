@@ -71,7 +71,11 @@ fn is_edge<P: Probe>(blocks: &[Block], probe: &P, block: usize, place: usize) ->
     if place > blocks[block].len() {
         return false;
     }
-    is_past(blocks, probe, block, place) && is_not_past(blocks, probe, block, place)
+    if is_past(blocks, probe, block, place) {
+        is_not_past(blocks, probe, block, place)
+    } else {
+        false
+    }
 }
 
 /// Whether the number just before the place, which is in the same block, stands before what is

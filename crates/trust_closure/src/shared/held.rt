@@ -103,7 +103,7 @@ impl Held {
         if let Err(why) = check_fit(&self.config, receipt) {
             return Err(why);
         }
-        match self.receipts.find(&OfReceipt::new(receipt)) {
+        match self.receipts.find_by_guess(&OfReceipt::new(receipt)) {
             Ok(_) => Ok(Lookup::Present),
             Err(_) if self.receipts.len() >= MOST_RECEIPTS => Err(TakeError::Full),
             Err(place) => Ok(Lookup::Absent(place)),
@@ -178,7 +178,8 @@ impl Held {
         ensures { IsTrue result ↔ Contains self.now.held receipt.now }
     {
         let _form = receipt.domain();
-        self.receipts.find(&OfReceipt::new(receipt)).is_ok()
+        let sought = OfReceipt::new(receipt);
+        self.receipts.find_by_guess(&sought).is_ok()
     }
 
     /// The receipts in order of arrival.

@@ -2,7 +2,7 @@
 ghost use Rattle.std.specs.Prelude.{◌≡◌};
 
 use receipt_core::Receipt;
-use sorted_order::{ItemProbe, Probe};
+use sorted_order::{ItemGuess, ItemProbe, Probe};
 use std::cmp::Ordering;
 
 /// A receipt by its line.
@@ -58,6 +58,12 @@ impl<'a> ItemProbe<Receipt> for OfReceipt<'a> {
 
     fn compare(&self, item: &Receipt) -> Ordering {
         item.cmp(self.receipt)
+    }
+}
+
+impl<'a> ItemGuess<Receipt> for OfReceipt<'a> {
+    fn guess(&self, item: &Receipt, agreed: usize) -> (bool, usize) {
+        item.guess_before(self.receipt, agreed)
     }
 }
 

@@ -1,0 +1,28 @@
+//! How far two texts agree.
+ghost use Rattle.std.specs.Prelude.{◌≤◌, length};
+
+// How many bytes are compared at once.
+const STRIDE: usize = 64;
+
+// On how many bytes the texts agree, where they agree on so many. Nothing is promised but that both
+// have as many.
+pub(crate) fn agreement(one: &[u8], other: &[u8], agreed: usize) -> usize
+    ensures one { result ≤ length one.now }
+    ensures other { result ≤ length other.now }
+{
+    let both = one.len().min(other.len());
+    let mut place = agreed.min(both);
+    'strides: while both - place >= STRIDE {
+        if one[place..place + STRIDE] != other[place..place + STRIDE] {
+            break 'strides;
+        }
+        place += STRIDE;
+    }
+    'bytes: while place < both {
+        if one[place] != other[place] {
+            return place;
+        }
+        place += 1;
+    }
+    place
+}
