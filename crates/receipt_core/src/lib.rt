@@ -6,7 +6,6 @@
 //! configuration to a document, for somebody who keeps no receipts.
 #![tactic(auto)]
 
-mod agreement;
 mod chain;
 mod distrust;
 mod given_records;

@@ -8,7 +8,6 @@ ghost use Rattle.receipt_core.specs.Order.{same_receipt, receipt_total, receipt_
 ghost use Rattle.receipt_core.specs.Line.{IsLine, RefusesReceiptLine};
 ghost use Rattle.receipt_core.specs.Parts.{IsKeptReceipt, parts_cmp, rest_cmp};
 
-use crate::agreement::agreement;
 use crate::known_digests::KnownDigests;
 use crate::line::{form_of_parts, id_of, write_receipt};
 use crate::line_error::LineError;
@@ -295,20 +294,6 @@ impl Receipt {
             need: self.need.try_clone(alloc)?,
             offers: copies_of(alloc, self.offers.as_slice())?,
         })
-    }
-
-    /// Whether this receipt seems to stand before the other one, where the canonical texts of their
-    /// documents seem to agree on so many bytes, and on how many they seem to agree: a guess for
-    /// searches that compare what they find, of which no clause speaks. It reads no byte of those.
-    pub fn guess_before(&self, other: &Receipt, agreed: usize) -> (bool, usize) {
-        let (one, two) = (self.document.canonical(), other.document.canonical());
-        let place = agreement(one, two, agreed);
-        match (one.get(place), two.get(place)) {
-            (Some(byte), Some(another)) => (*byte < *another, place),
-            (None, Some(_)) => (true, place),
-            (Some(_), None) => (false, place),
-            (None, None) => (self.cmp_behind_document(other).is_lt(), place),
-        }
     }
 
     // The order of the parts after the document.

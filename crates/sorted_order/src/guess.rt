@@ -10,6 +10,7 @@ ghost use Rattle.sorted_order.specs.Inside.Blocks.{IsBoundary};
 use crate::block::Block;
 use crate::probe::{ByItem, Probe};
 use crate::search::{edge_among, edge_at_end, first_from};
+use std::cmp::Ordering;
 
 /// Guesses where numbers stand, for those who seek by a text.
 pub trait Guess {
@@ -34,6 +35,42 @@ impl<'a, T, P: ItemGuess<T>> Guess for ByItem<'a, T, P> {
             None => (false, 0),
         }
     }
+}
+
+/// How one text seems to stand to another, by the first byte that differs, where they seem to agree
+/// on so many bytes; and on how many they seem to agree. It reads no byte of those, so nothing is
+/// promised of a guess.
+pub fn guess_text(one: &[u8], other: &[u8], agreed: usize) -> (Ordering, usize) {
+    let place = agreement(one, other, agreed);
+    match (one.get(place), other.get(place)) {
+        (Some(byte), Some(another)) => (byte.cmp(another), place),
+        (Some(_), None) => (Ordering::Greater, place),
+        (None, Some(_)) => (Ordering::Less, place),
+        (None, None) => (Ordering::Equal, place),
+    }
+}
+
+/// How many bytes are compared at once.
+const STRIDE: usize = 64;
+
+/// On how many bytes the texts agree, where they agree on so many.
+fn agreement(one: &[u8], other: &[u8], agreed: usize) -> usize {
+    let both = one.len().min(other.len());
+    let mut place = agreed.min(both);
+    'strides: while both - place >= STRIDE && is_same_stride(one, other, place) {
+        place += STRIDE;
+    }
+    'bytes: while place < both && one[place] == other[place] {
+        place += 1;
+    }
+    place
+}
+
+fn is_same_stride(one: &[u8], other: &[u8], place: usize) -> bool
+    requires one { place + 64 ≤ length one.now }
+    requires other { place + 64 ≤ length other.now }
+{
+    one[place..place + STRIDE] == other[place..place + STRIDE]
 }
 
 /// The same as [`crate::search::edge`], by a guess where that holds.

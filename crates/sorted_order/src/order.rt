@@ -191,6 +191,24 @@ impl Order {
         }
     }
 
+    /// The same, where the place is guessed first. So few numbers are compared whole, where they are
+    /// sought by texts that agree on many bytes, or are guessed by less than what is compared.
+    pub fn find_by_guess<P: Probe + Guess>(&self, probe: &P) -> Result<usize, usize>
+        requires known { All (P.knows probe.now) self.now.items }
+        requires rising { IsRising (P.compared probe.now) self.now.items }
+        ensures { Finds (P.compared probe.now) self.now.items result }
+    {
+        let (place, found) = self.seek_by_guess(probe);
+        match found {
+            Some(number) => if probe.compare(number).is_eq() {
+                Ok(place)
+            } else {
+                Err(place)
+            },
+            None => Err(place),
+        }
+    }
+
     /// The numbers in the place of what is sought, in order.
     pub fn matching<P: Probe>(&self, probe: &P) -> Numbers<'_>
         requires known { All (P.knows probe.now) self.now.items }
@@ -250,6 +268,25 @@ impl Order {
         }
         let blocks = self.blocks.as_slice();
         let (block, place) = edge(blocks, probe);
+        let number = first_from(blocks, block, place);
+        (
+            length_before_block(blocks, self.sums.as_slice(), block) + place,
+            number,
+        )
+    }
+
+    /// The same, where the place is guessed first.
+    fn seek_by_guess<P: Probe + Guess>(&self, probe: &P) -> (usize, Option<u32>)
+        requires known { All (P.knows probe.now) self.now.items }
+        requires rising { IsRising (P.compared probe.now) self.now.items }
+        ensures gap { IsGap (P.compared probe.now) self.now.items result.0 }
+        ensures number { result.1 ≡ slice_get self.now.items result.0 }
+    {
+        if self.blocks.is_empty() {
+            return (0, None);
+        }
+        let blocks = self.blocks.as_slice();
+        let (block, place) = edge_by_guess(blocks, probe);
         let number = first_from(blocks, block, place);
         (
             length_before_block(blocks, self.sums.as_slice(), block) + place,

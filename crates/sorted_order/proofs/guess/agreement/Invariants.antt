@@ -1,5 +1,5 @@
-use Rattle.std.proofs.Common.{◌-◌, ◌≤◌, length}
-use Rattle.receipt_core.proofs.agreement.agreement.Given as goal
+use Rattle.std.proofs.Common.{◌-◌, ◌≤◌}
+use Rattle.sorted_order.proofs.guess.agreement.Given as goal
 
 abbrev pub invariant-strides : goal.invariant-strides
 invariant-strides l = l.place ≤ l.both
