@@ -93,7 +93,14 @@ fn place_receipt(
         ≤ label_index.new.edges + (length (offers_of (pair_of receipt)) + 1) }
 {
     let seeds = held.config().seeds();
-    pairs.add(seeds, held.arrived(), receipt.domain(), receipt.document());
+    let number = domain_number(held.config(), receipt.domain());
+    pairs.add(
+        seeds,
+        held.arrived(),
+        number,
+        receipt.domain(),
+        receipt.document(),
+    );
     add_receipt(label_index, held, &receipt);
     held.insert(place, receipt);
     let _valid = held.config();

@@ -45,6 +45,6 @@ fn sow(
     let mut offers = offers_of(alloc, &seed.domain, &seed.document)?;
     pairs.try_reserve(1)?;
     seed_offers.append(&mut offers)?;
-    pairs.add(earlier, held.arrived(), &seed.domain, &seed.document);
+    pairs.add(earlier, held.arrived(), 0, &seed.domain, &seed.document);
     Ok(())
 }
