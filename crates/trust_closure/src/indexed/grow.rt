@@ -93,11 +93,11 @@ fn place_receipt(
         ≤ label_index.new.edges + (length (offers_of (pair_of receipt)) + 1) }
 {
     let seeds = held.config().seeds();
-    let number = domain_number(held.config(), receipt.domain());
+    let hint = held.hint_of_receipt(&receipt);
     pairs.add(
         seeds,
         held.arrived(),
-        number,
+        hint,
         receipt.domain(),
         receipt.document(),
     );

@@ -6,7 +6,7 @@ ghost use Rattle.trust_closure.specs.Inside.Indexed.{IsSeeded};
 ghost use Rattle.fed_config.specs.Limits.{seed_limit};
 
 use crate::indexed::labels::LabelIndex;
-use crate::indexed::wire::{domain_number, offer_triples};
+use crate::indexed::wire::offer_triples;
 use crate::shared::held::Held;
 use crate::shared::pairs::Pairs;
 use fed_config::Seed;
@@ -52,14 +52,8 @@ fn add_seed(
     let offers = offers_of(alloc, &seed.domain, &seed.document)?;
     pairs.try_reserve(1)?;
     label_index.try_reserve(1, offers.len())?;
-    let number = domain_number(held.config(), &seed.domain);
-    pairs.add(
-        earlier,
-        held.arrived(),
-        number,
-        &seed.domain,
-        &seed.document,
-    );
+    let hint = held.hint_of(&seed.domain);
+    pairs.add(earlier, held.arrived(), hint, &seed.domain, &seed.document);
     let node = label_index.add_node();
     label_index.mark(node);
     offer_triples(label_index, held, node, offers.as_slice());

@@ -148,10 +148,11 @@ fn place_receipt(
     ensures released_capacity { vec_capacity released.new ≡ vec_capacity released.old }
 {
     let seeds = held.config().seeds();
+    let hint = held.hint_of_receipt(&receipt);
     pairs.add(
         seeds,
         held.arrived(),
-        0,
+        hint,
         receipt.domain(),
         receipt.document(),
     );

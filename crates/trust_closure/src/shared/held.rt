@@ -110,6 +110,21 @@ impl Held {
         }
     }
 
+    /// The number of the receipt's domain, for guesses. It is 0 where the configuration does not
+    /// have the domain.
+    pub(crate) fn hint_of_receipt(&self, receipt: &Receipt) -> u32 {
+        self.hint_of(receipt.domain())
+    }
+
+    /// The same of the domain.
+    pub(crate) fn hint_of(&self, domain: &TrustDomain) -> u32 {
+        let _domains = self.config.domains();
+        match self.config.domain_no(domain) {
+            Some(number) => number as u32,
+            None => 0,
+        }
+    }
+
     /// Makes room for this many more receipts.
     pub(crate) fn try_reserve(&mut self, receipts: usize) -> Result<(), NoMemory>
         ensures same { self.new ≡ record self.old { capacity = self.new.capacity } }

@@ -219,12 +219,12 @@ impl Pairs {
     }
 
     /// Adds the next node, with its document, to those of these nodes. There is room for it. Its
-    /// count is 0. The number of the domain is for a guess alone.
+    /// count is 0. `hint` is the number of the domain, for guesses alone.
     pub(crate) fn add(
         &mut self,
         seeds: &[Seed],
         receipts: &[Receipt],
-        domain_number: u32,
+        hint: u32,
         domain: &TrustDomain,
         document: &Document,
     )
@@ -238,7 +238,7 @@ impl Pairs {
         ensures capacity { self.new.capacity ≡ self.old.capacity }
     {
         let _form = document.canonical();
-        let key = PairKey::new(domain_number, document);
+        let key = PairKey::new(hint, document);
         let sought = SoughtPair {
             seeds,
             receipts,
