@@ -1,5 +1,5 @@
 //! Guesses of where what is sought stands. They are made by parts of what is compared, and believed
-//! only where comparisons beside the place show it.
+//! only where comparisons beside the place show that they hold.
 ghost use Rattle.std.specs.Prelude.{◌≡◌, ◌≢◌, ℕ, ◌+◌, ◌-◌, ◌<◌, ◌≤◌, length, slice_get, slice_index};
 ghost use Rattle.std.specs.Prelude.{Some, IsTrue};
 ghost use Rattle.std.specs.List.{All, concat};
@@ -12,24 +12,34 @@ use crate::probe::{ByItem, Probe};
 use crate::search::{edge_among, edge_at_end, first_from};
 use std::cmp::Ordering;
 
+/// On how many bytes the nearest known texts on both sides seem to agree with the one that is
+/// sought.
+#[derive(Clone, Copy, Debug)]
+pub struct Agreed {
+    /// That of the nearest one that seems to stand before it.
+    pub before: usize,
+    /// That of the nearest other one.
+    pub after: usize,
+}
+
 /// Guesses where numbers stand, for those who seek by a text.
 pub trait Guess {
-    /// Whether the number seems to stand before what is sought, where their texts seem to agree on
-    /// so many bytes, and on how many bytes they seem to agree. No clause speaks of it: where the
+    /// Whether the number, which stands between those on both sides, seems to stand before what is
+    /// sought; and on how many bytes their texts seem to agree. No clause speaks of it: where the
     /// guess does not hold, the search compares.
-    fn guess(&self, number: u32, agreed: usize) -> (bool, usize);
+    fn guess(&self, number: u32, agreed: Agreed) -> (bool, usize);
 }
 
 /// Guesses where items stand, for those who seek by a text.
 pub trait ItemGuess<T> {
-    /// Whether the item seems to stand before what is sought, where their texts seem to agree on so
-    /// many bytes, and on how many bytes they seem to agree. No clause speaks of it: where the guess
-    /// does not hold, the search compares.
-    fn guess(&self, item: &T, agreed: usize) -> (bool, usize);
+    /// Whether the item, which stands between those on both sides, seems to stand before what is
+    /// sought; and on how many bytes their texts seem to agree. No clause speaks of it: where the
+    /// guess does not hold, the search compares.
+    fn guess(&self, item: &T, agreed: Agreed) -> (bool, usize);
 }
 
 impl<'a, T, P: ItemGuess<T>> Guess for ByItem<'a, T, P> {
-    fn guess(&self, number: u32, agreed: usize) -> (bool, usize) {
+    fn guess(&self, number: u32, agreed: Agreed) -> (bool, usize) {
         match self.items.get(number as usize) {
             Some(item) => self.probe.guess(item, agreed),
             None => (false, 0),
@@ -37,10 +47,11 @@ impl<'a, T, P: ItemGuess<T>> Guess for ByItem<'a, T, P> {
     }
 }
 
-/// How one text seems to stand to another, by the first byte that differs, where they seem to agree
-/// on so many bytes; and on how many they seem to agree. It reads no byte of those, so nothing is
+/// How one text, which stands between those on both sides, seems to stand to the other, which is
+/// sought: by the first byte that seems to differ. And on how many bytes they seem to agree. Where
+/// one side agrees on more bytes than the other only samples of those are read, so nothing is
 /// promised of a guess.
-pub fn guess_text(one: &[u8], other: &[u8], agreed: usize) -> (Ordering, usize) {
+pub fn guess_text(one: &[u8], other: &[u8], agreed: Agreed) -> (Ordering, usize) {
     let place = agreement(one, other, agreed);
     match (one.get(place), other.get(place)) {
         (Some(byte), Some(another)) => (byte.cmp(another), place),
@@ -53,11 +64,19 @@ pub fn guess_text(one: &[u8], other: &[u8], agreed: usize) -> (Ordering, usize) 
 /// How many bytes are compared at once.
 const STRIDE: usize = 64;
 
-/// On how many bytes the texts agree, where they agree on so many.
-fn agreement(one: &[u8], other: &[u8], agreed: usize) -> usize {
+/// From sample to sample, and how many bytes a sample has. Texts of different keys differ in more
+/// bytes than lie between samples.
+const SAMPLE_STEP: usize = 256;
+
+const SAMPLE: usize = 16;
+
+/// On how many bytes the texts seem to agree.
+fn agreement(one: &[u8], other: &[u8], agreed: Agreed) -> usize {
     let both = one.len().min(other.len());
-    let mut place = agreed.min(both);
-    'strides: while both - place >= STRIDE && is_same_stride(one, other, place) {
+    let near = agreed.before.min(agreed.after).min(both);
+    let far = agreed.before.max(agreed.after).min(both);
+    let mut place = sampled(one, other, near, far);
+    'strides: while both - place >= STRIDE && is_same(one, other, place, STRIDE) {
         place += STRIDE;
     }
     'bytes: while place < both && one[place] == other[place] {
@@ -66,11 +85,29 @@ fn agreement(one: &[u8], other: &[u8], agreed: usize) -> usize {
     place
 }
 
-fn is_same_stride(one: &[u8], other: &[u8], place: usize) -> bool
-    requires one { place + 64 ≤ length one.now }
-    requires other { place + 64 ≤ length other.now }
+/// The far place, where the texts agree in the samples up to there, or else the one of the last
+/// sample before which they do.
+fn sampled(one: &[u8], other: &[u8], near: usize, far: usize) -> usize
+    requires order { near ≤ far }
+    requires one { far ≤ length one.now }
+    requires other { far ≤ length other.now }
+    ensures { result ≤ far }
 {
-    one[place..place + STRIDE] == other[place..place + STRIDE]
+    let mut place = near;
+    'samples: while far - place >= SAMPLE_STEP {
+        if !is_same(one, other, place, SAMPLE) {
+            return near.max(place.saturating_sub(SAMPLE_STEP));
+        }
+        place += SAMPLE_STEP;
+    }
+    far
+}
+
+fn is_same(one: &[u8], other: &[u8], place: usize, bytes: usize) -> bool
+    requires one { place + bytes ≤ length one.now }
+    requires other { place + bytes ≤ length other.now }
+{
+    one[place..place + bytes] == other[place..place + bytes]
 }
 
 /// The same as [`crate::search::edge`], by a guess where that holds.
@@ -150,13 +187,6 @@ fn is_not_past<P: Probe>(blocks: &[Block], probe: &P, block: usize, place: usize
 
 // ---- the guess, of which nothing is promised
 
-/// On how many bytes the nearest numbers on both sides agree with what is sought.
-#[derive(Drop)]
-struct Agreed {
-    before: usize,
-    after: usize,
-}
-
 /// A block, and a place in it.
 fn guessed<G: Guess>(blocks: &[Block], guess: &G) -> (usize, usize) {
     let mut agreed = Agreed {
@@ -205,7 +235,7 @@ fn seems_before<G: Guess>(number: Option<&u32>, guess: &G, agreed: &mut Agreed) 
     let Some(number) = number else {
         return false;
     };
-    let (before, bytes) = guess.guess(*number, agreed.before.min(agreed.after));
+    let (before, bytes) = guess.guess(*number, *agreed);
     if before {
         agreed.before = bytes;
     } else {

@@ -15,7 +15,7 @@ mod search;
 mod sums;
 
 pub use arena::Arena;
-pub use guess::{Guess, ItemGuess, guess_text};
+pub use guess::{Agreed, Guess, ItemGuess, guess_text};
 pub use lent::Lent;
 pub use numbers::Numbers;
 pub use order::Order;

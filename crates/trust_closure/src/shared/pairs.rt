@@ -15,7 +15,7 @@ use bundle_doc::Document;
 use closure_core::{Accepted, document_at, domain_at};
 use fed_config::Seed;
 use receipt_core::Receipt;
-use sorted_order::{Guess, Order, Probe, guess_text};
+use sorted_order::{Agreed, Guess, Order, Probe, guess_text};
 use spiffe_name::TrustDomain;
 use std::alloc::{AllocError, Global};
 use std::cmp::Ordering;
@@ -86,7 +86,7 @@ pub(crate) struct SoughtPair<'a> {
 
 impl<'a> SoughtPair<'a> {
     /// How the text of the document with the number seems to stand to that of this one.
-    fn guess_by_text(&self, number: usize, agreed: usize) -> (bool, usize) {
+    fn guess_by_text(&self, number: usize, agreed: Agreed) -> (bool, usize) {
         match self.text_of(number) {
             Some(text) => {
                 let (order, bytes) = guess_text(text, self.document.canonical(), agreed);
@@ -108,7 +108,7 @@ impl<'a> SoughtPair<'a> {
 }
 
 impl<'a> Guess for SoughtPair<'a> {
-    fn guess(&self, number: u32, agreed: usize) -> (bool, usize) {
+    fn guess(&self, number: u32, agreed: Agreed) -> (bool, usize) {
         let Some(key) = self.keys.get(number as usize) else {
             return (false, 0);
         };
