@@ -85,8 +85,8 @@ fn agreement(one: &[u8], other: &[u8], agreed: Agreed) -> usize {
     place
 }
 
-/// The far place, where the texts agree in the samples up to there, or else the one of the last
-/// sample before which they do.
+/// Where the first byte that differs is to be looked for: behind the samples in which the texts
+/// agree.
 fn sampled(one: &[u8], other: &[u8], near: usize, far: usize) -> usize
     requires order { near ≤ far }
     requires one { far ≤ length one.now }
@@ -100,7 +100,7 @@ fn sampled(one: &[u8], other: &[u8], near: usize, far: usize) -> usize
         }
         place += SAMPLE_STEP;
     }
-    far
+    place
 }
 
 fn is_same(one: &[u8], other: &[u8], place: usize, bytes: usize) -> bool
